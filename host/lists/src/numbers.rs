@@ -7,8 +7,7 @@
 use std::fmt::Write;
 
 use oracle::{LIMIT, PlaybackPosition, leaves};
-
-use crate::random::Random;
+use random::Random;
 
 /// Sample rates in use, the least and the greatest accepted, and some that divide nothing.
 const RATES: [u32; 12] = [
@@ -18,7 +17,7 @@ const RATES: [u32; 12] = [
 /// The whole list.
 #[must_use]
 pub fn numbers() -> String {
-    let mut random = Random::new();
+    let mut random = Random::new(1);
     let mut list = String::new();
     for given in narrowings(&mut random) {
         let answer = u64::from((given as f32).to_bits());
@@ -117,7 +116,7 @@ fn seconds(random: &mut Random) -> Vec<(f64, u32)> {
         }
     }
     for _ in 0..250 {
-        let rate = RATES[random.below(RATES.len() as u64) as usize];
+        let rate = RATES[random.below(RATES.len())];
         let halves = (random.below(1 << 25) as f64) / 2.0;
         given.extend(with_neighbours(halves / f64::from(rate)).map(|seconds| (seconds, rate)));
         let any_rate = 1 + random.below(768_000) as u32;
@@ -132,7 +131,7 @@ fn magnitudes(random: &mut Random) -> Vec<f64> {
     let mut given = vec![0.0, f64::from_bits(1), f64::MIN_POSITIVE.next_down()];
     given.extend([f64::MIN_POSITIVE, 1.0, f64::MAX, f64::INFINITY]);
     given.extend((0..100).map(|_| random.with_exponent(-1022..1024)));
-    given.extend((0..20).map(|_| f64::from_bits(random.next() >> 12)));
+    given.extend((0..20).map(|_| f64::from_bits(random.word() >> 12)));
     given
         .into_iter()
         .flat_map(|number| [number, -number])

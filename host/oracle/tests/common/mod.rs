@@ -36,28 +36,3 @@ pub fn numbers(voice: &Oracle) -> [usize; 4] {
 
 /// Document 01's rule for minus zero, which most tests use.
 pub const BASE: MinusZero = MinusZero::Forward;
-
-/// Random words that are the same on every run.
-pub struct Random(pub u64);
-
-impl Random {
-    pub fn next(&mut self) -> u64 {
-        self.0 ^= self.0 << 13;
-        self.0 ^= self.0 >> 7;
-        self.0 ^= self.0 << 17;
-        self.0
-    }
-
-    pub fn below(&mut self, limit: usize) -> usize {
-        (self.next() % limit as u64) as usize
-    }
-
-    /// From 0 up to 1.
-    pub fn unit(&mut self) -> f64 {
-        (self.next() >> 11) as f64 / (1u64 << 53) as f64
-    }
-
-    pub fn coin(&mut self) -> bool {
-        self.next() & 1 << 40 != 0
-    }
-}
