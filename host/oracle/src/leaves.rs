@@ -1,0 +1,141 @@
+//! kira's small parts one by one, as plain functions over plain records.
+
+use crate::{
+    Entry, Frame, PlaybackPosition, PlaybackState, Signals, StartTime, TooManyTurns, Tween, frame,
+    playback_state_manager::PlaybackStateManager, sound::transport, turns,
+};
+
+pub use crate::sound::static_sound::{current_frame_index, empty, get, new_window, push_frame};
+
+/// kira's `Transport`, as plain numbers.
+#[derive(Debug, Clone, Copy, PartialEq, Eq)]
+pub struct Transport {
+    /// The position.
+    pub position: usize,
+    /// The loop, its end exclusive.
+    pub loop_region: Option<(usize, usize)>,
+    /// Whether it is playing.
+    pub playing: bool,
+}
+
+impl Transport {
+    fn run(self, act: impl FnOnce(&mut transport::Transport)) -> Self {
+        let mut original = transport::Transport {
+            position: self.position,
+            loop_region: self.loop_region,
+            playing: self.playing,
+        };
+        act(&mut original);
+        Self {
+            position: original.position,
+            loop_region: original.loop_region,
+            playing: original.playing,
+        }
+    }
+}
+
+/// kira's `Transport::increment_position`.
+///
+/// # Errors
+/// When its `while` would turn more than [`crate::MAX_TURNS`] times.
+pub fn increment_position(given: Transport, num_frames: usize) -> Result<Transport, TooManyTurns> {
+    if given.playing {
+        turns::allow(turns::increment_turns(given.position, given.loop_region))?;
+    }
+    Ok(given.run(|original| original.increment_position(num_frames)))
+}
+
+/// kira's `Transport::decrement_position`.
+///
+/// # Errors
+/// When its `while` would turn more than [`crate::MAX_TURNS`] times.
+pub fn decrement_position(given: Transport) -> Result<Transport, TooManyTurns> {
+    if given.playing {
+        turns::allow(turns::decrement_turns(given.position, given.loop_region))?;
+    }
+    Ok(given.run(transport::Transport::decrement_position))
+}
+
+/// kira's `Transport::seek_to`.
+///
+/// # Errors
+/// When its `while` would turn more than [`crate::MAX_TURNS`] times.
+pub fn seek_to(
+    given: Transport,
+    target: usize,
+    num_frames: usize,
+) -> Result<Transport, TooManyTurns> {
+    turns::allow(turns::seek_turns(given.position, given.loop_region, target))?;
+    Ok(given.run(|original| original.seek_to(target, num_frames)))
+}
+
+/// kira's `Resampler`: the window of four and its count.
+#[derive(Debug, Clone, Copy, Default)]
+pub struct Window {
+    /// The four entries, the oldest first.
+    pub entries: [Entry; 4],
+    /// Pushes of nothing until it is empty.
+    pub count: usize,
+}
+
+impl Window {
+    /// Equal bit by bit, any NaN as any NaN.
+    #[must_use]
+    pub fn same_bits(&self, other: &Self) -> bool {
+        let mut pairs = self.entries.iter().zip(&other.entries);
+        pairs.all(|(a, b)| a.same_bits(b)) && self.count == other.count
+    }
+}
+
+/// kira's `interpolate_frame`.
+#[must_use]
+pub fn interpolate_frame(frames: [Frame; 4], fraction: f32) -> Frame {
+    let [previous, current, next_1, next_2] = frames;
+    frame::interpolate_frame(previous, current, next_1, next_2, fraction)
+}
+
+/// kira's `PlaybackPosition::into_samples`: rounded half away from zero, and not capped.
+#[must_use]
+pub fn into_samples(position: PlaybackPosition, sample_rate: u32) -> usize {
+    position.into_samples(sample_rate)
+}
+
+/// kira's `PlaybackStateManager::pause`.
+#[must_use]
+pub fn pause(given: PlaybackState) -> PlaybackState {
+    manage(given, |original| original.pause(Tween)).0
+}
+
+/// kira's `PlaybackStateManager::resume`.
+#[must_use]
+pub fn resume(given: PlaybackState, waits: bool) -> PlaybackState {
+    let start_time = StartTime::of_resume(waits);
+    manage(given, |original| original.resume(start_time, Tween)).0
+}
+
+/// kira's `PlaybackStateManager::stop`.
+#[must_use]
+pub fn stop(given: PlaybackState) -> PlaybackState {
+    manage(given, |original| original.stop(Tween)).0
+}
+
+/// kira's `PlaybackStateManager::mark_as_stopped`.
+#[must_use]
+pub fn mark_as_stopped(given: PlaybackState) -> PlaybackState {
+    manage(given, PlaybackStateManager::mark_as_stopped).0
+}
+
+/// kira's `PlaybackStateManager::update`: the state after, and whether kira says it changed.
+#[must_use]
+pub fn update(given: PlaybackState, signals: Signals) -> (PlaybackState, bool) {
+    manage(given, |original| original.update(0.0, &signals))
+}
+
+fn manage<T>(
+    given: PlaybackState,
+    act: impl FnOnce(&mut PlaybackStateManager) -> T,
+) -> (PlaybackState, T) {
+    let mut original = PlaybackStateManager::in_state(given);
+    let answer = act(&mut original);
+    (original.playback_state(), answer)
+}
