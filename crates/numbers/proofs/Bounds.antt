@@ -1,14 +1,12 @@
 -- Bounds that go through rounding: a sum, a difference or a product of floats that are bounded by whole numbers is bounded by those numbers' sum or product.
 -- And what a zero does as a factor and as a summand. Assumes nothing.
 use mathlib.Core.Path.{_≡_, refl, sym, ap, _∙_, subst}
-use mathlib.Core.Logic.{_⊎_, inl, inr}
-use Prim.Native.Nat.{ℕ, zero, suc, _+_, _-_, _*_, _/_, _%_, _^_, _≤_, _<_}
-use native.Mathlib.Nat.{le-refl, le-trans, le-of-eq, lt-irrefl, zero-lt-suc, add-comm, add-mul, zero-mul, mul-zero, zero-add, add-zero, mul-one, mul-comm, mul-assoc, mul-pos, mul-le-mul, mul-le-mul-right, mul-mul-mul-comm, add-le-add, sub-le, sub-zero}
+use Prim.Native.Nat.{ℕ, zero, suc, _+_, _-_, _*_, _^_, _≤_, _<_}
+use native.Mathlib.Nat.{le-trans, le-of-eq, lt-irrefl, zero-lt-suc, add-mul, zero-mul, mul-zero, zero-add, mul-one, mul-comm, mul-assoc, mul-pos, mul-le-mul, mul-le-mul-right, mul-mul-mul-comm, add-le-add, sub-zero}
 use native.Mathlib.Omega.{arith}
 use mathlib.Core.Bool.{Bool, true, false, not, _&&_, _||_, Bool·beq, cond, true≢false}
-use lib.IntN.{ℤ, pos, negsuc}
-use lib.Dec.{T, ltb, leb, eqb, ltb→lt, leb→le, le→leb, eqb→eq, eqb-refl, lit<, lit≤, nltb→le}
-use lib.Pow.{pow-pos}
+use lib.IntN.{ℤ, pos}
+use lib.Dec.{T, ltb, leb, eqb, leb→le, eqb→eq, lit<, nltb→le}
 use lib.Ieee.{Float, nan, inf, fin, Format, prec, low, up, down, unlike, odd, units, round, neg, sum, add, sub, mul, le, eq, fits}
 use lib.Ieee.Fits.{down-pos, up-pos}
 use lib.Ieee.Exact.{HasValue}

@@ -1,13 +1,13 @@
 -- Whole numbers from a float, cut off or rounded. Where 0 < x < 2 ^ 32, x + x is exact, and the whole part of x + x, with one added, is twice the rounded x and perhaps one more. Assumes nothing.
 use mathlib.Core.Path.{_≡_, refl, sym, ap, _∙_, subst}
-use Prim.Native.Nat.{ℕ, zero, suc, _+_, _-_, _*_, _/_, _%_, _^_, _≤_, _<_, min}
-use native.Mathlib.Nat.{le-trans, le-of-eq, lt-of-lt-of-le, lt-of-le-of-lt, add-mul, zero-mul, mul-one, one-mul, mul-comm, mul-assoc, mul-left-comm, mul-right-comm, mul-pos, mul-lt-mul-of-pos-right, mul-le-mul-right, lt-of-mul-lt-mul-right, le-div-iff-mul-le, div-lt-iff-lt-mul, add-mul-div-right, div-div-eq-div-mul, pow-succ'}
+use Prim.Native.Nat.{ℕ, suc, _+_, _-_, _*_, _/_, _^_, _≤_, _<_, min}
+use native.Mathlib.Nat.{le-of-eq, lt-of-lt-of-le, lt-of-le-of-lt, add-mul, mul-one, one-mul, mul-comm, mul-left-comm, mul-right-comm, mul-pos, mul-lt-mul-of-pos-right, mul-le-mul-right, lt-of-mul-lt-mul-right, le-div-iff-mul-le, div-lt-iff-lt-mul, add-mul-div-right, div-div-eq-div-mul, pow-succ'}
 use native.Mathlib.Omega.{arith}
 use mathlib.Core.Bool.{Bool, true, false, not, _&&_, _||_, cond, true≢false, false≢true}
-use lib.IntN.{ℤ, pos, negsuc}
-use lib.Dec.{T, ltb, leb, eqb, ltb→lt, lt→ltb, leb→le, nleb→lt, nltb→le, eqb→eq, lit<, lit≤}
-use lib.Pow.{pow-add, pow-pos}
-use lib.Ieee.{Float, nan, inf, fin, binary64, low, up, down, round, add, lt, le, fits, toUnsigned}
+use lib.IntN.{ℤ, pos}
+use lib.Dec.{T, ltb, leb, eqb, lt→ltb, leb→le, nleb→lt, nltb→le, eqb→eq, lit≤}
+use lib.Pow.{pow-pos}
+use lib.Ieee.{Float, nan, inf, fin, binary64, up, down, add, lt, le, fits, toUnsigned}
 use lib.Ieee.Fits.{down-pos, and-r}
 use lib.Ieee.Exact.{HasValue, round-exact}
 use Rattle.numbers.specs.Words.{naught}

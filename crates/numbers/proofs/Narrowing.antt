@@ -3,14 +3,14 @@
 use mathlib.Core.Path.{_≡_, refl, sym, ap, _∙_, subst}
 use mathlib.Core.Logic.{_⊎_, inl, inr}
 use Prim.Native.Nat.{ℕ, zero, suc, _+_, _-_, _*_, _/_, _%_, _^_, _≤_, _<_, compare, Ordering, Ordering·lt, Ordering·eq, Ordering·gt}
-use native.Mathlib.Nat.{le-refl, le-trans, le-of-eq, le-of-lt, lt-of-lt-of-le, lt-of-le-of-lt, lt-of-not-le, not-le-of-lt, zero-add, add-zero, add-mul, add-sub-cancel, mul-one, one-mul, mul-comm, mul-assoc, mul-right-comm, mul-pos, mul-le-mul, mul-le-mul-right, mul-lt-mul-of-pos-right, mul-div-cancel, mul-mod-left, le-div-iff-mul-le, div-lt-iff-lt-mul, add-mul-div-right, add-mul-mod-self-right, mod-eq-of-lt, le-add-left, le-add-right, lt-of-mul-lt-mul-right, eq-zero-or-pos}
+use native.Mathlib.Nat.{le-trans, le-of-eq, lt-of-lt-of-le, lt-of-le-of-lt, lt-of-not-le, not-le-of-lt, zero-add, add-mul, add-sub-cancel, mul-comm, mul-assoc, mul-pos, mul-le-mul, mul-le-mul-right, mul-lt-mul-of-pos-right, mul-div-cancel, mul-mod-left, le-div-iff-mul-le, div-lt-iff-lt-mul, add-mul-div-right, add-mul-mod-self-right, mod-eq-of-lt, le-add-left, lt-of-mul-lt-mul-right, eq-zero-or-pos}
 use native.Mathlib.Omega.{arith}
 use mathlib.Core.Bool.{Bool, true, false, not, _&&_, cond}
-use lib.IntN.{ℤ, pos, negsuc}
-use lib.Dec.{T, ltb, leb, eqb, ltb→lt, eqb→eq, not-T, lit≤, lit<}
+use lib.IntN.{ℤ}
+use lib.Dec.{T, ltb, leb, eqb, eqb→eq, not-T, lit<}
 use lib.Arith.{lt→nleb}
 use lib.Pow.{pow-add, pow-pos, pow-mono}
-use lib.Ieee.{Float, nan, inf, fin, Format, binary32, binary64, prec, emax, low, up, down, size, nearest, odd, units, round, add, sub, fits, isNan, ofFields, ofBits, toBits, nanBits}
+use lib.Ieee.{Float, nan, inf, fin, Format, binary32, binary64, prec, low, up, down, size, nearest, odd, units, round, add, sub, fits, isNan, ofFields, ofBits, toBits, nanBits}
 use lib.Ieee.Digits.{size-lt, size-le, size-reaches}
 use lib.Ieee.Fits.{nearest-le, kept-lt, round-fits, sub-fits, fits-widens, and-i, down-pos}
 use lib.Ieee.Bits.{is-false, cond-no, nanBits-is}

@@ -1,7 +1,7 @@
 -- The loop that subtracts 1: each difference is exact, so each turn takes 1 off the whole part, and what is left at the end is proper.
 -- `Spinning` is its invariant, `spun` a turn, `spun-out` its end. Assumes nothing.
 use mathlib.Core.Path.{_≡_, refl, sym, ap, _∙_, subst}
-use mathlib.Core.Logic.{_⊎_, inl, inr}
+use mathlib.Core.Logic.{inl, inr}
 use Prim.Native.Nat.{ℕ, zero, suc, _+_, _-_, _*_, _/_, _^_, _≤_, _<_}
 use native.Mathlib.Nat.{le-refl, le-trans, le-of-lt, lt-of-lt-of-le, lt-of-le-of-lt, zero-mul, zero-sub, mul-one, one-mul, mul-assoc, mul-le-mul, mul-le-mul-right, mul-lt-mul-of-pos-right, sub-le, div-eq-sub-div, div-mul-le-self, div-lt-iff-lt-mul, le-div-iff-mul-le, div-eq-of-lt, eq-or-lt-of-le}
 use native.Mathlib.Numerals.{add-one}
@@ -10,7 +10,7 @@ use mathlib.Core.Bool.{Bool, true, false, true≢false, _&&_, _||_}
 use lib.IntN.{ℤ, pos, negsuc}
 use lib.Dec.{T, ltb, eqb, lit<, lit≤}
 use lib.Pow.{pow-add, pow-pos, pow-mono}
-use lib.Ieee.{Float, nan, inf, fin, binary64, up, down, round, add, sub, lt, le, fits}
+use lib.Ieee.{Float, nan, inf, fin, binary64, up, down, round, add, sub, le, fits}
 use lib.Ieee.Fits.{down-pos, sub-fits, add-fits}
 use lib.Ieee.Exact.{HasValue, round-exact}
 use lib.Ieee.Nearest.{div-same}

@@ -1,15 +1,14 @@
 -- Floats by the fractions that they equal (`HasValue`): a fraction has one float of a format, and a sum or a difference of two floats is the sum or difference of their fractions, rounded.
 -- Assumes nothing.
 use mathlib.Core.Path.{_≡_, refl, sym, ap, _∙_, subst}
-use mathlib.Core.Logic.{_⊎_, inl, inr}
 use Prim.Native.Nat.{ℕ, zero, suc, _+_, _-_, _*_, _/_, _%_, _^_, _≤_, _<_, min}
-use native.Mathlib.Nat.{le-trans, le-of-eq, le-of-lt, lt-irrefl, lt-of-not-le, lt-of-le-of-lt, lt-of-lt-of-le, lt-of-mul-lt-mul-right, mul-lt-mul-of-pos-right, le-of-mul-le-mul-right, zero-lt-suc, not-le-of-lt, zero-mul, mul-one, one-mul, mul-comm, mul-assoc, mul-left-comm, mul-right-comm, mul-pos, mul-sub, mul-le-mul-right, add-mul, eq-of-mul-eq-mul-right, pow-succ', pow-suc}
+use native.Mathlib.Nat.{le-of-eq, le-of-lt, lt-irrefl, lt-of-le-of-lt, lt-of-lt-of-le, lt-of-mul-lt-mul-right, mul-lt-mul-of-pos-right, le-of-mul-le-mul-right, zero-lt-suc, not-le-of-lt, zero-mul, mul-one, one-mul, mul-comm, mul-assoc, mul-left-comm, mul-right-comm, mul-pos, mul-sub, mul-le-mul-right, add-mul, eq-of-mul-eq-mul-right, pow-succ', pow-suc}
 use native.Mathlib.Omega.{arith}
 use mathlib.Core.Bool.{Bool, true, false, not, _&&_, _||_, cond, true≢false}
 use lib.IntN.{ℤ, pos, negsuc}
-use lib.Dec.{T, ltb, leb, eqb, ltb→lt, lt→ltb, leb→le, le→leb, nleb→lt, eqb→eq}
+use lib.Dec.{T, ltb, leb, eqb, ltb→lt, leb→le, le→leb, nleb→lt, eqb→eq}
 use lib.Pow.{pow-add, pow-pos, pow-lt}
-use lib.Ieee.{Float, nan, inf, fin, Format, prec, emax, low, up, down, round, sum, add, sub, lt, le, fits, toUnsigned}
+use lib.Ieee.{Float, nan, inf, fin, Format, prec, emax, low, up, down, round, sum, add, sub, le, fits, toUnsigned}
 use lib.Ieee.Fits.{up-pos, down-pos, and-l, and-r, round-fits}
 use lib.Ieee.Exact.{HasValue, round-exact}
 use lib.Ieee.Nearest.{div-same}
@@ -93,9 +92,6 @@ cross : (X Y a c p q : ℕ) → 0 < c → X * c ≡ a * p → Y * c ≡ a * q �
 cross X Y a c p q C h k =
     eq-of-mul-eq-mul-right c C (X * q) (Y * p)
     (mul-right-comm X q c ∙ ap (λ (x : ℕ). x * q) h ∙ mul-right-comm a p q ∙ ap (λ (x : ℕ). x * p) (sym k) ∙ mul-right-comm Y c p)
-
-zero-is : (n : ℕ) (u d v : ℕ) → 0 < u → 0 < d → zero * v * d ≡ suc n * u * d → ⊥
-zero-is n u d v U D h = lt-irrefl 0 (subst (λ (x : ℕ). 0 < x) (sym h ∙ ap (λ (y : ℕ). y * d) (zero-mul v) ∙ zero-mul d) (mul-pos (mul-pos (zero-lt-suc n) U) D))
 
 zero-not : (n : ℕ) (e g : ℤ) → zero * up e * down g ≡ suc n * up g * down e → ⊥
 zero-not n e g h = lt-irrefl 0 (subst (λ (x : ℕ). 0 < x) (sym h ∙ ap (λ (y : ℕ). y * down g) (zero-mul (up e)) ∙ zero-mul (down g)) (mul-pos (mul-pos (zero-lt-suc n) (up-pos g)) (down-pos e)))
@@ -251,22 +247,6 @@ le-at (fin false m e) (fin false n d) a b c C v w =
     same-test (le (fin false m e) (fin false n d)) (leb a b)
     (λ t. le→leb a b (le-of-mul-le-mul-right (transfer a b c c (m * up e) (n * up d) (down e) (down d) (down-pos e) (down-pos d) (sym (v .1)) (sym (w .1)) (lt-or-eq (m * up e * down d) (n * up d * down e) t)) C))
     (λ t. le-of-values (fin false m e) (fin false n d) a c b c C C v w (mul-le-mul-right c (leb→le a b t)))
-
-pub lt-at : (x y : Float) (a b c : ℕ) → 0 < c → HasValue x false a c → HasValue y false b c → lt x y ≡ ltb a b
-unfolding lt
-lt-at nan y a b c C v w = absurd v
-lt-at (inf s) y a b c C v w = absurd v
-lt-at (fin s m e) nan a b c C v w = absurd w
-lt-at (fin s m e) (inf t) a b c C v w = absurd w
-lt-at (fin true m e) (fin t n d) a b c C v w = absurd (true≢false (v .0))
-lt-at (fin false m e) (fin true n d) a b c C v w = absurd (true≢false (w .0))
-lt-at (fin false m e) (fin false n d) a b c C v w =
-    let X = m * up e * down d in
-    let Y = n * up d * down e in
-    same-test (ltb X Y) (ltb a b)
-    (λ t. lt→ltb a b (lt-of-not-le (λ (g : b ≤ a). not-le-of-lt (ltb→lt X Y t) (transfer (n * up d) (m * up e) (down d) (down e) b a c c C C (w .1) (v .1) (mul-le-mul-right c g)))))
-    (λ t. lt→ltb X Y (lt-of-not-le (λ (g : Y ≤ X). not-le-of-lt (ltb→lt a b t)
-    (le-of-mul-le-mul-right (transfer b a c c (n * up d) (m * up e) (down d) (down e) (down-pos d) (down-pos e) (sym (w .1)) (sym (v .1)) g) C))))
 
 -- ---- the whole part, as a cast takes it
 pub unsigned-of-value : (y : Float) (a c : ℕ) → 0 < c → HasValue y false a c → a / c < 2 ^ 64 → toUnsigned 64 y ≡ a / c

@@ -3,7 +3,7 @@
 use Prim.Native.Nat.{ℕ, zero, suc, _*_, _/_}
 use mathlib.Core.Bool.{Bool, true, false, not, _&&_}
 use lib.IntN.{pos, negsuc}
-use lib.Ieee.{Float, nan, inf, fin, binary32, binary64, up, down, round, add, sub, mul, lt, ofInt}
+use lib.Ieee.{Float, nan, inf, fin, binary32, binary64, up, down, round, sub, mul, lt, ofInt}
 use Rattle.numbers.specs.declared.Stepped.{Stepped}
 
 -- positive zero

@@ -1,10 +1,7 @@
 -- `numbers::advance_by` meets its contract. The invariant: the steps made and what is left make the sum (`Spinning`).
 -- The measure is the whole part of what is left. Assumes nothing.
-use mathlib.Core.Path.{_≡_, refl, sym, subst}
-use Prim.Native.Nat.{ℕ}
 use native.Mathlib.Omega.{arith}
-use lib.Ieee.{Float, binary64, add, ofBits}
-use Rattle.numbers.specs.declared.Stepped.{Stepped}
+use lib.Ieee.{binary64, add, ofBits}
 use Rattle.numbers.specs.Words.{whole}
 use Rattle.numbers.proofs.Stepping.{Spinning, spinning, spun, spun-out}
 use Rattle.numbers.proofs.advance_by.Statement.{statement}

@@ -1,14 +1,11 @@
 -- `numbers::cut` meets its contract. Assumes nothing.
-use mathlib.Core.Path.{_≡_, _∙_}
+use mathlib.Core.Path.{_∙_}
 use lib.Dec.{lit≤}
 use Prim.Native.Nat.{_^_}
 use lib.Ieee.{ofBits}
 use Rattle.numbers.proofs.Frames.{Under, middle, wider, asked, cut-large, cut-low, cut-middle}
 use Rattle.numbers.proofs.cut.Statement.{statement}
 use Rattle.numbers.proofs.cut.Tie as tie
-use Rattle.numbers.proofs.cut.Reads as reads
-use Rattle.numbers.proofs.cut.Lts as lts
-use Rattle.std.proofs.num.truncating_f64_to_u64.Reads as truncating-f64-to-u64-reads
 
 here : (c : tie.Then2) → Under (2 ^ 32) (c .before .before .args .x)
 unfolding ofBits

@@ -3,8 +3,6 @@ use lib.Ieee.{ofBits}
 use Rattle.numbers.proofs.Signs.{below-top, at-top}
 use Rattle.numbers.proofs.is_finite.Statement.{statement}
 use Rattle.numbers.proofs.is_finite.Tie as tie
-use Rattle.numbers.proofs.is_finite.Reads as reads
-use Rattle.numbers.proofs.is_finite.Lts as lts
 
 returns : tie.Need-returns
 unfolding ofBits

@@ -1,5 +1,5 @@
 -- `numbers::is_level` meets its contract: below infinity, the top bit is clear where the sign is. Assumes nothing.
-use mathlib.Core.Path.{_≡_, sym, subst}
+use mathlib.Core.Path.{sym, subst}
 use lib.Dec.{T}
 use lib.Ieee.{ofBits}
 use Rattle.numbers.proofs.Signs.{below-number, level-bits, not-level}

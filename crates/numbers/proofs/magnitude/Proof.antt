@@ -1,5 +1,5 @@
 -- `numbers::magnitude` meets its contract: a number's bits without the top one are its magnitude's. Assumes nothing.
-use mathlib.Core.Path.{_≡_, sym, subst}
+use mathlib.Core.Path.{sym, subst}
 use mathlib.Core.Bool.{not}
 use lib.Dec.{T}
 use lib.Ieee.{isNan}

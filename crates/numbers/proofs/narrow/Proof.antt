@@ -1,16 +1,13 @@
 -- `numbers::narrow` meets its contract: `proofs/Narrowing.antt` has the whole. Assumes nothing.
-use mathlib.Core.Path.{_≡_, sym, subst}
-use mathlib.Core.Logic.{_⊎_, inl, inr, ⊎-elim}
+use mathlib.Core.Path.{sym, subst}
+use mathlib.Core.Logic.{inl, inr, ⊎-elim}
 use mathlib.Core.Bool.{not, _&&_}
-use Prim.Native.Nat.{ℕ, _+_, _*_, _%_, _/_, _^_, _≤_, _<_}
 use native.Mathlib.Omega.{arith}
 use lib.Dec.{T}
-use lib.Ieee.{Float, binary32, binary64, fits, isNan, toBits}
-use Rattle.numbers.proofs.Narrowing.{Chosen, Narrows, narrows, proper-no-nan, magic-no-nan, narrowed-fits}
+use lib.Ieee.{Float, binary32, fits, isNan}
+use Rattle.numbers.proofs.Narrowing.{Narrows, narrows, proper-no-nan, magic-no-nan, narrowed-fits}
 use Rattle.numbers.proofs.narrow.Statement.{statement}
 use Rattle.numbers.proofs.narrow.Tie as tie
-use Rattle.numbers.proofs.narrow.Reads as reads
-use Rattle.numbers.proofs.narrow.Lts as lts
 
 float-to-bits-bits : tie.Need-float-to-bits-bits
 float-to-bits-bits c = proper-no-nan (c .args .x) (c .pre)

@@ -1,15 +1,12 @@
 -- `numbers::round_half_away` meets its contract. Assumes nothing.
-use mathlib.Core.Path.{_≡_, _∙_, sym, ap, subst}
-use Prim.Native.Nat.{ℕ, _+_, _/_, _^_, _<_}
+use mathlib.Core.Path.{_∙_, sym, ap, subst}
+use Prim.Native.Nat.{ℕ, _+_, _/_, _^_}
 use native.Mathlib.Omega.{arith}
 use lib.Dec.{T, lit≤}
 use lib.Ieee.{ofBits, binary64, add}
-use Rattle.numbers.proofs.Frames.{Under, Doubled, middle, wider, asked, doubled, rounded-large, rounded-low}
+use Rattle.numbers.proofs.Frames.{Doubled, middle, wider, asked, doubled, rounded-large, rounded-low}
 use Rattle.numbers.proofs.round_half_away.Statement.{statement}
 use Rattle.numbers.proofs.round_half_away.Tie as tie
-use Rattle.numbers.proofs.round_half_away.Reads as reads
-use Rattle.numbers.proofs.round_half_away.Lts as lts
-use Rattle.std.proofs.num.truncating_f64_to_u64.Reads as truncating-f64-to-u64-reads
 
 here : (c : tie.Then2) → Doubled (c .before .before .args .x)
 unfolding ofBits
