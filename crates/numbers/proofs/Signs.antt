@@ -8,7 +8,7 @@ use mathlib.Core.Bool.{Bool, true, false, not, _&&_, _||_, Bool·beq, cond, true
 use lib.IntN.{ℤ}
 use lib.Dec.{T, ltb, eqb, eqb-refl}
 use lib.Bits.{bitAnd, and-mask}
-use lib.Ieee.{Float, nan, inf, fin, Format, binary32, binary64, prec, low, emax, up, down, odd, units, round, neg, mul, div, lt, le, eq, fits, isNan, toBits, ofBits, nanBits}
+use lib.Ieee.{Float, nan, inf, fin, Format, binary32, binary64, prec, low, emax, top, up, down, odd, units, round, neg, mul, div, lt, le, eq, fits, isNan, toBits, ofBits, nanBits}
 use lib.Ieee.Fits.{neg-fits, inf-fits}
 use lib.Ieee.Bits.{ofBits-toBits, toBits-lt, nanBits-is}
 use borrow.Author.Tests.{lt-ltb, le-ltb}
@@ -80,50 +80,37 @@ finite-number nan h = absurd h
 finite-number (inf s) h = absurd h
 finite-number (fin s m e) h = tt
 
-abbrev top : Format → Float
-top f = div f one naught
+abbrev infinity : Format → Float
+infinity f = div f one naught
 
-pub below-top : (x : Float) → lt x (top binary64) ≡ true → lt (neg (top binary64)) x ≡ finite x
+pub below-infinity : (x : Float) → lt x (infinity binary64) ≡ true → lt (neg (infinity binary64)) x ≡ finite x
 unfolding lt div neg
-below-top nan h = refl
-below-top (inf true) h = refl
-below-top (inf false) h = absurd (false≢true h)
-below-top (fin s m e) h = refl
+below-infinity nan h = refl
+below-infinity (inf true) h = refl
+below-infinity (inf false) h = absurd (false≢true h)
+below-infinity (fin s m e) h = refl
 
-pub at-top : (x : Float) → lt x (top binary64) ≡ false → lt x (top binary64) ≡ finite x
+pub at-infinity : (x : Float) → lt x (infinity binary64) ≡ false → lt x (infinity binary64) ≡ finite x
 unfolding lt div
-at-top nan h = refl
-at-top (inf true) h = absurd (true≢false h)
-at-top (inf false) h = refl
-at-top (fin s m e) h = refl
+at-infinity nan h = refl
+at-infinity (inf true) h = absurd (true≢false h)
+at-infinity (inf false) h = refl
+at-infinity (fin s m e) h = refl
 
--- ---- the sign bit, among the bits
--- its place
-abbrev sign : Format → ℕ
-sign binary32 = 2 ^ 31
-sign binary64 = 2 ^ 63
-
-pub set-bit : (f : Format) (m : ℕ) (e : ℤ) → toBits f (fin true m e) ≡ sign f + toBits f (fin false m e)
+-- ---- the sign bit, among the bits: the top one
+pub set-bit : (f : Format) (m : ℕ) (e : ℤ) → toBits f (fin true m e) ≡ top f + toBits f (fin false m e)
 unfolding toBits
-set-bit binary32 m e = go _ _
+set-bit f m e = go (top f) _ _
   where
-    go : (a b : ℕ) → 2 ^ 31 + a + b ≡ 2 ^ 31 + (0 + a + b)
-    go a b = omega arith
-set-bit binary64 m e = go _ _
-  where
-    go : (a b : ℕ) → 2 ^ 63 + a + b ≡ 2 ^ 63 + (0 + a + b)
-    go a b = omega arith
+    go : (t a b : ℕ) → t + a + b ≡ t + (0 + a + b)
+    go t a b = omega arith
 
-pub clear-bit : (f : Format) (m : ℕ) (e : ℤ) → T (fits f (fin false m e)) → toBits f (fin false m e) < sign f
+pub clear-bit : (f : Format) (m : ℕ) (e : ℤ) → T (fits f (fin false m e)) → toBits f (fin false m e) < top f
 unfolding neg
-clear-bit binary32 m e t = less (toBits binary32 (fin false m e)) (subst (λ (z : ℕ). z < 2 ^ 32) (set-bit binary32 m e) (toBits-lt binary32 (fin true m e) (neg-fits binary32 (fin false m e) t)))
+clear-bit f m e t = less (top f) (toBits f (fin false m e)) (subst (λ (z : ℕ). z < 2 * top f) (set-bit f m e) (toBits-lt f (fin true m e) (neg-fits f (fin false m e) t)))
   where
-    less : (b : ℕ) → 2 ^ 31 + b < 2 ^ 32 → b < 2 ^ 31
-    less b h = omega arith
-clear-bit binary64 m e t = less (toBits binary64 (fin false m e)) (subst (λ (z : ℕ). z < 2 ^ 64) (set-bit binary64 m e) (toBits-lt binary64 (fin true m e) (neg-fits binary64 (fin false m e) t)))
-  where
-    less : (b : ℕ) → 2 ^ 63 + b < 2 ^ 64 → b < 2 ^ 63
-    less b h = omega arith
+    less : (t b : ℕ) → t + b < 2 * t → b < t
+    less t b h = omega arith
 
 -- ---- the magnitude
 pub magnitude-clear : (x : Float) → T (clear (magnitude x))
@@ -191,13 +178,13 @@ self-nan (inf false) h = absurd (true≢false h)
 self-nan (fin s m e) h = absurd (true≢false (sym (equal-self (fin s m e) tt) ∙ h))
 
 -- ---- level
-pub below-number : (x : Float) → lt x (top binary32) ≡ true → T (not (isNan x))
+pub below-number : (x : Float) → lt x (infinity binary32) ≡ true → T (not (isNan x))
 unfolding lt div isNan
 below-number nan h = absurd (false≢true h)
 below-number (inf s) h = tt
 below-number (fin s m e) h = tt
 
-pub level-bits : (x : Float) → T (fits binary32 x) → lt x (top binary32) ≡ true → ltb (toBits binary32 x) (2 ^ 31) ≡ level x
+pub level-bits : (x : Float) → T (fits binary32 x) → lt x (infinity binary32) ≡ true → ltb (toBits binary32 x) (2 ^ 31) ≡ level x
 unfolding lt div
 level-bits nan t h = absurd (false≢true h)
 level-bits (inf false) t h = absurd (false≢true h)
@@ -208,7 +195,7 @@ level-bits (fin true m e) t h = ap (λ (n : ℕ). ltb n (2 ^ 31)) (set-bit binar
     more b = omega arith
 level-bits (fin false m e) t h = lt-ltb _ _ (clear-bit binary32 m e t)
 
-pub not-level : (x : Float) → lt x (top binary32) ≡ false → lt x (top binary32) ≡ level x
+pub not-level : (x : Float) → lt x (infinity binary32) ≡ false → lt x (infinity binary32) ≡ level x
 unfolding lt div
 not-level nan h = refl
 not-level (inf false) h = refl
