@@ -1,0 +1,4 @@
+-- What contracts on numbers cite, and the crates above.
+pub mod Words
+pub mod Frames
+pub mod Lists

@@ -1,0 +1,79 @@
+-- Words for floats by their values: document 01, Numbers and their refusals, The window of four, and Creation, commands, block.
+-- `fin s m e` is m * 2 ^ e, its sign bit s; that is m * up e / down e.
+use Prim.Native.Nat.{ℕ, zero, suc, _*_, _/_}
+use mathlib.Core.Bool.{Bool, true, false, not, _&&_}
+use lib.IntN.{pos, negsuc}
+use lib.Ieee.{Float, nan, inf, fin, binary32, binary64, up, down, round, sub, mul, lt, ofInt}
+use Rattle.numbers.specs.declared.Stepped.{Stepped}
+
+-- positive zero
+abbrev pub naught : Float
+naught = fin false 0 (pos 0)
+
+abbrev pub one : Float
+one = fin false 1 (pos 0)
+
+-- neither a NaN nor an infinity
+abbrev pub finite : Float → Bool
+finite nan = false
+finite (inf s) = false
+finite (fin s m e) = true
+
+-- finite, and its sign bit is clear
+abbrev pub level : Float → Bool
+level nan = false
+level (inf s) = false
+level (fin s m e) = not s
+
+-- exactly positive zero
+abbrev pub isNaught : Float → Bool
+isNaught nan = false
+isNaught (inf s) = false
+isNaught (fin true m e) = false
+isNaught (fin false (suc m) e) = false
+isNaught (fin false zero (negsuc k)) = false
+isNaught (fin false zero (pos (suc k))) = false
+isNaught (fin false zero (pos zero)) = true
+
+-- below 0: minus zero is not
+abbrev pub negative : Float → Bool
+negative x = lt x naught
+
+-- at least 0, below 1, and the sign bit is clear
+abbrev pub proper : Float → Bool
+proper x = level x && lt x one
+
+-- without its sign
+unfoldable pub magnitude : Float → Float
+magnitude nan = nan
+magnitude (inf s) = inf false
+magnitude (fin s m e) = fin false m e
+
+-- the nearest f32, ties to even
+unfoldable pub narrowed : Float → Float
+narrowed nan = nan
+narrowed (inf s) = inf s
+narrowed (fin s m e) = round binary32 s (m * up e) (down e)
+
+-- the whole part
+unfoldable pub whole : Float → ℕ
+whole nan = 0
+whole (inf s) = 0
+whole (fin s m e) = m * up e / down e
+
+-- 1 subtracted n times, each difference rounded
+unfoldable pub taken : ℕ → Float → Float
+taken zero x = x
+taken (suc n) x = taken n (sub binary64 x one)
+
+-- what is left once 1 is subtracted as often as it is there
+unfoldable pub part : Float → Float
+part x = taken (whole x) x
+
+-- a sum of fraction and advance: the steps that it makes, and the fraction that it leaves
+abbrev pub stepped : Float → Stepped
+stepped x = record { steps = whole x; rest = part x }
+
+-- (sample rate * lane rate without its sign) * time step
+unfoldable pub advance : ℕ → Float → Float → Float
+advance hz rate step = mul binary64 (mul binary64 (ofInt binary64 (pos hz)) (magnitude rate)) step
