@@ -7,8 +7,8 @@ mod rules;
 
 use common::{BASE, frames};
 use oracle::{
-    Answer, Commands, EndPosition, Entry, Frame, LaneBuffers, Oracle, PlaybackPosition,
-    PlaybackState, Region, Settings, Signals, State,
+    Answer, Commands, EndPosition, Entry, Frame, LIMIT, LaneBuffers, Lanes, Oracle,
+    PlaybackPosition, PlaybackState, Region, Settings, Signals, State,
     leaves::{self, Transport, Window},
     same_f32, same_f64,
 };
@@ -108,38 +108,96 @@ fn seconds_agree() {
 }
 
 #[test]
-fn whole_voices_agree() {
-    for seed in 1..3_000 {
+fn voices_agree_from_their_creation_on() {
+    for seed in 0..3_000 {
         let mut random = Random::new(seed);
         let sound = any_sound(&mut random);
         let settings = any_settings(&mut random, sound.len() / 2);
-        let mut original = Oracle::create(&settings, &sound, BASE);
-        let mut voice = Voice::create(&settings, sound);
-        for _ in 0..12 {
-            assert_same(&original.state(), &voice.state, seed);
-            assert!(voice.state.is_well_formed());
-            if random.one_in(3) {
-                let n = voice.state.num_frames();
-                let commands = any_commands(&mut random, n, settings.sample_rate);
-                let reported = original.command(&commands).unwrap();
-                assert!(same_f64(reported, voice.command(&commands)));
-                assert_same(&original.state(), &voice.state, seed);
-            }
-            let length = random.below(9);
-            let lanes = any_lanes(&mut random, length);
-            let dt = (0.1 + random.unit()) / f64::from(settings.sample_rate);
-            let signals = any_signals(&mut random);
-            let mut heard = vec![f32::NAN; 2 * lanes.rate.len()];
-            let steps = original.block(&lanes.lend(), dt, signals, &mut heard);
-            let (told, counted) = voice.block(&lanes, dt, signals);
-            assert_eq!(steps, counted, "seed {seed}");
-            let mut pairs = heard.iter().zip(&told);
-            assert!(pairs.all(|(a, b)| same_f32(*a, *b)), "seed {seed}");
-            if random.coin() {
-                original = Oracle::inject(&original.state(), &voice.sound, BASE);
-            }
+        let original = Oracle::create(&settings, &sound, BASE);
+        let voice = Voice::create(&settings, sound);
+        assert_agreement(original, voice, &mut random, seed);
+    }
+}
+
+#[test]
+fn voices_agree_from_any_well_formed_state_on() {
+    for seed in 0..10_000 {
+        let mut random = Random::new(seed);
+        let sound = any_sound(&mut random);
+        let state = any_state(&mut random, sound.len() / 2);
+        let original = Oracle::inject(&state, &sound, BASE);
+        let voice = Voice { state, sound };
+        assert_agreement(original, voice, &mut random, seed);
+    }
+}
+
+#[test]
+fn a_cut_block_is_the_same_block() {
+    for seed in 0..2_000 {
+        let mut random = Random::new(seed);
+        let sound = any_sound(&mut random);
+        let state = any_state(&mut random, sound.len() / 2);
+        let mut whole = Oracle::inject(&state, &sound, BASE);
+        let mut cut = Oracle::inject(&state, &sound, BASE);
+        let lanes = any_lanes(&mut random, 8);
+        let signals = any_signals(&mut random);
+        let place = random.below(9);
+        let dt = 1.0 / f64::from(state.sample_rate);
+        let (mut heard, mut parts) = ([f32::NAN; 16], [f32::NAN; 16]);
+        let steps = whole.block(&lanes.lend(), dt, signals, &mut heard);
+        let (first, rest) = parts.split_at_mut(2 * place);
+        let part = |range: std::ops::Range<usize>| Lanes {
+            fade: &lanes.fade[range.clone()],
+            volume: &lanes.volume[range.clone()],
+            left: &lanes.left[range.clone()],
+            right: &lanes.right[range.clone()],
+            rate: &lanes.rate[range],
+        };
+        let before = cut.block(&part(0..place), dt, signals, first);
+        let stopped_inside = cut.finished();
+        let after = cut.block(&part(place..8), dt, Signals::default(), rest);
+        assert_same_samples(&heard, &parts, seed);
+        if !stopped_inside {
+            assert_eq!(steps, before + after, "seed {seed}");
+            assert_same(&whole.state(), &cut.state(), seed);
         }
     }
+}
+
+/// Some rounds of commands and blocks on both, compared after each.
+fn assert_agreement(mut original: Oracle, mut voice: Voice, random: &mut Random, seed: u64) {
+    let sample_rate = voice.state.sample_rate;
+    for _ in 0..12 {
+        assert_same(&original.state(), &voice.state, seed);
+        assert!(voice.state.is_well_formed());
+        if random.one_in(3) {
+            let commands = any_commands(random, &voice.state);
+            let reported = original.command(&commands).unwrap();
+            assert!(same_f64(reported, voice.command(&commands)));
+            assert_same(&original.state(), &voice.state, seed);
+        }
+        let length = random.below(9);
+        let lanes = any_lanes(random, length);
+        let dt = (0.1 + random.unit()) / f64::from(sample_rate);
+        let signals = any_signals(random);
+        let mut heard = vec![f32::NAN; 2 * length];
+        let steps = original.block(&lanes.lend(), dt, signals, &mut heard);
+        let (told, counted) = voice.block(&lanes, dt, signals);
+        assert_eq!(steps, counted, "seed {seed}");
+        assert_same_samples(&heard, &told, seed);
+        if random.coin() {
+            original = Oracle::inject(&original.state(), &voice.sound, BASE);
+        }
+    }
+}
+
+fn assert_same_samples(heard: &[f32], told: &[f32], seed: u64) {
+    let mut pairs = heard.iter().zip(told);
+    assert_eq!(heard.len(), told.len());
+    assert!(
+        pairs.all(|(a, b)| same_f32(*a, *b)),
+        "seed {seed}\n{heard:?}\n{told:?}"
+    );
 }
 
 fn assert_same(original: &State, voice: &State, seed: u64) {
@@ -204,21 +262,71 @@ fn any_settings(random: &mut Random, total: usize) -> Settings {
     }
 }
 
-fn any_commands(random: &mut Random, n: usize, sample_rate: u32) -> Commands {
-    let rate = f64::from(sample_rate);
+/// Any well formed state, reached or not.
+fn any_state(random: &mut Random, total: usize) -> State {
+    let settings = any_settings(random, total);
+    let rate = settings.sample_rate;
+    let slice = settings.slice.map(|r| rules::to_region(r, rate, total));
+    let n = slice.map_or(total, |(start, end)| end - start);
+    let count = random.below(5);
+    let playing = random.below(4) != 0;
+    let mut window = [Entry::default(); 4];
+    for (place, entry) in window.iter_mut().enumerate() {
+        entry.number = any_number(random, 2 * n);
+        if place < count {
+            let frame = any_frame(random);
+            (entry.left, entry.right) = (frame.left, frame.right);
+        }
+    }
+    State {
+        sample_rate: rate,
+        total_frames: total,
+        slice,
+        reverse: settings.reverse,
+        rate: settings.rate,
+        started: random.below(4) != 0,
+        playback: PlaybackState::ALL[random.below(7)],
+        fraction: [0.0, 1.0f64.next_down(), random.unit()][random.below(3)],
+        position: if playing {
+            random.below(n)
+        } else {
+            any_number(random, 2 * n)
+        },
+        loop_region: settings.loop_region.map(|r| rules::to_region(r, rate, n)),
+        playing,
+        window,
+        count,
+    }
+}
+
+/// Mostly a small number, at times the largest.
+fn any_number(random: &mut Random, limit: usize) -> usize {
+    if random.one_in(20) {
+        LIMIT
+    } else {
+        random.below(limit)
+    }
+}
+
+/// Any accepted command set.
+fn any_commands(random: &mut Random, state: &State) -> Commands {
+    let (n, rate) = (state.num_frames(), f64::from(state.sample_rate));
     let mut seek = || {
         let amount = (random.unit() * 3.0 - 1.5) * n as f64 / rate;
         random.one_in(3).then_some(amount)
     };
     let (seek_by, seek_to) = (seek(), seek());
-    let region = random.coin().then(|| any_region(random, n, sample_rate));
+    let accepted = |by: &f64| (state.position as f64 / rate + by) * rate < LIMIT as f64;
+    let region = random
+        .coin()
+        .then(|| any_region(random, n, state.sample_rate));
     Commands {
         rate: random.coin().then(|| any_rate(random)),
         loop_region: random.coin().then_some(region),
         pause: random.one_in(5),
         resume: random.one_in(4).then(|| random.coin()),
         stop: random.one_in(12),
-        seek_by,
+        seek_by: seek_by.filter(accepted),
         seek_to,
     }
 }
