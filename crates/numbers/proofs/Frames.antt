@@ -1,4 +1,5 @@
--- Whole numbers from a float, cut off or rounded. Where 0 < x < 2 ^ 32, x + x is exact, and the whole part of x + x, with one added, is twice the rounded x and perhaps one more. Assumes nothing.
+-- Whole numbers from a float, cut off or rounded. Where 0 < x < 2 ^ 32, x + x is exact,
+-- and the whole part of x + x, with one added, is twice the rounded x and perhaps one more. Assumes nothing.
 use mathlib.Core.Path.{_≡_, refl, sym, ap, _∙_, subst}
 use Prim.Native.Nat.{ℕ, suc, _+_, _-_, _*_, _/_, _^_, _≤_, _<_, min}
 use native.Mathlib.Nat.{le-of-eq, lt-of-lt-of-le, lt-of-le-of-lt, add-mul, mul-one, one-mul, mul-comm, mul-left-comm, mul-right-comm, mul-pos, mul-lt-mul-of-pos-right, mul-le-mul-right, lt-of-mul-lt-mul-right, le-div-iff-mul-le, div-lt-iff-lt-mul, add-mul-div-right, div-div-eq-div-mul, pow-succ'}

@@ -2,17 +2,18 @@
 -- The bits of a number with its sign set are those with it clear, and the top bit. Assumes nothing.
 use mathlib.Core.Path.{_≡_, refl, sym, ap, _∙_, subst}
 use Prim.Native.Nat.{ℕ, zero, suc, _+_, _-_, _*_, _%_, _^_, _≤_, _<_}
-use native.Mathlib.Nat.{add-mod-left, mod-eq-of-lt}
+use native.Mathlib.Nat.{add-mod-left, mod-eq-of-lt, mul-pos, zero-lt-suc}
 use native.Mathlib.Omega.{arith}
 use mathlib.Core.Bool.{Bool, true, false, not, _&&_, _||_, Bool·beq, cond, true≢false, false≢true}
-use lib.IntN.{ℤ}
-use lib.Dec.{T, ltb, eqb, eqb-refl}
+use lib.IntN.{ℤ, pos, negsuc}
+use lib.Dec.{T, ltb, eqb, eqb→eq, eqb-refl}
 use lib.Bits.{bitAnd, and-mask}
 use lib.Ieee.{Float, nan, inf, fin, Format, binary32, binary64, prec, low, emax, top, up, down, odd, units, round, neg, mul, div, lt, le, eq, fits, isNan, toBits, ofBits, nanBits}
-use lib.Ieee.Fits.{neg-fits, inf-fits}
+use lib.Ieee.Fits.{up-pos, neg-fits, inf-fits, and-l}
 use lib.Ieee.Bits.{ofBits-toBits, toBits-lt, nanBits-is}
 use borrow.Author.Tests.{lt-ltb, le-ltb}
-use Rattle.numbers.specs.Words.{naught, one, finite, level, magnitude}
+use Rattle.numbers.specs.Words.{naught, one, finite, level, isNaught, proper, magnitude}
+use Rattle.numbers.proofs.Values.{zero-exp}
 
 -- ---- no set sign bit
 abbrev pub clear : Float → Bool
@@ -151,13 +152,6 @@ pub number-bits : (x : Float) → T (not (isNan x)) → T (fits binary64 x) → 
 number-bits x k t =
     subst (λ (b : Bool). T (not b)) (sym (nanBits-is binary64 (bitAnd (toBits binary64 x) (2 ^ 63 - 1)) ∙ ap isNan (by-bits x k t))) (magnitude-number x k)
 
--- what equals itself is no NaN
-pub self-number : (x : Float) → eq x x ≡ true → T (not (isNan x))
-unfolding eq isNan
-self-number nan h = absurd (false≢true h)
-self-number (inf s) h = tt
-self-number (fin s m e) h = tt
-
 -- a finite value equals itself, and so does an infinity: what does not is a NaN, and its own magnitude
 pub equal-self : (x : Float) → T (finite x) → eq x x ≡ true
 unfolding eq
@@ -177,23 +171,27 @@ self-nan (inf true) h = absurd (true≢false h)
 self-nan (inf false) h = absurd (true≢false h)
 self-nan (fin s m e) h = absurd (true≢false (sym (equal-self (fin s m e) tt) ∙ h))
 
--- ---- level
-pub below-number : (x : Float) → lt x (infinity binary32) ≡ true → T (not (isNan x))
-unfolding lt div isNan
-below-number nan h = absurd (false≢true h)
-below-number (inf s) h = tt
-below-number (fin s m e) h = tt
+-- ---- tests by the top bit, once it is known that there is no NaN
+low-bits : (f : Format) (s : Bool) (m : ℕ) (e : ℤ) → T (fits f (fin s m e)) → ltb (toBits f (fin s m e)) (top f) ≡ not s
+low-bits f true m e t = ap (λ (n : ℕ). ltb n (top f)) (set-bit f m e) ∙ le-ltb _ _ (more (top f) (toBits f (fin false m e)))
+  where
+    more : (t b : ℕ) → t ≤ t + b
+    more t b = omega arith
+low-bits f false m e t = lt-ltb _ _ (clear-bit f m e t)
+
+-- level
+pub below-number : (x y : Float) → lt x y ≡ true → T (not (isNan x))
+unfolding lt isNan
+below-number nan y h = absurd (false≢true h)
+below-number (inf s) y h = tt
+below-number (fin s m e) y h = tt
 
 pub level-bits : (x : Float) → T (fits binary32 x) → lt x (infinity binary32) ≡ true → ltb (toBits binary32 x) (2 ^ 31) ≡ level x
 unfolding lt div
 level-bits nan t h = absurd (false≢true h)
 level-bits (inf false) t h = absurd (false≢true h)
 level-bits (inf true) t h = unfold toBits in refl
-level-bits (fin true m e) t h = ap (λ (n : ℕ). ltb n (2 ^ 31)) (set-bit binary32 m e) ∙ le-ltb _ _ (more (toBits binary32 (fin false m e)))
-  where
-    more : (b : ℕ) → 2 ^ 31 ≤ 2 ^ 31 + b
-    more b = omega arith
-level-bits (fin false m e) t h = lt-ltb _ _ (clear-bit binary32 m e t)
+level-bits (fin s m e) t h = low-bits binary32 s m e t
 
 pub not-level : (x : Float) → lt x (infinity binary32) ≡ false → lt x (infinity binary32) ≡ level x
 unfolding lt div
@@ -201,3 +199,48 @@ not-level nan h = refl
 not-level (inf false) h = refl
 not-level (inf true) h = absurd (true≢false h)
 not-level (fin s m e) h = absurd (true≢false h)
+
+-- proper
+pub proper-bits : (x : Float) → T (fits binary64 x) → lt x one ≡ true → ltb (toBits binary64 x) (2 ^ 63) ≡ proper x
+proper-bits nan t h = unfold lt in absurd (false≢true h)
+proper-bits (inf false) t h = unfold lt in absurd (false≢true h)
+proper-bits (inf true) t h = unfold toBits in refl
+proper-bits (fin true m e) t h = low-bits binary64 true m e t
+proper-bits (fin false m e) t h = low-bits binary64 false m e t ∙ sym h
+
+pub not-proper : (x : Float) → lt x one ≡ false → lt x one ≡ proper x
+not-proper nan h = h
+not-proper (inf s) h = h
+not-proper (fin true m e) h = h
+not-proper (fin false m e) h = refl
+
+-- positive zero
+pub equal-number : (x y : Float) → eq x y ≡ true → T (not (isNan x))
+unfolding eq isNan
+equal-number nan y h = absurd (false≢true h)
+equal-number (inf s) y h = tt
+equal-number (fin s m e) y h = tt
+
+pub naught-bits : (x : Float) → T (fits binary32 x) → eq x naught ≡ true → ltb (toBits binary32 x) (2 ^ 31) ≡ isNaught x
+unfolding eq
+naught-bits nan t h = absurd (false≢true h)
+naught-bits (inf s) t h = absurd (false≢true h)
+naught-bits (fin true zero e) t h = low-bits binary32 true zero e t
+naught-bits (fin false zero e) t h = low-bits binary32 false zero e t ∙ sym (ap (λ (z : ℤ). isNaught (fin false 0 z)) (zero-exp binary32 false e t))
+naught-bits (fin s (suc m) e) t h = absurd (some (eqb→eq (suc m * up e * 1) (0 * down e) (and-l (eqb (suc m * up e * 1) (0 * down e)) _ (subst T (sym h) tt))))
+  where
+    some : suc m * up e * 1 ≡ 0 * down e → ⊥
+    some h = clash (suc m * up e) (down e) (mul-pos (zero-lt-suc m) (up-pos e)) h
+      where
+        clash : (x d : ℕ) → 0 < x → x * 1 ≡ 0 * d → ⊥
+        clash x d p h = omega arith
+
+pub not-naught : (x : Float) → eq x naught ≡ false → eq x naught ≡ isNaught x
+unfolding eq
+not-naught nan h = refl
+not-naught (inf s) h = refl
+not-naught (fin true m e) h = h
+not-naught (fin false (suc m) e) h = h
+not-naught (fin false zero (negsuc k)) h = h
+not-naught (fin false zero (pos (suc k))) h = h
+not-naught (fin false zero (pos zero)) h = refl

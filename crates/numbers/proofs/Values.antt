@@ -1,5 +1,5 @@
--- Floats by the fractions that they equal (`HasValue`): a fraction has one float of a format, and a sum or a difference of two floats is the sum or difference of their fractions, rounded.
--- Assumes nothing.
+-- Floats by the fractions that they equal (`HasValue`): a fraction has one float of a format,
+-- and a sum or a difference of two floats is the sum or difference of their fractions, rounded. Assumes nothing.
 use mathlib.Core.Path.{_≡_, refl, sym, ap, _∙_, subst}
 use Prim.Native.Nat.{ℕ, zero, suc, _+_, _-_, _*_, _/_, _%_, _^_, _≤_, _<_, min}
 use native.Mathlib.Nat.{le-of-eq, le-of-lt, lt-irrefl, lt-of-le-of-lt, lt-of-lt-of-le, lt-of-mul-lt-mul-right, mul-lt-mul-of-pos-right, le-of-mul-le-mul-right, zero-lt-suc, not-le-of-lt, zero-mul, mul-one, one-mul, mul-comm, mul-assoc, mul-left-comm, mul-right-comm, mul-pos, mul-sub, mul-le-mul-right, add-mul, eq-of-mul-eq-mul-right, pow-succ', pow-suc}

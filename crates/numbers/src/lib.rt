@@ -5,7 +5,7 @@ ghost use lib.IntN.{pos};
 ghost use lib.Ieee as Ieee;
 ghost use lib.Ieee.{fin, binary64};
 ghost use mathlib.Core.Bool.{false};
-ghost use Rattle.numbers.specs.Words.{finite, level, negative, proper, narrowed, stepped};
+ghost use Rattle.numbers.specs.Words.{finite, level, isNaught, negative, proper, narrowed, stepped};
 ghost use Rattle.numbers.specs.Words as Words;
 ghost use Rattle.numbers.specs.Frames.{rounded, cutOff};
 
@@ -94,10 +94,24 @@ pub fn is_negative(x: f64) -> bool
     x < 0.0
 }
 
+// A fraction: at least 0, below 1, its sign bit clear.
+pub fn is_proper(x: f64) -> bool
+    ensures { λ r. ⌜ r ≡ proper x ⌝ }
+{
+    x < 1.0 && f64::to_bits(x) < 0x8000_0000_0000_0000
+}
+
 // Finite with its sign bit clear: minus zero is refused, so the bits decide.
 pub fn is_level(x: f32) -> bool
     ensures { λ r. ⌜ r ≡ level x ⌝ }
 {
     let top: f32 = 1.0 / 0.0;
     x < top && f32::to_bits(x) < 0x8000_0000
+}
+
+// Exactly positive zero, which minus zero equals.
+pub fn is_naught(x: f32) -> bool
+    ensures { λ r. ⌜ r ≡ isNaught x ⌝ }
+{
+    x == 0.0 && f32::to_bits(x) < 0x8000_0000
 }

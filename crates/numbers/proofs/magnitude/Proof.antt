@@ -3,12 +3,12 @@ use mathlib.Core.Path.{sym, subst}
 use mathlib.Core.Bool.{not}
 use lib.Dec.{T}
 use lib.Ieee.{isNan}
-use Rattle.numbers.proofs.Signs.{by-bits, number-bits, self-number, self-nan}
+use Rattle.numbers.proofs.Signs.{by-bits, number-bits, equal-number, self-nan}
 use Rattle.numbers.proofs.magnitude.Statement.{statement}
 use Rattle.numbers.proofs.magnitude.Tie as tie
 
 number : (c : tie.Then1) → T (not (isNan (c .before .args .x)))
-number c = self-number (c .before .args .x) (c .if1 .taken)
+number c = equal-number (c .before .args .x) _ (c .if1 .taken)
 
 float-to-bits-result : tie.Need-float-to-bits-result
 float-to-bits-result c = number c

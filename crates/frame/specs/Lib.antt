@@ -1,0 +1,2 @@
+-- What the contracts on frames cite, and the crates above.
+pub mod Frames

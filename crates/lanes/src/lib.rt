@@ -1,0 +1,100 @@
+// The five lanes of a block, judged by accumulation: no pass leaves early, so that its loop becomes vector code.
+ghost use mathlib.Core.Path.{_≡_};
+ghost use lib.Dec.{T};
+ghost use lib.ListN.{length};
+ghost use Rattle.numbers.specs.Words.{finite, level};
+ghost use Rattle.numbers.specs.Lists.{all};
+ghost use Rattle.lanes.specs.Lanes.{five, sized, timely, slow, judged, fourLevel, low};
+
+// Refusal 9, but for the output's length.
+pub fn are_sized(fade: &[f32], volume: &[f32], left: &[f32], right: &[f32], rate: &[f64]) -> bool
+    ensures { λ r. ⌜ r ≡ sized (five (now (fade .entry)) (now (volume .entry)) (now (left .entry)) (now (right .entry)) (now (rate .entry))) ⌝ }
+{
+    let n = rate.len();
+    (n <= 4096) & (fade.len() == n) & (volume.len() == n) & (left.len() == n) & (right.len() == n)
+}
+
+// Refusal 10.
+pub fn is_timely(dt: f64) -> bool
+    ensures { λ r. ⌜ r ≡ timely dt ⌝ }
+{
+    numbers::is_finite(dt) & (dt > 0.0)
+}
+
+// The bits of x where it is below infinity, else the top bit alone: that bit is set if and only if x is refused.
+fn top(x: f32) -> u32
+    ensures { λ r. ⌜ low r ≡ level x ⌝ }
+{
+    let infinity: f32 = 1.0 / 0.0;
+    if x < infinity {
+        f32::to_bits(x)
+    } else {
+        0x8000_0000
+    }
+}
+
+fn four_level(fade: &[f32], volume: &[f32], left: &[f32], right: &[f32]) -> bool
+    requires { ⌜ length (now volume) ≡ length (now fade) ⌝ }
+    requires { ⌜ length (now left) ≡ length (now fade) ⌝ }
+    requires { ⌜ length (now right) ≡ length (now fade) ⌝ }
+    ensures { λ r. ⌜ r ≡ fourLevel (now (fade .entry)) (now (volume .entry)) (now (left .entry)) (now (right .entry)) ⌝ }
+{
+    let mut tops: u32 = 0;
+    let mut i: usize = 0;
+    while i < fade.len() {
+        tops = tops | top(fade[i]) | top(volume[i]) | top(left[i]) | top(right[i]);
+        i += 1;
+    }
+    tops < 0x8000_0000
+}
+
+// The sign of a rate passes through both products, so the advance is judged from both sides.
+fn all_slow(sample_rate: u32, dt: f64, rate: &[f64]) -> bool
+    requires { ⌜ T (timely dt) ⌝ }
+    ensures { λ r. ⌜ r ≡ all (slow «sample_rate» dt) (now (rate .entry)) ⌝ }
+{
+    let hz = sample_rate as f64;
+    let mut ok = true;
+    let mut i: usize = 0;
+    while i < rate.len() {
+        let a = (hz * rate[i]) * dt;
+        ok = (a <= 256.0) & (a >= -256.0) & ok;
+        i += 1;
+    }
+    ok
+}
+
+fn all_finite(rate: &[f64]) -> bool
+    ensures { λ r. ⌜ r ≡ all finite (now (rate .entry)) ⌝ }
+{
+    let mut ok = true;
+    let mut i: usize = 0;
+    while i < rate.len() {
+        ok = numbers::is_finite(rate[i]) & ok;
+        i += 1;
+    }
+    ok
+}
+
+// Refusals 11 and 12, or 0. A slow rate is finite, so the pass for finite rates only tells 11 from 12.
+pub fn judge(
+    sample_rate: u32,
+    dt: f64,
+    fade: &[f32],
+    volume: &[f32],
+    left: &[f32],
+    right: &[f32],
+    rate: &[f64],
+) -> u32
+    requires { ⌜ T (sized (five (now fade) (now volume) (now left) (now right) (now rate))) ⌝ }
+    requires { ⌜ T (timely dt) ⌝ }
+    ensures { λ r. ⌜ r ≡ judged «sample_rate» dt (five (now (fade .entry)) (now (volume .entry)) (now (left .entry)) (now (right .entry)) (now (rate .entry))) ⌝ }
+{
+    if !four_level(fade, volume, left, right) {
+        return 11;
+    }
+    if all_slow(sample_rate, dt, rate) {
+        return 0;
+    }
+    if all_finite(rate) { 12 } else { 11 }
+}

@@ -1,0 +1,2 @@
+-- Laws of a line's fields and kinds.
+pub mod Lines

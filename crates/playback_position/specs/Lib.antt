@@ -1,0 +1,2 @@
+-- What contracts on places and regions cite, and the crates above.
+pub mod Positions

@@ -1,0 +1,53 @@
+-- Document 01, "Seconds to frames" and refusals 4 to 6: places in seconds or samples as frame numbers, and which regions are lawful.
+use Prim.Native.Nat.{ℕ}
+use mathlib.Core.Bool.{Bool, true, _&&_}
+use lib.Dec.{leb, ltb}
+use lib.IntN.{pos}
+use lib.Ieee.{binary64, mul, ofInt}
+use Rattle.numbers.specs.Words.{finite}
+use Rattle.numbers.specs.Frames.{rounded}
+use Rattle.playback_position.specs.declared.PlaybackPosition.{PlaybackPosition}
+use Rattle.playback_position.specs.declared.PlaybackPosition.the-variants.{Seconds, Samples}
+use Rattle.playback_position.specs.declared.EndPosition.{EndPosition}
+use Rattle.playback_position.specs.declared.EndPosition.the-variants.{EndOfAudio, Custom}
+use Rattle.playback_position.specs.declared.Region.{Region}
+use Rattle.playback_position.specs.declared.FrameRange.{FrameRange}
+use Rattle.playback_position.specs.declared.FrameRange.the-variants.{Absent, Frames}
+
+-- a range of frames is not empty: start < end
+abbrev pub ordered : FrameRange → Bool
+ordered Absent = true
+ordered (Frames s e) = ltb s e
+
+-- a range of frames lies in n frames: start < end <= n
+abbrev pub within : ℕ → FrameRange → Bool
+within n Absent = true
+within n (Frames s e) = ltb s e && leb e n
+
+-- seconds are finite; samples may be any number
+abbrev pub placeable : PlaybackPosition → Bool
+placeable (Seconds x) = finite x
+placeable (Samples p) = true
+
+-- an end that is given in seconds is finite
+abbrev pub endable : EndPosition → Bool
+endable EndOfAudio = true
+endable (Custom p) = placeable p
+
+-- seconds times sample rate in f64, rounded half away from zero; negative results give 0, and from 2^32 on 2^32
+unfoldable pub placed : ℕ → PlaybackPosition → ℕ
+placed hz (Seconds x) = rounded (mul binary64 x (ofInt binary64 (pos hz)))
+placed hz (Samples p) = p
+
+-- the end of audio is n, the frames there are
+unfoldable pub ended : ℕ → ℕ → EndPosition → ℕ
+ended hz n EndOfAudio = n
+ended hz n (Custom p) = placed hz p
+
+-- a region as a range of frames
+unfoldable pub stretched : ℕ → ℕ → Region → FrameRange
+stretched hz n r = Frames (placed hz (r .start)) (ended hz n (r .end))
+
+-- neither refused for its seconds nor for its frames: refusal 4 of a slice, where n is all frames, and 6 of a loop, where n is N
+unfoldable pub lawfulRegion : ℕ → ℕ → Region → Bool
+lawfulRegion hz n r = placeable (r .start) && endable (r .end) && within n (stretched hz n r)

@@ -1,0 +1,2 @@
+-- What is known of the states beyond their definitions.
+pub mod Stays

@@ -1,0 +1,2 @@
+-- What the contracts on states cite, and the crates above.
+pub mod States

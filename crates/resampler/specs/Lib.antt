@@ -1,0 +1,2 @@
+-- What the contracts on the window cite, and the crates above.
+pub mod Windows

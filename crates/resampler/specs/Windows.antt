@@ -1,0 +1,88 @@
+-- Document 01, "The window of four", and what "Well formed" says of the window.
+use Prim.Native.Nat.{ℕ, _-_, _≤_}
+use mathlib.Core.Path.{_≡_}
+use mathlib.Core.Bool.{Bool, _&&_}
+use mathlib.Core.List.{[], _∷_}
+use lib.Dec.{T, leb, eqb}
+use lib.ListN.{length, getD, drop}
+use lib.Ieee.{Float, nan}
+use Rattle.numbers.specs.Words.{isNaught}
+use Rattle.numbers.specs.Frames.{most}
+use Rattle.numbers.specs.Lists.{all}
+use Rattle.frame.specs.declared.Frame.{Frame}
+use Rattle.frame.specs.Frames.{hush, interpolated}
+use Rattle.resampler.specs.declared.RecentFrame.{RecentFrame}
+use Rattle.resampler.specs.declared.Resampler.{Resampler}
+use Rattle.resampler.specs.declared.MaybeFrame.{MaybeFrame}
+use Rattle.resampler.specs.declared.MaybeFrame.the-variants.{Absent, Present}
+
+-- what the logic reads where an array has no entry
+abbrev pub blank : RecentFrame
+blank = record { frame = record { left = nan; right = nan }; «frame_index» = 0 }
+
+-- the frame that is stored: none stores a zero frame
+abbrev pub given-frame : MaybeFrame → Frame
+given-frame Absent = hush
+given-frame (Present f) = f
+
+-- the count afterwards: a real frame sets it to 4, none lowers it, not below 0
+abbrev pub given-count : MaybeFrame → ℕ → ℕ
+given-count Absent t = t - 1
+given-count (Present f) t = 4
+
+-- the entry that is stored: the number either way
+abbrev pub given-entry : MaybeFrame → ℕ → RecentFrame
+given-entry g n = record { frame = given-frame g; «frame_index» = n }
+
+-- pushing shifts left by one
+unfoldable pub push : Resampler → MaybeFrame → ℕ → Resampler
+push w g n =
+    record {
+      frames = getD (w .frames) 1 blank ∷ getD (w .frames) 2 blank ∷ getD (w .frames) 3 blank ∷ given-entry g n ∷ [];
+      «time_until_empty» = given-count g (w .«time_until_empty»);
+    }
+
+-- the frame of entry i
+abbrev pub nth : Resampler → ℕ → Frame
+nth w i = (getD (w .frames) i blank) .frame
+
+-- reading the window at a fraction
+unfoldable pub reading : Resampler → Float → Frame
+reading w f = interpolated (nth w 0) (nth w 1) (nth w 2) (nth w 3) f
+
+-- the frame number heard is entry 1's
+abbrev pub heardNumber : Resampler → ℕ
+heardNumber w = (getD (w .frames) 1 blank) .«frame_index»
+
+-- nothing is left to hear
+abbrev pub isEmpty : Resampler → Bool
+isEmpty w = eqb (w .«time_until_empty») 0
+
+-- the new window: the first position and zeros, four times
+abbrev pub fresh : ℕ → Resampler
+fresh n =
+    let e = given-entry Absent n in
+    record { frames = e ∷ e ∷ e ∷ e ∷ []; «time_until_empty» = 0 }
+
+-- positive zero in both channels
+abbrev pub hushed : RecentFrame → Bool
+hushed r = isNaught (r .frame .left) && isNaught (r .frame .right)
+
+-- a frame number of at most 4,294,967,296
+abbrev pub numbered : RecentFrame → Bool
+numbered r = leb (r .«frame_index») most
+
+-- count t at most 4, the last 4 - t frames positive zero, the numbers in range
+abbrev pub windowed : Resampler → Bool
+windowed w =
+    eqb (length (w .frames)) 4
+    && leb (w .«time_until_empty») 4
+    && all hushed (drop (w .«time_until_empty») (w .frames))
+    && all numbered (w .frames)
+
+-- the same by named facts
+pub record Windowed (w : Resampler) : Type 0 where
+  pub four : length (w .frames) ≡ 4
+  pub few : w .«time_until_empty» ≤ 4
+  pub hush : T (all hushed (drop (w .«time_until_empty») (w .frames)))
+  pub numbers : T (all numbered (w .frames))

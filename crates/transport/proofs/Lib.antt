@@ -1,0 +1,6 @@
+-- Laws that the proofs of this crate and of the crates above cite.
+pub mod Wraps
+pub mod Steps
+pub mod Seats
+pub mod Rust
+pub mod Examples
