@@ -9,7 +9,7 @@ use Rattle.lanes.proofs.top.Tie as tie
 
 float-to-bits-result : tie.Need-float-to-bits-result
 unfolding ofBits
-float-to-bits-result c = below-number (c .before .args .x) (c .if1 .taken)
+float-to-bits-result c = below-number (c .before .args .x) _ (c .if1 .taken)
 
 returns : tie.Need-returns
 unfolding ofBits low
