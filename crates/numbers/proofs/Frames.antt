@@ -2,13 +2,13 @@
 -- and the whole part of x + x, with one added, is twice the rounded x and perhaps one more. Assumes nothing.
 use mathlib.Core.Path.{_≡_, refl, sym, ap, _∙_, subst}
 use Prim.Native.Nat.{ℕ, suc, _+_, _-_, _*_, _/_, _^_, _≤_, _<_, min}
-use native.Mathlib.Nat.{le-of-eq, lt-of-lt-of-le, lt-of-le-of-lt, add-mul, mul-one, one-mul, mul-comm, mul-left-comm, mul-right-comm, mul-pos, mul-lt-mul-of-pos-right, mul-le-mul-right, lt-of-mul-lt-mul-right, le-div-iff-mul-le, div-lt-iff-lt-mul, add-mul-div-right, div-div-eq-div-mul, pow-succ'}
+use native.Mathlib.Nat.{le-of-eq, lt-of-lt-of-le, lt-of-le-of-lt, add-mul, mul-one, one-mul, mul-comm, mul-left-comm, mul-right-comm, mul-pos, mul-lt-mul-of-pos-right, mul-le-mul-right, lt-of-mul-lt-mul-right, le-div-iff-mul-le, div-lt-iff-lt-mul, add-mul-div-right, div-div-eq-div-mul, pow-succ', le-trans}
 use native.Mathlib.Omega.{arith}
 use mathlib.Core.Bool.{Bool, true, false, not, _&&_, _||_, cond, true≢false, false≢true}
 use lib.IntN.{ℤ, pos}
-use lib.Dec.{T, ltb, leb, eqb, lt→ltb, leb→le, nleb→lt, nltb→le, eqb→eq, lit≤}
+use lib.Dec.{T, ltb, leb, eqb, lt→ltb, leb→le, nleb→lt, nltb→le, eqb→eq, lit≤, le→leb}
 use lib.Pow.{pow-pos}
-use lib.Ieee.{Float, nan, inf, fin, binary64, up, down, add, lt, le, fits, toUnsigned}
+use lib.Ieee.{Float, nan, inf, fin, binary64, up, down, add, lt, le, fits, toUnsigned, inFloat}
 use lib.Ieee.Fits.{down-pos, and-r}
 use lib.Ieee.Exact.{HasValue, round-exact}
 use Rattle.numbers.specs.Words.{naught}
@@ -274,3 +274,8 @@ cut-le (inf true) = lit≤ tt
 cut-le (inf false) = lit≤ tt
 cut-le (fin true m e) = lit≤ tt
 cut-le (fin false m e) = capped-le (m * up e / down e)
+
+-- an f64 holds a frame number exactly
+pub number-held : (n : ℕ) → n ≤ most → T (inFloat binary64 (pos n))
+unfolding inFloat
+number-held n h = le→leb n (2 ^ 53) (le-trans h (lit≤ tt))

@@ -18,7 +18,7 @@ use Rattle.resampler.specs.declared.RecentFrame.{RecentFrame}
 use Rattle.resampler.specs.declared.Resampler.{Resampler}
 use Rattle.resampler.specs.declared.MaybeFrame.{MaybeFrame}
 use Rattle.resampler.specs.declared.MaybeFrame.the-variants.{Absent, Present}
-use Rattle.resampler.specs.Windows.{blank, given-count, given-entry, push, fresh, hushed, numbered, windowed, Windowed}
+use Rattle.resampler.specs.Windows.{blank, given-count, given-entry, push, fresh, hushed, numbered, windowed, Windowed, heardNumber}
 
 pub windowed-parts : (w : Resampler) → T (windowed w) → Windowed w
 windowed-parts w h =
@@ -89,3 +89,12 @@ push-parts w g n k h = subst Windowed (sym (push-shift w g n (h .four))) (shift-
 -- the new window is well formed
 pub fresh-parts : (n : ℕ) → n ≤ most → Windowed (fresh n)
 fresh-parts n k = record { four = refl; few = lit≤ tt; hush = tt; numbers = simp (le-leb n most k) tt }
+
+-- the number heard is in range
+pub heard-low : (w : Resampler) → Windowed w → heardNumber w ≤ most
+heard-low w h = go (w .frames) (h .numbers)
+  where
+    go : (l : List RecentFrame) → T (all numbered l) → (getD l 1 blank) .«frame_index» ≤ most
+    go [] h = lit≤ tt
+    go (a ∷ []) h = lit≤ tt
+    go (a ∷ b ∷ l) h = leb→le (b .«frame_index») most (and-l (numbered b) (all numbered l) (and-r (numbered a) (all numbered (b ∷ l)) h))

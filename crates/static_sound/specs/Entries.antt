@@ -1,0 +1,73 @@
+-- The block's entries, accepted and refused together: block, block into a mix, stretch (document 01, refusals 1 and 9 to 12).
+use Prim.Native.Nat.{ℕ, _+_, _-_, _*_, _/_, _%_}
+use mathlib.Core.Bool.{Bool, true, false, _&&_, cond}
+use mathlib.Core.List.{List, [], _++_}
+use lib.Dec.{leb, eqb}
+use lib.ListN.{length, take, drop}
+use lib.Ieee.{Float}
+use Rattle.playback_position.specs.declared.FrameRange.{FrameRange}
+use Rattle.playback_position.specs.declared.FrameRange.the-variants as range
+use Rattle.lanes.specs.Lanes.{Lanes, rows, sized, timely, laned, near}
+use Rattle.numbers.specs.Lists.{all}
+use Rattle.voice.specs.declared.StaticSound.{StaticSound}
+use Rattle.voice.specs.WellFormed.{ours}
+use Rattle.static_sound.specs.declared.Signals.{Signals}
+use Rattle.static_sound.specs.declared.Processed.{Processed}
+use Rattle.static_sound.specs.Creation.{unless}
+use Rattle.static_sound.specs.Blocks.{Played, block}
+
+-- the number of a refused block, 0 where it is accepted; `placed` says whether the output holds it
+unfoldable pub refusedBlock : ℕ → StaticSound → Float → Lanes → Bool → ℕ
+refusedBlock len v dt b placed =
+    unless (ours len v) 1
+    (unless (sized b && placed) 9
+    (unless (timely dt) 10
+    (unless (all laned (rows b)) 11
+    (unless (all (near (v .setup .«sample_rate») dt) (rows b)) 12 0))))
+
+-- what a call gives: its answer, and every sample of the lent buffer
+pub record Outcome : Type 0 where
+  pub answer : Processed
+  pub samples : List Float
+
+abbrev pub refusedWith : ℕ → StaticSound → List Float → Outcome
+refusedWith k v out = record { answer = record { refusal = k; sound = v; steps = 0 }; samples = out }
+
+abbrev pub acceptedWith : Played → List Float → Outcome
+acceptedWith p out = record { answer = record { refusal = 0; sound = p .voice; steps = p .steps }; samples = out }
+
+-- the output's length is that of the block
+abbrev pub holds : Lanes → List Float → Bool
+holds b out = eqb (length out) (2 * length (b .rate))
+
+-- a block
+unfoldable pub processed : List Float → StaticSound → Float → Lanes → Signals → List Float → Outcome
+processed snd v dt b g out =
+    let k = refusedBlock (length snd) v dt b (holds b out) in
+    let p = block snd dt (rows b) g v in
+    cond (eqb k 0) (acceptedWith p (p .samples)) (refusedWith k v out)
+
+-- the mix has whole frames, and n of them from the frame given on
+abbrev pub room : ℕ → ℕ → List Float → Bool
+room from n mix = eqb (length mix % 2) 0 && leb (from + n) (length mix / 2)
+
+-- the mix with a block's samples from the frame given on, every other sample unchanged
+abbrev pub mixed : ℕ → ℕ → List Float → List Float → List Float
+mixed from n mix samples = take (2 * from) mix ++ (samples ++ drop (2 * (from + n)) mix)
+
+-- a block into a mix
+unfoldable pub processedInto : List Float → StaticSound → Float → Lanes → Signals → List Float → ℕ → Outcome
+processedInto snd v dt b g mix from =
+    let n = length (b .rate) in
+    let k = refusedBlock (length snd) v dt b (room from n mix) in
+    let p = block snd dt (rows b) g v in
+    cond (eqb k 0) (acceptedWith p (mixed from n mix (p .samples))) (refusedWith k v mix)
+
+-- the sound's own part: twice start to twice end of the slice, or all of it
+abbrev pub sliced : FrameRange → List Float → List Float
+sliced range.Absent snd = snd
+sliced (range.Frames s e) snd = take (2 * e - 2 * s) (drop (2 * s) snd)
+
+-- the stretch; refused, the empty part
+unfoldable pub stretchOf : List Float → StaticSound → List Float
+stretchOf snd v = cond (ours (length snd) v) (sliced (v .setup .slice) snd) []

@@ -1,0 +1,80 @@
+-- A block of the definition, of any length, cut in two. Playing goes on where it stopped, so the parts make the whole while the voice is as it was;
+-- once it has ended, the rest of the uncut block is idle and the second part is silent. Assumes nothing.
+use mathlib.Core.Path.{_≡_, refl, ap, ap₂, _∙_, subst}
+use mathlib.Core.Logic.{inl, inr}
+use Prim.Native.Nat.{_+_}
+use mathlib.Core.Bool.{Bool, true, false, not, _&&_}
+use mathlib.Core.List.{List, _++_}
+use lib.Dec.{T, eqb}
+use lib.Ieee.{Float, lt}
+use Rattle.numbers.specs.Words.{naught}
+use Rattle.numbers.specs.Lists.{all}
+use Rattle.numbers.proofs.Lists.{all-front, all-rest}
+use Rattle.playback_state_manager.specs.declared.PlaybackState.{PlaybackState}
+use Rattle.playback_state_manager.specs.declared.PlaybackState.the-variants.{Stopped}
+use Rattle.playback_state_manager.specs.States.{advancing, number}
+use Rattle.lanes.specs.Lanes.{Lane, laned, near}
+use Rattle.voice.specs.declared.StaticSound.{StaticSound}
+use Rattle.voice.specs.WellFormed.{Formed}
+use Rattle.static_sound.specs.declared.Signals.{Signals}
+use Rattle.static_sound.specs.Blocks.{Played, plays, silent, begun, live, block, quiet}
+use Rattle.static_sound.proofs.Plays.{plays-append, zeros-append, plays-started, plays-setup, block-live, block-silent, begun-quiet}
+use Rattle.static_sound.proofs.Keeps.{begun-formed, plays-formed}
+use Rattle.theorems.specs.Alike.{bare, awake}
+use Rattle.theorems.specs.LawfulEnd.{EndsOnly}
+use Rattle.theorems.proofs.Ends.{plays-ends, plays-idle}
+
+pub record CutPlayed (uncut first rest : Played) : Type 0 where
+  pub samples : uncut .samples ≡ first .samples ++ rest .samples
+  pub same : T (awake (first .voice)) → (uncut .voice ≡ rest .voice) × (uncut .steps ≡ first .steps + rest .steps)
+  pub alike : bare (uncut .voice) ≡ bare (rest .voice)
+
+-- a voice that is Stopped is not awake
+pub not-awake : (v : StaticSound) → v .moving .state ≡ Stopped → T (awake v) → ⊥
+not-awake v e h = subst (λ (s : PlaybackState). T (not (eqb (number s) 6))) e h
+
+and-false : (b : Bool) → (b && false) ≡ false
+and-false true = refl
+and-false false = refl
+
+module _ (snd : List Float) (dt : Float) (xs ys : List Lane) where
+  -- the rest of a block brings no signals
+  rest-live : (v : StaticSound) → live v ≡ true → block snd dt ys quiet v ≡ plays snd dt ys v
+  rest-live v e = block-live snd dt ys quiet v (ap live (begun-quiet v) ∙ e) ∙ ap (plays snd dt ys) (begun-quiet v)
+
+  rest-silent : (v : StaticSound) → live v ≡ false → block snd dt ys quiet v ≡ silent ys v
+  rest-silent v e = block-silent snd dt ys quiet v (ap live (begun-quiet v) ∙ e) ∙ ap (silent ys) (begun-quiet v)
+
+  cut-silent : (v : StaticSound) → live v ≡ false → CutPlayed (silent (xs ++ ys) v) (silent xs v) (block snd dt ys quiet v)
+  cut-silent v e = rw (rest-silent v e) (record { samples = zeros-append xs ys; same = λ n. (refl, refl); alike = refl })
+
+  module _ (t : T (lt naught dt)) where
+    cut-live : (v : StaticSound) → Formed v → live v ≡ true → T (all laned (xs ++ ys)) → T (all (near (v .setup .«sample_rate») dt) (xs ++ ys))
+        → CutPlayed (plays snd dt (xs ++ ys) v) (plays snd dt xs v) (block snd dt ys quiet ((plays snd dt xs v) .voice))
+    cut-live v w e a k = go (plays-ends snd dt xs v)
+      where
+        u : StaticSound
+        u = (plays snd dt xs v) .voice
+
+        go : EndsOnly (v .moving .state) (u .moving) → CutPlayed (plays snd dt (xs ++ ys) v) (plays snd dt xs v) (block snd dt ys quiet u)
+        go (inl f) =
+            rw (plays-append snd dt xs ys v, rest-live u (ap₂ (λ (x : Bool) (y : PlaybackState). x && advancing y) (plays-started snd dt xs v) f ∙ e))
+            (record { samples = refl; same = λ n. (refl, refl); alike = refl })
+        go (inr s) =
+            let n = near (v .setup .«sample_rate») dt in
+            let i =
+            plays-idle snd dt t ys u (all-rest laned xs ys a)
+            (rw (plays-setup snd dt xs v) (all-rest n xs ys k))
+            (plays-formed snd dt t xs v (all-front n xs ys k) w) s
+            in
+            rw (plays-append snd dt xs ys v, rest-silent u (ap (λ (y : PlaybackState). u .started && advancing y) (s .stopped) ∙ and-false (u .started)))
+            (record { samples = ap (λ (z : List Float). (plays snd dt xs v) .samples ++ z) (i .samples); same = λ n. absurd (not-awake u (s .stopped) n); alike = i .alike })
+
+    pub block-cut : (g : Signals) (v : StaticSound) → Formed v → T (all laned (xs ++ ys)) → T (all (near (v .setup .«sample_rate») dt) (xs ++ ys))
+        → CutPlayed (block snd dt (xs ++ ys) g v) (block snd dt xs g v) (block snd dt ys quiet ((block snd dt xs g v) .voice))
+    unfolding begun
+    block-cut g v w a k = go (live (begun g v)) refl
+      where
+        go : (c : Bool) → live (begun g v) ≡ c → CutPlayed (block snd dt (xs ++ ys) g v) (block snd dt xs g v) (block snd dt ys quiet ((block snd dt xs g v) .voice))
+        go true e = rw (block-live snd dt (xs ++ ys) g v e, block-live snd dt xs g v e) (cut-live (begun g v) (begun-formed g v w) e a k)
+        go false e = rw (block-silent snd dt (xs ++ ys) g v e, block-silent snd dt xs g v e) (cut-silent (begun g v) e)

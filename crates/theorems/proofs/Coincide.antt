@@ -1,0 +1,38 @@
+-- Any two outcomes that a promise allows coincide: each promise names its outcome, so both are the named one. Assumes nothing.
+use mathlib.Core.Path.{_≡_, sym, _∙_}
+use Prim.Native.Nat.{ℕ}
+use mathlib.Core.List.{List}
+use lib.Ieee.{Float}
+use Rattle.lanes.specs.Lanes.{Lanes}
+use Rattle.voice.specs.declared.StaticSound.{StaticSound}
+use Rattle.static_sound.specs.declared.Settings.{Settings}
+use Rattle.static_sound.specs.declared.Commands.{Commands}
+use Rattle.static_sound.specs.declared.Signals.{Signals}
+use Rattle.static_sound.specs.Creation.{created}
+use Rattle.static_sound.specs.Commands.{commanded}
+use Rattle.static_sound.specs.Entries.{processed, processedInto, stretchOf}
+use Rattle.theorems.specs.Coincide.{Decides, NewDecides, CommandsDecide, ProcessDecides, MixDecides, StretchDecides}
+
+-- a promise that names its outcome decides it
+pub named {ℓ κ} : {I : Type ℓ} {O : Type κ} (f : I → O) → Decides (λ (i : I) (o : O). o ≡ f i)
+named f i x y p q = p ∙ sym q
+
+-- and so does one that names a result and, beside it, what a lent buffer holds
+pub beside {ℓ κ} : {I : Type ℓ} {R B : Type κ} (f : I → R) (g : I → B) → Decides (λ (i : I) (o : R × B). (o .0 ≡ f i) × (o .1 ≡ g i))
+beside f g i x y p q = λ j. ((p .0 ∙ sym (q .0)) j, (p .1 ∙ sym (q .1)) j)
+
+pub new-decides : NewDecides
+new-decides = named (λ (i : List Float × Settings). created (i .0) (i .1))
+
+pub commands-decide : CommandsDecide
+commands-decide = named (λ (i : List Float × StaticSound × Commands). commanded (i .0) (i .1) (i .2))
+
+pub process-decides : ProcessDecides
+process-decides = named (λ (i : List Float × StaticSound × Float × Lanes × Signals × List Float). processed (i .0) (i .1) (i .2) (i .3) (i .4) (i .5))
+
+pub mix-decides : MixDecides
+mix-decides =
+    named (λ (i : List Float × StaticSound × Float × Lanes × Signals × List Float × ℕ). processedInto (i .0) (i .1) (i .2) (i .3) (i .4) (i .5) (i .6))
+
+pub stretch-decides : StretchDecides
+stretch-decides = named (λ (i : List Float × StaticSound). stretchOf (i .0) (i .1))

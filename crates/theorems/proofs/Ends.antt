@@ -1,0 +1,220 @@
+-- A voice that an update has stopped: it stays so, nothing of it changes but its fraction and its window's frame numbers, and it sounds +0.
+-- The transport no longer steps, only zero frames are pushed, and the cubic of zeros is zero. Assumes nothing.
+use mathlib.Core.Path.{_≡_, refl, sym, ap, ap₂, _∙_}
+use mathlib.Core.Logic.{inl, inr}
+use Prim.Native.Nat.{ℕ, zero, suc, _+_}
+use native.Mathlib.Nat.{zero-sub}
+use mathlib.Core.Bool.{Bool, true, false, false≢true, not, _&&_, cond}
+use mathlib.Core.List.{List, [], _∷_, map}
+use lib.Dec.{T}
+use lib.ListN.{length, replicate}
+use lib.Ieee.{Float, lt, binary32}
+use lib.Ieee.Fits.{and-l, and-r}
+use borrow.Author.Tests.{eqb-true}
+use Rattle.numbers.specs.Words.{naught, level, finite, proper, narrowed, whole}
+use Rattle.numbers.specs.Lists.{all}
+use Rattle.numbers.proofs.Silence.{mul-naught}
+use Rattle.numbers.proofs.Fractions.{narrow-level}
+use Rattle.frame.specs.declared.Frame.{Frame}
+use Rattle.frame.specs.Frames.{hush}
+use Rattle.playback_state_manager.specs.declared.PlaybackState.{PlaybackState}
+use Rattle.playback_state_manager.specs.declared.PlaybackState.the-variants.{Stopped}
+use Rattle.transport.specs.declared.Transport.{Transport}
+use Rattle.transport.specs.Moves.{forward, backward}
+use Rattle.transport.proofs.Steps.{forward-still, backward-still}
+use Rattle.resampler.specs.declared.RecentFrame.{RecentFrame}
+use Rattle.resampler.specs.declared.Resampler.{Resampler}
+use Rattle.resampler.specs.Windows.{push, given-count, isEmpty, hushed, Windowed}
+use Rattle.resampler.proofs.Silence.{hushed-frame, empty-hushed, reading-naught}
+use Rattle.lanes.specs.Lanes.{Lane, laned, near}
+use Rattle.voice.specs.declared.Setup.{Setup}
+use Rattle.voice.specs.declared.Moving.{Moving}
+use Rattle.voice.specs.declared.Course.{Course}
+use Rattle.voice.specs.declared.StaticSound.{StaticSound}
+use Rattle.voice.specs.Voices.{courseOf, sounding, pushed, stepped, updated, updates}
+use Rattle.voice.specs.WellFormed.{Formed}
+use Rattle.static_sound.specs.Blocks.{Played, total, turned, frameHeard, plays, zeros}
+use Rattle.static_sound.proofs.Keeps.{turned-formed}
+use Rattle.theorems.specs.Alike.{unnumbered, bare}
+use Rattle.theorems.specs.LawfulEnd.{Ended, EndsOnly}
+
+-- ---- updates
+
+stepped-still : (c : Course) (t : Transport) → t .playing ≡ false → stepped c t ≡ t
+unfolding stepped
+stepped-still c t e = go (c .backwards)
+  where
+    go : (b : Bool) → cond b (backward t) (forward (c .«num_frames») t) ≡ t
+    go true = backward-still t e
+    go false = forward-still (c .«num_frames») t e
+
+-- where a test picks the same twice
+both-same : {A : Type 0} (b : Bool) (x y z : A) → x ≡ z → y ≡ z → cond b x y ≡ z
+both-same true x y z p q = p
+both-same false x y z p q = q
+
+module _ (snd : List Float) (c : Course) where
+  updated-ended : (m : Moving) → Ended m → Ended (updated snd c m)
+  unfolding updated push
+  updated-ended m h =
+      record {
+        stopped = both-same (not (stepped c (m .transport) .playing) && isEmpty (pushed snd c m)) Stopped (m .state) Stopped refl (h .stopped);
+        still = ap (λ (t : Transport). t .playing) (stepped-still c (m .transport) (h .still)) ∙ h .still;
+        empty = ap₂ (λ (b : Bool) (t : ℕ). given-count (sounding snd b (c .start + m .transport .position)) t) (h .still) (h .empty) ∙ zero-sub 1;
+      }
+
+  updates-ended : (n : ℕ) (m : Moving) → Ended m → Ended (updates n snd c m)
+  unfolding updates
+  updates-ended zero m h = h
+  updates-ended (suc n) m h = updates-ended n (updated snd c m) (updated-ended m h)
+
+  -- the transport stays where it is
+  updates-still : (n : ℕ) (m : Moving) → Ended m → (updates n snd c m) .transport ≡ m .transport
+  unfolding updates
+  updates-still zero m h = refl
+  updates-still (suc n) m h = updates-still n (updated snd c m) (updated-ended m h) ∙ stepped-still c (m .transport) (h .still)
+
+  split-test : (a b : Bool) → (not a && b) ≡ true → (a ≡ false) × (b ≡ true)
+  split-test true b e = absurd (false≢true e)
+  split-test false b e = (refl, e)
+
+  pub updated-ends : (m : Moving) → EndsOnly (m .state) (updated snd c m)
+  unfolding updated
+  updated-ends m = go (not (t .playing) && isEmpty w) refl
+    where
+      t : Transport
+      t = stepped c (m .transport)
+
+      w : Resampler
+      w = pushed snd c m
+
+      go : (b : Bool) → (not (t .playing) && isEmpty w) ≡ b → EndsOnly (m .state) (record { state = cond b Stopped (m .state); transport = t; resampler = w })
+      go true e =
+          let s = split-test (t .playing) (isEmpty w) e in
+          inr (record { stopped = refl; still = s .0; empty = eqb-true (w .«time_until_empty») 0 (s .1) })
+      go false e = inl refl
+
+  updates-ends : (n : ℕ) (m : Moving) → EndsOnly (m .state) (updates n snd c m)
+  unfolding updates
+  updates-ends zero m = inl refl
+  updates-ends (suc n) m = go (updated-ends m) (updates-ends n (updated snd c m))
+    where
+      go : EndsOnly (m .state) (updated snd c m) → EndsOnly (updated snd c m .state) (updates n snd c (updated snd c m)) → EndsOnly (m .state) (updates n snd c (updated snd c m))
+      go (inl e) (inl f) = inl (f ∙ e)
+      go (inl e) (inr s) = inr s
+      go (inr s) r = inr (updates-ended n (updated snd c m) s)
+
+-- ---- frames
+
+module _ (snd : List Float) (dt : Float) where
+  turned-ended : (v : StaticSound) (l : Lane) → Ended (v .moving) → Ended (turned snd dt v l .moving)
+  unfolding turned
+  turned-ended v l h = updates-ended snd (courseOf v) (whole (total dt v l)) (v .moving) h
+
+  turned-ends : (v : StaticSound) (l : Lane) → EndsOnly (v .moving .state) (turned snd dt v l .moving)
+  unfolding turned
+  turned-ends v l = updates-ends snd (courseOf v) (whole (total dt v l)) (v .moving)
+
+  plays-ended : (ls : List Lane) (v : StaticSound) → Ended (v .moving) → Ended ((plays snd dt ls v) .voice .moving)
+  unfolding plays
+  plays-ended [] v h = h
+  plays-ended (l ∷ ls) v h = plays-ended ls (turned snd dt v l) (turned-ended v l h)
+
+  -- a block leaves the state as it is, or the voice has ended
+  pub plays-ends : (ls : List Lane) (v : StaticSound) → EndsOnly (v .moving .state) ((plays snd dt ls v) .voice .moving)
+  unfolding plays
+  plays-ends [] v = inl refl
+  plays-ends (l ∷ ls) v = go (turned-ends v l) (plays-ends ls (turned snd dt v l))
+    where
+      u : StaticSound
+      u = turned snd dt v l
+
+      go : EndsOnly (v .moving .state) (u .moving) → EndsOnly (u .moving .state) ((plays snd dt ls u) .voice .moving) → EndsOnly (v .moving .state) ((plays snd dt ls u) .voice .moving)
+      go (inl e) (inl f) = inl (f ∙ e)
+      go (inl e) (inr s) = inr s
+      go (inr s) r = inr (plays-ended ls u s)
+
+-- ---- what is heard
+
+frame-hush : (v : StaticSound) (l : Lane) → Windowed (v .moving .resampler) → T (proper (v .«fractional_position»)) → v .moving .resampler .«time_until_empty» ≡ 0 → T (laned l)
+    → frameHeard v l ≡ hush
+unfolding frameHeard
+frame-hush v l w p e k =
+    let a = level (l .fade) in
+    let b = level (l .volume) in
+    let c = level (l .left) in
+    let d = level (l .right) in
+    let abcd = and-l (a && b && c && d) (finite (l .rate)) k in
+    let abc = and-l (a && b && c) d abcd in
+    simp (
+      reading-naught (v .moving .resampler) (narrowed (v .«fractional_position»)) e w (narrow-level (v .«fractional_position») p),
+      mul-naught binary32 (l .fade) (and-l a b (and-l (a && b) c abc)),
+      mul-naught binary32 (l .volume) (and-r a b (and-l (a && b) c abc)),
+      mul-naught binary32 (l .left) (and-r (a && b) c abc),
+      mul-naught binary32 (l .right) (and-r (a && b && c) d abcd),
+    )
+
+-- ---- all of a voice but its fraction and its window's frame numbers
+
+abbrev mute : RecentFrame
+mute = record { frame = hush; «frame_index» = 0 }
+
+unnumbered-hush : (l : List RecentFrame) → T (all hushed l) → map unnumbered l ≡ replicate (length l) mute
+unnumbered-hush [] h = refl
+unnumbered-hush (r ∷ l) h =
+    ap₂ (λ (f : Frame) (t : List RecentFrame). record { frame = f; «frame_index» = 0 } ∷ t)
+    (hushed-frame r (and-l (hushed r) (all hushed l) h))
+    (unnumbered-hush l (and-r (hushed r) (all hushed l) h))
+
+-- an ended voice without them
+abbrev spare : Setup → Float → Bool → Transport → StaticSound
+spare k r b t =
+    record {
+      setup = k;
+      «playback_rate» = r;
+      started = b;
+      «fractional_position» = naught;
+      moving = record { state = Stopped; transport = t; resampler = record { frames = replicate 4 mute; «time_until_empty» = 0 } };
+    }
+
+bare-ended : (v : StaticSound) → Windowed (v .moving .resampler) → Ended (v .moving) → bare v ≡ spare (v .setup) (v .«playback_rate») (v .started) (v .moving .transport)
+bare-ended v w h =
+    let f : map unnumbered (v .moving .resampler .frames) ≡ replicate 4 mute =
+    unnumbered-hush (v .moving .resampler .frames) (empty-hushed (v .moving .resampler) (h .empty) w) ∙ ap (λ (n : ℕ). replicate n mute) (w .four)
+    in
+    ap₂ (λ (s : PlaybackState) (x : Resampler). record {
+      setup = v .setup;
+      «playback_rate» = v .«playback_rate»;
+      started = v .started;
+      «fractional_position» = naught;
+      moving = record { state = s; transport = v .moving .transport; resampler = x };
+    })
+    (h .stopped)
+    (ap₂ (λ (l : List RecentFrame) (n : ℕ). record { frames = l; «time_until_empty» = n }) f (h .empty))
+
+module _ (snd : List Float) (dt : Float) (t : T (lt naught dt)) where
+  bare-turned : (v : StaticSound) (l : Lane) → T (near (v .setup .«sample_rate») dt l) → Formed v → Ended (v .moving) → bare (turned snd dt v l) ≡ bare v
+  unfolding turned
+  bare-turned v l k w h =
+      bare-ended (turned snd dt v l) (turned-formed snd dt t v l k w .window) (turned-ended snd dt v l h)
+      ∙ ap (spare (v .setup) (v .«playback_rate») (v .started)) (updates-still snd (courseOf v) (whole (total dt v l)) (v .moving) h)
+      ∙ sym (bare-ended v (w .window) h)
+
+  -- the rest of a block, played on an ended voice
+  pub record Idle (ls : List Lane) (v : StaticSound) (p : Played) : Type 0 where
+    pub samples : p .samples ≡ zeros ls
+    pub alike : bare (p .voice) ≡ bare v
+
+  pub plays-idle : (ls : List Lane) (v : StaticSound) → T (all laned ls) → T (all (near (v .setup .«sample_rate») dt) ls) → Formed v → Ended (v .moving) → Idle ls v (plays snd dt ls v)
+  unfolding plays zeros turned
+  plays-idle [] v a k w h = record { samples = refl; alike = refl }
+  plays-idle (l ∷ ls) v a k w h =
+      let n = near (v .setup .«sample_rate») dt l in
+      let r = all (near (v .setup .«sample_rate») dt) ls in
+      let u = turned snd dt v l in
+      let i = plays-idle ls u (and-r (laned l) (all laned ls) a) (and-r n r k) (turned-formed snd dt t v l (and-l n r k) w) (turned-ended snd dt v l h) in
+      let f = frame-hush v l (w .window) (w .fraction) (h .empty) (and-l (laned l) (all laned ls) a) in
+      record {
+        samples = ap₂ (λ (x : Frame) (z : List Float). x .left ∷ x .right ∷ z) f (i .samples);
+        alike = i .alike ∙ bare-turned v l (and-l n r k) w h;
+      }

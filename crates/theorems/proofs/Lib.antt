@@ -1,0 +1,11 @@
+-- The proofs of the statements.
+pub mod Ends
+pub mod Blocks
+pub mod Cut
+pub mod Schedules
+pub mod Streams
+pub mod Mix
+pub mod Kept
+pub mod LawfulEnd
+pub mod Steps
+pub mod Coincide

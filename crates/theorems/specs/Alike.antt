@@ -1,0 +1,44 @@
+-- How the two parts of a cut block are compared with the whole one: in every case, and where the voice has not stopped by the cut.
+-- A voice that has stopped goes on in the rest of an uncut block, where nothing changes but its fraction and its window's frame numbers (document 01, "Creation, commands, block").
+use Prim.Native.Nat.{_+_}
+use mathlib.Core.Path.{_≡_}
+use mathlib.Core.Bool.{Bool, not}
+use mathlib.Core.List.{map}
+use lib.Dec.{T, eqb}
+use Rattle.numbers.specs.Words.{naught}
+use Rattle.resampler.specs.declared.RecentFrame.{RecentFrame}
+use Rattle.resampler.specs.declared.Resampler.{Resampler}
+use Rattle.playback_state_manager.specs.States.{number}
+use Rattle.voice.specs.declared.StaticSound.{StaticSound}
+use Rattle.static_sound.specs.declared.Processed.{Processed}
+
+-- the entry without its number
+abbrev pub unnumbered : RecentFrame → RecentFrame
+unnumbered r = record { frame = r .frame; «frame_index» = 0 }
+
+abbrev pub unnumberedWindow : Resampler → Resampler
+unnumberedWindow w = record { frames = map unnumbered (w .frames); «time_until_empty» = w .«time_until_empty» }
+
+-- the voice without its fraction and its window's frame numbers
+abbrev pub bare : StaticSound → StaticSound
+bare v =
+    record {
+      setup = v .setup;
+      «playback_rate» = v .«playback_rate»;
+      started = v .started;
+      «fractional_position» = naught;
+      moving = record { state = v .moving .state; transport = v .moving .transport; resampler = unnumberedWindow (v .moving .resampler) };
+    }
+
+-- not Stopped
+abbrev pub awake : StaticSound → Bool
+awake v = not (eqb (number (v .moving .state)) 6)
+
+-- the answers of two parts against the answer of the whole
+pub record Parts (uncut first rest : Processed) : Type 0 where
+  -- both parts are accepted
+  pub accepted : (first .refusal ≡ 0) × (rest .refusal ≡ 0)
+  -- unless the voice has stopped by the cut, the state after and the steps are the same
+  pub same : T (awake (first .sound)) → (uncut .sound ≡ rest .sound) × (uncut .steps ≡ first .steps + rest .steps)
+  -- in every case the states after agree in all but the fraction and the window's frame numbers
+  pub alike : bare (uncut .sound) ≡ bare (rest .sound)

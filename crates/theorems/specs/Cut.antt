@@ -1,0 +1,26 @@
+-- A block cut in two. Whenever a block is accepted, it may be played in two parts, cut after any of its frames:
+-- the first part is given the block's signals and the first k frames of each lane, the second no signals and the rest, from the state that the first left.
+-- Both parts are accepted, the samples are the first part's and then the second's, and the answers compare as Alike says.
+use Prim.Native.Nat.{ℕ, _*_, _≤_}
+use mathlib.Core.Path.{_≡_}
+use mathlib.Core.List.{List, _++_}
+use lib.ListN.{length, take, drop}
+use lib.Ieee.{Float}
+use Rattle.lanes.specs.Lanes.{Lanes, firstLanes, restLanes}
+use Rattle.voice.specs.declared.StaticSound.{StaticSound}
+use Rattle.static_sound.specs.declared.Signals.{Signals}
+use Rattle.static_sound.specs.Blocks.{quiet}
+use Rattle.static_sound.specs.Entries.{Outcome, processed}
+use Rattle.theorems.specs.Alike.{Parts}
+
+pub record CutInTwo (uncut first rest : Outcome) : Type 0 where
+  pub answers : Parts (uncut .answer) (first .answer) (rest .answer)
+  pub samples : uncut .samples ≡ first .samples ++ rest .samples
+
+abbrev pub CutBlocks : Type 0
+CutBlocks =
+    (snd : List Float) (v : StaticSound) (dt : Float) (b : Lanes) (g : Signals) (out : List Float) (k : ℕ)
+    → (processed snd v dt b g out) .answer .refusal ≡ 0 → k ≤ length (b .rate)
+    → let first = processed snd v dt (firstLanes k b) g (take (2 * k) out) in
+    let rest = processed snd (first .answer .sound) dt (restLanes k b) quiet (drop (2 * k) out) in
+    CutInTwo (processed snd v dt b g out) first rest

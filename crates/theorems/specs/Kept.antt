@@ -1,0 +1,50 @@
+-- What every call leaves. An accepted one leaves a state that is well formed over the sound it was given, so refusal 1 never follows from a state that was answered.
+-- A refused one leaves the given state and the given samples, with 0 steps and position +0; a refused creation gives the blank state, which is not well formed.
+use Prim.Native.Nat.{ℕ}
+use mathlib.Core.Path.{_≡_}
+use mathlib.Core.Bool.{false}
+use mathlib.Core.List.{List}
+use lib.Dec.{T}
+use lib.ListN.{length}
+use lib.Ieee.{Float}
+use Rattle.numbers.specs.Words.{naught}
+use Rattle.lanes.specs.Lanes.{Lanes}
+use Rattle.voice.specs.declared.StaticSound.{StaticSound}
+use Rattle.voice.specs.WellFormed.{wellFormed, ours}
+use Rattle.static_sound.specs.declared.Settings.{Settings}
+use Rattle.static_sound.specs.declared.Commands.{Commands}
+use Rattle.static_sound.specs.declared.Signals.{Signals}
+use Rattle.static_sound.specs.Creation.{created, blankSound}
+use Rattle.static_sound.specs.Commands.{commanded}
+use Rattle.static_sound.specs.Entries.{Outcome, processed, processedInto}
+
+-- accepted, and refused
+abbrev pub Either : ℕ → Type 0 → Type 0 → Type 0
+Either refusal a r = (refusal ≡ 0 → a) × ((refusal ≡ 0 → ⊥) → r)
+
+abbrev pub CreationKeeps : Type 0
+CreationKeeps =
+    (snd : List Float) (s : Settings)
+    → let a = created snd s in Either (a .refusal) (T (ours (length snd) (a .sound))) (a .sound ≡ blankSound)
+
+abbrev pub BlankIsNot : Type 0
+BlankIsNot = wellFormed blankSound ≡ false
+
+abbrev pub CommandsKeep : Type 0
+CommandsKeep =
+    (snd : List Float) (v : StaticSound) (c : Commands)
+    → let a = commanded snd v c in Either (a .refusal) (T (ours (length snd) (a .sound))) ((a .sound ≡ v) × (a .position ≡ naught))
+
+-- of a block's outcome, given the state and the samples before
+abbrev pub BlockKeeps : List Float → StaticSound → List Float → Outcome → Type 0
+BlockKeeps snd v out o =
+    Either (o .answer .refusal) (T (ours (length snd) (o .answer .sound))) ((o .answer .sound ≡ v) × (o .answer .steps ≡ 0) × (o .samples ≡ out))
+
+abbrev pub BlocksKeep : Type 0
+BlocksKeep =
+    (snd : List Float) (v : StaticSound) (dt : Float) (b : Lanes) (g : Signals) (out : List Float) → BlockKeeps snd v out (processed snd v dt b g out)
+
+abbrev pub MixesKeep : Type 0
+MixesKeep =
+    (snd : List Float) (v : StaticSound) (dt : Float) (b : Lanes) (g : Signals) (mix : List Float) (from : ℕ)
+    → BlockKeeps snd v mix (processedInto snd v dt b g mix from)

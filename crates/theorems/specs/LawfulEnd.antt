@@ -1,0 +1,40 @@
+-- Only a lawful end: an update leaves the state as it is, or the transport has ended and the window is empty, and then it is Stopped.
+-- So after k frames of an accepted, sounding block the voice is in the state in which the block began, or it has ended so, and every sample from there on is +0.
+use Prim.Native.Nat.{ℕ, _*_, _≤_}
+use mathlib.Core.Path.{_≡_}
+use mathlib.Core.Logic.{_⊎_}
+use mathlib.Core.Bool.{true, false}
+use mathlib.Core.List.{List}
+use lib.ListN.{length, take, drop}
+use lib.Ieee.{Float}
+use Rattle.playback_state_manager.specs.declared.PlaybackState.{PlaybackState}
+use Rattle.playback_state_manager.specs.declared.PlaybackState.the-variants.{Stopped}
+use Rattle.lanes.specs.Lanes.{Lanes, rows}
+use Rattle.voice.specs.declared.Moving.{Moving}
+use Rattle.voice.specs.declared.Course.{Course}
+use Rattle.voice.specs.declared.StaticSound.{StaticSound}
+use Rattle.voice.specs.Voices.{updated}
+use Rattle.static_sound.specs.declared.Signals.{Signals}
+use Rattle.static_sound.specs.Blocks.{begun, live, plays, zeros}
+use Rattle.static_sound.specs.Entries.{processed}
+
+-- Stopped, the transport not playing, nothing left to hear
+pub record Ended (m : Moving) : Type 0 where
+  pub stopped : m .state ≡ Stopped
+  pub still : m .transport .playing ≡ false
+  pub empty : m .resampler .«time_until_empty» ≡ 0
+
+-- the state as before, or ended
+abbrev pub EndsOnly : PlaybackState → Moving → Type 0
+EndsOnly s m = (m .state ≡ s) ⊎ Ended m
+
+abbrev pub UpdateEnds : Type 0
+UpdateEnds = (snd : List Float) (c : Course) (m : Moving) → EndsOnly (m .state) (updated snd c m)
+
+abbrev pub BlockEnds : Type 0
+BlockEnds =
+    (snd : List Float) (v : StaticSound) (dt : Float) (b : Lanes) (g : Signals) (out : List Float) (k : ℕ)
+    → let o = processed snd v dt b g out in
+    let m = (plays snd dt (take k (rows b)) (begun g v)) .voice .moving in
+    o .answer .refusal ≡ 0 → live (begun g v) ≡ true → k ≤ length (b .rate)
+    → (m .state ≡ (begun g v) .moving .state) ⊎ (Ended m × (drop (2 * k) (o .samples) ≡ zeros (drop k (rows b))))

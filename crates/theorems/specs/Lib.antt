@@ -1,0 +1,10 @@
+-- What is shown of the entries beyond each one's own promise: a file a theorem.
+pub mod Sums
+pub mod Alike
+pub mod Cut
+pub mod Schedules
+pub mod Mix
+pub mod Kept
+pub mod LawfulEnd
+pub mod Steps
+pub mod Coincide

@@ -1,0 +1,25 @@
+-- A block into a mix, cut in two: the first k frames at `from`, then the rest at `from` + k, into what the first part left of the mix.
+-- Both parts are accepted, the mix is the same sample by sample, and the answers compare as Alike says.
+use Prim.Native.Nat.{ℕ, _+_, _≤_}
+use mathlib.Core.Path.{_≡_}
+use mathlib.Core.List.{List}
+use lib.ListN.{length}
+use lib.Ieee.{Float}
+use Rattle.lanes.specs.Lanes.{Lanes, firstLanes, restLanes}
+use Rattle.voice.specs.declared.StaticSound.{StaticSound}
+use Rattle.static_sound.specs.declared.Signals.{Signals}
+use Rattle.static_sound.specs.Blocks.{quiet}
+use Rattle.static_sound.specs.Entries.{Outcome, processedInto}
+use Rattle.theorems.specs.Alike.{Parts}
+
+pub record CutInMix (uncut first rest : Outcome) : Type 0 where
+  pub answers : Parts (uncut .answer) (first .answer) (rest .answer)
+  pub samples : uncut .samples ≡ rest .samples
+
+abbrev pub CutMixes : Type 0
+CutMixes =
+    (snd : List Float) (v : StaticSound) (dt : Float) (b : Lanes) (g : Signals) (mix : List Float) (from k : ℕ)
+    → (processedInto snd v dt b g mix from) .answer .refusal ≡ 0 → k ≤ length (b .rate)
+    → let first = processedInto snd v dt (firstLanes k b) g mix from in
+    let rest = processedInto snd (first .answer .sound) dt (restLanes k b) quiet (first .samples) (from + k) in
+    CutInMix (processedInto snd v dt b g mix from) first rest

@@ -1,0 +1,80 @@
+-- Block sizes do not matter. A stream of lanes between two commands, of any length, is cut into blocks: the first is given the signals, the others none.
+-- Any two ways to cut it whose blocks are all accepted write the same samples; they end in states that agree in all but the fraction and the window's frame numbers;
+-- and unless the voice has stopped by one of their cuts, they end in the same state, with the same number of steps.
+-- And every way to cut a lawful stream is such a one, as long as no block has more than 4,096 frames.
+use Prim.Native.Nat.{ℕ, _+_, _*_}
+use mathlib.Core.Path.{_≡_}
+use mathlib.Core.Bool.{Bool, _&&_}
+use mathlib.Core.List.{List, [], _∷_, _++_}
+use lib.Dec.{T, leb, eqb}
+use lib.ListN.{length, take, drop}
+use lib.Ieee.{Float}
+use Rattle.numbers.specs.Lists.{all}
+use Rattle.lanes.specs.Lanes.{Lanes, rows, timely, laned, near, firstLanes, restLanes}
+use Rattle.voice.specs.declared.StaticSound.{StaticSound}
+use Rattle.voice.specs.WellFormed.{ours}
+use Rattle.static_sound.specs.declared.Signals.{Signals}
+use Rattle.static_sound.specs.Blocks.{quiet}
+use Rattle.static_sound.specs.Entries.{Outcome, processed}
+use Rattle.theorems.specs.Sums.{sum}
+use Rattle.theorems.specs.Alike.{bare, awake}
+
+-- what a row of blocks gives: whether each was accepted, the state after, all samples, all steps, and the state at each cut between two blocks
+pub record Run : Type 0 where
+  pub accepted : Bool
+  pub sound : StaticSound
+  pub samples : List Float
+  pub steps : ℕ
+  pub cuts : List StaticSound
+
+-- one block alone
+abbrev pub alone : Outcome → Run
+alone o = record { accepted = eqb (o .answer .refusal) 0; sound = o .answer .sound; samples = o .samples; steps = o .answer .steps; cuts = [] }
+
+-- one block, and the row that follows it
+abbrev pub followed : Outcome → Run → Run
+followed o r =
+    record {
+      accepted = eqb (o .answer .refusal) 0 && r .accepted;
+      sound = r .sound;
+      samples = o .samples ++ r .samples;
+      steps = o .answer .steps + r .steps;
+      cuts = o .answer .sound ∷ r .cuts;
+    }
+
+-- blocks of k frames and then of the sizes that follow, out of a stream of lanes, into an output as long
+unfoldable pub playedBy : List Float → Float → ℕ → List ℕ → Lanes → Signals → StaticSound → List Float → Run
+playedBy snd dt k [] b g v out = alone (processed snd v dt (firstLanes k b) g (take (2 * k) out))
+playedBy snd dt k (j ∷ ks) b g v out =
+    let o = processed snd v dt (firstLanes k b) g (take (2 * k) out) in
+    followed o (playedBy snd dt j ks (restLanes k b) quiet (o .answer .sound) (drop (2 * k) out))
+
+pub record Agree (r s : Run) : Type 0 where
+  pub samples : r .samples ≡ s .samples
+  pub same : T (all awake (r .cuts)) → T (all awake (s .cuts)) → (r .sound ≡ s .sound) × (r .steps ≡ s .steps)
+  pub alike : bare (r .sound) ≡ bare (s .sound)
+
+abbrev pub AnySizes : Type 0
+AnySizes =
+    (snd : List Float) (dt : Float) (b : Lanes) (g : Signals) (v : StaticSound) (k : ℕ) (ks : List ℕ) (out : List Float) (j : ℕ) (js : List ℕ) (mix : List Float)
+    → k + sum ks ≡ length (b .rate) → j + sum js ≡ length (b .rate)
+    → let r = playedBy snd dt k ks b g v out in
+    let s = playedBy snd dt j js b g v mix in
+    T (r .accepted) → T (s .accepted) → Agree r s
+
+-- a lawful stream: the state is well formed over the sound, the other lanes and the output are as long as the rate lane, and nothing in it is refused by 10 to 12
+pub record Stream (snd : List Float) (dt : Float) (b : Lanes) (v : StaticSound) (out : List Float) : Type 0 where
+  pub ours : T (ours (length snd) v)
+  pub fade : length (b .fade) ≡ length (b .rate)
+  pub volume : length (b .volume) ≡ length (b .rate)
+  pub left : length (b .left) ≡ length (b .rate)
+  pub right : length (b .right) ≡ length (b .rate)
+  pub output : length out ≡ 2 * length (b .rate)
+  pub timely : T (timely dt)
+  pub laned : T (all laned (rows b))
+  pub near : T (all (near (v .setup .«sample_rate») dt) (rows b))
+
+abbrev pub AllAccepted : Type 0
+AllAccepted =
+    (snd : List Float) (dt : Float) (b : Lanes) (g : Signals) (v : StaticSound) (k : ℕ) (ks : List ℕ) (out : List Float)
+    → Stream snd dt b v out → k + sum ks ≡ length (b .rate) → T (all (λ (n : ℕ). leb n 4096) (k ∷ ks)) → T ((playedBy snd dt k ks b g v out) .accepted)

@@ -1,0 +1,32 @@
+-- The steps that an accepted block reports: per frame the whole part of the sum of fraction and advance, added up; 0 for a silent block; at most 257 a frame.
+-- They are the updates made: as many updates of what the block began with give what it ended with.
+use Prim.Native.Nat.{ℕ, _*_, _≤_}
+use mathlib.Core.Path.{_≡_}
+use mathlib.Core.Bool.{cond}
+use mathlib.Core.List.{List, [], _∷_}
+use lib.ListN.{length}
+use lib.Ieee.{Float}
+use Rattle.numbers.specs.Words.{whole}
+use Rattle.lanes.specs.Lanes.{Lane, Lanes, rows}
+use Rattle.voice.specs.declared.StaticSound.{StaticSound}
+use Rattle.voice.specs.Voices.{courseOf, updates}
+use Rattle.static_sound.specs.declared.Signals.{Signals}
+use Rattle.static_sound.specs.Blocks.{total, turned, begun, live}
+use Rattle.static_sound.specs.Entries.{Outcome, processed}
+use Rattle.theorems.specs.Sums.{sum}
+
+-- the steps of each frame
+unfoldable pub stepsOf : List Float → Float → List Lane → StaticSound → List ℕ
+stepsOf snd dt [] v = []
+stepsOf snd dt (l ∷ ls) v = whole (total dt v l) ∷ stepsOf snd dt ls (turned snd dt v l)
+
+-- of an accepted block's outcome
+pub record Stepped (snd : List Float) (v : StaticSound) (dt : Float) (b : Lanes) (g : Signals) (o : Outcome) : Type 0 where
+  pub reported : o .answer .steps ≡ cond (live (begun g v)) (sum (stepsOf snd dt (rows b) (begun g v))) 0
+  pub few : o .answer .steps ≤ 257 * length (b .rate)
+  pub made : o .answer .sound .moving ≡ updates (o .answer .steps) snd (courseOf v) ((begun g v) .moving)
+
+abbrev pub StepsMade : Type 0
+StepsMade =
+    (snd : List Float) (v : StaticSound) (dt : Float) (b : Lanes) (g : Signals) (out : List Float)
+    → let o = processed snd v dt b g out in o .answer .refusal ≡ 0 → Stepped snd v dt b g o

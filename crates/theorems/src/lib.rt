@@ -1,0 +1,1 @@
+// Statements about the entries, and their proofs: no code.

@@ -1,0 +1,3 @@
+-- What a voice holds and what one update does to it.
+pub mod Voices
+pub mod WellFormed
