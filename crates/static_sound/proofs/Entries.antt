@@ -2,25 +2,20 @@
 -- By whether there is a number. And an accepted block leaves a well formed state. Assumes nothing.
 use mathlib.Core.Path.{_≡_, refl, sym, ap, _∙_}
 use Prim.Native.Nat.{ℕ, _*_}
-use mathlib.Core.Bool.{Bool, true, false, cond}
+use mathlib.Core.Bool.{Bool}
 use mathlib.Core.List.{List}
-use lib.Dec.{T, eqb}
+use lib.Dec.{T}
 use lib.ListN.{length}
 use lib.Ieee.{Float, lt}
 use lib.Ieee.Fits.{and-r}
-use borrow.Author.Tests.{eqb-true}
+use Rattle.voice.proofs.Refusals.{none-refused, some-refused, accepted}
 use Rattle.numbers.specs.Words.{naught, finite}
 use Rattle.lanes.specs.Lanes.{Lanes, rows, timely}
 use Rattle.voice.specs.declared.Setup.{Setup}
 use Rattle.voice.specs.declared.StaticSound.{StaticSound}
 use Rattle.voice.specs.WellFormed.{ours}
 use Rattle.voice.proofs.Formed.{ours-parts, ours-of}
-use Rattle.static_sound.specs.declared.Settings.{Settings}
-use Rattle.static_sound.specs.declared.Commands.{Commands}
-use Rattle.static_sound.specs.declared.Commanded.{Commanded}
 use Rattle.static_sound.specs.declared.Signals.{Signals}
-use Rattle.static_sound.specs.Creation.{refusedNew, made, blankSound, created}
-use Rattle.static_sound.specs.Commands.{refusedSet, obeyed, reported, commanded}
 use Rattle.static_sound.specs.Blocks.{block}
 use Rattle.static_sound.specs.Entries.{Outcome, refusedBlock, refusedWith, acceptedWith, holds, processed, room, mixed, processedInto}
 use Rattle.static_sound.proofs.Plays.{block-setup}
@@ -42,68 +37,6 @@ block-ours snd v dt b g placed h =
     (p .1 ∙ ap (λ (k : Setup). 2 * k .«num_frames») (sym (block-setup snd dt (rows b) g v)))
 
 -- ---- by the refusal
-
--- of two outcomes picked by whether there is a number k, where the second's refusal is k
-module _ {A : Type 0} (refusal : A → ℕ) (k : ℕ) (x y : A) where
-  none-refused : refusal y ≡ k → refusal (cond (eqb k 0) x y) ≡ 0 → k ≡ 0
-  none-refused f e = go (eqb k 0) refl e
-    where
-      go : (b : Bool) → eqb k 0 ≡ b → refusal (cond b x y) ≡ 0 → k ≡ 0
-      go true t e = eqb-true k 0 t
-      go false t e = sym f ∙ e
-
-  some-refused : refusal x ≡ 0 → (refusal (cond (eqb k 0) x y) ≡ 0 → ⊥) → cond (eqb k 0) x y ≡ y
-  some-refused f h = go (eqb k 0) h
-    where
-      go : (b : Bool) → (refusal (cond b x y) ≡ 0 → ⊥) → cond b x y ≡ y
-      go true h = absurd (h f)
-      go false h = refl
-
-  accepted : k ≡ 0 → cond (eqb k 0) x y ≡ x
-  accepted e = ap (λ (n : ℕ). cond (eqb n 0) x y) e
-
-module _ (snd : List Float) (s : Settings) where
-  pub created-passed : (created snd s) .refusal ≡ 0 → refusedNew (length snd) s ≡ 0
-  unfolding created
-  created-passed e = e
-
-  pub created-done : refusedNew (length snd) s ≡ 0 → (created snd s) .sound ≡ made snd s
-  unfolding created
-  created-done e = ap (λ (k : ℕ). cond (eqb k 0) (made snd s) blankSound) e
-
-  pub created-refused : ((created snd s) .refusal ≡ 0 → ⊥) → (created snd s) .sound ≡ blankSound
-  unfolding created
-  created-refused h = go (eqb (refusedNew (length snd) s) 0) refl
-    where
-      go : (b : Bool) → eqb (refusedNew (length snd) s) 0 ≡ b → cond b (made snd s) blankSound ≡ blankSound
-      go true t = absurd (h (eqb-true (refusedNew (length snd) s) 0 t))
-      go false t = refl
-
--- a command set's two outcomes
-abbrev obeying : List Float → StaticSound → Commands → Commanded
-obeying snd v c = record { refusal = 0; sound = obeyed snd c v; position = reported v }
-
-abbrev refusing : ℕ → StaticSound → Commanded
-refusing k v = record { refusal = k; sound = v; position = naught }
-
-module _ (snd : List Float) (v : StaticSound) (c : Commands) where
-  pub commanded-passed : (commanded snd v c) .refusal ≡ 0 → refusedSet (length snd) v c ≡ 0
-  unfolding commanded
-  commanded-passed e =
-      let k = refusedSet (length snd) v c in
-      none-refused (λ (a : Commanded). a .refusal) k (obeying snd v c) (refusing k v) refl e
-
-  pub commanded-done : refusedSet (length snd) v c ≡ 0 → commanded snd v c ≡ obeying snd v c
-  unfolding commanded
-  commanded-done e =
-      let k = refusedSet (length snd) v c in
-      accepted (λ (a : Commanded). a .refusal) k (obeying snd v c) (refusing k v) e
-
-  pub commanded-refused : ((commanded snd v c) .refusal ≡ 0 → ⊥) → commanded snd v c ≡ refusing (refusedSet (length snd) v c) v
-  unfolding commanded
-  commanded-refused h =
-      let k = refusedSet (length snd) v c in
-      some-refused (λ (a : Commanded). a .refusal) k (obeying snd v c) (refusing k v) refl h
 
 abbrev number : Outcome → ℕ
 number o = o .answer .refusal

@@ -25,7 +25,7 @@ use Rattle.voice.specs.Voices.{courseOf, moved, updates}
 use Rattle.voice.specs.WellFormed.{Formed}
 use Rattle.voice.proofs.Formed.{span-most}
 use Rattle.voice.proofs.Kept.{updates-kept, kept-of, moved-formed}
-use Rattle.static_sound.specs.declared.block.Turned.{Turned}
+use Rattle.static_sound.specs.declared.Turned.{Turned}
 use Rattle.static_sound.specs.declared.Processed.{Processed}
 use Rattle.static_sound.specs.Blocks.{Played, plays, turned, total, frameHeard}
 use Rattle.static_sound.specs.Turns.{frameAt, turnOf, Turning, acceptedAs}

@@ -13,7 +13,7 @@ use Rattle.lanes.specs.Lanes.{slow}
 use Rattle.voice.specs.declared.Course.{Course}
 use Rattle.voice.specs.declared.Moving.{Moving}
 use Rattle.voice.specs.Voices.{updates}
-use Rattle.static_sound.specs.declared.block.Turned.{Turned}
+use Rattle.static_sound.specs.declared.Turned.{Turned}
 use Rattle.static_sound.specs.Turns.{turnOf}
 
 -- the code's product, m being the rate without its sign

@@ -13,7 +13,7 @@ use Rattle.voice.specs.declared.StaticSound.{StaticSound}
 use Rattle.voice.specs.WellFormed.{ours}
 use Rattle.static_sound.specs.declared.Signals.{Signals}
 use Rattle.static_sound.specs.declared.Processed.{Processed}
-use Rattle.static_sound.specs.Creation.{unless}
+use Rattle.voice.specs.Refusals.{unless}
 use Rattle.static_sound.specs.Blocks.{Played, block}
 
 -- the number of a refused block, 0 where it is accepted; `placed` says whether the output holds it

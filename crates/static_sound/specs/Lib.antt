@@ -1,6 +1,4 @@
--- The entries: creation, command set, block, block into a mix, stretch.
+-- The block, the block into a mix and the stretch, accepted and refused.
 pub mod Blocks
-pub mod Creation
-pub mod Commands
 pub mod Entries
 pub mod Turns

@@ -17,7 +17,7 @@ use Rattle.voice.specs.declared.Moving.{Moving}
 use Rattle.voice.specs.declared.StaticSound.{StaticSound}
 use Rattle.voice.specs.Voices.{updates, Able}
 use Rattle.voice.specs.WellFormed.{Formed}
-use Rattle.static_sound.specs.declared.block.Turned.{Turned}
+use Rattle.static_sound.specs.declared.Turned.{Turned}
 use Rattle.static_sound.specs.Blocks.{Played, plays, silent, live}
 use Rattle.static_sound.specs.Entries.{Outcome, acceptedWith}
 

@@ -5,11 +5,11 @@ use mathlib.Core.List.{List}
 use lib.Ieee.{Float}
 use Rattle.lanes.specs.Lanes.{Lanes}
 use Rattle.voice.specs.declared.StaticSound.{StaticSound}
-use Rattle.static_sound.specs.declared.Settings.{Settings}
-use Rattle.static_sound.specs.declared.Commands.{Commands}
+use Rattle.creation.specs.declared.Settings.{Settings}
+use Rattle.command_set.specs.declared.Commands.{Commands}
 use Rattle.static_sound.specs.declared.Signals.{Signals}
-use Rattle.static_sound.specs.Creation.{created}
-use Rattle.static_sound.specs.Commands.{commanded}
+use Rattle.creation.specs.Creation.{created}
+use Rattle.command_set.specs.Commands.{commanded}
 use Rattle.static_sound.specs.Entries.{processed, processedInto, stretchOf}
 use Rattle.theorems.specs.Coincide.{Decides, NewDecides, CommandsDecide, ProcessDecides, MixDecides, StretchDecides}
 

@@ -5,10 +5,14 @@ use lib.ListN.{length}
 use Rattle.voice.specs.declared.StaticSound.{StaticSound}
 use Rattle.voice.specs.WellFormed.{ours}
 use Rattle.static_sound.specs.Entries.{holds, room}
-use Rattle.static_sound.proofs.Refusals.{accepted-parts, creatable-parts, obeyable-parts}
-use Rattle.static_sound.proofs.Makes.{made-ours, blank-not}
-use Rattle.static_sound.proofs.Orders.{obeyed-ours}
-use Rattle.static_sound.proofs.Entries.{created-passed, created-done, created-refused, commanded-passed, commanded-done, commanded-refused, block-ours, processed-passed, processed-done, processed-refused, into-passed, into-done, into-refused}
+use Rattle.static_sound.proofs.Refusals.{accepted-parts}
+use Rattle.creation.proofs.Refusals.{creatable-parts}
+use Rattle.command_set.proofs.Refusals.{obeyable-parts}
+use Rattle.creation.proofs.Makes.{made-ours, blank-not}
+use Rattle.command_set.proofs.Orders.{obeyed-ours}
+use Rattle.creation.proofs.Answers.{created-passed, created-done, created-refused}
+use Rattle.command_set.proofs.Answers.{commanded-passed, commanded-done, commanded-refused}
+use Rattle.static_sound.proofs.Entries.{block-ours, processed-passed, processed-done, processed-refused, into-passed, into-done, into-refused}
 use Rattle.theorems.specs.Kept.{CreationKeeps, BlankIsNot, CommandsKeep, BlocksKeep, MixesKeep}
 
 pub creation-keeps : CreationKeeps

@@ -9,3 +9,4 @@ pub mod Kept
 pub mod LawfulEnd
 pub mod Steps
 pub mod Coincide
+pub mod Examples

@@ -6,13 +6,13 @@ use mathlib.Core.List.{List}
 use lib.Ieee.{Float}
 use Rattle.lanes.specs.Lanes.{Lanes}
 use Rattle.voice.specs.declared.StaticSound.{StaticSound}
-use Rattle.static_sound.specs.declared.Settings.{Settings}
-use Rattle.static_sound.specs.declared.Created.{Created}
-use Rattle.static_sound.specs.declared.Commands.{Commands}
-use Rattle.static_sound.specs.declared.Commanded.{Commanded}
+use Rattle.creation.specs.declared.Settings.{Settings}
+use Rattle.creation.specs.declared.Created.{Created}
+use Rattle.command_set.specs.declared.Commands.{Commands}
+use Rattle.command_set.specs.declared.Commanded.{Commanded}
 use Rattle.static_sound.specs.declared.Signals.{Signals}
-use Rattle.static_sound.specs.Creation.{created}
-use Rattle.static_sound.specs.Commands.{commanded}
+use Rattle.creation.specs.Creation.{created}
+use Rattle.command_set.specs.Commands.{commanded}
 use Rattle.static_sound.specs.Entries.{Outcome, processed, processedInto, stretchOf}
 
 -- a promise over inputs I and outcomes O

@@ -11,11 +11,11 @@ use Rattle.numbers.specs.Words.{naught}
 use Rattle.lanes.specs.Lanes.{Lanes}
 use Rattle.voice.specs.declared.StaticSound.{StaticSound}
 use Rattle.voice.specs.WellFormed.{wellFormed, ours}
-use Rattle.static_sound.specs.declared.Settings.{Settings}
-use Rattle.static_sound.specs.declared.Commands.{Commands}
+use Rattle.creation.specs.declared.Settings.{Settings}
+use Rattle.command_set.specs.declared.Commands.{Commands}
 use Rattle.static_sound.specs.declared.Signals.{Signals}
-use Rattle.static_sound.specs.Creation.{created, blankSound}
-use Rattle.static_sound.specs.Commands.{commanded}
+use Rattle.creation.specs.Creation.{created, blankSound}
+use Rattle.command_set.specs.Commands.{commanded}
 use Rattle.static_sound.specs.Entries.{Outcome, processed, processedInto}
 
 -- accepted, and refused

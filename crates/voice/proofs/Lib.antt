@@ -2,3 +2,4 @@
 pub mod Formed
 pub mod Kept
 pub mod Tests
+pub mod Refusals

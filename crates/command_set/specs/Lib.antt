@@ -1,0 +1,2 @@
+-- A command set, accepted and refused.
+pub mod Commands

@@ -1,0 +1,4 @@
+-- Laws of creation's definitions.
+pub mod Answers
+pub mod Makes
+pub mod Refusals

@@ -1,0 +1,2 @@
+-- Creation, accepted and refused.
+pub mod Creation

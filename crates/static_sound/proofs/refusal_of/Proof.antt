@@ -1,0 +1,85 @@
+-- `refusal_of` is the lowest number that applies, test by test.
+use mathlib.Core.Path.{_≡_, sym, _∙_, subst}
+use lib.Dec.{T}
+use mathlib.Core.Bool.{true}
+use denote.Ref.{now}
+use Rattle.lanes.specs.Lanes.{five, sized, timely}
+use Rattle.voice.specs.WellFormed.{ours}
+use Rattle.static_sound.proofs.Calls.{number-1, number-9, number-9-place, number-10, number-judged, fails, passes}
+use borrow.Author.Tests.{not-true, not-false}
+use borrow.Author.Needs.{needs}
+use Rattle.static_sound.proofs.refusal_of.Statement.{statement}
+use Rattle.static_sound.proofs.refusal_of.Tie as tie
+use Rattle.static_sound.proofs.refusal_of.Reads as reads
+use Rattle.static_sound.proofs.refusal_of.Lts as lts
+use Rattle.lanes.proofs.are_sized.Reads as are-sized-reads
+use Rattle.lanes.proofs.is_timely.Reads as is-timely-reads
+use Rattle.lanes.proofs.judge.Reads as judge-reads
+use Rattle.voice.proofs.StaticSound.is_well_formed.Reads as is-well-formed-reads
+
+-- ---- what each place has passed
+
+formed : (c : tie.Else1) → ours (c .before .before .before .before .before .before .before .args .samples) (c .before .before .before .before .before .before .before .args .voice) ≡ true
+formed c = passes (c .before .is-well-formed .ensures) (c .if1 .left)
+
+abbrev start : tie.Else1 → tie.Start
+start c = c .before .before .before .before .before .before .before
+
+lanes-sized : (c : tie.Else2) → (let a = start (c .before .before) .args in sized (five (now (a .fade)) (now (a .volume)) (now (a .left)) (now (a .right)) (now (a .rate))) ≡ true)
+lanes-sized c = passes (c .before .are-sized .ensures) (c .if2 .left)
+
+timely-step : (c : tie.Else4) → timely (start (c .before .before .before .before .before) .args .dt) ≡ true
+timely-step c = passes (c .before .is-timely .ensures) (c .if4 .left)
+
+-- src/block.rt:253:9
+is-well-formed-requires : tie.Need-is-well-formed-requires
+is-well-formed-requires c κs = search needs
+
+-- src/block.rt:254:9
+returns : tie.Need-returns
+returns c = number-1 _ _ _ _ _ (fails (c .before .is-well-formed .ensures) (c .if1 .taken))
+
+-- src/block.rt:256:9
+are-sized-requires : tie.Need-are-sized-requires
+are-sized-requires c κs = search needs
+
+-- src/block.rt:257:9
+returns-2 : tie.Need-returns-2
+returns-2 c = number-9 _ _ _ _ _ (formed (c .before .before)) (fails (c .before .are-sized .ensures) (c .if2 .taken))
+
+-- src/block.rt:260:9
+returns-3 : tie.Need-returns-3
+returns-3 c = number-9-place _ _ _ _ _ (formed (c .before .before .before)) (lanes-sized (c .before)) (not-true _ (c .if3 .taken))
+
+-- src/block.rt:262:9
+is-timely-requires : tie.Need-is-timely-requires
+is-timely-requires c κs = search needs
+
+-- src/block.rt:263:9
+returns-4 : tie.Need-returns-4
+returns-4 c = let p = c .before .before in number-10 _ _ _ _ _ (formed (p .before .before .before)) (lanes-sized (p .before)) (not-false _ (p .if3 .left)) (fails (c .before .is-timely .ensures) (c .if4 .taken))
+
+-- src/block.rt:266:5
+judge-requires : tie.Need-judge-requires
+judge-requires c κs = let q = c .before in (subst T (sym (lanes-sized (q .before .before .before))) tt, subst T (sym (timely-step q)) tt)
+
+-- src/block.rt:240:1
+returns-5 : tie.Need-returns-5
+returns-5 c =
+    let q = c .before .before in
+    let p = q .before .before in
+    c .judge .ensures ∙ number-judged _ _ _ _ _ (formed (p .before .before .before)) (lanes-sized (p .before)) (not-false _ (p .if3 .left)) (timely-step q)
+
+pub refusal-of-spec : {M : Type 1} → statement M
+refusal-of-spec =
+    tie.close
+    (tie.spec
+    is-well-formed-requires
+    returns
+    are-sized-requires
+    returns-2
+    returns-3
+    is-timely-requires
+    returns-4
+    judge-requires
+    returns-5)

@@ -1,0 +1,7 @@
+-- Tests in a row (document 01, "Numbers and their refusals"): the lowest number wins.
+use Prim.Native.Nat.{ℕ}
+use mathlib.Core.Bool.{Bool, cond}
+
+-- a number where its test fails, else what the rest gives
+abbrev pub unless : Bool → ℕ → ℕ → ℕ
+unless ok n rest = cond ok rest n
