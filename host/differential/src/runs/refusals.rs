@@ -363,10 +363,9 @@ fn bad_lengths(random: &mut Random, block: &mut Block) {
                 Place::Whole(samples) => Place::Whole(samples - 1 - random.below(2)),
                 Place::Mix(samples, _) => {
                     let from = (samples / 2 - n) + 1;
-                    Place::Mix(
-                        samples,
-                        one_of(random, &[from, usize::MAX, usize::MAX - n + 1]),
-                    )
+                    // Its sum with n is 2^64.
+                    let wraps = n.wrapping_neg().max(from);
+                    Place::Mix(samples, one_of(random, &[from, usize::MAX, wraps]))
                 }
             };
         }
