@@ -210,7 +210,10 @@ impl Outcome {
             _ => false,
         };
         if !is_same {
-            return Some(format!("state {:?} against {:?}", self.state, other.state));
+            return Some(match (&self.state, &other.state) {
+                (Some(a), Some(b)) => other_fields(a, b),
+                (a, b) => format!("state {a:?} against {b:?}"),
+            });
         }
         if self.steps != other.steps {
             return Some(format!("{} steps against {}", self.steps, other.steps));
@@ -260,6 +263,27 @@ pub fn blank() -> State {
         window: [Entry::default(); 4],
         count: 0,
     }
+}
+
+/// The fields in which two states differ, each with both values.
+fn other_fields(a: &State, b: &State) -> String {
+    let fields = |state: &State| {
+        let text = format!("{state:?}");
+        // At the top level a field begins with a name and a colon.
+        let mut depth = 0;
+        let split = text.split(move |letter| {
+            depth += i32::from("([{".contains(letter)) - i32::from(")]}".contains(letter));
+            letter == ',' && depth == 1
+        });
+        split.map(str::to_string).collect::<Vec<_>>()
+    };
+    let pairs = fields(a).into_iter().zip(fields(b));
+    let others = pairs.filter(|(a, b)| a != b);
+    let texts = others.map(|(a, b)| {
+        let value = b.split_once(": ").map_or(b.as_str(), |(_, value)| value);
+        format!("{} against {value}", a.trim())
+    });
+    texts.collect::<Vec<_>>().join("; ")
 }
 
 /// Equal bit by bit, NaNs too.

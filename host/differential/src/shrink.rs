@@ -11,15 +11,15 @@ use crate::call::{Ask, Block, Call, Place, Sound};
 pub fn shrink(call: &Call, fails: &dyn Fn(&Call) -> Option<String>) -> (Call, String) {
     let mut held = call.clone();
     let mut reason = fails(&held).unwrap_or_default();
-    let mut size = held.to_string().len();
+    let mut size = size_of(&held);
     'smaller: loop {
         for candidate in candidates(&held) {
-            let length = candidate.to_string().len();
-            if length >= size {
+            let smaller = size_of(&candidate);
+            if smaller >= size {
                 continue;
             }
             if let Some(other) = fails(&candidate) {
-                (held, reason, size) = (candidate, other, length);
+                (held, reason, size) = (candidate, other, smaller);
                 continue 'smaller;
             }
         }
@@ -27,9 +27,26 @@ pub fn shrink(call: &Call, fails: &dyn Fn(&Call) -> Option<String>) -> (Call, St
     }
 }
 
+/// How large a call is: its numbers in lists, then, where they are few, its text.
+fn size_of(call: &Call) -> (usize, usize) {
+    let lent = call.block().map_or(0, |block| {
+        let lanes = &block.lanes;
+        let amplitudes = [&lanes.fade, &lanes.volume, &lanes.left, &lanes.right];
+        let lengths = amplitudes.map(|lane| lane.len());
+        lengths.iter().sum::<usize>() + lanes.rate.len() + block.place.samples()
+    });
+    let numbers = call.sound.samples().len() + lent;
+    let text = if numbers < 300 {
+        call.to_string().len()
+    } else {
+        0
+    };
+    (numbers, text)
+}
+
 /// The call with one thing simpler, the boldest first.
 fn candidates(call: &Call) -> Vec<Call> {
-    let mut all = Vec::new();
+    let mut all = with_simpler_sounds(call);
     let mut with = |ask: Ask| {
         all.push(Call {
             ask,
@@ -64,7 +81,6 @@ fn candidates(call: &Call) -> Vec<Call> {
             }
         }
     }
-    all.extend(with_simpler_sounds(call));
     all
 }
 

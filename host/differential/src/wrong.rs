@@ -1,7 +1,7 @@
 //! Deliberately wrong players: each makes one slip, and the harness must find it.
 
 use oracle::{
-    Answer, Entry, PlaybackPosition, PlaybackState, Signals, State,
+    Answer, Entry, PlaybackPosition, PlaybackState, Region, Signals, State,
     leaves::{Transport, Window},
 };
 use rules::{Document, Rules, refusals::MOST_ADVANCE};
@@ -167,6 +167,10 @@ impl Rules for RoundsToEven {
             }
             PlaybackPosition::Samples(frames) => frames,
         }
+    }
+
+    fn to_region(&self, region: Region, sample_rate: u32, all: usize) -> (usize, usize) {
+        Document.to_region(region, sample_rate, all)
     }
 }
 
