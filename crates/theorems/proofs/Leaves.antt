@@ -29,7 +29,7 @@ use Rattle.voice.specs.declared.Setup.{Setup}
 use Rattle.voice.specs.declared.Moving.{Moving}
 use Rattle.voice.specs.declared.StaticSound.{StaticSound}
 use Rattle.voice.specs.declared.Course.{Course}
-use Rattle.voice.specs.Voices.{span, offset, courseOf, pushed, updated}
+use Rattle.voice.specs.Voices.{span, offset, courseOf, pushed, updated, updates}
 use Rattle.voice.specs.WellFormed.{ours}
 use Rattle.theorems.specs.Coincide.{Decides}
 use Rattle.theorems.proofs.Coincide.{named}
@@ -181,3 +181,6 @@ voice-moving-push-frame-to-resampler = named (λ (x : Moving × Course × List F
 
 pub voice-moving-update-position : Decides (λ (x : Moving × Course × List Float) (o : Moving). o ≡ updated (x .2) (x .1) (x .0))
 voice-moving-update-position = named (λ (x : Moving × Course × List Float). updated (x .2) (x .1) (x .0))
+
+pub voice-moving-update-positions : Decides (λ (x : Moving × Course × List Float × ℕ) (o : Moving). o ≡ updates (x .3) (x .2) (x .1) (x .0))
+voice-moving-update-positions = named (λ (x : Moving × Course × List Float × ℕ). updates (x .3) (x .2) (x .1) (x .0))
