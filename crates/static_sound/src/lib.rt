@@ -6,7 +6,6 @@ ghost use lib.Dec.{T, leb, eqb};
 ghost use lib.ListN.{length, replicate};
 ghost use Rattle.numbers.specs.Words.{naught, proper};
 ghost use Rattle.lanes.specs.Lanes.{five, rows};
-ghost use Rattle.voice.specs.Voices.{updates, Able};
 ghost use Rattle.static_sound.specs.Blocks.{begun, live, plays};
 ghost use Rattle.static_sound.specs.Turns.{frameAt, turnOf, Turning, Playable, acceptedAs, sounded};
 ghost use Rattle.static_sound.specs.Entries.{refusedBlock, processed, processedInto, stretchOf};
@@ -15,6 +14,7 @@ use playback_position::FrameRange;
 use playback_state_manager::PlaybackState;
 use playback_state_manager::StartAnswer;
 use resampler::Resampler;
+use transport::Transport;
 use voice::Course;
 use voice::Moving;
 use voice::StaticSound;
@@ -58,19 +58,6 @@ fn frame_heard(
     }
 }
 
-fn update_positions(moving: Moving, course: Course, sound: &[f32], steps: usize) -> Moving
-    requires { ⌜ Able (now sound) course moving ⌝ }
-    ensures { λ r. ⌜ r ≡ updates steps (now (sound .entry)) course moving ⌝ }
-{
-    let mut m = moving;
-    let mut left = steps;
-    while left > 0 {
-        m = m.update_position(course, sound);
-        left -= 1;
-    }
-    m
-}
-
 // One frame's steps.
 fn turn(
     moving: Moving,
@@ -87,13 +74,13 @@ fn turn(
     let advance = (sample_rate as f64) * numbers::magnitude(rate) * dt;
     let sum = numbers::advance_by(fractional_position, advance);
     Turned {
-        moving: update_positions(moving, course, sound, sum.steps),
+        moving: moving.update_positions(course, sound, sum.steps),
         fractional_position: sum.rest,
         steps: sum.steps,
     }
 }
 
-// A started, advancing block.
+// A started, advancing block. What moves goes round the loop in parts, so that no padding is copied.
 fn play(
     voice: StaticSound,
     sound: &[f32],
@@ -109,20 +96,37 @@ fn play(
     ensures { λ r. ⌜ record { answer = r; samples = now (out .exit) } ≡ acceptedAs (plays (now (sound .entry)) dt (rows (five (now (fade .entry)) (now (volume .entry)) (now (left .entry)) (now (right .entry)) (now (rate .entry)))) voice) ⌝ }
 {
     let course = voice.course();
-    let sample_rate = voice.setup.sample_rate;
-    let mut moving = voice.moving;
+    let setup = voice.setup;
+    let sample_rate = setup.sample_rate;
+    let first = voice.moving;
+    let opening = first.transport;
+    let loop_region = opening.loop_region;
+    let mut state = first.state;
+    let mut position = opening.position;
+    let mut playing = opening.playing;
+    let mut resampler = first.resampler;
     let mut fractional_position = voice.fractional_position;
     let mut steps: usize = 0;
     let mut i: usize = 0;
     while i < rate.len() {
         let frame = frame_heard(
-            moving.resampler,
+            resampler,
             fractional_position,
             fade[i],
             volume[i],
             left[i],
             right[i],
         );
+        let transport = Transport {
+            position,
+            loop_region,
+            playing,
+        };
+        let moving = Moving {
+            state,
+            transport,
+            resampler,
+        };
         let next = turn(
             moving,
             fractional_position,
@@ -134,11 +138,26 @@ fn play(
         );
         out[2 * i] = frame.left;
         out[2 * i + 1] = frame.right;
-        moving = next.moving;
+        let after = next.moving;
+        let landed = after.transport;
+        state = after.state;
+        position = landed.position;
+        playing = landed.playing;
+        resampler = after.resampler;
         fractional_position = next.fractional_position;
         steps += next.steps;
         i += 1;
     }
+    let transport = Transport {
+        position,
+        loop_region,
+        playing,
+    };
+    let moving = Moving {
+        state,
+        transport,
+        resampler,
+    };
     Processed {
         refusal: 0,
         sound: StaticSound {

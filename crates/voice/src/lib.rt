@@ -6,7 +6,7 @@ ghost use lib.ListN.{length};
 ghost use Rattle.frame.specs.Frames.{frameOf};
 ghost use Rattle.transport.specs.Seats.{seated, Seated};
 ghost use Rattle.resampler.specs.Windows.{hushed, numbered, windowed};
-ghost use Rattle.voice.specs.Voices.{span, offset, backwards, courseOf, sounding, pushed, stepped, updated, Able};
+ghost use Rattle.voice.specs.Voices.{span, offset, backwards, courseOf, sounding, pushed, stepped, updated, updates, Able};
 ghost use Rattle.voice.specs.WellFormed.{setUp, ours};
 use frame::Frame;
 use playback_position::FrameRange;
@@ -218,6 +218,49 @@ impl Moving {
                 resampler,
             };
         }
+        Moving {
+            state,
+            transport,
+            resampler,
+        }
+    }
+
+    // As many updates as there are steps. What moves goes round the loop in parts, so that no padding is copied.
+    pub fn update_positions(self, course: Course, sound: &[f32], steps: usize) -> Moving
+        requires { ⌜ Able (now sound) course self ⌝ }
+        ensures { λ r. ⌜ r ≡ updates steps (now (sound .entry)) course self ⌝ }
+    {
+        let first = self.transport;
+        let loop_region = first.loop_region;
+        let mut state = self.state;
+        let mut position = first.position;
+        let mut playing = first.playing;
+        let mut resampler = self.resampler;
+        let mut left = steps;
+        while left > 0 {
+            let transport = Transport {
+                position,
+                loop_region,
+                playing,
+            };
+            let moving = Moving {
+                state,
+                transport,
+                resampler,
+            };
+            let next = moving.update_position(course, sound);
+            let after = next.transport;
+            state = next.state;
+            position = after.position;
+            playing = after.playing;
+            resampler = next.resampler;
+            left -= 1;
+        }
+        let transport = Transport {
+            position,
+            loop_region,
+            playing,
+        };
         Moving {
             state,
             transport,
