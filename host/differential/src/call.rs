@@ -161,13 +161,10 @@ impl Call {
         }
     }
 
-    /// The output or mix as it is lent: a pattern in which every sample is another, some of them NaN.
+    /// The output or mix as it is lent, a [`pattern`].
     #[must_use]
     pub fn lent(&self) -> Vec<f32> {
-        let samples = self.block().map_or(0, |block| block.place.samples());
-        (0..samples as u32)
-            .map(|i| f32::from_bits(0x7fa0_0000 ^ i.wrapping_mul(0x9e37_79b1)))
-            .collect()
+        pattern(self.block().map_or(0, |block| block.place.samples()))
     }
 
     /// What this call answers when it is refused with the number.
@@ -243,6 +240,14 @@ impl Outcome {
         let bits = |x: &f32| format!("{x:?} ({:#x})", x.to_bits());
         Some(format!("sample {place}: {} against {}", bits(a), bits(b)))
     }
+}
+
+/// So many samples, each another, some of them NaN.
+#[must_use]
+pub fn pattern(samples: usize) -> Vec<f32> {
+    (0..samples as u32)
+        .map(|i| f32::from_bits(0x7fa0_0000 ^ i.wrapping_mul(0x9e37_79b1)))
+        .collect()
 }
 
 /// The blank state.

@@ -13,22 +13,27 @@ pub use structs::*;
 /// The lanes of a block, lent; each may have a length of its own.
 pub use oracle::Lanes;
 
-mod entries {
+/// The entries themselves. A slice goes as its pointer and its count of elements.
+pub mod entries {
     use super::*;
 
     unsafe extern "C" {
+        /// The version of the entries.
         pub fn cableowl_version() -> u32;
+        /// Creation.
         pub fn cableowl_new(
             settings: CableowlSettings,
             sound: *const f32,
             sound_length: usize,
         ) -> CableowlCreated;
+        /// A command set.
         pub fn cableowl_on_start_processing(
             state: CableowlState,
             sound: *const f32,
             sound_length: usize,
             commands: CableowlCommands,
         ) -> CableowlCommanded;
+        /// A block into an output of its own.
         pub fn cableowl_process(
             state: CableowlState,
             sound: *const f32,
@@ -48,6 +53,7 @@ mod entries {
             out: *mut f32,
             out_length: usize,
         ) -> CableowlProcessed;
+        /// A block into a longer mix, from a frame on.
         pub fn cableowl_process_into(
             state: CableowlState,
             sound: *const f32,
@@ -68,6 +74,7 @@ mod entries {
             mix_length: usize,
             from: u64,
         ) -> CableowlProcessed;
+        /// The sound's own stretch.
         pub fn cableowl_stretch(
             state: CableowlState,
             sound: *const f32,
