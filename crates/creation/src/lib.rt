@@ -168,7 +168,7 @@ fn make(settings: Settings, sound: &[f32]) -> StaticSound
 }
 
 // What a refused creation returns: Stopped, and every number 0.
-fn blank() -> StaticSound
+pub fn blank() -> StaticSound
     ensures { λ r. ⌜ r ≡ blankSound ⌝ }
 {
     let setup = Setup {

@@ -1,0 +1,94 @@
+-- What each entry answers, from what the entry below it gave and from the translations. Assumes nothing.
+use mathlib.Core.Path.{_≡_, sym, ap, _∙_, subst}
+use Prim.Native.Nat.{ℕ, _*_, _≤_}
+use mathlib.Core.Bool.{Bool, true, false, not, cond}
+use mathlib.Core.List.{List}
+use lib.Dec.{T}
+use lib.ListN.{length}
+use lib.Ieee.{Float}
+use Rattle.lanes.specs.Lanes.{Lanes}
+use Rattle.voice.specs.declared.StaticSound.{StaticSound}
+use Rattle.voice.specs.Voices.{span, offset}
+use Rattle.voice.specs.WellFormed.{ours}
+use Rattle.creation.specs.declared.Settings.{Settings}
+use Rattle.creation.specs.declared.Created.{Created}
+use Rattle.creation.specs.Creation.{created}
+use Rattle.command_set.specs.declared.Commands.{Commands}
+use Rattle.command_set.specs.declared.Commanded.{Commanded}
+use Rattle.command_set.specs.Commands.{commanded}
+use Rattle.static_sound.specs.declared.Signals.{Signals}
+use Rattle.static_sound.specs.declared.Processed.{Processed}
+use Rattle.static_sound.specs.Entries.{Outcome, processed, processedInto}
+use Rattle.static_sound.proofs.Calls.{fails, passes}
+use Rattle.cableowl.specs.declared.CableowlState.{CableowlState}
+use Rattle.cableowl.specs.declared.CableowlSettings.{CableowlSettings}
+use Rattle.cableowl.specs.declared.CableowlCommands.{CableowlCommands}
+use Rattle.cableowl.specs.declared.CableowlSignals.{CableowlSignals}
+use Rattle.cableowl.specs.declared.CableowlCreated.{CableowlCreated}
+use Rattle.cableowl.specs.declared.CableowlCommanded.{CableowlCommanded}
+use Rattle.cableowl.specs.declared.CableowlProcessed.{CableowlProcessed}
+use Rattle.cableowl.specs.declared.CableowlPart.{CableowlPart}
+use Rattle.cableowl.specs.Records.{decoded, encoded}
+use Rattle.cableowl.specs.Inputs.{settingsOf, commandsOf, signalsOf}
+use Rattle.cableowl.specs.Entries.{after, createdC, commandedC, answered, OutcomeC, processedC, processedIntoC, partC}
+use Rattle.cableowl.proofs.Few.{countOf, ours-few, created-few, commanded-ours, processed-ours, into-ours, part-few}
+
+-- ---- creation
+
+module _ (snd : List Float) (s : CableowlSettings) (t : Settings) (r : Created) (e : t ≡ settingsOf s) (f : r ≡ created snd t) where
+  pub new-few : countOf (r .sound) ≤ 4
+  new-few = rw f (created-few snd t)
+
+  pub new-is : (c : CableowlState) → c ≡ encoded (r .sound) → _≡_ {A = CableowlCreated} (record { state = c; refusal = r .refusal }) (createdC snd s)
+  unfolding createdC
+  new-is c g = rw (g, f, e)
+
+-- ---- commands
+
+module _ (snd : List Float) (c : CableowlState) (k : CableowlCommands) (v : StaticSound) (u : Commands) (r : Commanded)
+    (d : v ≡ decoded c) (e : u ≡ commandsOf k) (f : r ≡ commanded snd v u) where
+  pub commands-few : r .refusal ≡ 0 → countOf (r .sound) ≤ 4
+  commands-few = rw f (λ z. ours-few (length snd) _ (commanded-ours snd v u z))
+
+  pub commands-are : (b : CableowlState) → b ≡ after (r .refusal) (r .sound) c
+      → _≡_ {A = CableowlCommanded} (record { state = b; position = r .position; refusal = r .refusal }) (commandedC snd c k)
+  unfolding commandedC
+  commands-are b g = rw (g, f, e, d)
+
+-- ---- blocks
+
+module _ (snd : List Float) (c : CableowlState) (dt : Float) (b : Lanes) (g : CableowlSignals) (v : StaticSound) (w : Signals)
+    (d : v ≡ decoded c) (e : w ≡ signalsOf g) (r : Processed) (samples : List Float) where
+  abbrev pub given : Outcome
+  given = record { answer = r; samples = samples }
+
+  abbrev pub told : CableowlProcessed → OutcomeC
+  told a = record { answer = a; samples = samples }
+
+  pub block-few : (out : List Float) → given ≡ processed snd v dt b w out → r .refusal ≡ 0 → countOf (r .sound) ≤ 4
+  block-few out f = subst (λ (o : Outcome). o .answer .refusal ≡ 0 → countOf (o .answer .sound) ≤ 4) (sym f) (λ z. ours-few (length snd) _ (processed-ours snd v dt b w out z))
+
+  pub block-is : (out : List Float) → given ≡ processed snd v dt b w out → (a : CableowlProcessed) → a ≡ answered r c → told a ≡ processedC snd c dt b g out
+  unfolding processedC
+  block-is out f a h = ap told h ∙ ap (λ (o : Outcome). record { answer = answered (o .answer) c; samples = o .samples }) f ∙ rw (e, d)
+
+  pub mix-few : (mix : List Float) (from : ℕ) → given ≡ processedInto snd v dt b w mix from → r .refusal ≡ 0 → countOf (r .sound) ≤ 4
+  mix-few mix from f = subst (λ (o : Outcome). o .answer .refusal ≡ 0 → countOf (o .answer .sound) ≤ 4) (sym f) (λ z. ours-few (length snd) _ (into-ours snd v dt b w mix from z))
+
+  pub mix-is : (mix : List Float) (from : ℕ) → given ≡ processedInto snd v dt b w mix from → (a : CableowlProcessed) → a ≡ answered r c → told a ≡ processedIntoC snd c dt b g mix from
+  unfolding processedIntoC
+  mix-is mix from f a h = ap told h ∙ ap (λ (o : Outcome). record { answer = answered (o .answer) c; samples = o .samples }) f ∙ rw (e, d)
+
+-- ---- the stretch
+
+module _ (snd : List Float) (c : CableowlState) (v : StaticSound) (t : Bool) (d : v ≡ decoded c) (f : t ≡ ours (length snd) v) where
+  pub part-none : not t ≡ true → _≡_ {A = CableowlPart} (record { offset = 0; length = 0 }) (partC snd c)
+  unfolding partC
+  part-none h = rw (← d, fails f h)
+
+  pub part-ours : not t ≡ false → T (ours (length snd) v)
+  part-ours h = subst T (sym (passes f h)) tt
+
+  pub part-is : not t ≡ false → (m n : ℕ) → m ≡ offset (v .setup) → n ≡ span (v .setup) → _≡_ {A = CableowlPart} (record { offset = 2 * m; length = 2 * n }) (partC snd c)
+  unfolding partC
+  part-is h m n p q = rw (p, q, ← d, passes f h)

@@ -1,0 +1,78 @@
+-- Numbers that fit: the count of every state that is encoded, and the part of the sound that is played.
+-- An accepted call leaves a state that is well formed over its sound, and there the count is at most 4. Assumes nothing.
+use mathlib.Core.Path.{_≡_, sym, ap, _∙_, subst}
+use Prim.Native.Nat.{ℕ, _+_, _*_, _≤_}
+use native.Mathlib.Omega.{arith}
+use mathlib.Core.Bool.{Bool, true, false, cond}
+use mathlib.Core.List.{List}
+use lib.Dec.{T, eqb, eqb→eq}
+use lib.ListN.{length}
+use lib.Ieee.{Float}
+use Rattle.lanes.specs.Lanes.{Lanes}
+use Rattle.voice.specs.declared.StaticSound.{StaticSound}
+use Rattle.voice.specs.Voices.{span, offset}
+use Rattle.voice.specs.WellFormed.{ours}
+use Rattle.voice.proofs.Formed.{setup-parts, span-inside, ours-parts}
+use Rattle.creation.specs.declared.Settings.{Settings}
+use Rattle.creation.specs.Creation.{refusedNew, made, blankSound, created}
+use Rattle.creation.proofs.Refusals.{creatable-parts}
+use Rattle.creation.proofs.Makes.{made-ours}
+use Rattle.command_set.specs.declared.Commands.{Commands}
+use Rattle.command_set.specs.Commands.{commanded}
+use Rattle.command_set.proofs.Refusals.{obeyable-parts}
+use Rattle.command_set.proofs.Orders.{obeyed-ours}
+use Rattle.command_set.proofs.Answers.{commanded-passed, commanded-done}
+use Rattle.static_sound.specs.declared.Signals.{Signals}
+use Rattle.static_sound.specs.Entries.{Outcome, holds, processed, room, processedInto}
+use Rattle.static_sound.proofs.Refusals.{accepted-parts}
+use Rattle.static_sound.proofs.Entries.{block-ours, processed-passed, processed-done, into-passed, into-done}
+
+-- how many pushes until the window is silent
+abbrev pub countOf : StaticSound → ℕ
+countOf v = v .moving .resampler .«time_until_empty»
+
+pub ours-few : (len : ℕ) (v : StaticSound) → T (ours len v) → countOf v ≤ 4
+ours-few len v h = ours-parts len v h .0 .window .few
+
+-- the part that is played lies in the sound, which is not long
+pub part-few : (len : ℕ) (v : StaticSound) → T (ours len v) → 2 * (offset (v .setup) + span (v .setup)) ≤ 33554432
+part-few len v h =
+    let f = ours-parts len v h .0 in
+    let i = span-inside (v .setup) (f .setup) in
+    let k = setup-parts (v .setup) (f .setup) .few in
+    omega arith
+
+-- ---- what each accepted call leaves
+
+pub created-ours : (snd : List Float) (s : Settings) → refusedNew (length snd) s ≡ 0 → T (ours (length snd) (made snd s))
+created-ours snd s k = made-ours snd s (creatable-parts (length snd) s k)
+
+pub commanded-ours : (snd : List Float) (v : StaticSound) (c : Commands) → (commanded snd v c) .refusal ≡ 0 → T (ours (length snd) ((commanded snd v c) .sound))
+commanded-ours snd v c e =
+    let k = commanded-passed snd v c e in
+    rw (commanded-done snd v c k) (obeyed-ours snd c v (obeyable-parts (length snd) v c k))
+
+module _ (snd : List Float) (v : StaticSound) (dt : Float) (b : Lanes) (g : Signals) where
+  abbrev pub OursAfter : Outcome → Type 0
+  OursAfter o = o .answer .refusal ≡ 0 → T (ours (length snd) (o .answer .sound))
+
+  pub processed-ours : (out : List Float) → OursAfter (processed snd v dt b g out)
+  processed-ours out e =
+      let k = processed-passed snd v dt b g out e in
+      rw (processed-done snd v dt b g out k) (block-ours snd v dt b g (holds b out) (accepted-parts (length snd) v dt b (holds b out) k))
+
+  pub into-ours : (mix : List Float) (from : ℕ) → OursAfter (processedInto snd v dt b g mix from)
+  into-ours mix from e =
+      let k = into-passed snd v dt b g mix from e in
+      let r = room from (length (b .rate)) mix in
+      rw (into-done snd v dt b g mix from k) (block-ours snd v dt b g r (accepted-parts (length snd) v dt b r k))
+
+-- ---- and so the count that it leaves
+
+pub created-few : (snd : List Float) (s : Settings) → countOf ((created snd s) .sound) ≤ 4
+unfolding created
+created-few snd s = go (eqb (refusedNew (length snd) s) 0) (λ h. created-ours snd s (eqb→eq (refusedNew (length snd) s) 0 h))
+  where
+    go : (b : Bool) → (T b → T (ours (length snd) (made snd s))) → countOf (cond b (made snd s) blankSound) ≤ 4
+    go true h = ours-few (length snd) (made snd s) (h tt)
+    go false h = omega arith

@@ -1,0 +1,4 @@
+-- Laws of the C ABI's definitions.
+pub mod Fours
+pub mod Few
+pub mod Answers

@@ -1,0 +1,66 @@
+-- The entries of the C ABI, accepted and refused together: each is the entry below it, between records of numbers.
+use Prim.Native.Nat.{ℕ, _*_}
+use mathlib.Core.Bool.{cond}
+use mathlib.Core.List.{List}
+use lib.Dec.{eqb}
+use lib.ListN.{length}
+use lib.Ieee.{Float}
+use Rattle.lanes.specs.Lanes.{Lanes}
+use Rattle.voice.specs.declared.StaticSound.{StaticSound}
+use Rattle.voice.specs.Voices.{span, offset}
+use Rattle.voice.specs.WellFormed.{ours}
+use Rattle.creation.specs.Creation.{created}
+use Rattle.command_set.specs.Commands.{commanded}
+use Rattle.static_sound.specs.declared.Processed.{Processed}
+use Rattle.static_sound.specs.Entries.{processed, processedInto}
+use Rattle.cableowl.specs.declared.CableowlState.{CableowlState}
+use Rattle.cableowl.specs.declared.CableowlSettings.{CableowlSettings}
+use Rattle.cableowl.specs.declared.CableowlCommands.{CableowlCommands}
+use Rattle.cableowl.specs.declared.CableowlSignals.{CableowlSignals}
+use Rattle.cableowl.specs.declared.CableowlCreated.{CableowlCreated}
+use Rattle.cableowl.specs.declared.CableowlCommanded.{CableowlCommanded}
+use Rattle.cableowl.specs.declared.CableowlProcessed.{CableowlProcessed}
+use Rattle.cableowl.specs.declared.CableowlPart.{CableowlPart}
+use Rattle.cableowl.specs.Records.{decoded, encoded}
+use Rattle.cableowl.specs.Inputs.{settingsOf, commandsOf, signalsOf}
+
+-- the state that comes back: after a refusal the given one
+unfoldable pub after : ℕ → StaticSound → CableowlState → CableowlState
+after k v c = cond (eqb k 0) (encoded v) c
+
+-- creation; refused, the blank state
+unfoldable pub createdC : List Float → CableowlSettings → CableowlCreated
+createdC snd s = let r = created snd (settingsOf s) in record { state = encoded (r .sound); refusal = r .refusal }
+
+-- a command set
+unfoldable pub commandedC : List Float → CableowlState → CableowlCommands → CableowlCommanded
+commandedC snd c k =
+    let r = commanded snd (decoded c) (commandsOf k) in
+    record { state = after (r .refusal) (r .sound) c; position = r .position; refusal = r .refusal }
+
+-- the answer of a block that was given this state
+abbrev pub answered : Processed → CableowlState → CableowlProcessed
+answered p c = record { state = after (p .refusal) (p .sound) c; steps = p .steps; refusal = p .refusal }
+
+-- what a block's call gives: its answer, and every sample of the lent buffer
+pub record OutcomeC : Type 0 where
+  pub answer : CableowlProcessed
+  pub samples : List Float
+
+-- a block
+unfoldable pub processedC : List Float → CableowlState → Float → Lanes → CableowlSignals → List Float → OutcomeC
+processedC snd c dt b g out =
+    let o = processed snd (decoded c) dt b (signalsOf g) out in
+    record { answer = answered (o .answer) c; samples = o .samples }
+
+-- a block into a mix
+unfoldable pub processedIntoC : List Float → CableowlState → Float → Lanes → CableowlSignals → List Float → ℕ → OutcomeC
+processedIntoC snd c dt b g mix from =
+    let o = processedInto snd (decoded c) dt b (signalsOf g) mix from in
+    record { answer = answered (o .answer) c; samples = o .samples }
+
+-- the stretch as a part of the lent sound; refused, nothing
+unfoldable pub partC : List Float → CableowlState → CableowlPart
+partC snd c =
+    let v = decoded c in
+    cond (ours (length snd) v) (record { offset = 2 * offset (v .setup); length = 2 * span (v .setup) }) (record { offset = 0; length = 0 })

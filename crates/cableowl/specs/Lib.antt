@@ -1,0 +1,4 @@
+-- What the contracts of the C ABI cite.
+pub mod Records
+pub mod Inputs
+pub mod Entries
