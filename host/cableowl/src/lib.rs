@@ -35,6 +35,8 @@
 
 mod commands;
 mod ffi;
+#[cfg(test)]
+mod header;
 mod lanes;
 mod playback_position;
 mod playback_state;
