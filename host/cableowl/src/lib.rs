@@ -54,6 +54,11 @@ pub use settings::Settings;
 pub use state::{Frame, RecentFrame, State};
 pub use static_sound::{Processed, StaticSound};
 
+/// The examples of README.md, tried with the others.
+#[cfg(doctest)]
+#[doc = include_str!("../../../README.md")]
+pub struct Readme;
+
 /// The most frames a block may have.
 pub const MAX_BLOCK_FRAMES: usize = 4_096;
 
