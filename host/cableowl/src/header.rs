@@ -2,6 +2,7 @@
 
 use std::{
     fs,
+    io::{self, Write},
     mem::{offset_of, size_of},
     path::{Path, PathBuf},
     process::Command,
@@ -73,7 +74,11 @@ fn sizes_are_the_abi_s() {
 #[test]
 fn header_agrees_and_c_can_call_each_entry() {
     if Command::new("cc").arg("--version").output().is_err() {
-        println!("skipped: no C compiler 'cc' on PATH, the header was not tried");
+        // Written past the test's capture: it is to be seen.
+        let _ = writeln!(
+            io::stderr(),
+            "skipped: no C compiler 'cc' on PATH, so cableowl.h was not tried"
+        );
         return;
     }
     let Some(archive) = option_env!("CABLEOWL_ARCHIVE") else {
