@@ -158,12 +158,8 @@ fn make(settings: Settings, sound: &[f32]) -> StaticSound
 {
     let opened = open(settings, sound.len());
     let course = opened.course();
-    let mut moving = opened.moving;
-    let mut left: usize = 3;
-    while left > 0 {
-        moving = moving.update_position(course, sound);
-        left -= 1;
-    }
+    let first = opened.moving;
+    let moving = first.update_positions(course, sound, 3);
     StaticSound { moving, ..opened }
 }
 

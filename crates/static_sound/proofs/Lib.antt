@@ -9,4 +9,3 @@ pub mod Places
 pub mod Plays
 pub mod Refusals
 pub mod Turns
-pub mod Updates

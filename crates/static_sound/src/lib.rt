@@ -6,7 +6,6 @@ ghost use lib.Dec.{T, leb, eqb};
 ghost use lib.ListN.{length, replicate};
 ghost use Rattle.numbers.specs.Words.{naught, proper};
 ghost use Rattle.lanes.specs.Lanes.{five, rows};
-ghost use Rattle.voice.specs.Voices.{updates, Able};
 ghost use Rattle.static_sound.specs.Blocks.{begun, live, plays};
 ghost use Rattle.static_sound.specs.Turns.{frameAt, turnOf, Turning, Playable, acceptedAs, sounded};
 ghost use Rattle.static_sound.specs.Entries.{refusedBlock, processed, processedInto, stretchOf};
@@ -58,19 +57,6 @@ fn frame_heard(
     }
 }
 
-fn update_positions(moving: Moving, course: Course, sound: &[f32], steps: usize) -> Moving
-    requires { ⌜ Able (now sound) course moving ⌝ }
-    ensures { λ r. ⌜ r ≡ updates steps (now (sound .entry)) course moving ⌝ }
-{
-    let mut m = moving;
-    let mut left = steps;
-    while left > 0 {
-        m = m.update_position(course, sound);
-        left -= 1;
-    }
-    m
-}
-
 // One frame's steps.
 fn turn(
     moving: Moving,
@@ -87,7 +73,7 @@ fn turn(
     let advance = (sample_rate as f64) * numbers::magnitude(rate) * dt;
     let sum = numbers::advance_by(fractional_position, advance);
     Turned {
-        moving: update_positions(moving, course, sound, sum.steps),
+        moving: moving.update_positions(course, sound, sum.steps),
         fractional_position: sum.rest,
         steps: sum.steps,
     }

@@ -17,22 +17,18 @@ use Rattle.theorems.specs.Coincide.{Decides, NewDecides, CommandsDecide,
 pub named {ℓ κ} : {I : Type ℓ} {O : Type κ} (f : I → O) → Decides (λ (i : I) (o : O). o ≡ f i)
 named f i x y p q = p ∙ sym q
 
--- and so does one that names a result and, beside it, what a lent buffer holds
-pub beside {ℓ κ} : {I : Type ℓ} {R B : Type κ} (f : I → R) (g : I → B) → Decides (λ (i : I) (o : R × B). (o .0 ≡ f i) × (o .1 ≡ g i))
-beside f g i x y p q = λ j. ((p .0 ∙ sym (q .0)) j, (p .1 ∙ sym (q .1)) j)
+pub creation-new : NewDecides
+creation-new = named (λ (i : List Float × Settings). created (i .0) (i .1))
 
-pub new-decides : NewDecides
-new-decides = named (λ (i : List Float × Settings). created (i .0) (i .1))
+pub command-set-on-start-processing : CommandsDecide
+command-set-on-start-processing = named (λ (i : List Float × StaticSound × Commands). commanded (i .0) (i .1) (i .2))
 
-pub commands-decide : CommandsDecide
-commands-decide = named (λ (i : List Float × StaticSound × Commands). commanded (i .0) (i .1) (i .2))
+pub static-sound-process : ProcessDecides
+static-sound-process = named (λ (i : List Float × StaticSound × Float × Lanes × Signals × List Float). processed (i .0) (i .1) (i .2) (i .3) (i .4) (i .5))
 
-pub process-decides : ProcessDecides
-process-decides = named (λ (i : List Float × StaticSound × Float × Lanes × Signals × List Float). processed (i .0) (i .1) (i .2) (i .3) (i .4) (i .5))
-
-pub mix-decides : MixDecides
-mix-decides =
+pub static-sound-process-into : MixDecides
+static-sound-process-into =
     named (λ (i : List Float × StaticSound × Float × Lanes × Signals × List Float × ℕ). processedInto (i .0) (i .1) (i .2) (i .3) (i .4) (i .5) (i .6))
 
-pub stretch-decides : StretchDecides
-stretch-decides = named (λ (i : List Float × StaticSound). stretchOf (i .0) (i .1))
+pub static-sound-stretch : StretchDecides
+static-sound-stretch = named (λ (i : List Float × StaticSound). stretchOf (i .0) (i .1))

@@ -10,3 +10,4 @@ pub mod LawfulEnd
 pub mod Steps
 pub mod Coincide
 pub mod Examples
+pub mod Leaves

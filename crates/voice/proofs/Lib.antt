@@ -3,3 +3,4 @@ pub mod Formed
 pub mod Kept
 pub mod Tests
 pub mod Refusals
+pub mod Updates

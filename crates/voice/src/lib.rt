@@ -6,7 +6,7 @@ ghost use lib.ListN.{length};
 ghost use Rattle.frame.specs.Frames.{frameOf};
 ghost use Rattle.transport.specs.Seats.{seated, Seated};
 ghost use Rattle.resampler.specs.Windows.{hushed, numbered, windowed};
-ghost use Rattle.voice.specs.Voices.{span, offset, backwards, courseOf, sounding, pushed, stepped, updated, Able};
+ghost use Rattle.voice.specs.Voices.{span, offset, backwards, courseOf, sounding, pushed, stepped, updated, updates, Able};
 ghost use Rattle.voice.specs.WellFormed.{setUp, ours};
 use frame::Frame;
 use playback_position::FrameRange;
@@ -223,5 +223,19 @@ impl Moving {
             transport,
             resampler,
         }
+    }
+
+    // As many updates as there are steps.
+    pub fn update_positions(self, course: Course, sound: &[f32], steps: usize) -> Moving
+        requires { ⌜ Able (now sound) course self ⌝ }
+        ensures { λ r. ⌜ r ≡ updates steps (now (sound .entry)) course self ⌝ }
+    {
+        let mut moving = self;
+        let mut left = steps;
+        while left > 0 {
+            moving = moving.update_position(course, sound);
+            left -= 1;
+        }
+        moving
     }
 }

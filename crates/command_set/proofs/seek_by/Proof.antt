@@ -1,10 +1,11 @@
 -- `command_set::seek_by` meets its contract: each arm is a case of `soughtBy`, and a seek's frames are cut to a number in range.
-use mathlib.Core.Path.{sym, subst}
+use mathlib.Core.Path.{sym, ap, _∙_, subst}
 use Prim.Native.Nat.{ℕ, _≤_}
 use borrow.Author.Needs.{needs}
-use Rattle.numbers.specs.Frames.{most}
+use Rattle.numbers.specs.Frames.{most, cutOff}
 use Rattle.numbers.proofs.Frames.{cut-le}
 use Rattle.voice.proofs.Formed.{ours-parts}
+use Rattle.command_set.specs.Commands.{sought}
 use Rattle.command_set.proofs.seek_by.Statement.{statement}
 use Rattle.command_set.proofs.seek_by.Tie as tie
 
@@ -30,7 +31,8 @@ returns c = rw (c .enum-told .given .1)
 returns-2 : tie.Need-returns-2
 returns-2 c =
     let f = c .before .before in
-    rw (f .before .before .command .given .1, ← f .frames-by .ensures, ← c .before .cut .ensures) (c .seek-to-index .ensures)
+    rw (f .before .before .command .given .1)
+    (c .seek-to-index .ensures ∙ ap (sought _ _) (c .before .cut .ensures ∙ ap cutOff (f .frames-by .ensures)))
 
 pub seek-by-spec : {M : Type 1} → statement M
 seek-by-spec =

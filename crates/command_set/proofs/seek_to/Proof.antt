@@ -1,9 +1,10 @@
 -- `command_set::seek_to` meets its contract: each arm is a case of `soughtTo`, and a seek's frames are cut to a number in range.
-use mathlib.Core.Path.{sym, subst}
+use mathlib.Core.Path.{sym, ap, _∙_, subst}
 use Prim.Native.Nat.{ℕ, _≤_}
 use borrow.Author.Needs.{needs}
-use Rattle.numbers.specs.Frames.{most}
+use Rattle.numbers.specs.Frames.{most, cutOff}
 use Rattle.numbers.proofs.Frames.{cut-le}
+use Rattle.command_set.specs.Commands.{sought}
 use Rattle.command_set.proofs.seek_to.Statement.{statement}
 use Rattle.command_set.proofs.seek_to.Tie as tie
 
@@ -29,7 +30,8 @@ returns c = rw (c .enum-told .given .1)
 returns-2 : tie.Need-returns-2
 returns-2 c =
     let f = c .before .before in
-    rw (f .before .before .command .given .1, ← f .frames-to .ensures, ← c .before .cut .ensures) (c .seek-to-index .ensures)
+    rw (f .before .before .command .given .1)
+    (c .seek-to-index .ensures ∙ ap (sought _ _) (c .before .cut .ensures ∙ ap cutOff (f .frames-to .ensures)))
 
 pub seek-to-spec : {M : Type 1} → statement M
 seek-to-spec =

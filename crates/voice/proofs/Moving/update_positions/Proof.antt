@@ -3,20 +3,20 @@ use Prim.Native.Nat.{ℕ, _<_}
 use mathlib.Core.Path.{_≡_, refl, sym, ap, _∙_}
 use native.Mathlib.Omega.{arith}
 use denote.Ref.{now}
 use Rattle.voice.specs.Voices.{updated, updates, Able}
 use Rattle.voice.proofs.Kept.{updated-able}
-use Rattle.static_sound.proofs.Updates.{updates-one, updates-none}
-use Rattle.static_sound.proofs.update_positions.Statement.{statement}
-use Rattle.static_sound.proofs.update_positions.Tie as tie
-use Rattle.static_sound.proofs.update_positions.Reads as reads
-use Rattle.static_sound.proofs.update_positions.Lts as lts
+use Rattle.voice.proofs.Updates.{updates-one, updates-none}
+use Rattle.voice.proofs.Moving.update_positions.Statement.{statement}
+use Rattle.voice.proofs.Moving.update_positions.Tie as tie
+use Rattle.voice.proofs.Moving.update_positions.Reads as reads
+use Rattle.voice.proofs.Moving.update_positions.Lts as lts
 use Rattle.voice.proofs.Moving.update_position.Reads as update-position-reads
 
 abbrev Inv-loop : tie.InvT-loop
-Inv-loop course sound steps m₀ left₀ m left = Able sound course m × (updates left sound course m ≡ updates steps sound course m₀)
+Inv-loop course sound steps moving₀ left₀ moving left = Able sound course moving × (updates left sound course moving ≡ updates steps sound course moving₀)
 
 abbrev μ-loop : tie.MeasureT-loop
-μ-loop course sound steps m₀ left₀ m left = left
+μ-loop course sound steps moving₀ left₀ moving left = left
 
 -- src/block.rt:56:5
 loop-holds : tie.Need-loop-holds Inv-loop μ-loop

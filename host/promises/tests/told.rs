@@ -1,0 +1,55 @@
+//! Every public function's promise is told, and a function whose promise is not told is found.
+
+use promises::{Told, all_public_functions, public_functions};
+use std::fs;
+use std::path::{Path, PathBuf};
+
+fn root() -> PathBuf {
+    Path::new(env!("CARGO_MANIFEST_DIR")).join("../..")
+}
+
+fn read(path: &str) -> String {
+    fs::read_to_string(root().join(path)).unwrap_or_else(|e| panic!("{path}: {e}"))
+}
+
+fn told() -> Told {
+    Told {
+        promises: read("docs/PROMISES.md"),
+        exceptions: read("docs/EXCEPTIONS.md"),
+        laws: read("crates/theorems/proofs/Coincide.antt")
+            + &read("crates/theorems/proofs/Leaves.antt"),
+    }
+}
+
+#[test]
+fn every_public_function_has_its_promise_told() {
+    let told = told();
+    let functions = all_public_functions(&root().join("crates"));
+    assert!(functions.len() > 50, "only {} found", functions.len());
+    let missing: Vec<String> = functions.iter().filter_map(|f| told.missing(f)).collect();
+    assert!(missing.is_empty(), "{}", missing.join("\n"));
+}
+
+#[test]
+fn a_function_is_found_in_its_type_and_alone() {
+    let source = "impl Transport {\n    pub fn seek_to(mut self) -> Transport\n    {\n    }\n}\n\npub fn judge(\n    dt: f64,\n) -> u32\n{\n}\n#[no_mangle]\npub extern \"C\" fn cableowl_new() -> u32 {\n}\nfn private() {\n}\n";
+    assert_eq!(
+        public_functions("k", source),
+        ["k::Transport::seek_to", "k::judge", "k::cableowl_new"]
+    );
+}
+
+#[test]
+fn what_is_not_told_is_missed() {
+    let mut told = told();
+    assert!(told.missing("numbers::narrow").is_none());
+    assert!(told.missing("numbers::widen").is_some());
+    told.promises
+        .push_str("\n| `numbers::widen` | `wide` | |\n");
+    let words = told.missing("numbers::widen").expect("it has no law");
+    assert!(words.contains("numbers-widen"), "{words}");
+    told.laws.push_str("\npub numbers-widen : Decides _\n");
+    assert!(told.missing("numbers::widen").is_none());
+    told.laws.clear();
+    assert!(told.missing("numbers::narrow").is_some());
+}
