@@ -2,3 +2,7 @@
 pub mod Fours
 pub mod Few
 pub mod Answers
+pub mod Inverse
+pub mod Kept
+pub mod Unknown
+pub mod Parts

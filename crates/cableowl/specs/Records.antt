@@ -84,7 +84,6 @@ stated c =
 
 -- the voice of any record: the blank state, which is not well formed, where it is not lawful
 unfoldable pub decoded : CableowlState → StaticSound
-unfolding lawful stateOf
 decoded c = cond (lawful c) (stated c) blankSound
 
 -- ---- the record of a voice

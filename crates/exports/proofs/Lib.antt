@@ -1,2 +1,3 @@
 -- Laws of the exports' answers.
 pub mod Answers
+pub mod Tested

@@ -1,6 +1,7 @@
 -- The answers of the exports, as numbers.
 use Prim.Native.Nat.{ℕ}
 use mathlib.Core.Bool.{Bool, false, _&&_, cond}
+use lib.Dec.{ltb}
 use lib.IntN.{pos}
 use lib.Ieee.{Float, fin, binary64, add, le}
 use Rattle.numbers.specs.Words.{naught, proper, whole, part}
@@ -9,6 +10,10 @@ use Rattle.exports.specs.declared.Moved.{Moved}
 -- 1 for yes, 0 for no
 abbrev pub bit : Bool → ℕ
 bit b = cond b 1 0
+
+-- 0 is no
+abbrev pub yes : ℕ → Bool
+yes n = ltb 0 n
 
 -- the steps and the rest of a sum
 abbrev pub walked : Float → Moved

@@ -1,2 +1,6 @@
 -- What the contracts of the exports cite.
 pub mod Answers
+pub mod Places
+pub mod Moves
+pub mod Windows
+pub mod States

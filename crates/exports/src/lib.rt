@@ -1,11 +1,16 @@
-// The leaves under plain names, for tests of the host that compare them with Rust's own. Each takes any input: where a leaf
+// The leaves under plain names, for the host's tests, which compare them with kira's text and with Rust's own. Each takes any input: where a leaf
 // asks for more, the answer outside is said by the contract.
 ghost use mathlib.Core.Path.{_≡_};
 ghost use mathlib.Core.Bool.{cond};
 ghost use Rattle.numbers.specs.Words.{naught, finite, level, isNaught, negative, proper, narrowed};
 ghost use Rattle.numbers.specs.Words as Words;
 ghost use Rattle.numbers.specs.Frames.{rounded, cutOff};
-ghost use Rattle.exports.specs.Answers.{bit, moved};
+ghost use Rattle.exports.specs.Answers.{bit, yes, moved};
+
+mod moves;
+mod places;
+mod states;
+mod window;
 
 #[repr(C)]
 pub struct Moved {
@@ -18,6 +23,13 @@ fn number(yes: bool) -> u32
     ensures { λ r. ⌜ r ≡ bit yes ⌝ }
 {
     if yes { 1 } else { 0 }
+}
+
+// 0 is no.
+fn is_yes(n: u32) -> bool
+    ensures { λ r. ⌜ r ≡ yes n ⌝ }
+{
+    n > 0
 }
 
 // Positive zero where x is no proper fraction.

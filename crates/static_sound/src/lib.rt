@@ -14,6 +14,7 @@ use playback_position::FrameRange;
 use playback_state_manager::PlaybackState;
 use playback_state_manager::StartAnswer;
 use resampler::Resampler;
+use transport::Transport;
 use voice::Course;
 use voice::Moving;
 use voice::StaticSound;
@@ -79,7 +80,7 @@ fn turn(
     }
 }
 
-// A started, advancing block.
+// A started, advancing block. What moves goes round the loop in parts, so that no padding is copied.
 fn play(
     voice: StaticSound,
     sound: &[f32],
@@ -95,20 +96,37 @@ fn play(
     ensures { λ r. ⌜ record { answer = r; samples = now (out .exit) } ≡ acceptedAs (plays (now (sound .entry)) dt (rows (five (now (fade .entry)) (now (volume .entry)) (now (left .entry)) (now (right .entry)) (now (rate .entry)))) voice) ⌝ }
 {
     let course = voice.course();
-    let sample_rate = voice.setup.sample_rate;
-    let mut moving = voice.moving;
+    let setup = voice.setup;
+    let sample_rate = setup.sample_rate;
+    let first = voice.moving;
+    let opening = first.transport;
+    let loop_region = opening.loop_region;
+    let mut state = first.state;
+    let mut position = opening.position;
+    let mut playing = opening.playing;
+    let mut resampler = first.resampler;
     let mut fractional_position = voice.fractional_position;
     let mut steps: usize = 0;
     let mut i: usize = 0;
     while i < rate.len() {
         let frame = frame_heard(
-            moving.resampler,
+            resampler,
             fractional_position,
             fade[i],
             volume[i],
             left[i],
             right[i],
         );
+        let transport = Transport {
+            position,
+            loop_region,
+            playing,
+        };
+        let moving = Moving {
+            state,
+            transport,
+            resampler,
+        };
         let next = turn(
             moving,
             fractional_position,
@@ -120,11 +138,26 @@ fn play(
         );
         out[2 * i] = frame.left;
         out[2 * i + 1] = frame.right;
-        moving = next.moving;
+        let after = next.moving;
+        let landed = after.transport;
+        state = after.state;
+        position = landed.position;
+        playing = landed.playing;
+        resampler = after.resampler;
         fractional_position = next.fractional_position;
         steps += next.steps;
         i += 1;
     }
+    let transport = Transport {
+        position,
+        loop_region,
+        playing,
+    };
+    let moving = Moving {
+        state,
+        transport,
+        resampler,
+    };
     Processed {
         refusal: 0,
         sound: StaticSound {

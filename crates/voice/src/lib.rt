@@ -225,17 +225,46 @@ impl Moving {
         }
     }
 
-    // As many updates as there are steps.
+    // As many updates as there are steps. What moves goes round the loop in parts, so that no padding is copied.
     pub fn update_positions(self, course: Course, sound: &[f32], steps: usize) -> Moving
         requires { ⌜ Able (now sound) course self ⌝ }
         ensures { λ r. ⌜ r ≡ updates steps (now (sound .entry)) course self ⌝ }
     {
-        let mut moving = self;
+        let first = self.transport;
+        let loop_region = first.loop_region;
+        let mut state = self.state;
+        let mut position = first.position;
+        let mut playing = first.playing;
+        let mut resampler = self.resampler;
         let mut left = steps;
         while left > 0 {
-            moving = moving.update_position(course, sound);
+            let transport = Transport {
+                position,
+                loop_region,
+                playing,
+            };
+            let moving = Moving {
+                state,
+                transport,
+                resampler,
+            };
+            let next = moving.update_position(course, sound);
+            let after = next.transport;
+            state = next.state;
+            position = after.position;
+            playing = after.playing;
+            resampler = next.resampler;
             left -= 1;
         }
-        moving
+        let transport = Transport {
+            position,
+            loop_region,
+            playing,
+        };
+        Moving {
+            state,
+            transport,
+            resampler,
+        }
     }
 }

@@ -1,8 +1,8 @@
 //! kira's small parts one by one, as plain functions over plain records.
 
 use crate::{
-    Entry, Frame, PlaybackPosition, PlaybackState, Signals, StartTime, TooManyTurns, Tween, frame,
-    playback_state_manager::PlaybackStateManager, sound::transport, turns,
+    Entry, Frame, PlaybackPosition, PlaybackState, Region, Signals, StartTime, TooManyTurns, Tween,
+    frame, playback_state_manager::PlaybackStateManager, sound::transport, turns,
 };
 
 pub use crate::sound::static_sound::{current_frame_index, empty, get, new_window, push_frame};
@@ -26,12 +26,45 @@ impl Transport {
             playing: self.playing,
         };
         act(&mut original);
+        Self::of(original)
+    }
+
+    fn of(original: transport::Transport) -> Self {
         Self {
             position: original.position,
             loop_region: original.loop_region,
             playing: original.playing,
         }
     }
+}
+
+/// kira's `Transport::new`. The start must be below the frames: with `reverse` kira subtracts it.
+#[must_use]
+pub fn new_transport(
+    start_position: usize,
+    loop_region: Option<Region>,
+    reverse: bool,
+    sample_rate: u32,
+    num_frames: usize,
+) -> Transport {
+    Transport::of(transport::Transport::new(
+        start_position,
+        loop_region,
+        reverse,
+        sample_rate,
+        num_frames,
+    ))
+}
+
+/// kira's `Transport::set_loop_region`.
+#[must_use]
+pub fn set_loop_region(
+    given: Transport,
+    loop_region: Option<Region>,
+    sample_rate: u32,
+    num_frames: usize,
+) -> Transport {
+    given.run(|original| original.set_loop_region(loop_region, sample_rate, num_frames))
 }
 
 /// kira's `Transport::increment_position`.

@@ -19,7 +19,8 @@ use Rattle.voice.proofs.Formed.{able-of}
 use Rattle.static_sound.specs.declared.Turned.{Turned}
 use Rattle.static_sound.specs.Blocks.{plays}
 use Rattle.static_sound.specs.Turns.{frameAt, turnOf, Turning}
-use Rattle.static_sound.proofs.Loops.{laneAt, played, played-none, played-more, played-all, slow-at, turned-few, turned-on}
+use Rattle.static_sound.proofs.Loops.{laneAt, played, played-none, played-more, played-as, played-all, slow-at, turned-few, turned-on, turned-loop}
+use Rattle.voice.proofs.Updates.{parts, together}
 use Rattle.static_sound.proofs.play.Statement.{statement}
 use Rattle.static_sound.proofs.play.Tie as tie
 use Rattle.static_sound.proofs.play.Reads as reads
@@ -36,20 +37,24 @@ record Sofar (snd : List Float) (dt : Float) (b : Lanes) (v : StaticSound) (i : 
   so-far : plays snd dt (take i (rows b)) v ≡ played (moved v f m) (take (2 * i) out) steps
 
 abbrev Inv-loop : tie.InvT-loop
-Inv-loop voice sound fade volume left right rate dt out₀ course sample-rate moving₀ fractional-position₀ steps₀ i₀ out moving fractional-position steps i =
-    Sofar sound dt (five fade volume left right rate) voice i out₀ out moving fractional-position steps
+Inv-loop voice sound fade volume left right rate dt out₀ course sample-rate loop-region state₀ position₀ playing₀ resampler₀ fractional-position₀ steps₀ i₀ out state position playing resampler fractional-position steps i =
+    Sofar sound dt (five fade volume left right rate) voice i out₀ out (parts loop-region state position playing resampler) fractional-position steps
 
 abbrev μ-loop : tie.MeasureT-loop
-μ-loop voice sound fade volume left right rate dt out₀ course sample-rate moving₀ fractional-position₀ steps₀ i₀ out moving fractional-position steps i =
+μ-loop voice sound fade volume left right rate dt out₀ course sample-rate loop-region state₀ position₀ playing₀ resampler₀ fractional-position₀ steps₀ i₀ out state position playing resampler fractional-position steps i =
     length rate - i
 
 -- ---- the places
 
 abbrev start : tie.At-loop Inv-loop μ-loop → tie.Start Inv-loop μ-loop
-start c = c .before .before .before .before .before .before .before .before .before .before
+start c = c .before .before .before .before .before .before .before .before .before .before .before .before .before
 
 abbrev lent : tie.At-loop Inv-loop μ-loop → Lanes
 lent c = let a = start c .args in five (now (a .fade)) (now (a .volume)) (now (a .left)) (now (a .right)) (now (a .rate))
+
+-- what moves, as the loop has it
+abbrev moving : tie.At-loop Inv-loop μ-loop → Moving
+moving c = parts (start c .args .voice .moving .transport .«loop_region») (c .loop .state) (c .loop .position) (c .loop .playing) (c .loop .resampler)
 
 -- the turn of the loop that a frame and its steps belong to
 abbrev after-turn : tie.After-turn Inv-loop μ-loop → tie.In-loop Inv-loop μ-loop
@@ -86,13 +91,13 @@ numbers c =
 -- what a frame's steps ask
 turning : (c : tie.In-loop Inv-loop μ-loop)
     → let a = start (c .before) .args in
-    Turning (now (a .sound)) (courseOf (a .voice)) (a .voice .setup .«sample_rate») (getD (now (a .rate)) (c .before .loop .i) nan) (a .dt) (c .before .loop .moving) (c .before .loop .fractional-position)
+    Turning (now (a .sound)) (courseOf (a .voice)) (a .voice .setup .«sample_rate») (getD (now (a .rate)) (c .before .loop .i) nan) (a .dt) (moving (c .before)) (c .before .loop .fractional-position)
 turning c =
     let at = c .before in
     let st = start at in
     let v = st .args .voice in
     record {
-      able = able-of (now (st .args .sound)) (moved v (at .loop .fractional-position) (at .loop .moving)) (at .loop .inv .formed) (st .pre .lent);
+      able = able-of (now (st .args .sound)) (moved v (at .loop .fractional-position) (moving at)) (at .loop .inv .formed) (st .pre .lent);
       below = at .loop .inv .formed .fraction;
       timely = st .pre .timely;
       slow = slow-at (now (st .args .sound)) (st .args .dt) (lent at) v (v .setup .«sample_rate») (at .loop .i) (c .loop-test .taken) (st .pre .near);
@@ -102,14 +107,20 @@ turning c =
 frame-is : (c : tie.After-turn Inv-loop μ-loop)
     → let at = after-turn c .before in
     let l = laneAt (lent at) (at .loop .i) in
-    c .before .before .frame-heard .result ≡ frameAt (at .loop .moving .resampler) (at .loop .fractional-position) (l .fade) (l .volume) (l .left) (l .right)
+    c .before .before .frame-heard .result ≡ frameAt (at .loop .resampler) (at .loop .fractional-position) (l .fade) (l .volume) (l .left) (l .right)
 frame-is c = c .before .before .frame-heard .ensures
 
 turn-is : (c : tie.After-turn Inv-loop μ-loop)
     → let at = after-turn c .before in
     let a = start at .args in
-    c .turn .result ≡ turnOf (now (a .sound)) (courseOf (a .voice)) (a .voice .setup .«sample_rate») (getD (now (a .rate)) (at .loop .i) nan) (a .dt) (at .loop .moving) (at .loop .fractional-position)
-turn-is c = rw (after-turn c .before .before .before .course .ensures) at (c .turn .ensures)
+    c .turn .result ≡ turnOf (now (a .sound)) (courseOf (a .voice)) (a .voice .setup .«sample_rate») (getD (now (a .rate)) (at .loop .i) nan) (a .dt) (moving at) (at .loop .fractional-position)
+turn-is c = rw (after-turn c .before .before .before .before .before .before .course .ensures) at (c .turn .ensures)
+
+-- the loop stays, so what is taken apart is put together again
+again : (c : tie.After-turn Inv-loop μ-loop)
+    → let m = c .turn .result .moving in
+    parts (start (after-turn c .before) .args .voice .moving .transport .«loop_region») (m .state) (m .transport .position) (m .transport .playing) (m .resampler) ≡ m
+again c = together _ (c .turn .result .moving) (turned-loop _ _ _ _ _ _ _ (c .turn .result) (turn-is c))
 
 few : (c : tie.After-turn Inv-loop μ-loop) → c .turn .result .steps ≤ 257
 few c = turned-few _ _ _ _ _ _ _ (c .turn .result) (turning (after-turn c)) (turn-is c)
@@ -121,7 +132,7 @@ course-requires c κs = search needs
 
 loop-holds : tie.Need-loop-holds Inv-loop μ-loop
 loop-holds c =
-    let st = c .before .before .before .before .before .before .before .before .before in
+    let st = c .before .before .before .before .before .before .before .before .before .before .before .before in
     let a = st .args in
     record { within = omega arith; few = omega arith; as-long = refl; formed = st .pre .formed; so-far = played-none (now (a .sound)) (a .dt) (five (now (a .fade)) (now (a .volume)) (now (a .left)) (now (a .right)) (now (a .rate))) (a .voice) (now (a .out)) }
 
@@ -161,7 +172,7 @@ shared-slice-read-turn c = omega (arith, numbers (c .before .before .before .bef
 turn-requires : tie.Need-turn-requires Inv-loop μ-loop
 turn-requires c κs =
     let l = c .before .before .before .before .before .before in
-    rw (l .before .before .before .course .ensures) (turning l)
+    rw (l .before .before .before .before .before .before .course .ensures) (turning l)
 
 mul-out : tie.Need-mul-out Inv-loop μ-loop
 mul-out c = omega (arith, numbers (after-turn c))
@@ -185,18 +196,20 @@ slice-write-out-2 : tie.Need-slice-write-out-2 Inv-loop μ-loop
 slice-write-out-2 c = simp length-set (omega (arith, numbers (after-turn c)))
 
 add-steps : tie.Need-add-steps Inv-loop μ-loop
-add-steps c = omega (arith, numbers (after-turn (c .before .before)), few (c .before .before))
+add-steps c = omega (arith, numbers (after-turn (c .before .before .before .before)), few (c .before .before .before .before))
 
 add-i : tie.Need-add-i Inv-loop μ-loop
-add-i c = omega (arith, numbers (after-turn (c .before .before)))
+add-i c = omega (arith, numbers (after-turn (c .before .before .before .before)))
 
 loop-less : tie.Need-loop-less Inv-loop μ-loop
-loop-less c = omega (arith, numbers (after-turn (c .before .before)))
+loop-less c = omega (arith, numbers (after-turn (c .before .before .before .before)))
 
 loop-again : tie.Need-loop-again Inv-loop μ-loop
 loop-again c =
-    let a = c .before .before in
+    let a = c .before .before .before .before in
     let t = after-turn a in
+    let v = start (t .before) .args .voice in
+    let f = a .turn .result .«fractional_position» in
     let at = t .before in
     let st = start at in
     let n = numbers t in
@@ -205,10 +218,12 @@ loop-again c =
       within = omega (arith, n);
       few = omega (arith, n, w);
       as-long = simp length-set (at .loop .inv .as-long);
-      formed = turned-on (now (st .args .sound)) (st .args .dt) (st .args .voice) _ (at .loop .moving) (at .loop .fractional-position) (a .turn .result) (at .loop .inv .formed) (turning t) (turn-is a);
+      formed = subst (λ (m : Moving). Formed (moved v f m)) (sym (again a)) (turned-on (now (st .args .sound)) (st .args .dt) (st .args .voice) _ (moving at) (at .loop .fractional-position) (a .turn .result) (at .loop .inv .formed) (turning t) (turn-is a));
       so-far =
-          played-more (now (st .args .sound)) (st .args .dt) (lent at) (st .args .voice) (at .loop .i) (at .loop .steps) (at .loop .out) (at .loop .moving) (at .loop .fractional-position)
-          (a .before .before .frame-heard .result) (a .turn .result) (t .loop-test .taken) (omega (arith, n)) (at .loop .inv .so-far) (frame-is a) (turn-is a);
+          played-as (now (st .args .sound)) (st .args .dt) (lent at) v (at .loop .i + 1) _ _ f (a .turn .result .moving) _
+          (played-more (now (st .args .sound)) (st .args .dt) (lent at) v (at .loop .i) (at .loop .steps) (at .loop .out) (moving at) (at .loop .fractional-position)
+          (a .before .before .frame-heard .result) (a .turn .result) (t .loop-test .taken) (omega (arith, n)) (at .loop .inv .so-far) (frame-is a) (turn-is a))
+          (again a);
     }
 
 same-length : tie.Need-same-length Inv-loop μ-loop

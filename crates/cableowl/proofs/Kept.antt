@@ -1,0 +1,95 @@
+-- What every call over records leaves. An accepted one leaves a lawful record of a state that is well formed over the sound; a refused one the given record.
+-- By the laws of the entries below, and since every voice's record is lawful and means it. Assumes nothing.
+use mathlib.Core.Path.{_≡_, sym, ap, subst}
+use Prim.Native.Nat.{ℕ}
+use mathlib.Core.List.{List}
+use lib.Dec.{T}
+use lib.ListN.{length}
+use lib.Ieee.{Float}
+use borrow.Author.Tests.{ne-eqb}
+use Rattle.numbers.specs.Words.{naught}
+use Rattle.lanes.specs.Lanes.{Lanes}
+use Rattle.voice.specs.declared.StaticSound.{StaticSound}
+use Rattle.voice.specs.WellFormed.{ours}
+use Rattle.creation.specs.Creation.{blankSound}
+use Rattle.creation.proofs.Answers.{created-passed, created-done, created-refused}
+use Rattle.command_set.specs.declared.Commanded.{Commanded}
+use Rattle.command_set.proofs.Answers.{commanded-refused}
+use Rattle.static_sound.specs.Entries.{Outcome}
+use Rattle.static_sound.proofs.Entries.{processed-refused, into-refused}
+use Rattle.cableowl.specs.declared.CableowlState.{CableowlState}
+use Rattle.cableowl.specs.declared.CableowlSettings.{CableowlSettings}
+use Rattle.cableowl.specs.declared.CableowlCommands.{CableowlCommands}
+use Rattle.cableowl.specs.declared.CableowlSignals.{CableowlSignals}
+use Rattle.cableowl.specs.Records.{lawful, decoded, encoded}
+use Rattle.cableowl.specs.Inputs.{settingsOf, commandsOf, signalsOf}
+use Rattle.cableowl.specs.Entries.{after, createdC, commandedC, OutcomeC, processedC, processedIntoC}
+use Rattle.cableowl.proofs.Few.{created-ours, commanded-ours, processed-ours, into-ours}
+use Rattle.cableowl.proofs.Inverse.{lawful-encoded, decoded-encoded}
+
+-- a record that the next call takes over this sound
+abbrev pub Good : List Float → CableowlState → Type 0
+Good snd c = T (lawful c) × T (ours (length snd) (decoded c))
+
+encoded-good : (snd : List Float) (v : StaticSound) → T (ours (length snd) v) → Good snd (encoded v)
+encoded-good snd v h = (lawful-encoded v, subst (λ (u : StaticSound). T (ours (length snd) u)) (sym (decoded-encoded v)) h)
+
+-- ---- accepted
+
+after-good : (snd : List Float) (k : ℕ) (v : StaticSound) (c : CableowlState) → k ≡ 0 → T (ours (length snd) v) → Good snd (after k v c)
+unfolding after
+after-good snd k v c e h = rw e (encoded-good snd v h)
+
+pub created-kept : (snd : List Float) (s : CableowlSettings) → (createdC snd s) .refusal ≡ 0 → Good snd ((createdC snd s) .state)
+unfolding createdC
+created-kept snd s e =
+    let k = created-passed snd (settingsOf s) e in
+    encoded-good snd _ (subst (λ (u : StaticSound). T (ours (length snd) u)) (sym (created-done snd (settingsOf s) k)) (created-ours snd (settingsOf s) k))
+
+pub commanded-kept : (snd : List Float) (c : CableowlState) (k : CableowlCommands) → (commandedC snd c k) .refusal ≡ 0 → Good snd ((commandedC snd c k) .state)
+unfolding commandedC
+commanded-kept snd c k e = after-good snd _ _ c e (commanded-ours snd (decoded c) (commandsOf k) e)
+
+module _ (snd : List Float) (c : CableowlState) (dt : Float) (b : Lanes) (g : CableowlSignals) where
+  pub processed-kept : (out : List Float) → let o = processedC snd c dt b g out in o .answer .refusal ≡ 0 → Good snd (o .answer .state)
+  unfolding processedC
+  processed-kept out e = after-good snd _ _ c e (processed-ours snd (decoded c) dt b (signalsOf g) out e)
+
+  pub into-kept : (mix : List Float) (from : ℕ) → let o = processedIntoC snd c dt b g mix from in o .answer .refusal ≡ 0 → Good snd (o .answer .state)
+  unfolding processedIntoC
+  into-kept mix from e = after-good snd _ _ c e (into-ours snd (decoded c) dt b (signalsOf g) mix from e)
+
+-- ---- refused
+
+after-given : (k : ℕ) (v : StaticSound) (c : CableowlState) → (k ≡ 0 → ⊥) → after k v c ≡ c
+unfolding after
+after-given k v c n = rw (ne-eqb k 0 n)
+
+pub created-blank : (snd : List Float) (s : CableowlSettings) → ((createdC snd s) .refusal ≡ 0 → ⊥) → (createdC snd s) .state ≡ encoded blankSound
+unfolding createdC
+created-blank snd s n = ap encoded (created-refused snd (settingsOf s) n)
+
+pub commanded-given : (snd : List Float) (c : CableowlState) (k : CableowlCommands) → ((commandedC snd c k) .refusal ≡ 0 → ⊥)
+    → let r = commandedC snd c k in (r .state ≡ c) × (r .position ≡ naught)
+unfolding commandedC
+commanded-given snd c k n = (
+  after-given _ _ c n,
+  ap (λ (r : Commanded). r .position) (commanded-refused snd (decoded c) (commandsOf k) n),
+)
+
+-- the record, the steps and the samples of a refused block
+abbrev pub Given : CableowlState → List Float → OutcomeC → Type 0
+Given c out o = (o .answer .state ≡ c) × (o .answer .steps ≡ 0) × (o .samples ≡ out)
+
+module _ (snd : List Float) (c : CableowlState) (dt : Float) (b : Lanes) (g : CableowlSignals) where
+  pub processed-given : (out : List Float) → let o = processedC snd c dt b g out in (o .answer .refusal ≡ 0 → ⊥) → Given c out o
+  unfolding processedC
+  processed-given out n =
+      let e = processed-refused snd (decoded c) dt b (signalsOf g) out n in
+      (after-given _ _ c n, ap (λ (o : Outcome). o .answer .steps) e, ap (λ (o : Outcome). o .samples) e)
+
+  pub into-given : (mix : List Float) (from : ℕ) → let o = processedIntoC snd c dt b g mix from in (o .answer .refusal ≡ 0 → ⊥) → Given c mix o
+  unfolding processedIntoC
+  into-given mix from n =
+      let e = into-refused snd (decoded c) dt b (signalsOf g) mix from n in
+      (after-given _ _ c n, ap (λ (o : Outcome). o .answer .steps) e, ap (λ (o : Outcome). o .samples) e)
