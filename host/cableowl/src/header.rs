@@ -81,7 +81,7 @@ fn header_agrees_and_c_can_call_each_entry() {
         );
         return;
     }
-    let Some(archive) = option_env!("CABLEOWL_ARCHIVE") else {
+    let Some(archive) = option_env!("LINKED_ARCHIVE") else {
         panic!("built without the archive");
     };
     let here = Path::new(env!("CARGO_MANIFEST_DIR"));
