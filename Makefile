@@ -1,7 +1,8 @@
-# make: the main job. make test: the gate, the same as .ci/run.
+# make: the main job, a student's evening on the listening box. make test: the gate, the same as .ci/run.
 .PHONY: all test
 all:
-	rt check numbers_list
+	@rt check cableowl | sed -u -n '/(unchanged/d; /^rt: /p'
+	cd host && cargo run --release --offline -p cableowl --example listening_box
 
 test:
 	tools/gate

@@ -8,15 +8,29 @@ use std::{
     fs::{self, File},
     io,
     path::{Path, PathBuf},
-    process::Command,
+    process::{Command, ExitCode},
 };
 
-/// Links the archive of the crate `name`; the answer is its path, or none where it is left out.
-pub fn link(name: &str) -> Result<Option<PathBuf>, Box<dyn Error>> {
+/// A build script's whole work: links the archive of the crate `name`, and tells its path to the
+/// package's own code as LINKED_ARCHIVE.
+pub fn link(name: &str) -> ExitCode {
     println!("cargo::rerun-if-env-changed=CABLEOWL_NO_ARCHIVE");
-    if env::var_os("CABLEOWL_NO_ARCHIVE").is_some_and(|value| value == "1") {
-        return Ok(None);
+    for file in ["build.rs", "../archive.rs"] {
+        println!("cargo::rerun-if-changed={file}");
     }
+    if env::var_os("CABLEOWL_NO_ARCHIVE").is_some_and(|value| value == "1") {
+        return ExitCode::SUCCESS;
+    }
+    match prove_and_link(name) {
+        Ok(()) => ExitCode::SUCCESS,
+        Err(error) => {
+            eprintln!("{error}");
+            ExitCode::FAILURE
+        }
+    }
+}
+
+fn prove_and_link(name: &str) -> Result<(), Box<dyn Error>> {
     let (arch, os) = (
         env::var("CARGO_CFG_TARGET_ARCH")?,
         env::var("CARGO_CFG_TARGET_OS")?,
@@ -42,7 +56,8 @@ pub fn link(name: &str) -> Result<Option<PathBuf>, Box<dyn Error>> {
     fs::copy(root.join("target/staticlib").join(file), &copy)?;
     println!("cargo::rustc-link-search=native={}", out.display());
     println!("cargo::rustc-link-lib=static={name}");
-    Ok(Some(copy))
+    println!("cargo::rustc-env=LINKED_ARCHIVE={}", copy.display());
+    Ok(())
 }
 
 /// Watches crates.txt and the code of the crate and of what it depends on.

@@ -6,14 +6,5 @@ use std::process::ExitCode;
 mod archive;
 
 fn main() -> ExitCode {
-    for file in ["build.rs", "../archive.rs"] {
-        println!("cargo::rerun-if-changed={file}");
-    }
-    match archive::link("cableowl") {
-        Ok(_) => ExitCode::SUCCESS,
-        Err(error) => {
-            eprintln!("{error}");
-            ExitCode::FAILURE
-        }
-    }
+    archive::link("cableowl")
 }

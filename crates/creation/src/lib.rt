@@ -159,7 +159,9 @@ fn make(settings: Settings, sound: &[f32]) -> StaticSound
     let opened = open(settings, sound.len());
     let course = opened.course();
     let first = opened.moving;
-    let moving = first.update_positions(course, sound, 3);
+    let second = first.update_position(course, sound);
+    let third = second.update_position(course, sound);
+    let moving = third.update_position(course, sound);
     StaticSound { moving, ..opened }
 }
 

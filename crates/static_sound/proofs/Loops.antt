@@ -16,6 +16,7 @@ use Rattle.numbers.proofs.Fractions.{advance-level, sum-steps}
 use Rattle.numbers.proofs.Stepping.{sum-proper}
 use Rattle.numbers.specs.Lists.{all}
 use Rattle.frame.specs.declared.Frame.{Frame}
+use Rattle.resampler.specs.Windows.{nth, reading}
 use Rattle.lanes.specs.Lanes.{Lane, Lanes, rows, near, slow}
 use Rattle.lanes.proofs.Rows.{beside-at, beside-length, near-all}
 use Rattle.voice.specs.declared.Moving.{Moving}
@@ -62,7 +63,9 @@ onward snd dt l p =
 
 -- the frame that the code makes
 abbrev framed : Moving → Float → Lane → Frame
-framed m f l = frameAt (m .resampler) f (l .fade) (l .volume) (l .left) (l .right)
+framed m f l =
+    let w = m .resampler in
+    frameAt (nth w 0) (nth w 1) (nth w 2) (nth w 3) f (l .fade) (l .volume) (l .left) (l .right)
 
 abbrev turning : List Float → Float → StaticSound → Moving → Float → Lane → Turned
 turning snd dt v m f l = turnOf snd (courseOf v) (v .setup .«sample_rate») (l .rate) dt m f
@@ -71,7 +74,7 @@ turning snd dt v m f l = turnOf snd (courseOf v) (v .setup .«sample_rate») (l 
 onward-is : (snd : List Float) (dt : Float) (v : StaticSound) (m : Moving) (f : Float) (l : Lane) (samples : List Float) (steps : ℕ)
     → onward snd dt l (played (moved v f m) samples steps)
     ≡ played (moved v ((turning snd dt v m f l) .«fractional_position») ((turning snd dt v m f l) .moving)) (samples ++ ((framed m f l) .left ∷ (framed m f l) .right ∷ [])) (steps + (turning snd dt v m f l) .steps)
-unfolding turned total frameHeard frameAt turnOf
+unfolding turned total frameHeard frameAt turnOf reading
 onward-is snd dt v m f l samples steps = refl
 
 module _ (snd : List Float) (dt : Float) (b : Lanes) (v : StaticSound) where

@@ -9,8 +9,7 @@ use lib.Ieee.{Float, binary32, binary64, add, mul, lt}
 use Rattle.numbers.specs.Words.{naught, proper, narrowed, whole, part, advance}
 use Rattle.numbers.specs.Lists.{all}
 use Rattle.frame.specs.declared.Frame.{Frame}
-use Rattle.resampler.specs.declared.Resampler.{Resampler}
-use Rattle.resampler.specs.Windows.{reading}
+use Rattle.frame.specs.Frames.{interpolated}
 use Rattle.lanes.specs.Lanes.{Lanes, rows, sized, near, slow}
 use Rattle.voice.specs.declared.Course.{Course}
 use Rattle.voice.specs.declared.Moving.{Moving}
@@ -21,10 +20,10 @@ use Rattle.static_sound.specs.declared.Turned.{Turned}
 use Rattle.static_sound.specs.Blocks.{Played, plays, silent, live}
 use Rattle.static_sound.specs.Entries.{Outcome, acceptedWith}
 
--- the frame written: the window's reading times fade, times volume, times each channel's gain
-unfoldable pub frameAt : Resampler → Float → Float → Float → Float → Float → Frame
-frameAt w f fade volume left right =
-    let x = reading w (narrowed f) in
+-- the frame written: the reading of four frames times fade, times volume, times each channel's gain
+unfoldable pub frameAt : Frame → Frame → Frame → Frame → Float → Float → Float → Float → Float → Frame
+frameAt a b c d f fade volume left right =
+    let x = interpolated a b c d (narrowed f) in
     record {
       left = mul binary32 (mul binary32 (mul binary32 (x .left) fade) volume) left;
       right = mul binary32 (mul binary32 (mul binary32 (x .right) fade) volume) right;

@@ -10,14 +10,14 @@ ghost use Rattle.static_sound.specs.Blocks.{begun, live, plays};
 ghost use Rattle.static_sound.specs.Turns.{frameAt, turnOf, Turning, Playable, acceptedAs, sounded};
 ghost use Rattle.static_sound.specs.Entries.{refusedBlock, processed, processedInto, stretchOf};
 use frame::Frame;
+use frame::interpolate_frame;
 use playback_position::FrameRange;
 use playback_state_manager::PlaybackState;
 use playback_state_manager::StartAnswer;
-use resampler::Resampler;
-use transport::Transport;
 use voice::Course;
 use voice::Moving;
 use voice::StaticSound;
+use voice::moving_of;
 
 // What a block is told: whether the fade has finished, and the answers for the sound's start and a waiting resume.
 pub struct Signals {
@@ -39,9 +39,12 @@ pub struct Turned {
     pub steps: usize,
 }
 
-// The window's reading times fade, times volume, times each channel's gain.
+// The reading of four frames times fade, times volume, times each channel's gain.
 fn frame_heard(
-    resampler: Resampler,
+    a: Frame,
+    b: Frame,
+    c: Frame,
+    d: Frame,
     fractional_position: f64,
     fade: f32,
     volume: f32,
@@ -49,9 +52,9 @@ fn frame_heard(
     right: f32,
 ) -> Frame
     requires { ⌜ T (proper «fractional_position») ⌝ }
-    ensures { λ r. ⌜ r ≡ frameAt resampler «fractional_position» fade volume left right ⌝ }
+    ensures { λ r. ⌜ r ≡ frameAt a b c d «fractional_position» fade volume left right ⌝ }
 {
-    let out = resampler.get(numbers::narrow(fractional_position));
+    let out = interpolate_frame(a, b, c, d, numbers::narrow(fractional_position));
     Frame {
         left: out.left * fade * volume * left,
         right: out.right * fade * volume * right,
@@ -80,7 +83,8 @@ fn turn(
     }
 }
 
-// A started, advancing block. What moves goes round the loop in parts, so that no padding is copied.
+// A started, advancing block. What moves goes round the loop in parts, so that no padding is copied
+// and no frame number lies beside the samples that are computed with.
 fn play(
     voice: StaticSound,
     sound: &[f32],
@@ -101,32 +105,53 @@ fn play(
     let first = voice.moving;
     let opening = first.transport;
     let loop_region = opening.loop_region;
+    let window = first.resampler;
+    let ea = window.frames[0];
+    let eb = window.frames[1];
+    let ec = window.frames[2];
+    let ed = window.frames[3];
     let mut state = first.state;
     let mut position = opening.position;
     let mut playing = opening.playing;
-    let mut resampler = first.resampler;
+    let mut a = ea.frame;
+    let mut b = eb.frame;
+    let mut c = ec.frame;
+    let mut d = ed.frame;
+    let mut na = ea.frame_index;
+    let mut nb = eb.frame_index;
+    let mut nc = ec.frame_index;
+    let mut nd = ed.frame_index;
+    let mut count = window.time_until_empty;
     let mut fractional_position = voice.fractional_position;
     let mut steps: usize = 0;
     let mut i: usize = 0;
     while i < rate.len() {
         let frame = frame_heard(
-            resampler,
+            a,
+            b,
+            c,
+            d,
             fractional_position,
             fade[i],
             volume[i],
             left[i],
             right[i],
         );
-        let transport = Transport {
-            position,
+        let moving = moving_of(
             loop_region,
-            playing,
-        };
-        let moving = Moving {
             state,
-            transport,
-            resampler,
-        };
+            position,
+            playing,
+            a,
+            b,
+            c,
+            d,
+            na,
+            nb,
+            nc,
+            nd,
+            count,
+        );
         let next = turn(
             moving,
             fractional_position,
@@ -140,24 +165,42 @@ fn play(
         out[2 * i + 1] = frame.right;
         let after = next.moving;
         let landed = after.transport;
+        let window = after.resampler;
+        let ea = window.frames[0];
+        let eb = window.frames[1];
+        let ec = window.frames[2];
+        let ed = window.frames[3];
         state = after.state;
         position = landed.position;
         playing = landed.playing;
-        resampler = after.resampler;
+        a = ea.frame;
+        b = eb.frame;
+        c = ec.frame;
+        d = ed.frame;
+        na = ea.frame_index;
+        nb = eb.frame_index;
+        nc = ec.frame_index;
+        nd = ed.frame_index;
+        count = window.time_until_empty;
         fractional_position = next.fractional_position;
         steps += next.steps;
         i += 1;
     }
-    let transport = Transport {
-        position,
+    let moving = moving_of(
         loop_region,
-        playing,
-    };
-    let moving = Moving {
         state,
-        transport,
-        resampler,
-    };
+        position,
+        playing,
+        a,
+        b,
+        c,
+        d,
+        na,
+        nb,
+        nc,
+        nd,
+        count,
+    );
     Processed {
         refusal: 0,
         sound: StaticSound {

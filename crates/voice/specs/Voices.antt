@@ -1,12 +1,15 @@
 -- One update of a voice (document 01, "Creation, commands, block"), and what it reads of the voice.
 use Prim.Native.Nat.{ℕ, zero, suc, _+_, _-_, _*_, _≤_}
 use mathlib.Core.Bool.{Bool, not, _&&_, cond}
-use mathlib.Core.List.{List}
+use mathlib.Core.List.{List, [], _∷_}
 use lib.ListN.{length}
 use lib.Ieee.{Float}
 use Rattle.numbers.specs.Words.{negative}
+use Rattle.frame.specs.declared.Frame.{Frame}
 use Rattle.frame.specs.Frames.{frameOf}
+use Rattle.playback_position.specs.declared.FrameRange.{FrameRange}
 use Rattle.playback_position.specs.declared.FrameRange.the-variants.{Absent, Frames}
+use Rattle.playback_state_manager.specs.declared.PlaybackState.{PlaybackState}
 use Rattle.playback_state_manager.specs.declared.PlaybackState.the-variants as state
 use Rattle.transport.specs.declared.Transport.{Transport}
 use Rattle.transport.specs.Moves.{forward, backward}
@@ -67,6 +70,18 @@ updates (suc n) snd c m = updates n snd c (updated snd c m)
 -- the voice with another fraction and other moving parts
 abbrev pub moved : StaticSound → Float → Moving → StaticSound
 moved v f m = record { setup = v .setup; «playback_rate» = v .«playback_rate»; started = v .started; «fractional_position» = f; moving = m }
+
+-- what moves, from its parts: the loop, the state, the place, and the window's four frames with their numbers
+abbrev pub movingOf : FrameRange → PlaybackState → ℕ → Bool → Frame → Frame → Frame → Frame → ℕ → ℕ → ℕ → ℕ → ℕ → Moving
+movingOf loop s p playing a b c d na nb nc nd count =
+    record {
+      state = s;
+      transport = record { position = p; «loop_region» = loop; playing = playing };
+      resampler = record {
+        frames = record { frame = a; «frame_index» = na } ∷ record { frame = b; «frame_index» = nb } ∷ record { frame = c; «frame_index» = nc } ∷ record { frame = d; «frame_index» = nd } ∷ [];
+        «time_until_empty» = count;
+      };
+    }
 
 -- what an update asks: the transport seated in its N frames, which lie in the sound
 pub record Able (snd : List Float) (c : Course) (m : Moving) : Type 0 where

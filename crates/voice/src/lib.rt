@@ -6,7 +6,7 @@ ghost use lib.ListN.{length};
 ghost use Rattle.frame.specs.Frames.{frameOf};
 ghost use Rattle.transport.specs.Seats.{seated, Seated};
 ghost use Rattle.resampler.specs.Windows.{hushed, numbered, windowed};
-ghost use Rattle.voice.specs.Voices.{span, offset, backwards, courseOf, sounding, pushed, stepped, updated, updates, Able};
+ghost use Rattle.voice.specs.Voices.{span, offset, backwards, courseOf, sounding, pushed, stepped, updated, updates, movingOf, Able};
 ghost use Rattle.voice.specs.WellFormed.{setUp, ours};
 use frame::Frame;
 use playback_position::FrameRange;
@@ -225,46 +225,134 @@ impl Moving {
         }
     }
 
-    // As many updates as there are steps. What moves goes round the loop in parts, so that no padding is copied.
+    // As many updates as there are steps. What moves goes round the loop in small parts: no padding is copied, and no
+    // frame number lies beside the samples that are computed with.
     pub fn update_positions(self, course: Course, sound: &[f32], steps: usize) -> Moving
         requires { ⌜ Able (now sound) course self ⌝ }
         ensures { λ r. ⌜ r ≡ updates steps (now (sound .entry)) course self ⌝ }
     {
         let first = self.transport;
         let loop_region = first.loop_region;
+        let window = self.resampler;
+        let ea = window.frames[0];
+        let eb = window.frames[1];
+        let ec = window.frames[2];
+        let ed = window.frames[3];
         let mut state = self.state;
         let mut position = first.position;
         let mut playing = first.playing;
-        let mut resampler = self.resampler;
+        let mut a = ea.frame;
+        let mut b = eb.frame;
+        let mut c = ec.frame;
+        let mut d = ed.frame;
+        let mut na = ea.frame_index;
+        let mut nb = eb.frame_index;
+        let mut nc = ec.frame_index;
+        let mut nd = ed.frame_index;
+        let mut count = window.time_until_empty;
         let mut left = steps;
         while left > 0 {
-            let transport = Transport {
-                position,
+            let moving = moving_of(
                 loop_region,
-                playing,
-            };
-            let moving = Moving {
                 state,
-                transport,
-                resampler,
-            };
+                position,
+                playing,
+                a,
+                b,
+                c,
+                d,
+                na,
+                nb,
+                nc,
+                nd,
+                count,
+            );
             let next = moving.update_position(course, sound);
             let after = next.transport;
+            let window = next.resampler;
+            let ea = window.frames[0];
+            let eb = window.frames[1];
+            let ec = window.frames[2];
+            let ed = window.frames[3];
             state = next.state;
             position = after.position;
             playing = after.playing;
-            resampler = next.resampler;
+            a = ea.frame;
+            b = eb.frame;
+            c = ec.frame;
+            d = ed.frame;
+            na = ea.frame_index;
+            nb = eb.frame_index;
+            nc = ec.frame_index;
+            nd = ed.frame_index;
+            count = window.time_until_empty;
             left -= 1;
         }
-        let transport = Transport {
-            position,
+        moving_of(
             loop_region,
-            playing,
-        };
-        Moving {
             state,
-            transport,
-            resampler,
-        }
+            position,
+            playing,
+            a,
+            b,
+            c,
+            d,
+            na,
+            nb,
+            nc,
+            nd,
+            count,
+        )
+    }
+}
+
+// What moves, from its parts: the loop, the state, the place, and the window's four frames with their numbers.
+pub fn moving_of(
+    loop_region: FrameRange,
+    state: PlaybackState,
+    position: usize,
+    playing: bool,
+    a: Frame,
+    b: Frame,
+    c: Frame,
+    d: Frame,
+    na: usize,
+    nb: usize,
+    nc: usize,
+    nd: usize,
+    time_until_empty: usize,
+) -> Moving
+    ensures { λ r. ⌜ r ≡ movingOf «loop_region» state position playing a b c d na nb nc nd «time_until_empty» ⌝ }
+{
+    let transport = Transport {
+        position,
+        loop_region,
+        playing,
+    };
+    let ea = RecentFrame {
+        frame: a,
+        frame_index: na,
+    };
+    let eb = RecentFrame {
+        frame: b,
+        frame_index: nb,
+    };
+    let ec = RecentFrame {
+        frame: c,
+        frame_index: nc,
+    };
+    let ed = RecentFrame {
+        frame: d,
+        frame_index: nd,
+    };
+    let frames = [ea, eb, ec, ed];
+    let resampler = Resampler {
+        frames,
+        time_until_empty,
+    };
+    Moving {
+        state,
+        transport,
+        resampler,
     }
 }

@@ -1,0 +1,277 @@
+//! The C ABI of the proved archive, as `host/include/cableowl.h` has it: records of numbers by
+//! value, slices as a pointer and a length. All `unsafe` of this crate is here.
+#![allow(unsafe_code)]
+
+/// A window entry.
+#[repr(C)]
+#[derive(Debug, Clone, Copy, Default)]
+pub struct Entry {
+    pub left: f32,
+    pub right: f32,
+    pub number: u64,
+}
+
+/// A voice's state.
+#[repr(C)]
+#[derive(Debug, Clone, Copy)]
+pub struct State {
+    pub sample_rate: u32,
+    pub state: u32,
+    pub reverse: u32,
+    pub started: u32,
+    pub playing: u32,
+    pub has_slice: u32,
+    pub has_loop: u32,
+    pub count: u32,
+    pub num_frames: u64,
+    pub slice_start: u64,
+    pub slice_end: u64,
+    pub position: u64,
+    pub loop_start: u64,
+    pub loop_end: u64,
+    pub playback_rate: f64,
+    pub fraction: f64,
+    pub window: [Entry; 4],
+}
+
+/// A place in a sound: kind 0 seconds, 1 samples, and for an end 2 the end of audio.
+#[repr(C)]
+#[derive(Debug, Clone, Copy, Default)]
+pub struct Place {
+    pub seconds: f64,
+    pub samples: u64,
+    pub kind: u32,
+}
+
+/// A part of a sound.
+#[repr(C)]
+#[derive(Debug, Clone, Copy, Default)]
+pub struct Region {
+    pub start: Place,
+    pub end: Place,
+}
+
+/// What creation is told.
+#[repr(C)]
+#[derive(Debug, Clone, Copy, Default)]
+pub struct Settings {
+    pub sample_rate: u32,
+    pub has_slice: u32,
+    pub has_loop: u32,
+    pub reverse: u32,
+    pub start_waits: u32,
+    pub playback_rate: f64,
+    pub start: Place,
+    pub slice: Region,
+    pub loop_region: Region,
+}
+
+/// A command set.
+#[repr(C)]
+#[derive(Debug, Clone, Copy, Default)]
+pub struct Commands {
+    pub has_rate: u32,
+    pub loop_command: u32,
+    pub pause: u32,
+    pub resume: u32,
+    pub stop: u32,
+    pub has_seek_by: u32,
+    pub has_seek_to: u32,
+    pub rate: f64,
+    pub seek_by: f64,
+    pub seek_to: f64,
+    pub loop_region: Region,
+}
+
+/// A block's signals.
+#[repr(C)]
+#[derive(Debug, Clone, Copy, Default)]
+pub struct Signals {
+    pub finished: u32,
+    pub start: u32,
+    pub resume: u32,
+}
+
+/// What creation answers.
+#[repr(C)]
+#[derive(Debug, Clone, Copy)]
+pub struct Created {
+    pub state: State,
+    pub refusal: u32,
+}
+
+/// What a command set answers.
+#[repr(C)]
+#[derive(Debug, Clone, Copy)]
+pub struct Commanded {
+    pub state: State,
+    pub position: f64,
+    pub refusal: u32,
+}
+
+/// What a block answers.
+#[repr(C)]
+#[derive(Debug, Clone, Copy)]
+pub struct Processed {
+    pub state: State,
+    pub steps: u64,
+    pub refusal: u32,
+}
+
+/// A part of the lent samples.
+#[repr(C)]
+#[derive(Debug, Clone, Copy)]
+pub struct Part {
+    pub offset: u64,
+    pub length: u64,
+}
+
+/// The lanes of one block, lent.
+#[derive(Debug, Clone, Copy)]
+pub struct Lanes<'a> {
+    pub fade: &'a [f32],
+    pub volume: &'a [f32],
+    pub left: &'a [f32],
+    pub right: &'a [f32],
+    pub rate: &'a [f64],
+}
+
+unsafe extern "C" {
+    safe fn cableowl_version() -> u32;
+
+    fn cableowl_new(settings: Settings, sound: *const f32, sound_len: usize) -> Created;
+
+    fn cableowl_on_start_processing(
+        state: State,
+        sound: *const f32,
+        sound_len: usize,
+        commands: Commands,
+    ) -> Commanded;
+
+    fn cableowl_process(
+        state: State,
+        sound: *const f32,
+        sound_len: usize,
+        fade: *const f32,
+        fade_len: usize,
+        volume: *const f32,
+        volume_len: usize,
+        left: *const f32,
+        left_len: usize,
+        right: *const f32,
+        right_len: usize,
+        rate: *const f64,
+        rate_len: usize,
+        dt: f64,
+        signals: Signals,
+        out: *mut f32,
+        out_len: usize,
+    ) -> Processed;
+
+    fn cableowl_process_into(
+        state: State,
+        sound: *const f32,
+        sound_len: usize,
+        fade: *const f32,
+        fade_len: usize,
+        volume: *const f32,
+        volume_len: usize,
+        left: *const f32,
+        left_len: usize,
+        right: *const f32,
+        right_len: usize,
+        rate: *const f64,
+        rate_len: usize,
+        dt: f64,
+        signals: Signals,
+        mix: *mut f32,
+        mix_len: usize,
+        from: u64,
+    ) -> Processed;
+
+    fn cableowl_stretch(state: State, sound: *const f32, sound_len: usize) -> Part;
+}
+
+// SAFETY, for every call below: each pointer goes with the length of the same slice, lent for the
+// call; the archive keeps no pointer, reads within those lengths and writes within `out` or `mix`
+// alone, which nothing else borrows. Every number is accepted as input.
+
+pub fn version() -> u32 {
+    cableowl_version()
+}
+
+pub fn new(settings: Settings, sound: &[f32]) -> Created {
+    unsafe { cableowl_new(settings, sound.as_ptr(), sound.len()) }
+}
+
+pub fn on_start_processing(state: State, sound: &[f32], commands: Commands) -> Commanded {
+    unsafe { cableowl_on_start_processing(state, sound.as_ptr(), sound.len(), commands) }
+}
+
+pub fn process(
+    state: State,
+    sound: &[f32],
+    lanes: Lanes,
+    dt: f64,
+    signals: Signals,
+    out: &mut [f32],
+) -> Processed {
+    unsafe {
+        cableowl_process(
+            state,
+            sound.as_ptr(),
+            sound.len(),
+            lanes.fade.as_ptr(),
+            lanes.fade.len(),
+            lanes.volume.as_ptr(),
+            lanes.volume.len(),
+            lanes.left.as_ptr(),
+            lanes.left.len(),
+            lanes.right.as_ptr(),
+            lanes.right.len(),
+            lanes.rate.as_ptr(),
+            lanes.rate.len(),
+            dt,
+            signals,
+            out.as_mut_ptr(),
+            out.len(),
+        )
+    }
+}
+
+pub fn process_into(
+    state: State,
+    sound: &[f32],
+    lanes: Lanes,
+    dt: f64,
+    signals: Signals,
+    mix: &mut [f32],
+    from: u64,
+) -> Processed {
+    unsafe {
+        cableowl_process_into(
+            state,
+            sound.as_ptr(),
+            sound.len(),
+            lanes.fade.as_ptr(),
+            lanes.fade.len(),
+            lanes.volume.as_ptr(),
+            lanes.volume.len(),
+            lanes.left.as_ptr(),
+            lanes.left.len(),
+            lanes.right.as_ptr(),
+            lanes.right.len(),
+            lanes.rate.as_ptr(),
+            lanes.rate.len(),
+            dt,
+            signals,
+            mix.as_mut_ptr(),
+            mix.len(),
+            from,
+        )
+    }
+}
+
+pub fn stretch(state: State, sound: &[f32]) -> Part {
+    unsafe { cableowl_stretch(state, sound.as_ptr(), sound.len()) }
+}

@@ -1,0 +1,240 @@
+//! The lanes of a block: document 01, "What the host supplies".
+
+use crate::{MAX_BLOCK_FRAMES, ffi};
+
+/// One lane of a block: the same number for every output frame, or one for each.
+#[derive(Debug, Clone, Copy, PartialEq)]
+pub enum Lane<'a, T> {
+    /// The same number for every frame.
+    Constant(T),
+    /// A number for each frame.
+    PerFrame(&'a [T]),
+}
+
+impl From<f32> for Lane<'_, f32> {
+    fn from(number: f32) -> Self {
+        Self::Constant(number)
+    }
+}
+
+impl From<f64> for Lane<'_, f64> {
+    fn from(number: f64) -> Self {
+        Self::Constant(number)
+    }
+}
+
+impl<'a, T> From<&'a [T]> for Lane<'a, T> {
+    fn from(numbers: &'a [T]) -> Self {
+        Self::PerFrame(numbers)
+    }
+}
+
+impl<'a, T, const N: usize> From<&'a [T; N]> for Lane<'a, T> {
+    fn from(numbers: &'a [T; N]) -> Self {
+        Self::PerFrame(numbers)
+    }
+}
+
+impl<'a, T> From<&'a Vec<T>> for Lane<'a, T> {
+    fn from(numbers: &'a Vec<T>) -> Self {
+        Self::PerFrame(numbers)
+    }
+}
+
+/// Makes the lanes of block after block, and holds the room in which constants are spread.
+///
+/// Keep one beside a voice, or one for all voices of a thread: the room is allocated once, by
+/// [`Lanes::new`], and no block allocates after that.
+///
+/// ```
+/// use cableowl::Lanes;
+///
+/// let rates = [1.0, 0.9, 0.8, 0.7];
+/// let mut lanes = Lanes::new();
+/// let of_this_block = lanes.frames(4).volume(0.5).rate(&rates);
+/// ```
+#[derive(Debug, Clone)]
+pub struct Lanes {
+    fade: Spread<f32>,
+    volume: Spread<f32>,
+    left: Spread<f32>,
+    right: Spread<f32>,
+    rate: Spread<f64>,
+}
+
+impl Lanes {
+    /// Makes room for the largest block.
+    #[must_use]
+    pub fn new() -> Self {
+        Self {
+            fade: Spread::new(),
+            volume: Spread::new(),
+            left: Spread::new(),
+            right: Spread::new(),
+            rate: Spread::new(),
+        }
+    }
+
+    /// The lanes of a block of so many frames: every amplitude and gain 1, and rate 1, until
+    /// another is said.
+    pub fn frames(&mut self, frames: usize) -> BlockLanes<'_> {
+        BlockLanes {
+            room: self,
+            frames,
+            fade: Lane::Constant(1.0),
+            volume: Lane::Constant(1.0),
+            left: Lane::Constant(1.0),
+            right: Lane::Constant(1.0),
+            rate: Lane::Constant(1.0),
+        }
+    }
+}
+
+impl Default for Lanes {
+    fn default() -> Self {
+        Self::new()
+    }
+}
+
+/// The lanes of one block, made by [`Lanes::frames`].
+///
+/// A lane of another length than the block's is refused by the call it is given to
+/// ([`Refusal::Block`](crate::Refusal::Block)).
+#[derive(Debug)]
+#[must_use]
+pub struct BlockLanes<'a> {
+    room: &'a mut Lanes,
+    frames: usize,
+    fade: Lane<'a, f32>,
+    volume: Lane<'a, f32>,
+    left: Lane<'a, f32>,
+    right: Lane<'a, f32>,
+    rate: Lane<'a, f64>,
+}
+
+impl<'a> BlockLanes<'a> {
+    /// The fade's amplitudes.
+    pub fn fade(mut self, fade: impl Into<Lane<'a, f32>>) -> Self {
+        self.fade = fade.into();
+        self
+    }
+
+    /// The volume's amplitudes.
+    pub fn volume(mut self, volume: impl Into<Lane<'a, f32>>) -> Self {
+        self.volume = volume.into();
+        self
+    }
+
+    /// The left channel's gains.
+    pub fn left(mut self, left: impl Into<Lane<'a, f32>>) -> Self {
+        self.left = left.into();
+        self
+    }
+
+    /// The right channel's gains.
+    pub fn right(mut self, right: impl Into<Lane<'a, f32>>) -> Self {
+        self.right = right.into();
+        self
+    }
+
+    /// The rates. Their sign does not count: the direction is the held rate's.
+    pub fn rate(mut self, rate: impl Into<Lane<'a, f64>>) -> Self {
+        self.rate = rate.into();
+        self
+    }
+
+    pub(crate) fn lend(self) -> ffi::Lanes<'a> {
+        let (room, frames) = (self.room, self.frames);
+        ffi::Lanes {
+            fade: room.fade.lend(self.fade, frames),
+            volume: room.volume.lend(self.volume, frames),
+            left: room.left.lend(self.left, frames),
+            right: room.right.lend(self.right, frames),
+            rate: room.rate.lend(self.rate, frames),
+        }
+    }
+}
+
+/// Room for a constant, spread over a block's frames.
+#[derive(Debug, Clone)]
+struct Spread<T> {
+    /// All the same number, from an earlier block.
+    held: Vec<T>,
+}
+
+impl<T: Number> Spread<T> {
+    /// One frame more than a block may have: so much is refused, so more is never needed.
+    const ROOM: usize = MAX_BLOCK_FRAMES + 1;
+
+    fn new() -> Self {
+        Self {
+            held: Vec::with_capacity(Self::ROOM),
+        }
+    }
+
+    fn lend<'a>(&'a mut self, lane: Lane<'a, T>, frames: usize) -> &'a [T] {
+        match lane {
+            Lane::PerFrame(numbers) => numbers,
+            Lane::Constant(number) => self.spread(number, frames.min(Self::ROOM)),
+        }
+    }
+
+    fn spread(&mut self, number: T, frames: usize) -> &[T] {
+        if self
+            .held
+            .first()
+            .is_some_and(|held| !held.same_bits(number))
+        {
+            self.held.clear();
+        }
+        if self.held.len() < frames {
+            self.held.resize(frames, number);
+        }
+        &self.held[..frames]
+    }
+}
+
+/// A number that is told from another by its bits: minus zero is refused where zero is not.
+trait Number: Copy {
+    fn same_bits(self, other: Self) -> bool;
+}
+
+impl Number for f32 {
+    fn same_bits(self, other: Self) -> bool {
+        self.to_bits() == other.to_bits()
+    }
+}
+
+impl Number for f64 {
+    fn same_bits(self, other: Self) -> bool {
+        self.to_bits() == other.to_bits()
+    }
+}
+
+#[cfg(test)]
+mod test {
+    use super::*;
+
+    #[test]
+    fn a_constant_is_spread_anew_when_it_changes() {
+        let mut lanes = Lanes::new();
+        for (number, frames) in [(0.5, 3), (0.5, 2), (0.5, 5), (0.25, 4), (0.0, 4), (-0.0, 4)] {
+            let lent = lanes.frames(frames).fade(number).lend();
+            assert_eq!(lent.fade.len(), frames);
+            for held in lent.fade {
+                assert_eq!(held.to_bits(), f32::to_bits(number));
+            }
+        }
+    }
+
+    #[test]
+    fn room_is_made_once() {
+        let mut lanes = Lanes::new();
+        let room = lanes.rate.held.as_ptr();
+        for frames in [0, 1, 4_096, usize::MAX] {
+            let lent = lanes.frames(frames).rate(frames as f64).lend();
+            assert_eq!(lent.rate.len(), frames.min(4_097));
+            assert_eq!(lent.rate.as_ptr(), room);
+        }
+    }
+}

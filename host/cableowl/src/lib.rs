@@ -1,0 +1,69 @@
+//! kira's static sound, carried over to Rattle and proved, behind safe Rust.
+//!
+//! A voice plays a lent sound in blocks. What is heard does not depend on how the host cuts time
+//! into blocks: **block size may change when a command is heard, and nothing else.** Every call
+//! takes any input and refuses bad input by number ([`Refusal`]); a refused call changes nothing.
+//! No call of a voice panics, allocates, waits or keeps what it was lent.
+//!
+//! Tweens, parameters and the audio device are the host's: it brings each block the numbers of
+//! every output frame in [`Lanes`], and learns what it needs from the answers.
+//!
+//! ```
+//! use cableowl::{Commands, Lanes, Settings, Signals, StaticSound};
+//!
+//! // Interleaved samples, left then right: a second at 48 kHz, its middle half looped.
+//! let sound: Vec<f32> = (0..96_000).map(|i| (i / 2 % 100) as f32 / 100.0).collect();
+//! let mut voice = StaticSound::new(Settings::new(48_000).loop_region(0.25..0.75), &sound)?;
+//!
+//! let mut lanes = Lanes::new();
+//! let mut out = [0.0; 2 * 512];
+//! for _ in 0..10 {
+//!     let seconds = voice.on_start_processing(&sound, Commands::new())?;
+//!     assert!(seconds < 1.0);
+//!     let at_half_speed = lanes.frames(512).volume(0.8).rate(0.5);
+//!     let block =
+//!         voice.process(&sound, at_half_speed, 1.0 / 48_000.0, Signals::default(), &mut out)?;
+//!     assert_eq!(block.steps, 256);
+//! }
+//! # Ok::<(), cableowl::Refusal>(())
+//! ```
+//!
+//! "Document 01" is the paper that states the exact rules; the definitions of the crates below
+//! `crates/` say them, and the proofs hold the compiled code to them.
+#![deny(missing_docs)]
+#![deny(unsafe_code)]
+
+mod commands;
+mod ffi;
+#[cfg(test)]
+mod header;
+mod lanes;
+mod playback_position;
+mod playback_state;
+mod refusal;
+mod settings;
+mod state;
+mod static_sound;
+
+pub use commands::{Commands, LoopCommand, ResumeCommand};
+pub use lanes::{BlockLanes, Lane, Lanes};
+pub use playback_position::{EndPosition, PlaybackPosition, Region};
+pub use playback_state::{PlaybackState, Signals, StartAnswer};
+pub use refusal::Refusal;
+pub use settings::Settings;
+pub use state::{Frame, RecentFrame, State};
+pub use static_sound::{Processed, StaticSound};
+
+/// The examples of README.md, tried with the others.
+#[cfg(doctest)]
+#[doc = include_str!("../../../README.md")]
+pub struct Readme;
+
+/// The most frames a block may have.
+pub const MAX_BLOCK_FRAMES: usize = 4_096;
+
+/// The version of the archive's C ABI.
+#[must_use]
+pub fn version() -> u32 {
+    ffi::version()
+}

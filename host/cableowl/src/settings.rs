@@ -1,0 +1,107 @@
+//! How a voice is created: document 01, "Creation, commands, block".
+
+use crate::{PlaybackPosition, Region, ffi};
+
+/// How a voice is created. Whatever is not said: all of the sound from its first frame, forward at
+/// rate 1, no loop, at once.
+///
+/// ```
+/// use cableowl::{Settings, StaticSound};
+///
+/// let sound = [0.0; 20];
+/// let settings = Settings::new(48_000).start_position(3).loop_region(2..6).playback_rate(0.75);
+/// let voice = StaticSound::new(settings, &sound)?;
+/// assert_eq!(voice.state().loop_region, Some((2, 6)));
+/// # Ok::<(), cableowl::Refusal>(())
+/// ```
+#[derive(Debug, Clone, Copy, PartialEq)]
+pub struct Settings {
+    /// The sample rate of the sound, in frames a second.
+    pub sample_rate: u32,
+    /// The part of the sound to play, if not all.
+    pub slice: Option<Region>,
+    /// Where to start, within the slice.
+    pub start_position: PlaybackPosition,
+    /// The part to loop, within the slice.
+    pub loop_region: Option<Region>,
+    /// Whether to play in reverse.
+    pub reverse: bool,
+    /// The held rate, whose sign gives the direction.
+    pub playback_rate: f64,
+    /// Whether the start waits for an answer (see [`Signals::start`](crate::Signals::start)).
+    pub start_waits: bool,
+}
+
+impl Settings {
+    /// All of a sound of this sample rate, from its first frame, forward at rate 1, at once.
+    #[must_use]
+    pub fn new(sample_rate: u32) -> Self {
+        Self {
+            sample_rate,
+            slice: None,
+            start_position: PlaybackPosition::default(),
+            loop_region: None,
+            reverse: false,
+            playback_rate: 1.0,
+            start_waits: false,
+        }
+    }
+
+    /// Plays this part of the sound alone.
+    #[must_use]
+    pub fn slice(mut self, slice: impl Into<Region>) -> Self {
+        self.slice = Some(slice.into());
+        self
+    }
+
+    /// Starts here, counted from the slice's start.
+    #[must_use]
+    pub fn start_position(mut self, start_position: impl Into<PlaybackPosition>) -> Self {
+        self.start_position = start_position.into();
+        self
+    }
+
+    /// Loops this part, counted from the slice's start.
+    #[must_use]
+    pub fn loop_region(mut self, loop_region: impl Into<Region>) -> Self {
+        self.loop_region = Some(loop_region.into());
+        self
+    }
+
+    /// Plays in reverse, or not.
+    #[must_use]
+    pub fn reverse(mut self, reverse: bool) -> Self {
+        self.reverse = reverse;
+        self
+    }
+
+    /// Sets the held rate.
+    #[must_use]
+    pub fn playback_rate(mut self, playback_rate: f64) -> Self {
+        self.playback_rate = playback_rate;
+        self
+    }
+
+    /// Lets the start wait for an answer, or not.
+    #[must_use]
+    pub fn start_waits(mut self, start_waits: bool) -> Self {
+        self.start_waits = start_waits;
+        self
+    }
+}
+
+impl From<Settings> for ffi::Settings {
+    fn from(settings: Settings) -> Self {
+        Self {
+            sample_rate: settings.sample_rate,
+            has_slice: settings.slice.is_some().into(),
+            has_loop: settings.loop_region.is_some().into(),
+            reverse: settings.reverse.into(),
+            start_waits: settings.start_waits.into(),
+            playback_rate: settings.playback_rate,
+            start: settings.start_position.into(),
+            slice: settings.slice.map(Into::into).unwrap_or_default(),
+            loop_region: settings.loop_region.map(Into::into).unwrap_or_default(),
+        }
+    }
+}

@@ -1,0 +1,132 @@
+//! A voice's whole state, to save and to give back: document 01, "Well formed".
+
+use crate::{PlaybackState, ffi};
+
+/// Two samples, left and right.
+#[derive(Debug, Clone, Copy, PartialEq, Default)]
+pub struct Frame {
+    /// The left sample.
+    pub left: f32,
+    /// The right sample.
+    pub right: f32,
+}
+
+/// An entry of the window of four: a frame and its number.
+#[derive(Debug, Clone, Copy, PartialEq, Default)]
+pub struct RecentFrame {
+    /// The frame.
+    pub frame: Frame,
+    /// Its number in the slice or sound.
+    pub frame_index: usize,
+}
+
+/// Everything a voice is between two calls. [`StaticSound::state`](crate::StaticSound::state) reads
+/// it out, [`StaticSound::from_state`](crate::StaticSound::from_state) takes any back.
+#[derive(Debug, Clone, Copy, PartialEq)]
+pub struct State {
+    /// The sample rate of the sound.
+    pub sample_rate: u32,
+    /// All frames of the sound, the slice aside.
+    pub num_frames: usize,
+    /// The slice, its end exclusive.
+    pub slice: Option<(usize, usize)>,
+    /// Whether the sound plays in reverse.
+    pub reverse: bool,
+    /// The held rate.
+    pub playback_rate: f64,
+    /// Whether the sound's own start has come.
+    pub started: bool,
+    /// Which of the seven states.
+    pub playback_state: PlaybackState,
+    /// How far the voice is between two frames, from 0 up to 1.
+    pub fractional_position: f64,
+    /// The frame that the window takes next, counted from the slice's start.
+    pub position: usize,
+    /// The loop, its end exclusive, counted from the slice's start.
+    pub loop_region: Option<(usize, usize)>,
+    /// Whether the position still moves: it has not run off an end.
+    pub playing: bool,
+    /// The window of four, oldest first; the second is the one heard.
+    pub window: [RecentFrame; 4],
+    /// The window's count: how many frames may still be heard once the position has run off.
+    pub time_until_empty: u32,
+}
+
+/// An ABI's region: whether it is there, its start, its end.
+fn flagged(region: Option<(usize, usize)>) -> (u32, u64, u64) {
+    region.map_or((0, 0, 0), |(start, end)| (1, start as u64, end as u64))
+}
+
+fn optional(given: u32, start: u64, end: u64) -> Option<(usize, usize)> {
+    (given != 0).then_some((start as usize, end as usize))
+}
+
+impl From<State> for ffi::State {
+    fn from(state: State) -> Self {
+        let (has_slice, slice_start, slice_end) = flagged(state.slice);
+        let (has_loop, loop_start, loop_end) = flagged(state.loop_region);
+        Self {
+            sample_rate: state.sample_rate,
+            state: state.playback_state.number(),
+            reverse: state.reverse.into(),
+            started: state.started.into(),
+            playing: state.playing.into(),
+            has_slice,
+            has_loop,
+            count: state.time_until_empty,
+            num_frames: state.num_frames as u64,
+            slice_start,
+            slice_end,
+            position: state.position as u64,
+            loop_start,
+            loop_end,
+            playback_rate: state.playback_rate,
+            fraction: state.fractional_position,
+            window: state.window.map(Into::into),
+        }
+    }
+}
+
+impl From<ffi::State> for State {
+    fn from(state: ffi::State) -> Self {
+        Self {
+            sample_rate: state.sample_rate,
+            num_frames: state.num_frames as usize,
+            slice: optional(state.has_slice, state.slice_start, state.slice_end),
+            reverse: state.reverse != 0,
+            playback_rate: state.playback_rate,
+            started: state.started != 0,
+            // The library answers with 0 to 6 alone.
+            playback_state: PlaybackState::from_number(state.state)
+                .unwrap_or(PlaybackState::Stopped),
+            fractional_position: state.fraction,
+            position: state.position as usize,
+            loop_region: optional(state.has_loop, state.loop_start, state.loop_end),
+            playing: state.playing != 0,
+            window: state.window.map(Into::into),
+            time_until_empty: state.count,
+        }
+    }
+}
+
+impl From<RecentFrame> for ffi::Entry {
+    fn from(recent: RecentFrame) -> Self {
+        Self {
+            left: recent.frame.left,
+            right: recent.frame.right,
+            number: recent.frame_index as u64,
+        }
+    }
+}
+
+impl From<ffi::Entry> for RecentFrame {
+    fn from(entry: ffi::Entry) -> Self {
+        Self {
+            frame: Frame {
+                left: entry.left,
+                right: entry.right,
+            },
+            frame_index: entry.number as usize,
+        }
+    }
+}

@@ -1,0 +1,217 @@
+//! The voice: document 01, "Creation, commands, block".
+
+use crate::{BlockLanes, Commands, PlaybackState, Refusal, Settings, Signals, State, ffi};
+
+/// What an accepted block reports.
+#[derive(Debug, Clone, Copy, PartialEq, Eq, Hash)]
+pub struct Processed {
+    /// How many frames of the sound it stepped over.
+    pub steps: u64,
+}
+
+/// A voice: one sound being played.
+///
+/// It owns its state alone. The sound, interleaved samples, left then right, is lent to each call,
+/// and must be the same each time. A refused call leaves the voice as it was and writes nothing.
+#[derive(Clone)]
+pub struct StaticSound {
+    state: ffi::State,
+}
+
+impl StaticSound {
+    /// Creates a voice.
+    ///
+    /// ```
+    /// use cableowl::{PlaybackState, Settings, StaticSound};
+    ///
+    /// let sound = [1.0, 1.0, 2.0, 2.0, 3.0, 3.0];
+    /// let voice = StaticSound::new(Settings::new(44_100), &sound)?;
+    /// assert_eq!(voice.playback_state(), PlaybackState::Playing);
+    /// # Ok::<(), cableowl::Refusal>(())
+    /// ```
+    ///
+    /// # Errors
+    ///
+    /// Refusals 2 to 7.
+    pub fn new(settings: Settings, sound: &[f32]) -> Result<Self, Refusal> {
+        let created = ffi::new(settings.into(), sound);
+        Refusal::check(created.refusal)?;
+        Ok(Self {
+            state: created.state,
+        })
+    }
+
+    /// Obeys a command set, an empty one too, and reports the position in seconds that was heard
+    /// before it.
+    ///
+    /// ```
+    /// use cableowl::{Commands, PlaybackState, Settings, StaticSound};
+    ///
+    /// let sound = [0.5; 200];
+    /// let mut voice = StaticSound::new(Settings::new(10).start_position(2.0), &sound)?;
+    /// let heard = voice.on_start_processing(&sound, Commands::new().pause())?;
+    /// assert_eq!(heard, 2.0);
+    /// assert_eq!(voice.playback_state(), PlaybackState::Pausing);
+    /// # Ok::<(), cableowl::Refusal>(())
+    /// ```
+    ///
+    /// # Errors
+    ///
+    /// Refusals 1 and 6 to 8.
+    pub fn on_start_processing(
+        &mut self,
+        sound: &[f32],
+        commands: Commands,
+    ) -> Result<f64, Refusal> {
+        let commanded = ffi::on_start_processing(self.state, sound, commands.into());
+        Refusal::check(commanded.refusal)?;
+        self.state = commanded.state;
+        Ok(commanded.position)
+    }
+
+    /// Plays a block into `out`, two samples a frame. `dt` is the seconds of one output frame.
+    ///
+    /// ```
+    /// use cableowl::{Lanes, PlaybackState, Settings, Signals, StaticSound};
+    ///
+    /// let sound = [1.0, 1.0, 2.0, 2.0, 3.0, 3.0];
+    /// let mut voice = StaticSound::new(Settings::new(1), &sound)?;
+    /// let mut lanes = Lanes::new();
+    /// let mut out = [0.0; 12];
+    /// let block = voice.process(&sound, lanes.frames(6), 1.0, Signals::default(), &mut out)?;
+    /// assert_eq!(out, [1.0, 1.0, 2.0, 2.0, 3.0, 3.0, 0.0, 0.0, 0.0, 0.0, 0.0, 0.0]);
+    /// assert_eq!(block.steps, 6);
+    /// assert_eq!(voice.playback_state(), PlaybackState::Stopped);
+    /// # Ok::<(), cableowl::Refusal>(())
+    /// ```
+    ///
+    /// # Errors
+    ///
+    /// Refusals 1 and 9 to 12.
+    pub fn process(
+        &mut self,
+        sound: &[f32],
+        lanes: BlockLanes<'_>,
+        dt: f64,
+        signals: Signals,
+        out: &mut [f32],
+    ) -> Result<Processed, Refusal> {
+        let answer = ffi::process(self.state, sound, lanes.lend(), dt, signals.into(), out);
+        self.take(answer)
+    }
+
+    /// Plays a block into a longer buffer, in place of what stands there from frame `from` on;
+    /// every other sample stays.
+    ///
+    /// ```
+    /// use cableowl::{Lanes, Settings, Signals, StaticSound};
+    ///
+    /// let sound = [1.0, -1.0, 2.0, -2.0];
+    /// let mut voice = StaticSound::new(Settings::new(1), &sound)?;
+    /// let mut lanes = Lanes::new();
+    /// let mut mix = [9.0; 8];
+    /// voice.process_into(&sound, lanes.frames(2), 1.0, Signals::default(), &mut mix, 1)?;
+    /// assert_eq!(mix, [9.0, 9.0, 1.0, -1.0, 2.0, -2.0, 9.0, 9.0]);
+    /// # Ok::<(), cableowl::Refusal>(())
+    /// ```
+    ///
+    /// # Errors
+    ///
+    /// Refusals 1 and 9 to 12.
+    pub fn process_into(
+        &mut self,
+        sound: &[f32],
+        lanes: BlockLanes<'_>,
+        dt: f64,
+        signals: Signals,
+        mix: &mut [f32],
+        from: usize,
+    ) -> Result<Processed, Refusal> {
+        let (lanes, from) = (lanes.lend(), from as u64);
+        let answer = ffi::process_into(self.state, sound, lanes, dt, signals.into(), mix, from);
+        self.take(answer)
+    }
+
+    /// The part of the lent samples that the voice plays: its slice's, or all. Empty only where
+    /// the voice and the sound would be refused with 1.
+    ///
+    /// ```
+    /// use cableowl::{Settings, StaticSound};
+    ///
+    /// let sound = [0.0, 0.5, 1.0, 1.5, 2.0, 2.5];
+    /// let voice = StaticSound::new(Settings::new(1).slice(1..3), &sound)?;
+    /// assert_eq!(voice.stretch(&sound), [1.0, 1.5, 2.0, 2.5]);
+    /// assert!(voice.stretch(&sound[2..]).is_empty());
+    /// # Ok::<(), cableowl::Refusal>(())
+    /// ```
+    #[must_use]
+    pub fn stretch<'a>(&self, sound: &'a [f32]) -> &'a [f32] {
+        let part = ffi::stretch(self.state, sound);
+        let (start, length) = (part.offset as usize, part.length as usize);
+        sound
+            .get(start..start.saturating_add(length))
+            .unwrap_or_default()
+    }
+
+    /// What the voice is doing.
+    #[must_use]
+    pub fn playback_state(&self) -> PlaybackState {
+        self.state().playback_state
+    }
+
+    /// Whether the voice is stopped, and so silent for ever.
+    #[must_use]
+    pub fn finished(&self) -> bool {
+        self.playback_state() == PlaybackState::Stopped
+    }
+
+    /// Everything the voice is, to save it or to look at it.
+    ///
+    /// ```
+    /// use cableowl::{Settings, StaticSound};
+    ///
+    /// let sound = [0.5; 20];
+    /// let voice = StaticSound::new(Settings::new(48_000), &sound)?;
+    /// let saved = voice.state();
+    /// assert_eq!(saved.position, 3);
+    /// assert_eq!(StaticSound::from_state(saved).state(), saved);
+    /// # Ok::<(), cableowl::Refusal>(())
+    /// ```
+    #[must_use]
+    pub fn state(&self) -> State {
+        self.state.into()
+    }
+
+    /// A voice in this state, whatever it is: one that is not well formed is refused by each call
+    /// with 1.
+    ///
+    /// ```
+    /// use cableowl::{Commands, Refusal, Settings, State, StaticSound};
+    ///
+    /// let sound = [0.5; 20];
+    /// let state = StaticSound::new(Settings::new(48_000), &sound)?.state();
+    /// let mut broken = StaticSound::from_state(State { fractional_position: 1.0, ..state });
+    /// assert_eq!(broken.on_start_processing(&sound, Commands::new()), Err(Refusal::State));
+    /// # Ok::<(), cableowl::Refusal>(())
+    /// ```
+    #[must_use]
+    pub fn from_state(state: State) -> Self {
+        Self {
+            state: state.into(),
+        }
+    }
+
+    fn take(&mut self, answer: ffi::Processed) -> Result<Processed, Refusal> {
+        Refusal::check(answer.refusal)?;
+        self.state = answer.state;
+        Ok(Processed {
+            steps: answer.steps,
+        })
+    }
+}
+
+impl std::fmt::Debug for StaticSound {
+    fn fmt(&self, f: &mut std::fmt::Formatter<'_>) -> std::fmt::Result {
+        f.debug_tuple("StaticSound").field(&self.state()).finish()
+    }
+}

@@ -1,0 +1,65 @@
+/* Calls each entry of cableowl.h once, on document 01's three frames, and says what differs. */
+#include <stdio.h>
+#include <string.h>
+
+#include "cableowl.h"
+
+static int faults = 0;
+
+static void expect(int holds, const char *what) {
+    if (!holds) {
+        printf("differs: %s\n", what);
+        faults += 1;
+    }
+}
+
+int main(void) {
+    const float sound[6] = {1, 1, 2, 2, 3, 3};
+    const float ones[6] = {1, 1, 1, 1, 1, 1};
+    const double rate[6] = {1, 1, 1, 1, 1, 1};
+
+    expect(cableowl_version() == 1, "version");
+
+    CableowlSettings settings;
+    memset(&settings, 0, sizeof settings);
+    settings.sample_rate = 1;
+    settings.playback_rate = 1;
+    const CableowlCreated created = cableowl_new(settings, sound, 6);
+    expect(created.refusal == 0, "new: refusal");
+    expect(created.state.num_frames == 3, "new: frames");
+    expect(created.state.window[3].number == 2 && created.state.window[3].left == 3, "new: window");
+
+    CableowlCommands commands;
+    memset(&commands, 0, sizeof commands);
+    const CableowlCommanded commanded = cableowl_on_start_processing(created.state, sound, 6, commands);
+    expect(commanded.refusal == 0 && commanded.position == 0, "on_start_processing: position");
+    commands.has_rate = 2;
+    expect(cableowl_on_start_processing(created.state, sound, 6, commands).refusal == 7, "on_start_processing: tag");
+
+    const CableowlSignals signals = {0, 0, 0};
+    float out[12];
+    const CableowlProcessed processed = cableowl_process(commanded.state, sound, 6, ones, 6, ones, 6, ones, 6, ones, 6,
+                                                         rate, 6, 1.0, signals, out, 12);
+    const float heard[12] = {1, 1, 2, 2, 3, 3, 0, 0, 0, 0, 0, 0};
+    expect(processed.refusal == 0 && processed.steps == 6, "process: steps");
+    expect(processed.state.state == 6, "process: stopped");
+    expect(memcmp(out, heard, sizeof out) == 0, "process: frames");
+
+    float mix[8] = {9, 9, 9, 9, 9, 9, 9, 9};
+    const CableowlProcessed mixed = cableowl_process_into(commanded.state, sound, 6, ones, 2, ones, 2, ones, 2, ones, 2,
+                                                          rate, 2, 1.0, signals, mix, 8, 1);
+    const float mixture[8] = {9, 9, 1, 1, 2, 2, 9, 9};
+    expect(mixed.refusal == 0 && mixed.steps == 2, "process_into: steps");
+    expect(memcmp(mix, mixture, sizeof mix) == 0, "process_into: frames");
+
+    const CableowlPart all = cableowl_stretch(created.state, sound, 6);
+    expect(all.offset == 0 && all.length == 6, "stretch");
+
+    CableowlState unknown = created.state;
+    unknown.state = 7;
+    const CableowlPart none = cableowl_stretch(unknown, sound, 6);
+    expect(none.offset == 0 && none.length == 0, "stretch: a state that means nothing");
+
+    printf("%d differ\n", faults);
+    return faults == 0 ? 0 : 1;
+}

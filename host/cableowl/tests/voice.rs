@@ -1,0 +1,205 @@
+// What a voice does when its calls are accepted: document 01's examples through the API.
+
+use cableowl::{
+    Commands, Lanes, PlaybackState, Processed, Refusal, Settings, Signals, StartAnswer, StaticSound,
+};
+
+/// Frames 0, 1, 2 and so on, the right channel negated.
+fn ramp(frames: usize) -> Vec<f32> {
+    (0..frames).flat_map(|i| [i as f32, -(i as f32)]).collect()
+}
+
+fn play(voice: &mut StaticSound, sound: &[f32], frames: usize) -> Vec<f32> {
+    let mut out = vec![9.0; 2 * frames];
+    let mut lanes = Lanes::new();
+    voice
+        .process(
+            sound,
+            lanes.frames(frames),
+            1.0,
+            Signals::default(),
+            &mut out,
+        )
+        .unwrap();
+    out
+}
+
+#[test]
+fn the_archive_is_version_1() {
+    assert_eq!(cableowl::version(), 1);
+}
+
+#[test]
+fn three_frames() {
+    let sound = [1.0, 1.0, 2.0, 2.0, 3.0, 3.0];
+    let mut voice = StaticSound::new(Settings::new(1), &sound).unwrap();
+    let mut heard = Vec::new();
+    for frame in 1..=6 {
+        heard.push(play(&mut voice, &sound, 1));
+        assert_eq!(voice.finished(), frame >= 4);
+    }
+    assert_eq!(
+        heard,
+        [[1.0; 2], [2.0; 2], [3.0; 2], [0.0; 2], [0.0; 2], [0.0; 2]]
+    );
+
+    let mut voice = StaticSound::new(Settings::new(1), &sound).unwrap();
+    assert_eq!(play(&mut voice, &sound, 6), heard.concat());
+    assert_eq!(voice.playback_state().number(), 6);
+}
+
+#[test]
+fn creation_fills_the_window() {
+    let sound = ramp(10);
+    let numbers = |settings: Settings| {
+        let state = StaticSound::new(settings, &sound).unwrap().state();
+        (
+            state.window.map(|recent| recent.frame_index),
+            state.position,
+        )
+    };
+    let plain = Settings::new(1);
+    assert_eq!(numbers(plain), ([0, 0, 1, 2], 3));
+    let reversed = plain.reverse(true).start_position(2).loop_region(3..6);
+    assert_eq!(numbers(reversed), ([7, 7, 6, 5], 4));
+    assert_eq!(numbers(plain.start_position(2.5)), ([3, 3, 4, 5], 6));
+}
+
+#[test]
+fn seek_cuts_where_a_start_rounds() {
+    let sound = ramp(10);
+    let mut voice = StaticSound::new(Settings::new(1), &sound).unwrap();
+    let seek = Commands::new().seek_to(2.5);
+    assert_eq!(voice.on_start_processing(&sound, seek), Ok(0.0));
+    assert_eq!(voice.state().position, 2);
+    assert_eq!(voice.state().window[3].frame_index, 2);
+}
+
+#[test]
+fn states_go_their_way() {
+    use PlaybackState::*;
+    let sound = ramp(10);
+    let settings = Settings::new(1).loop_region(..).start_waits(true);
+    let mut voice = StaticSound::new(settings, &sound).unwrap();
+    let mut lanes = Lanes::new();
+    let mut turn = |commands, signals| {
+        voice.on_start_processing(&sound, commands).unwrap();
+        let block = voice.process(&sound, lanes.frames(1), 1.0, signals, &mut [0.0; 2]);
+        (block.unwrap().steps, voice.playback_state())
+    };
+    let (none, all) = (Signals::default(), Commands::new());
+    let finished = Signals {
+        finished: true,
+        ..none
+    };
+    let start = |start| Signals { start, ..none };
+    let resume = |resume| Signals { resume, ..none };
+    assert_eq!(turn(all, none), (0, Playing));
+    assert_eq!(turn(all, start(StartAnswer::Now)), (1, Playing));
+    assert_eq!(turn(all.pause(), none), (1, Pausing));
+    assert_eq!(turn(all, finished), (0, Paused));
+    assert_eq!(turn(all.resume_waiting(), none), (0, WaitingToResume));
+    assert_eq!(turn(all, resume(StartAnswer::Now)), (1, Resuming));
+    assert_eq!(turn(all, finished), (1, Playing));
+    assert_eq!(turn(all.pause(), finished), (0, Paused));
+    assert_eq!(turn(all.resume(), none), (1, Resuming));
+    assert_eq!(turn(all.stop(), none), (1, Stopping));
+    assert_eq!(turn(all, finished), (0, Stopped));
+    assert_eq!(turn(all.resume(), none), (0, Stopped));
+}
+
+#[test]
+fn cut_blocks_are_the_same_block() {
+    let sound = ramp(50);
+    let settings = Settings::new(1).loop_region(5..17);
+    let rates: Vec<f64> = (0..300).map(|i| 0.3 + f64::from(i) / 100.0).collect();
+    let uncut = StaticSound::new(settings, &sound).unwrap();
+    for size in [300, 1, 7, 64] {
+        let mut voice = uncut.clone();
+        let mut lanes = Lanes::new();
+        let (mut heard, mut steps) = (Vec::new(), 0);
+        for rates in rates.chunks(size) {
+            let mut out = vec![9.0; 2 * rates.len()];
+            let lanes = lanes.frames(rates.len()).rate(rates).volume(0.5);
+            let signals = Signals::default();
+            let block = voice.process(&sound, lanes, 0.7, signals, &mut out);
+            steps += block.unwrap().steps;
+            heard.extend(out.iter().map(|sample| sample.to_bits()));
+        }
+        let mut whole = uncut.clone();
+        let mut out = vec![9.0; 600];
+        let all = lanes.frames(300).rate(&rates).volume(0.5);
+        let block = whole.process(&sound, all, 0.7, Signals::default(), &mut out);
+        assert_eq!(block, Ok(Processed { steps }));
+        assert_eq!(whole.state(), voice.state());
+        assert!(out.iter().map(|sample| sample.to_bits()).eq(heard));
+    }
+}
+
+#[test]
+fn a_saved_voice_plays_on() {
+    let sound = ramp(20);
+    let settings = Settings::new(1)
+        .slice(2..18)
+        .loop_region(3..9)
+        .playback_rate(-1.0)
+        .reverse(true);
+    let mut voice = StaticSound::new(settings, &sound).unwrap();
+    for _ in 0..40 {
+        let saved = voice.state();
+        let mut copy = StaticSound::from_state(saved);
+        assert_eq!(copy.state(), saved);
+        assert_eq!(play(&mut copy, &sound, 3), play(&mut voice, &sound, 3));
+        assert_eq!(copy.state(), voice.state());
+    }
+}
+
+#[test]
+fn a_mix_is_touched_in_its_part_alone() {
+    let sound = ramp(10);
+    let mut lanes = Lanes::new();
+    for from in 0..=6 {
+        let mut voice = StaticSound::new(Settings::new(1).start_position(4), &sound).unwrap();
+        let mut mix = [9.0; 16];
+        let signals = Signals::default();
+        let lanes = lanes.frames(2).left(0.5).right(0.25);
+        let block = voice.process_into(&sound, lanes, 1.0, signals, &mut mix, from);
+        assert_eq!(block, Ok(Processed { steps: 2 }));
+        let mut expected = [9.0; 16];
+        expected[2 * from..2 * from + 4].copy_from_slice(&[2.0, -1.0, 2.5, -1.25]);
+        assert_eq!(mix, expected);
+    }
+    let mut voice = StaticSound::new(Settings::new(1), &sound).unwrap();
+    let mut mix = [9.0; 16];
+    let nothing = voice.process_into(
+        &sound,
+        lanes.frames(0),
+        1.0,
+        Signals::default(),
+        &mut mix,
+        8,
+    );
+    assert_eq!((nothing, mix), (Ok(Processed { steps: 0 }), [9.0; 16]));
+}
+
+#[test]
+fn the_stretch_is_the_slice_s_samples() {
+    let sound = ramp(10);
+    let all = StaticSound::new(Settings::new(1), &sound).unwrap();
+    assert!(std::ptr::eq(all.stretch(&sound), &sound[..]));
+    let slice = StaticSound::new(Settings::new(1).slice(2..5), &sound).unwrap();
+    assert!(std::ptr::eq(slice.stretch(&sound), &sound[4..10]));
+    assert_eq!(slice.stretch(&sound), [2.0, -2.0, 3.0, -3.0, 4.0, -4.0]);
+    assert!(slice.stretch(&sound[..18]).is_empty());
+    assert!(slice.stretch(&[]).is_empty());
+}
+
+#[test]
+fn refusals_are_errors_a_program_can_pass_on() {
+    fn evening() -> Result<(), Box<dyn std::error::Error>> {
+        StaticSound::new(Settings::new(1).loop_region(4..4), &[0.0; 20])?;
+        Ok(())
+    }
+    let refusal = evening().unwrap_err();
+    assert_eq!(refusal.downcast_ref(), Some(&Refusal::LoopRegion));
+}
