@@ -1,0 +1,71 @@
+// Times ours against kira's text:
+//   benches [--write DIR]
+//   benches --play ours|kira|none --rate R --block N --looped N --frames N   (one workload, to be counted)
+
+mod measure;
+mod report;
+mod workload;
+
+use std::{env, error::Error, fs, path::Path, process::ExitCode};
+
+use workload::{Kira, LONG_LOOP, Ours, Voice, Workload};
+
+fn main() -> ExitCode {
+    match run(&env::args().skip(1).collect::<Vec<_>>()) {
+        Ok(()) => ExitCode::SUCCESS,
+        Err(error) => {
+            eprintln!("{error}");
+            ExitCode::FAILURE
+        }
+    }
+}
+
+fn run(words: &[String]) -> Result<(), Box<dyn Error>> {
+    if let Some(who) = option(words, "--play") {
+        return play(who, words);
+    }
+    let rows = measure::all();
+    let table = report::table(&rows);
+    print!("{table}");
+    if let Some(folder) = option(words, "--write") {
+        let folder = Path::new(folder);
+        fs::write(folder.join("BENCHMARK.md"), report::document(&rows))?;
+        fs::write(folder.join("benchmark.svg"), report::plot(&rows))?;
+    }
+    Ok(())
+}
+
+fn option<'a>(words: &'a [String], name: &str) -> Option<&'a str> {
+    let place = words.iter().position(|word| word == name)?;
+    words.get(place + 1).map(String::as_str)
+}
+
+fn number<T: std::str::FromStr>(words: &[String], name: &str, otherwise: T) -> Result<T, String> {
+    option(words, name).map_or(Ok(otherwise), |word| {
+        word.parse()
+            .map_err(|_| format!("{name} takes a number, not {word}"))
+    })
+}
+
+/// Plays one workload and nothing else; `none` makes both voices and plays neither.
+fn play(who: &str, words: &[String]) -> Result<(), Box<dyn Error>> {
+    let workload = Workload {
+        rate: number(words, "--rate", 0.93)?,
+        block: number(words, "--block", 512)?,
+        looped: number(words, "--looped", LONG_LOOP)?,
+    };
+    let frames: usize = number(words, "--frames", 512_000)?;
+    let sound = workload::sound();
+    let mut ours = Ours::new(&workload, &sound);
+    let mut kira = Kira::new(&workload, &sound);
+    let voice: Option<&mut dyn Voice> = match who {
+        "ours" => Some(&mut ours),
+        "kira" => Some(&mut kira),
+        "none" => None,
+        _ => return Err(format!("--play takes ours, kira or none, not {who}").into()),
+    };
+    if let Some(voice) = voice {
+        (0..frames / workload.block).for_each(|_| voice.block());
+    }
+    Ok(())
+}

@@ -1,0 +1,113 @@
+// The times as a table, a page and a plot.
+
+use std::fmt::Write;
+
+use crate::{
+    measure::{BLOCKS, RATES, Row},
+    workload::{HZ, LONG_LOOP},
+};
+
+/// The table, one line a workload.
+#[must_use]
+pub fn table(rows: &[Row]) -> String {
+    let mut text = String::from(
+        "| loop | block | rate | ours: least | median | kira: least | median | ours / kira | our voices a core |\n|---|---|---|---|---|---|---|---|---|\n",
+    );
+    for row in rows {
+        let looped = if row.workload.looped == LONG_LOOP {
+            "long"
+        } else {
+            "3 frames"
+        };
+        let voices = 1e9 / (row.ours.least * f64::from(HZ));
+        writeln!(
+            text,
+            "| {looped} | {} | {} | {:.2} | {:.2} | {:.2} | {:.2} | {:.2} | {voices:.0} |",
+            row.workload.block,
+            row.workload.rate,
+            row.ours.least,
+            row.ours.median,
+            row.kira.least,
+            row.kira.median,
+            row.ratio(),
+        )
+        .expect("a string takes all");
+    }
+    text
+}
+
+/// The page.
+#[must_use]
+pub fn document(rows: &[Row]) -> String {
+    format!(
+        "# Benchmark
+
+Nanoseconds a stereo frame at 48 kHz, ours through the C entry with every check against kira's own text (`host/oracle`, no checks, no copies), in turns in one process; 200 repetitions of 8,192 frames. The last column is how many of our voices one core plays at 48 kHz. Machines differ: use the ratios.
+
+```
+cd host && cargo run --release --offline -p benches -- --write ../docs    # writes this page and the plot
+tools/instructions                                                        # instructions a frame, by callgrind
+```
+
+![Nanoseconds a frame, ours and kira's text](benchmark.svg)
+
+{}",
+        table(rows)
+    )
+}
+
+/// The long loop as bars: a panel a block size, a pair of bars a rate.
+#[must_use]
+pub fn plot(rows: &[Row]) -> String {
+    let long: Vec<&Row> = rows
+        .iter()
+        .filter(|row| row.workload.looped == LONG_LOOP)
+        .collect();
+    let most = long
+        .iter()
+        .flat_map(|row| [row.ours.least, row.kira.least])
+        .fold(1.0, f64::max);
+    let mut text = String::from(
+        "<svg xmlns=\"http://www.w3.org/2000/svg\" width=\"960\" height=\"340\" font-family=\"sans-serif\" font-size=\"12\">\n<rect width=\"960\" height=\"340\" fill=\"white\"/>\n<text x=\"20\" y=\"20\">Nanoseconds a frame (logarithmic), least of 200; long loop</text>\n<rect x=\"660\" y=\"10\" width=\"12\" height=\"12\" fill=\"#2a6f97\"/><text x=\"678\" y=\"20\">ours, all checks</text>\n<rect x=\"800\" y=\"10\" width=\"12\" height=\"12\" fill=\"#c9ada7\"/><text x=\"818\" y=\"20\">kira's text</text>\n",
+    );
+    for (panel, block) in BLOCKS.into_iter().enumerate() {
+        let left = 20 + 315 * panel;
+        writeln!(
+            text,
+            "<text x=\"{}\" y=\"330\" text-anchor=\"middle\">blocks of {block}</text>",
+            left + 140
+        )
+        .expect("a string takes all");
+        for (place, rate) in RATES.into_iter().enumerate() {
+            let found = long
+                .iter()
+                .find(|row| row.workload.block == block && row.workload.rate == rate);
+            let Some(row) = found else {
+                continue;
+            };
+            let x = left + 58 * place;
+            bar(&mut text, x, row.ours.least, most, "#2a6f97");
+            bar(&mut text, x + 22, row.kira.least, most, "#c9ada7");
+            writeln!(
+                text,
+                "<text x=\"{}\" y=\"306\" text-anchor=\"middle\">{rate}</text>",
+                x + 22
+            )
+            .expect("a string takes all");
+        }
+    }
+    text.push_str("</svg>\n");
+    text
+}
+
+fn bar(text: &mut String, x: usize, time: f64, most: f64, colour: &str) {
+    let height = 230.0 * (1.0 + time).ln() / (1.0 + most).ln();
+    let top = 290.0 - height;
+    writeln!(
+        text,
+        "<rect x=\"{x}\" y=\"{top:.1}\" width=\"20\" height=\"{height:.1}\" fill=\"{colour}\"/><text x=\"{}\" y=\"{:.1}\" text-anchor=\"middle\" font-size=\"9\">{time:.1}</text>",
+        x + 10,
+        top - 4.0,
+    )
+    .expect("a string takes all");
+}

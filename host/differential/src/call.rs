@@ -1,0 +1,302 @@
+// One call of a voice by value, and what it answers: all of it, so that two players can be compared.
+
+use std::{
+    ops::Range,
+    sync::{Arc, OnceLock},
+};
+
+use oracle::{
+    Commands, Entry, Frame, LaneBuffers, Oracle, PlaybackState, Settings, Signals, State, same_f32,
+    same_f64,
+};
+
+/// A sound that calls share.
+#[derive(Debug)]
+pub struct Sound {
+    samples: Vec<f32>,
+    frames: OnceLock<Arc<[Frame]>>,
+}
+
+impl Sound {
+    /// A sound of these samples, left then right.
+    #[must_use]
+    pub fn new(samples: Vec<f32>) -> Arc<Self> {
+        Arc::new(Self {
+            samples,
+            frames: OnceLock::new(),
+        })
+    }
+
+    /// Its samples.
+    #[must_use]
+    pub fn samples(&self) -> &[f32] {
+        &self.samples
+    }
+
+    /// Its whole frames.
+    #[must_use]
+    pub fn num_frames(&self) -> usize {
+        self.samples.len() / 2
+    }
+
+    /// Its frames as the oracle shares them.
+    pub(crate) fn frames(&self) -> Arc<[Frame]> {
+        let frames = || Oracle::frames_of(&self.samples);
+        Arc::clone(self.frames.get_or_init(frames))
+    }
+}
+
+/// Where a block is written: into an output of its own, or into a mix from a frame on.
+#[derive(Debug, Clone, Copy, PartialEq, Eq)]
+pub enum Place {
+    /// An output of so many samples.
+    Whole(usize),
+    /// A mix of so many samples, from the given frame on.
+    Mix(usize, usize),
+}
+
+impl Place {
+    /// The samples lent.
+    #[must_use]
+    pub fn samples(self) -> usize {
+        match self {
+            Self::Whole(samples) | Self::Mix(samples, _) => samples,
+        }
+    }
+
+    /// The samples that a block of so many frames is to write.
+    #[must_use]
+    pub fn written(self, frames: usize) -> Range<usize> {
+        match self {
+            Self::Whole(samples) => 0..samples,
+            Self::Mix(_, from) => 2 * from..2 * (from + frames),
+        }
+    }
+}
+
+/// A block: its lanes, time step and signals, and where it is written.
+#[derive(Debug, Clone)]
+pub struct Block {
+    /// The five lanes.
+    pub lanes: LaneBuffers,
+    /// The seconds of one output frame.
+    pub dt: f64,
+    /// The signals.
+    pub signals: Signals,
+    /// Where it is written.
+    pub place: Place,
+}
+
+/// What is asked.
+#[derive(Debug, Clone)]
+pub enum Ask {
+    /// A creation.
+    Create(Settings),
+    /// A command set, in a state.
+    Command(State, Commands),
+    /// A block, in a state.
+    Block(State, Block),
+    /// The sound's own stretch.
+    Stretch(State),
+}
+
+/// One call: what is asked, and the sound that is lent.
+#[derive(Debug, Clone)]
+pub struct Call {
+    /// What is asked.
+    pub ask: Ask,
+    /// The sound.
+    pub sound: Arc<Sound>,
+}
+
+/// Everything a call answers; what a kind of call does not answer keeps its value from [`Outcome::untouched`].
+#[derive(Debug, Clone)]
+pub struct Outcome {
+    /// The refusal's number, 0 for none.
+    pub refusal: u32,
+    /// The state after; none where its numbers are no lawful state.
+    pub state: Option<State>,
+    /// The steps reported.
+    pub steps: u64,
+    /// The position reported.
+    pub position: f64,
+    /// The part of the samples a stretch answers: offset and length.
+    pub part: (usize, usize),
+    /// The whole of the lent output or mix after the call.
+    pub samples: Vec<f32>,
+}
+
+impl Call {
+    /// A call of this kind has given state, but for a creation.
+    #[must_use]
+    pub fn state(&self) -> Option<&State> {
+        match &self.ask {
+            Ask::Create(_) => None,
+            Ask::Command(state, _) | Ask::Block(state, _) | Ask::Stretch(state) => Some(state),
+        }
+    }
+
+    /// The same, to change it.
+    pub fn state_mut(&mut self) -> Option<&mut State> {
+        match &mut self.ask {
+            Ask::Create(_) => None,
+            Ask::Command(state, _) | Ask::Block(state, _) | Ask::Stretch(state) => Some(state),
+        }
+    }
+
+    /// The block, where the call is one.
+    #[must_use]
+    pub fn block(&self) -> Option<&Block> {
+        match &self.ask {
+            Ask::Block(_, block) => Some(block),
+            _ => None,
+        }
+    }
+
+    /// The same, to change it.
+    pub fn block_mut(&mut self) -> Option<&mut Block> {
+        match &mut self.ask {
+            Ask::Block(_, block) => Some(block),
+            _ => None,
+        }
+    }
+
+    /// The output or mix as it is lent, a [`pattern`].
+    #[must_use]
+    pub fn lent(&self) -> Vec<f32> {
+        pattern(self.block().map_or(0, |block| block.place.samples()))
+    }
+
+    /// What this call answers when it is refused with the number.
+    #[must_use]
+    pub fn refused(&self, number: u32) -> Outcome {
+        Outcome {
+            refusal: number,
+            ..Outcome::untouched(self)
+        }
+    }
+}
+
+impl Outcome {
+    /// Nothing has happened: the given state (for a creation the blank one), no steps, the lent samples.
+    #[must_use]
+    pub fn untouched(call: &Call) -> Self {
+        Self {
+            refusal: 0,
+            state: Some(call.state().copied().unwrap_or_else(blank)),
+            steps: 0,
+            position: 0.0,
+            part: (0, 0),
+            samples: call.lent(),
+        }
+    }
+
+    /// The first thing in which another outcome of the call differs, if any. What a block computes is
+    /// compared by bits with any NaN as any NaN; what must not change, by bits alone.
+    #[must_use]
+    pub fn difference(&self, other: &Self, call: &Call) -> Option<String> {
+        if self.refusal != other.refusal {
+            return Some(format!(
+                "refusal {} against {}",
+                self.refusal, other.refusal
+            ));
+        }
+        let is_same = match (&self.state, &other.state) {
+            (Some(a), Some(b)) if self.refusal == 0 => a.same_bits(b),
+            (Some(a), Some(b)) => is_identical(a, b),
+            _ => false,
+        };
+        if !is_same {
+            return Some(match (&self.state, &other.state) {
+                (Some(a), Some(b)) => other_fields(a, b),
+                (a, b) => format!("state {a:?} against {b:?}"),
+            });
+        }
+        if self.steps != other.steps {
+            return Some(format!("{} steps against {}", self.steps, other.steps));
+        }
+        if !same_f64(self.position, other.position) {
+            return Some(format!(
+                "position {:?} against {:?}",
+                self.position, other.position
+            ));
+        }
+        if self.part != other.part {
+            return Some(format!("part {:?} against {:?}", self.part, other.part));
+        }
+        self.first_other_sample(other, call)
+    }
+
+    fn first_other_sample(&self, other: &Self, call: &Call) -> Option<String> {
+        let written = match call.block() {
+            Some(block) if self.refusal == 0 => block.place.written(block.lanes.rate.len()),
+            _ => 0..0,
+        };
+        let mut pairs = self.samples.iter().zip(&other.samples).enumerate();
+        let (place, (a, b)) = pairs.find(|(place, (a, b))| {
+            let is_same = a.to_bits() == b.to_bits();
+            !(is_same || written.contains(place) && same_f32(**a, **b))
+        })?;
+        let bits = |x: &f32| format!("{x:?} ({:#x})", x.to_bits());
+        Some(format!("sample {place}: {} against {}", bits(a), bits(b)))
+    }
+}
+
+/// So many samples, each another, some of them NaN.
+#[must_use]
+pub fn pattern(samples: usize) -> Vec<f32> {
+    (0..samples as u32)
+        .map(|i| f32::from_bits(0x7fa0_0000 ^ i.wrapping_mul(0x9e37_79b1)))
+        .collect()
+}
+
+/// The blank state.
+#[must_use]
+pub fn blank() -> State {
+    State {
+        sample_rate: 0,
+        total_frames: 0,
+        slice: None,
+        reverse: false,
+        rate: 0.0,
+        started: false,
+        playback: PlaybackState::Stopped,
+        fraction: 0.0,
+        position: 0,
+        loop_region: None,
+        playing: false,
+        window: [Entry::default(); 4],
+        count: 0,
+    }
+}
+
+/// The fields in which two states differ, each with both values.
+fn other_fields(a: &State, b: &State) -> String {
+    let fields = |state: &State| {
+        let text = format!("{state:?}");
+        // At the top level a field begins with a name and a colon.
+        let mut depth = 0;
+        let split = text.split(move |letter| {
+            depth += i32::from("([{".contains(letter)) - i32::from(")]}".contains(letter));
+            letter == ',' && depth == 1
+        });
+        split.map(str::to_string).collect::<Vec<_>>()
+    };
+    let pairs = fields(a).into_iter().zip(fields(b));
+    let others = pairs.filter(|(a, b)| a != b);
+    let texts = others.map(|(a, b)| {
+        let value = b.split_once(": ").map_or(b.as_str(), |(_, value)| value);
+        format!("{} against {value}", a.trim())
+    });
+    texts.collect::<Vec<_>>().join("; ")
+}
+
+/// Equal bit by bit, NaNs too.
+#[must_use]
+pub fn is_identical(a: &State, b: &State) -> bool {
+    let floats = |state: &State| {
+        let window = state.window.map(|e| (e.left.to_bits(), e.right.to_bits()));
+        (state.rate.to_bits(), state.fraction.to_bits(), window)
+    };
+    a.same_bits(b) && floats(a) == floats(b)
+}

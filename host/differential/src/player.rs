@@ -1,0 +1,191 @@
+// Who answers calls: ours through the C entries, kira's text, and a model of the rules.
+
+use oracle::{MinusZero, Oracle, State};
+use raw::convert;
+use rules::{Document, Rules, Voice, refusals};
+
+use crate::call::{Ask, Block, Call, Outcome, Place};
+
+/// Someone who answers calls.
+pub trait Player: Sync {
+    /// Its name.
+    fn name(&self) -> &str;
+
+    /// What it answers, or nothing where it has no opinion.
+    fn answer(&self, call: &Call) -> Option<Outcome>;
+}
+
+/// Ours, through the C entries.
+pub struct Ours;
+
+impl Player for Ours {
+    fn name(&self) -> &str {
+        "ours"
+    }
+
+    fn answer(&self, call: &Call) -> Option<Outcome> {
+        let mut outcome = Outcome::untouched(call);
+        let sound = call.sound.samples();
+        match &call.ask {
+            Ask::Create(settings) => {
+                let answer = raw::new(convert::settings_in(settings), sound);
+                outcome.refusal = answer.refusal;
+                outcome.state = convert::state_out(&answer.state);
+            }
+            Ask::Command(state, commands) => {
+                let given = convert::state_in(state);
+                let answer = raw::on_start_processing(given, sound, convert::commands_in(commands));
+                outcome.refusal = answer.refusal;
+                outcome.state = convert::state_out(&answer.state);
+                outcome.position = answer.position;
+            }
+            Ask::Block(state, block) => {
+                let answer = our_block(state, block, sound, &mut outcome.samples);
+                outcome.refusal = answer.refusal;
+                outcome.state = convert::state_out(&answer.state);
+                outcome.steps = answer.steps;
+            }
+            Ask::Stretch(state) => {
+                let part = raw::stretch(convert::state_in(state), sound);
+                outcome.part = (part.offset as usize, part.length as usize);
+                // It is refused with 1 only, shown by the empty part alone.
+                outcome.refusal = u32::from(part.length == 0);
+            }
+        }
+        Some(outcome)
+    }
+}
+
+fn our_block(
+    state: &State,
+    block: &Block,
+    sound: &[f32],
+    samples: &mut [f32],
+) -> raw::CableowlProcessed {
+    let given = convert::state_in(state);
+    let signals = convert::signals_in(block.signals);
+    let lanes = block.lanes.lend();
+    match block.place {
+        Place::Whole(_) => raw::process(given, sound, &lanes, block.dt, signals, samples),
+        Place::Mix(_, from) => {
+            let from = from as u64;
+            raw::process_into(given, sound, &lanes, block.dt, signals, samples, from)
+        }
+    }
+}
+
+/// A voice by rules, with document 01's refusals.
+pub struct Model<R> {
+    name: &'static str,
+    rules: R,
+}
+
+/// The rules as they stand.
+pub const DOCUMENT: Model<Document> = Model {
+    name: "document 01",
+    rules: Document,
+};
+
+impl<R: Rules + Sync> Model<R> {
+    /// A model by these rules.
+    pub fn new(name: &'static str, rules: R) -> Self {
+        Self { name, rules }
+    }
+}
+
+impl<R: Rules + Sync> Player for Model<R> {
+    fn name(&self) -> &str {
+        self.name
+    }
+
+    fn answer(&self, call: &Call) -> Option<Outcome> {
+        let mut outcome = call.refused(refusal(call));
+        if outcome.refusal != 0 {
+            return Some(outcome);
+        }
+        let (rules, sound) = (&self.rules, call.sound.samples());
+        let voice = |state: &State| Voice {
+            rules,
+            state: *state,
+            sound,
+        };
+        match &call.ask {
+            Ask::Create(settings) => {
+                outcome.state = Some(Voice::create(rules, settings, sound).state);
+            }
+            Ask::Command(state, commands) => {
+                let mut voice = voice(state);
+                outcome.position = voice.command(commands);
+                outcome.state = Some(voice.state);
+            }
+            Ask::Block(state, block) => {
+                let mut voice = voice(state);
+                let written = block.place.written(block.lanes.rate.len());
+                let out = &mut outcome.samples[written];
+                outcome.steps = voice.block(&block.lanes.lend(), block.dt, block.signals, out);
+                outcome.state = Some(voice.state);
+            }
+            Ask::Stretch(state) => {
+                let (start, end) = state.slice.unwrap_or((0, state.total_frames));
+                outcome.part = (2 * start, 2 * (end - start));
+            }
+        }
+        Some(outcome)
+    }
+}
+
+/// The number document 01 gives a call, 0 for none.
+#[must_use]
+pub fn refusal(call: &Call) -> u32 {
+    let samples = call.sound.samples().len();
+    match &call.ask {
+        Ask::Create(settings) => refusals::of_creation(settings, samples),
+        Ask::Command(state, commands) => refusals::of_commands(state, samples, commands),
+        Ask::Stretch(state) => u32::from(!refusals::is_ours(state, samples)),
+        Ask::Block(state, block) => {
+            let n = block.lanes.rate.len();
+            let placed = match block.place {
+                Place::Whole(samples) => refusals::holds(samples, n),
+                Place::Mix(samples, from) => refusals::has_room(samples, from, n),
+            };
+            refusals::of_block(state, samples, &block.lanes.lend(), block.dt, placed)
+        }
+    }
+}
+
+/// kira's text, on accepted calls; it has no opinion on a refusal, on a stretch, and on a seek that
+/// would turn its `while` for minutes.
+pub struct Kira;
+
+impl Player for Kira {
+    fn name(&self) -> &str {
+        "kira's text"
+    }
+
+    fn answer(&self, call: &Call) -> Option<Outcome> {
+        if refusal(call) != 0 {
+            return None;
+        }
+        let mut outcome = Outcome::untouched(call);
+        let frames = || call.sound.frames();
+        let found = |state| Oracle::inject_shared(state, frames(), MinusZero::Forward);
+        let voice = match &call.ask {
+            Ask::Create(settings) => Oracle::create_shared(settings, frames(), MinusZero::Forward),
+            Ask::Command(state, commands) => {
+                let mut voice = found(state);
+                outcome.position = voice.command(commands).ok()?;
+                voice
+            }
+            Ask::Block(state, block) => {
+                let mut voice = found(state);
+                let written = block.place.written(block.lanes.rate.len());
+                let out = &mut outcome.samples[written];
+                outcome.steps = voice.block(&block.lanes.lend(), block.dt, block.signals, out);
+                voice
+            }
+            Ask::Stretch(_) => return None,
+        };
+        outcome.state = Some(voice.state());
+        Some(outcome)
+    }
+}

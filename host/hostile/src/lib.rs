@@ -1,0 +1,68 @@
+//! Any bytes through the C entries.
+//!
+//! States, tags, lengths and lanes are arbitrary or a few bits away from lawful ones. Each call must
+//! come back, with a refusal that leaves state and output byte for byte as they were, or with the
+//! answer of document 01's model to what the bytes mean, in a state that is well formed again.
+#![forbid(unsafe_code)]
+#![warn(missing_docs)]
+
+mod bytes;
+
+use std::{
+    fmt,
+    time::{Duration, Instant},
+};
+
+use bytes::Case;
+use random::Random;
+
+/// What a run has seen.
+#[derive(Debug, Clone, Default)]
+pub struct Report {
+    /// Answers by number, at 0 the accepted calls.
+    pub answers: [u64; 13],
+    /// The longest call.
+    pub longest: Duration,
+    /// What was wrong, the first few.
+    pub faults: Vec<String>,
+}
+
+/// How many faults are kept.
+const KEPT: usize = 5;
+
+/// So many calls from a seed.
+#[must_use]
+pub fn run(seed: u64, calls: u64) -> Report {
+    let mut random = Random::new(seed);
+    let mut report = Report::default();
+    for _ in 0..calls {
+        let case = Case::any(&mut random);
+        let begun = Instant::now();
+        let answer = case.answer();
+        report.longest = report.longest.max(begun.elapsed());
+        if let Some(count) = report.answers.get_mut(answer.refusal as usize) {
+            *count += 1;
+        }
+        if let Some(fault) = case.fault(&answer)
+            && report.faults.len() < KEPT
+        {
+            report.faults.push(format!("{fault}\n{case:?}"));
+        }
+    }
+    report
+}
+
+impl fmt::Display for Report {
+    fn fmt(&self, f: &mut fmt::Formatter<'_>) -> fmt::Result {
+        writeln!(f, "calls     {:>12}", self.answers.iter().sum::<u64>())?;
+        writeln!(f, "accepted  {:>12}", self.answers[0])?;
+        for (number, count) in self.answers.iter().enumerate().skip(1) {
+            writeln!(f, "refusal {number:<2}{count:>12}")?;
+        }
+        writeln!(f, "longest call {:?}", self.longest)?;
+        writeln!(f, "faults    {:>12}", self.faults.len())?;
+        self.faults
+            .iter()
+            .try_for_each(|fault| writeln!(f, "\n{fault}"))
+    }
+}

@@ -1,0 +1,10 @@
+// A million calls of any bytes; the program `hostile` makes more, and tools/hostile-valgrind under
+// valgrind.
+
+#[test]
+fn any_bytes_are_refused_or_answered() {
+    let report = hostile::run(1, 1_000_000);
+    println!("{report}");
+    assert!(report.faults.is_empty(), "\n{report}");
+    assert!(report.answers.iter().all(|count| *count > 100), "{report}");
+}

@@ -1,0 +1,186 @@
+//! The C entries as they stand: structs of numbers by value, lent slices, any bytes.
+//!
+//! The functions here only turn slices into pointers and lengths, so each is safe: an entry takes
+//! any numbers, and reads and writes no more than it is lent. [`convert`] goes between these
+//! structs and the oracle's types.
+#![warn(missing_docs)]
+
+pub mod convert;
+mod structs;
+
+pub use structs::*;
+
+/// The lanes of a block, lent; each may have a length of its own.
+pub use oracle::Lanes;
+
+/// The entries themselves. A slice goes as its pointer and its count of elements.
+pub mod entries {
+    use super::*;
+
+    unsafe extern "C" {
+        /// The version of the entries.
+        pub fn cableowl_version() -> u32;
+        /// Creation.
+        pub fn cableowl_new(
+            settings: CableowlSettings,
+            sound: *const f32,
+            sound_length: usize,
+        ) -> CableowlCreated;
+        /// A command set.
+        pub fn cableowl_on_start_processing(
+            state: CableowlState,
+            sound: *const f32,
+            sound_length: usize,
+            commands: CableowlCommands,
+        ) -> CableowlCommanded;
+        /// A block into an output of its own.
+        pub fn cableowl_process(
+            state: CableowlState,
+            sound: *const f32,
+            sound_length: usize,
+            fade: *const f32,
+            fade_length: usize,
+            volume: *const f32,
+            volume_length: usize,
+            left: *const f32,
+            left_length: usize,
+            right: *const f32,
+            right_length: usize,
+            rate: *const f64,
+            rate_length: usize,
+            dt: f64,
+            signals: CableowlSignals,
+            out: *mut f32,
+            out_length: usize,
+        ) -> CableowlProcessed;
+        /// A block into a longer mix, from a frame on.
+        pub fn cableowl_process_into(
+            state: CableowlState,
+            sound: *const f32,
+            sound_length: usize,
+            fade: *const f32,
+            fade_length: usize,
+            volume: *const f32,
+            volume_length: usize,
+            left: *const f32,
+            left_length: usize,
+            right: *const f32,
+            right_length: usize,
+            rate: *const f64,
+            rate_length: usize,
+            dt: f64,
+            signals: CableowlSignals,
+            mix: *mut f32,
+            mix_length: usize,
+            from: u64,
+        ) -> CableowlProcessed;
+        /// The sound's own stretch.
+        pub fn cableowl_stretch(
+            state: CableowlState,
+            sound: *const f32,
+            sound_length: usize,
+        ) -> CableowlPart;
+    }
+}
+
+/// The version of the entries.
+#[must_use]
+pub fn version() -> u32 {
+    // SAFETY: it takes nothing.
+    unsafe { entries::cableowl_version() }
+}
+
+/// Creation.
+#[must_use]
+pub fn new(settings: CableowlSettings, sound: &[f32]) -> CableowlCreated {
+    // SAFETY: pointer and length are those of a lent slice.
+    unsafe { entries::cableowl_new(settings, sound.as_ptr(), sound.len()) }
+}
+
+/// A command set.
+#[must_use]
+pub fn on_start_processing(
+    state: CableowlState,
+    sound: &[f32],
+    commands: CableowlCommands,
+) -> CableowlCommanded {
+    // SAFETY: pointer and length are those of a lent slice.
+    unsafe { entries::cableowl_on_start_processing(state, sound.as_ptr(), sound.len(), commands) }
+}
+
+/// A block into an output of its own.
+#[must_use]
+pub fn process(
+    state: CableowlState,
+    sound: &[f32],
+    lanes: &Lanes,
+    dt: f64,
+    signals: CableowlSignals,
+    out: &mut [f32],
+) -> CableowlProcessed {
+    // SAFETY: pointers and lengths are those of lent slices; no other slice overlaps the output.
+    unsafe {
+        entries::cableowl_process(
+            state,
+            sound.as_ptr(),
+            sound.len(),
+            lanes.fade.as_ptr(),
+            lanes.fade.len(),
+            lanes.volume.as_ptr(),
+            lanes.volume.len(),
+            lanes.left.as_ptr(),
+            lanes.left.len(),
+            lanes.right.as_ptr(),
+            lanes.right.len(),
+            lanes.rate.as_ptr(),
+            lanes.rate.len(),
+            dt,
+            signals,
+            out.as_mut_ptr(),
+            out.len(),
+        )
+    }
+}
+
+/// A block into the middle of a longer mix, from the given frame on.
+#[must_use]
+pub fn process_into(
+    state: CableowlState,
+    sound: &[f32],
+    lanes: &Lanes,
+    dt: f64,
+    signals: CableowlSignals,
+    mix: &mut [f32],
+    from: u64,
+) -> CableowlProcessed {
+    // SAFETY: pointers and lengths are those of lent slices; no other slice overlaps the mix.
+    unsafe {
+        entries::cableowl_process_into(
+            state,
+            sound.as_ptr(),
+            sound.len(),
+            lanes.fade.as_ptr(),
+            lanes.fade.len(),
+            lanes.volume.as_ptr(),
+            lanes.volume.len(),
+            lanes.left.as_ptr(),
+            lanes.left.len(),
+            lanes.right.as_ptr(),
+            lanes.right.len(),
+            lanes.rate.as_ptr(),
+            lanes.rate.len(),
+            dt,
+            signals,
+            mix.as_mut_ptr(),
+            mix.len(),
+            from,
+        )
+    }
+}
+
+/// The sound's own stretch, as a part of the lent samples.
+#[must_use]
+pub fn stretch(state: CableowlState, sound: &[f32]) -> CableowlPart {
+    // SAFETY: pointer and length are those of a lent slice.
+    unsafe { entries::cableowl_stretch(state, sound.as_ptr(), sound.len()) }
+}
