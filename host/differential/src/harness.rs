@@ -90,16 +90,18 @@ impl<'a> Harness<'a> {
     pub fn cut(&mut self, kind: Kind, call: &Call, parts: &[usize]) {
         for player in self.players.clone() {
             self.tally.calls[kind as usize] += 1;
-            if let Some(reason) = cut_differs(player, call, parts) {
-                let smallest = |call: &Call| some_cut_differs(player, call);
-                let known = smallest(call).is_none().then_some(reason);
-                self.record(kind, player, call, &|call| {
-                    known.clone().or_else(|| smallest(call))
-                });
+            let Some(reason) = cut_differs(player, call, parts) else {
+                continue;
+            };
+            if some_cut_differs(player, call).is_some() {
+                self.record(kind, player, call, &|call| some_cut_differs(player, call));
+            } else {
+                self.note(kind, player, call.clone(), reason);
             }
         }
     }
 
+    /// Counts a difference, and makes the first few small.
     fn record(
         &mut self,
         kind: Kind,
@@ -108,26 +110,26 @@ impl<'a> Harness<'a> {
         fails: &dyn Fn(&Call) -> Option<String>,
     ) {
         let key = (player.name().to_string(), kind);
-        let times = self.tally.found.get(&key).map_or(0, |found| found.times);
-        let (call, reason) = if times < SHRUNK {
-            shrink(call, fails)
-        } else {
-            (call.clone(), String::new())
-        };
+        match self.tally.found.get_mut(&key) {
+            Some(found) if found.times >= SHRUNK => found.times += 1,
+            _ => {
+                let (call, reason) = shrink(call, fails);
+                self.note(kind, player, call, reason);
+            }
+        }
+    }
+
+    fn note(&mut self, kind: Kind, player: &dyn Player, call: Call, reason: String) {
         let found = Found {
             call,
             reason,
             times: 1,
         };
-        if times < SHRUNK {
-            let one = Tally {
-                found: [(key, found)].into(),
-                ..Tally::default()
-            };
-            self.tally.add(&one);
-        } else if let Some(held) = self.tally.found.get_mut(&key) {
-            held.times += 1;
-        }
+        let one = Tally {
+            found: [((player.name().to_string(), kind), found)].into(),
+            ..Tally::default()
+        };
+        self.tally.add(&one);
     }
 }
 
