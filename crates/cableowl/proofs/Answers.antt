@@ -1,7 +1,7 @@
 -- What each entry answers, from what the entry below it gave and from the translations. Assumes nothing.
 use mathlib.Core.Path.{_≡_, sym, ap, _∙_, subst}
 use Prim.Native.Nat.{ℕ, _*_, _≤_}
-use mathlib.Core.Bool.{Bool, true, false, not, cond}
+use mathlib.Core.Bool.{Bool, true, false, not}
 use mathlib.Core.List.{List}
 use lib.Dec.{T}
 use lib.ListN.{length}
@@ -31,7 +31,7 @@ use Rattle.cableowl.specs.declared.CableowlPart.{CableowlPart}
 use Rattle.cableowl.specs.Records.{decoded, encoded}
 use Rattle.cableowl.specs.Inputs.{settingsOf, commandsOf, signalsOf}
 use Rattle.cableowl.specs.Entries.{after, createdC, commandedC, answered, OutcomeC, processedC, processedIntoC, partC}
-use Rattle.cableowl.proofs.Few.{countOf, ours-few, created-few, commanded-ours, processed-ours, into-ours, part-few}
+use Rattle.cableowl.proofs.Few.{countOf, ours-few, created-few, commanded-ours, processed-ours, into-ours}
 
 -- ---- creation
 

@@ -1,6 +1,6 @@
 -- Numbers that fit: the count of every state that is encoded, and the part of the sound that is played.
 -- An accepted call leaves a state that is well formed over its sound, and there the count is at most 4. Assumes nothing.
-use mathlib.Core.Path.{_≡_, sym, ap, _∙_, subst}
+use mathlib.Core.Path.{_≡_}
 use Prim.Native.Nat.{ℕ, _+_, _*_, _≤_}
 use native.Mathlib.Omega.{arith}
 use mathlib.Core.Bool.{Bool, true, false, cond}

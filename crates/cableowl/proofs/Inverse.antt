@@ -1,6 +1,6 @@
 -- The two translations of a state undo each other: every voice has a lawful record that means it, and every lawful record is that of what it means.
 -- Field by field: states and flags by their few numbers, ranges by whether they are given, the window entry by entry. Assumes nothing.
-use mathlib.Core.Path.{_≡_, refl, sym, ap, _∙_, subst}
+use mathlib.Core.Path.{_≡_, refl, ap, _∙_}
 use Prim.Native.Nat.{ℕ, zero, suc, _≤_}
 use native.Mathlib.Omega.{arith}
 use mathlib.Core.Bool.{Bool, true, false, _&&_, _||_, cond}

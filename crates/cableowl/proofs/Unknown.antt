@@ -1,30 +1,29 @@
 -- Bytes that mean nothing. A record that is not lawful is refusal 1, and an unknown tag fails the test of the number that its field has.
 -- The blank state is not well formed, and no number is not finite. Assumes nothing.
-use mathlib.Core.Path.{_≡_, refl, sym, ap, _∙_}
+use mathlib.Core.Path.{_≡_, refl}
 use Prim.Native.Nat.{ℕ, _<_}
 use native.Mathlib.Omega.{arith}
-use mathlib.Core.Bool.{Bool, true, false, _&&_, cond}
-use mathlib.Core.List.{List, []}
+use mathlib.Core.Bool.{Bool, true, false, _&&_}
+use mathlib.Core.List.{List}
 use lib.Dec.{eqb}
 use lib.ListN.{length}
 use lib.Ieee.{Float}
 use borrow.Author.Tests.{ne-eqb}
 use Rattle.lanes.specs.Lanes.{Lanes}
 use Rattle.playback_position.specs.Positions.{placeable, endable, stretched, within, lawfulRegion}
-use Rattle.playback_position.specs.declared.Region.{Region}
 use Rattle.voice.specs.declared.StaticSound.{StaticSound}
 use Rattle.voice.specs.Voices.{span}
-use Rattle.voice.specs.WellFormed.{wellFormed, ours}
-use Rattle.creation.specs.Creation.{allowed, blankSound}
+use Rattle.voice.specs.WellFormed.{ours}
+use Rattle.creation.specs.Creation.{allowed}
 use Rattle.creation.proofs.Makes.{blank-not}
 use Rattle.command_set.specs.Commands.{loopable, rateable, seekable, refusedSet, commanded}
-use Rattle.static_sound.specs.Entries.{refusedBlock, processed, processedInto, stretchOf}
+use Rattle.static_sound.specs.Entries.{refusedBlock, processed, processedInto}
 use Rattle.cableowl.specs.declared.CableowlState.{CableowlState}
 use Rattle.cableowl.specs.declared.CableowlPlace.{CableowlPlace}
 use Rattle.cableowl.specs.declared.CableowlRegion.{CableowlRegion}
 use Rattle.cableowl.specs.declared.CableowlCommands.{CableowlCommands}
 use Rattle.cableowl.specs.declared.CableowlSignals.{CableowlSignals}
-use Rattle.cableowl.specs.Records.{lawful, stated, decoded}
+use Rattle.cableowl.specs.Records.{lawful, decoded}
 use Rattle.cableowl.specs.Inputs.{placeOf, endOf, regionIf, optionalOf, amountOf, loopOf}
 use Rattle.cableowl.specs.Entries.{commandedC, processedC, processedIntoC, partC}
 

@@ -29,7 +29,7 @@ use Rattle.voice.specs.declared.Setup.{Setup}
 use Rattle.voice.specs.declared.Moving.{Moving}
 use Rattle.voice.specs.declared.StaticSound.{StaticSound}
 use Rattle.voice.specs.declared.Course.{Course}
-use Rattle.voice.specs.Voices.{span, offset, courseOf, pushed, updated, updates}
+use Rattle.voice.specs.Voices.{span, offset, courseOf, pushed, updated, updates, movingOf}
 use Rattle.voice.specs.WellFormed.{ours}
 use Rattle.theorems.specs.Coincide.{Decides}
 use Rattle.theorems.proofs.Coincide.{named}
@@ -184,3 +184,7 @@ voice-moving-update-position = named (λ (x : Moving × Course × List Float). u
 
 pub voice-moving-update-positions : Decides (λ (x : Moving × Course × List Float × ℕ) (o : Moving). o ≡ updates (x .3) (x .2) (x .1) (x .0))
 voice-moving-update-positions = named (λ (x : Moving × Course × List Float × ℕ). updates (x .3) (x .2) (x .1) (x .0))
+
+pub voice-moving-of : Decides (λ (x : FrameRange × PlaybackState × ℕ × Bool × Frame × Frame × Frame × Frame × ℕ × ℕ × ℕ × ℕ × ℕ) (o : Moving). o ≡ movingOf (x .0) (x .1) (x .2) (x .3) (x .4) (x .5) (x .6) (x .7) (x .8) (x .9) (x .10) (x .11) (x .12))
+voice-moving-of =
+    named (λ (x : FrameRange × PlaybackState × ℕ × Bool × Frame × Frame × Frame × Frame × ℕ × ℕ × ℕ × ℕ × ℕ). movingOf (x .0) (x .1) (x .2) (x .3) (x .4) (x .5) (x .6) (x .7) (x .8) (x .9) (x .10) (x .11) (x .12))

@@ -1,5 +1,7 @@
-//! Fixed lists of cases with the oracle's answers: text, one case per line, the same on every run.
+//! Fixed lists of cases with the oracle's answers: text, the same on every run.
 
 mod numbers;
+mod scenarios;
 
 pub use numbers::numbers;
+pub use scenarios::scenarios;

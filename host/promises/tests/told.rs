@@ -53,3 +53,22 @@ fn what_is_not_told_is_missed() {
     told.laws.clear();
     assert!(told.missing("numbers::narrow").is_some());
 }
+
+#[test]
+fn each_wrong_answer_named_is_an_edit_that_must_be_refused() {
+    let mut named = 0;
+    for line in read("docs/PROMISES.md").lines() {
+        let Some(rest) = line.strip_prefix("| `") else {
+            continue;
+        };
+        let (function, rest) = rest.split_once('`').expect("a function's name ends");
+        let krate = function.split("::").next().expect("a crate's name");
+        let wrong = rest.trim_end_matches(" |").rsplit(" | ").next();
+        for edit in wrong.expect("a last column").split(", ") {
+            let path = format!("crates/{krate}/must-fail/{edit}.edit");
+            assert!(root().join(&path).is_file(), "{function}: no {path}");
+            named += 1;
+        }
+    }
+    assert!(named > 100, "only {named} found");
+}

@@ -15,10 +15,16 @@ on-start-processing-requires : tie.Need-on-start-processing-requires
 on-start-processing-requires c κs = search needs
 
 state-after-requires : tie.Need-state-after-requires
-state-after-requires c κs = let a = c .before .before .before .before .before .args in commands-few (now (a .sound)) (a .state) (a .commands) _ _ _ (c .before .before .before .decode .ensures) (c .before .before .commands-of .ensures) (c .before .on-start-processing .ensures)
+state-after-requires c κs =
+    let a = c .before .before .before .before .before .args in
+    commands-few (now (a .sound)) (a .state) (a .commands) _ _ _
+    (c .before .before .before .decode .ensures) (c .before .before .commands-of .ensures) (c .before .on-start-processing .ensures)
 
 returns : tie.Need-returns
-returns c = let a = c .before .before .before .before .before .before .args in commands-are (now (a .sound)) (a .state) (a .commands) _ _ _ (c .before .before .before .before .decode .ensures) (c .before .before .before .commands-of .ensures) (c .before .before .on-start-processing .ensures) _ (c .state-after .ensures)
+returns c =
+    let a = c .before .before .before .before .before .before .args in
+    commands-are (now (a .sound)) (a .state) (a .commands) _ _ _
+    (c .before .before .before .before .decode .ensures) (c .before .before .before .commands-of .ensures) (c .before .before .on-start-processing .ensures) _ (c .state-after .ensures)
 
 pub cableowl-on-start-processing-spec : {M : Type 1} → statement M
 cableowl-on-start-processing-spec =

@@ -10,7 +10,9 @@ abbrev start : tie.After-process-into-arg → tie.Start
 start c = c .before .before .before .before .before .before .before .before .before .before
 
 abbrev lent : tie.Start → Lanes
-lent c = let a = c .args in five (now (a .fade)) (now (a .volume)) (now (a .left)) (now (a .right)) (now (a .rate))
+lent c =
+    let a = c .args in
+    five (now (a .fade)) (now (a .volume)) (now (a .left)) (now (a .right)) (now (a .rate))
 
 decode-requires : tie.Need-decode-requires
 decode-requires c κs = search needs
@@ -22,13 +24,21 @@ process-into-requires : tie.Need-process-into-requires
 process-into-requires c κs = search needs
 
 answer-requires : tie.Need-answer-requires
-answer-requires c κs = let p = c .before .before in let a = start (p .before) .args in mix-few (now (a .sound)) (a .state) (a .dt) (lent (start (p .before))) (a .signals) _ _ (p .before .before .before .decode .ensures) (p .before .before .signals-of .ensures) _ _ (now (a .mix)) (a .from) (p .process-into .ensures)
+answer-requires c κs =
+    let p = c .before .before in
+    let a = start (p .before) .args in
+    mix-few (now (a .sound)) (a .state) (a .dt) (lent (start (p .before))) (a .signals) _ _
+    (p .before .before .before .decode .ensures) (p .before .before .signals-of .ensures) _ _ (now (a .mix)) (a .from) (p .process-into .ensures)
 
 same-length : tie.Need-same-length
 same-length c = search needs
 
 returns : tie.Need-returns
-returns c = let p = c .before .before .before in let a = start (p .before) .args in mix-is (now (a .sound)) (a .state) (a .dt) (lent (start (p .before))) (a .signals) _ _ (p .before .before .before .decode .ensures) (p .before .before .signals-of .ensures) (p .process-into .result) _ (now (a .mix)) (a .from) (p .process-into .ensures) _ (c .answer .ensures)
+returns c =
+    let p = c .before .before .before in
+    let a = start (p .before) .args in
+    mix-is (now (a .sound)) (a .state) (a .dt) (lent (start (p .before))) (a .signals) _ _
+    (p .before .before .before .decode .ensures) (p .before .before .signals-of .ensures) (p .process-into .result) _ (now (a .mix)) (a .from) (p .process-into .ensures) _ (c .answer .ensures)
 
 pub cableowl-process-into-spec : {M : Type 1} → statement M
 cableowl-process-into-spec =

@@ -1,6 +1,5 @@
 -- `cableowl_stretch` meets its contract: a well formed state has its part in the sound, so that twice its numbers fit.
-use mathlib.Core.Path.{_≡_}
-use Prim.Native.Nat.{ℕ, _+_, _*_, _≤_}
+use Prim.Native.Nat.{_+_, _*_, _≤_}
 use native.Mathlib.Omega.{arith}
 use denote.Ref.{now}
 use lib.ListN.{length}
@@ -24,7 +23,10 @@ is-well-formed-requires : tie.Need-is-well-formed-requires
 is-well-formed-requires c κs = search needs
 
 returns : tie.Need-returns
-returns c = let a = c .before .before .before .before .args in part-none (now (a .sound)) (a .state) _ _ (c .before .before .decode .ensures) (c .before .is-well-formed .ensures) (c .if1 .taken)
+returns c =
+    let a = c .before .before .before .before .args in
+    part-none (now (a .sound)) (a .state) _ _
+    (c .before .before .decode .ensures) (c .before .is-well-formed .ensures) (c .if1 .taken)
 
 start-requires : tie.Need-start-requires
 start-requires c κs = search needs
@@ -39,7 +41,11 @@ mul-t11 : tie.Need-mul-t11
 mul-t11 c = omega (arith, fits (c .before .before .before), c .num-frames .ensures)
 
 returns-2 : tie.Need-returns-2
-returns-2 c = let e = c .before .before .before in let a = e .before .before .before .before .args in part-is (now (a .sound)) (a .state) _ _ (e .before .before .decode .ensures) (e .before .is-well-formed .ensures) (e .if1 .left) _ _ (c .before .start .ensures) (c .num-frames .ensures)
+returns-2 c =
+    let e = c .before .before .before in
+    let a = e .before .before .before .before .args in
+    part-is (now (a .sound)) (a .state) _ _
+    (e .before .before .decode .ensures) (e .before .is-well-formed .ensures) (e .if1 .left) _ _ (c .before .start .ensures) (c .num-frames .ensures)
 
 pub cableowl-stretch-spec : {M : Type 1} → statement M
 cableowl-stretch-spec =

@@ -25,7 +25,16 @@ amount-of-requires-3 : tie.Need-amount-of-requires-3
 amount-of-requires-3 c κs = search needs
 
 returns : tie.Need-returns
-returns c = rw (c .before .before .before .before .before .before .amount-of .ensures, c .before .before .before .before .before .loop-of .ensures, c .before .before .before .before .yes-of .ensures, c .before .before .before .resume-of .ensures, c .before .before .yes-of2 .ensures, c .before .amount-of2 .ensures, c .amount-of3 .ensures)
+returns c =
+    rw (
+      c .before .before .before .before .before .before .amount-of .ensures,
+      c .before .before .before .before .before .loop-of .ensures,
+      c .before .before .before .before .yes-of .ensures,
+      c .before .before .before .resume-of .ensures,
+      c .before .before .yes-of2 .ensures,
+      c .before .amount-of2 .ensures,
+      c .amount-of3 .ensures,
+    )
 
 pub commands-of-spec : {M : Type 1} → statement M
 commands-of-spec =

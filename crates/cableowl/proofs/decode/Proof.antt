@@ -1,5 +1,5 @@
 -- `cableowl::decode` meets its contract: the blank state, or field by field.
-use Rattle.cableowl.specs.Records.{lawful, decoded}
+use Rattle.cableowl.specs.Records.{decoded}
 use Rattle.static_sound.proofs.Calls.{fails, passes}
 use borrow.Author.Needs.{needs}
 use Rattle.cableowl.proofs.decode.Statement.{statement}
@@ -38,7 +38,17 @@ yes-of-requires-3 c κs = search needs
 
 returns-2 : tie.Need-returns-2
 unfolding decoded
-returns-2 c = rw (passes (c .before .before .before .before .before .before .before .before .before .is-lawful .ensures) (c .before .before .before .before .before .before .before .before .if1 .left), c .before .before .before .before .before .before .range-of .ensures, c .before .before .before .before .before .yes-of .ensures, c .before .before .before .before .range-of2 .ensures, c .before .before .before .yes-of2 .ensures, c .before .before .state-of .ensures, c .before .window-of .ensures, c .yes-of3 .ensures)
+returns-2 c =
+    rw (
+      passes (c .before .before .before .before .before .before .before .before .before .is-lawful .ensures) (c .before .before .before .before .before .before .before .before .if1 .left),
+      c .before .before .before .before .before .before .range-of .ensures,
+      c .before .before .before .before .before .yes-of .ensures,
+      c .before .before .before .before .range-of2 .ensures,
+      c .before .before .before .yes-of2 .ensures,
+      c .before .before .state-of .ensures,
+      c .before .window-of .ensures,
+      c .yes-of3 .ensures,
+    )
 
 pub decode-spec : {M : Type 1} → statement M
 decode-spec =

@@ -42,7 +42,20 @@ entries-of-requires c κs = search needs
 
 returns : tie.Need-returns
 unfolding encoded
-returns c = rw (c .entries-of .ensures, c .before .ending-of2 .ensures, c .before .before .start-of2 .ensures, c .before .before .before .ending-of .ensures, c .before .before .before .before .start-of .ensures, c .before .before .before .before .before .before .has-range2 .ensures, c .before .before .before .before .before .before .before .has-range .ensures, c .before .before .before .before .before .before .before .before .bit-of3 .ensures, c .before .before .before .before .before .before .before .before .before .bit-of2 .ensures, c .before .before .before .before .before .before .before .before .before .before .bit-of .ensures, c .before .before .before .before .before .before .before .before .before .before .before .number .ensures)
+returns c =
+    rw (
+      c .entries-of .ensures,
+      c .before .ending-of2 .ensures,
+      c .before .before .start-of2 .ensures,
+      c .before .before .before .ending-of .ensures,
+      c .before .before .before .before .start-of .ensures,
+      c .before .before .before .before .before .before .has-range2 .ensures,
+      c .before .before .before .before .before .before .before .has-range .ensures,
+      c .before .before .before .before .before .before .before .before .bit-of3 .ensures,
+      c .before .before .before .before .before .before .before .before .before .bit-of2 .ensures,
+      c .before .before .before .before .before .before .before .before .before .before .bit-of .ensures,
+      c .before .before .before .before .before .before .before .before .before .before .before .number .ensures,
+    )
 
 pub encode-spec : {M : Type 1} → statement M
 encode-spec =

@@ -1,5 +1,5 @@
 -- `cableowl::entries_of` meets its contract: entry by entry, since an array of four has four.
-use mathlib.Core.Path.{_≡_, _∙_}
+use mathlib.Core.Path.{_≡_}
 use lib.ListN.{length}
 use Rattle.resampler.specs.Windows.{blank}
 use Rattle.cableowl.specs.Records.{entryOf}

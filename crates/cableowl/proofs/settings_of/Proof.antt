@@ -19,7 +19,14 @@ yes-of-requires-2 : tie.Need-yes-of-requires-2
 yes-of-requires-2 c κs = search needs
 
 returns : tie.Need-returns
-returns c = rw (c .before .before .before .before .optional-of .ensures, c .before .before .before .place-of .ensures, c .before .before .optional-of2 .ensures, c .before .yes-of .ensures, c .yes-of2 .ensures)
+returns c =
+    rw (
+      c .before .before .before .before .optional-of .ensures,
+      c .before .before .before .place-of .ensures,
+      c .before .before .optional-of2 .ensures,
+      c .before .yes-of .ensures,
+      c .yes-of2 .ensures,
+    )
 
 pub settings-of-spec : {M : Type 1} → statement M
 settings-of-spec =

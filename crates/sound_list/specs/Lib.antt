@@ -1,0 +1,2 @@
+-- What the contracts of the list cite.
+pub mod Counts

@@ -1,0 +1,2 @@
+-- Laws of patterns.
+pub mod Patterns
