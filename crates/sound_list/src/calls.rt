@@ -193,7 +193,7 @@ fn is_processed(made: Processed) -> bool {
 // ---- the calls
 
 // What a refused creation leaves: no sample rate is given.
-pub fn blank() -> StaticSound {
+pub(crate) fn blank() -> StaticSound {
     let sound = [0.0f32; 2];
     let settings = Settings {
         sample_rate: 0,
@@ -208,7 +208,7 @@ pub fn blank() -> StaticSound {
     made.sound
 }
 
-pub fn create(sound: &[f32]) -> Answer {
+pub(crate) fn create(sound: &[f32]) -> Answer {
     let settings = next_settings();
     let made = creation::new(settings, sound);
     let voice = made.sound;
@@ -218,7 +218,7 @@ pub fn create(sound: &[f32]) -> Answer {
     }
 }
 
-pub fn command(voice: StaticSound, sound: &[f32]) -> Answer {
+pub(crate) fn command(voice: StaticSound, sound: &[f32]) -> Answer {
     let commands = next_commands();
     let made = command_set::on_start_processing(voice, sound, commands);
     let voice = made.sound;
@@ -228,7 +228,7 @@ pub fn command(voice: StaticSound, sound: &[f32]) -> Answer {
     }
 }
 
-pub fn block(voice: StaticSound, sound: &[f32]) -> Answer {
+pub(crate) fn block(voice: StaticSound, sound: &[f32]) -> Answer {
     let mut fade = [0.0f32; 32];
     let mut volume = [0.0f32; 32];
     let mut left = [0.0f32; 32];
@@ -262,7 +262,7 @@ pub fn block(voice: StaticSound, sound: &[f32]) -> Answer {
     }
 }
 
-pub fn mix(voice: StaticSound, sound: &[f32]) -> Answer {
+pub(crate) fn mix(voice: StaticSound, sound: &[f32]) -> Answer {
     let mut fade = [0.0f32; 32];
     let mut volume = [0.0f32; 32];
     let mut left = [0.0f32; 32];
@@ -299,7 +299,7 @@ pub fn mix(voice: StaticSound, sound: &[f32]) -> Answer {
 }
 
 // Whether the list goes on with the sound's own stretch: its length, then its samples.
-pub fn stretch(voice: StaticSound, sound: &[f32]) -> bool {
+pub(crate) fn stretch(voice: StaticSound, sound: &[f32]) -> bool {
     is_part(static_sound::stretch(voice, sound))
 }
 

@@ -14,7 +14,7 @@ fn first(byte: &[u8; 1]) -> u8 {
 }
 
 // The next number, of at most 16 digits; 0 where the input has ended.
-pub fn next() -> u64 {
+pub(crate) fn next() -> u64 {
     let mut value: u64 = 0;
     let mut left: usize = 16;
     while left > 0 {
@@ -35,7 +35,7 @@ pub fn least(count: usize, most: usize) -> usize
     if count < most { count } else { most }
 }
 
-pub fn index() -> usize {
+pub(crate) fn index() -> usize {
     next() as usize
 }
 
@@ -46,19 +46,19 @@ pub fn count(most: usize) -> usize
     least(index(), most)
 }
 
-pub fn half() -> u32 {
+pub(crate) fn half() -> u32 {
     (next() % 0x1_0000_0000) as u32
 }
 
-pub fn yes() -> bool {
+pub(crate) fn yes() -> bool {
     next() == 1
 }
 
-pub fn double() -> f64 {
+pub(crate) fn double() -> f64 {
     words::f64_of(next())
 }
 
-pub fn single() -> f32 {
+pub(crate) fn single() -> f32 {
     words::f32_of(half())
 }
 
@@ -88,18 +88,18 @@ pub fn doubles(to: &mut [f64]) -> usize
 }
 
 // Whether the next number is this one. Each of these reads its number, whatever came before it.
-pub fn is(number: u64) -> bool {
+pub(crate) fn is(number: u64) -> bool {
     next() == number
 }
 
-pub fn is_yes(answer: bool) -> bool {
+pub(crate) fn is_yes(answer: bool) -> bool {
     if answer { is(1) } else { is(0) }
 }
 
-pub fn is_double(x: f64) -> bool {
+pub(crate) fn is_double(x: f64) -> bool {
     is(words::bits_of_f64(x))
 }
 
-pub fn is_single(x: f32) -> bool {
+pub(crate) fn is_single(x: f32) -> bool {
     is(words::bits_of_f32(x) as u64)
 }

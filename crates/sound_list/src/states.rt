@@ -125,7 +125,7 @@ fn is_resampler(resampler: Resampler) -> bool {
         & input::is(resampler.time_until_empty as u64)
 }
 
-pub fn next() -> StaticSound {
+pub(crate) fn next() -> StaticSound {
     let setup = next_setup();
     let playback_rate = input::double();
     let started = input::yes();
@@ -148,7 +148,7 @@ pub fn next() -> StaticSound {
 }
 
 // Whether the list goes on with this state.
-pub fn are(voice: StaticSound) -> bool {
+pub(crate) fn are(voice: StaticSound) -> bool {
     let setup = voice.setup;
     let moving = voice.moving;
     let state = moving.state;
