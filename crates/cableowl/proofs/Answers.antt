@@ -16,7 +16,7 @@ use Rattle.creation.specs.Creation.{created}
 use Rattle.command_set.specs.declared.Commands.{Commands}
 use Rattle.command_set.specs.declared.Commanded.{Commanded}
 use Rattle.command_set.specs.Commands.{commanded}
-use Rattle.static_sound.specs.declared.Signals.{Signals}
+use Rattle.block.specs.declared.Signals.{Signals}
 use Rattle.static_sound.specs.declared.Processed.{Processed}
 use Rattle.static_sound.specs.Entries.{Outcome, processed, processedInto}
 use Rattle.static_sound.proofs.Calls.{fails, passes}

@@ -20,7 +20,7 @@ use Rattle.command_set.specs.declared.LoopCommand.the-variants as loop
 use Rattle.command_set.specs.declared.ResumeCommand.{ResumeCommand}
 use Rattle.command_set.specs.declared.ResumeCommand.the-variants as resume
 use Rattle.command_set.specs.declared.Commands.{Commands}
-use Rattle.static_sound.specs.declared.Signals.{Signals}
+use Rattle.block.specs.declared.Signals.{Signals}
 use Rattle.cableowl.specs.declared.CableowlPlace.{CableowlPlace}
 use Rattle.cableowl.specs.declared.CableowlRegion.{CableowlRegion}
 use Rattle.cableowl.specs.declared.CableowlSettings.{CableowlSettings}

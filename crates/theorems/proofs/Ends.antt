@@ -33,8 +33,9 @@ use Rattle.voice.specs.declared.Course.{Course}
 use Rattle.voice.specs.declared.StaticSound.{StaticSound}
 use Rattle.voice.specs.Voices.{courseOf, sounding, pushed, stepped, updated, updates}
 use Rattle.voice.specs.WellFormed.{Formed}
-use Rattle.static_sound.specs.Blocks.{Played, total, turned, frameHeard, plays, zeros}
-use Rattle.static_sound.proofs.Keeps.{turned-formed}
+use Rattle.playing.specs.Plays.{Played, total, turned, frameHeard, plays}
+use Rattle.block.specs.Blocks.{zeros}
+use Rattle.playing.proofs.Keeps.{turned-formed}
 use Rattle.theorems.specs.Alike.{unnumbered, bare}
 use Rattle.theorems.specs.LawfulEnd.{Ended, EndsOnly}
 

@@ -24,13 +24,16 @@ use Rattle.playback_state_manager.specs.declared.PlaybackState.{PlaybackState}
 use Rattle.playback_state_manager.specs.declared.PlaybackState.the-variants.{Stopped}
 use Rattle.playback_state_manager.specs.declared.StartAnswer.{StartAnswer}
 use Rattle.playback_state_manager.specs.States.{number, advancing, pausing, resuming, stopping, settled}
-use Rattle.lanes.specs.Lanes.{Lanes, sized, timely, judged}
+use Rattle.lanes.specs.Lanes.{Lanes, rows, sized, timely, judged}
 use Rattle.voice.specs.declared.Setup.{Setup}
 use Rattle.voice.specs.declared.Moving.{Moving}
 use Rattle.voice.specs.declared.StaticSound.{StaticSound}
 use Rattle.voice.specs.declared.Course.{Course}
 use Rattle.voice.specs.Voices.{span, offset, courseOf, pushed, updated, updates, movingOf}
 use Rattle.voice.specs.WellFormed.{ours}
+use Rattle.playing.specs.Plays.{Played, plays}
+use Rattle.block.specs.declared.Signals.{Signals}
+use Rattle.block.specs.Blocks.{block}
 use Rattle.theorems.specs.Coincide.{Decides}
 use Rattle.theorems.proofs.Coincide.{named}
 
@@ -188,3 +191,11 @@ voice-moving-update-positions = named (λ (x : Moving × Course × List Float ×
 pub voice-moving-of : Decides (λ (x : FrameRange × PlaybackState × ℕ × Bool × Frame × Frame × Frame × Frame × ℕ × ℕ × ℕ × ℕ × ℕ) (o : Moving). o ≡ movingOf (x .0) (x .1) (x .2) (x .3) (x .4) (x .5) (x .6) (x .7) (x .8) (x .9) (x .10) (x .11) (x .12))
 voice-moving-of =
     named (λ (x : FrameRange × PlaybackState × ℕ × Bool × Frame × Frame × Frame × Frame × ℕ × ℕ × ℕ × ℕ × ℕ). movingOf (x .0) (x .1) (x .2) (x .3) (x .4) (x .5) (x .6) (x .7) (x .8) (x .9) (x .10) (x .11) (x .12))
+
+-- ---- playing, block
+
+pub playing-play : Decides (λ (x : List Float × Float × Lanes × StaticSound) (o : Played). o ≡ plays (x .0) (x .1) (rows (x .2)) (x .3))
+playing-play = named (λ (x : List Float × Float × Lanes × StaticSound). plays (x .0) (x .1) (rows (x .2)) (x .3))
+
+pub block-block : Decides (λ (x : List Float × Float × Lanes × Signals × StaticSound) (o : Played). o ≡ block (x .0) (x .1) (rows (x .2)) (x .3) (x .4))
+block-block = named (λ (x : List Float × Float × Lanes × Signals × StaticSound). block (x .0) (x .1) (rows (x .2)) (x .3) (x .4))

@@ -10,7 +10,7 @@ use Rattle.creation.specs.declared.Settings.{Settings}
 use Rattle.creation.specs.declared.Created.{Created}
 use Rattle.command_set.specs.declared.Commands.{Commands}
 use Rattle.command_set.specs.declared.Commanded.{Commanded}
-use Rattle.static_sound.specs.declared.Signals.{Signals}
+use Rattle.block.specs.declared.Signals.{Signals}
 use Rattle.creation.specs.Creation.{created}
 use Rattle.command_set.specs.Commands.{commanded}
 use Rattle.static_sound.specs.Entries.{Outcome, processed, processedInto, stretchOf}

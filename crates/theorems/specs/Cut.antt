@@ -8,8 +8,8 @@ use lib.ListN.{length, take, drop}
 use lib.Ieee.{Float}
 use Rattle.lanes.specs.Lanes.{Lanes, firstLanes, restLanes}
 use Rattle.voice.specs.declared.StaticSound.{StaticSound}
-use Rattle.static_sound.specs.declared.Signals.{Signals}
-use Rattle.static_sound.specs.Blocks.{quiet}
+use Rattle.block.specs.declared.Signals.{Signals}
+use Rattle.block.specs.Blocks.{quiet}
 use Rattle.static_sound.specs.Entries.{Outcome, processed}
 use Rattle.theorems.specs.Alike.{Parts}
 

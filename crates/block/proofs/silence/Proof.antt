@@ -1,13 +1,13 @@
 -- `silence` writes a positive zero to every place. The invariant: the first i are written.
-use Rattle.static_sound.proofs.silence.Statement.{statement}
-use Rattle.static_sound.proofs.silence.Tie as tie
+use Rattle.block.proofs.silence.Statement.{statement}
+use Rattle.block.proofs.silence.Tie as tie
 use Prim.Native.Nat.{_-_, _≤_}
 use mathlib.Core.Path.{_≡_, refl, sym, ap, _∙_}
 use native.Mathlib.Omega.{arith}
 use lib.ListN.{length, take, replicate, length-set}
 use lib.Ieee.{ofBits, binary32}
 use Rattle.numbers.specs.Words.{naught}
-use Rattle.static_sound.proofs.Fills.{fill-more, fill-all}
+use Rattle.block.proofs.Fills.{fill-more, fill-all}
 
 abbrev Inv-loop : tie.InvT-loop
 Inv-loop out₀ i₀ i-end out i = (i ≤ length out₀) × (length out ≡ length out₀) × (take i out ≡ replicate i naught) × (i-end ≡ length out₀)

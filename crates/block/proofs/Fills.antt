@@ -1,7 +1,7 @@
 -- A buffer filled from its start with one value.
 use mathlib.Core.Path.{_≡_, refl, sym, ap, _∙_}
 use mathlib.Core.List.{List, [], _∷_, _++_}
-use Prim.Native.Nat.{ℕ, suc, _+_, _*_, _≤_, _<_}
+use Prim.Native.Nat.{ℕ, suc, _+_, _*_, _<_}
 use native.Mathlib.Numerals.{add-one}
 use native.Mathlib.Omega.{arith}
 use lib.ListN.{length, take, set, replicate, replicate-append-replicate}
@@ -9,7 +9,7 @@ use lib.Seq.{take-suc-set, take-all}
 use lib.Ieee.{Float}
 use Rattle.numbers.specs.Words.{naught}
 use Rattle.lanes.specs.Lanes.{Lane}
-use Rattle.static_sound.specs.Blocks.{zeros}
+use Rattle.block.specs.Blocks.{zeros}
 
 -- one place more
 pub fill-more : {A : Type 0} (l : List A) (i : ℕ) (z : A) → i < length l → take i l ≡ replicate i z → take (i + 1) (set l i z) ≡ replicate (i + 1) z

@@ -1,9 +1,8 @@
--- A block keeps a voice well formed: the sum's rest is a proper fraction, and the updates keep the moving parts. And how many steps it makes.
+-- Playing keeps a voice well formed: the sum's rest is a proper fraction, and the updates keep the moving parts. And how many steps it makes.
 -- By induction on the lanes. Assumes nothing.
 use Prim.Native.Nat.{ℕ, suc, _+_, _*_, _≤_}
 use native.Mathlib.Nat.{le-refl}
 use native.Mathlib.Omega.{arith}
-use mathlib.Core.Bool.{Bool, true, false, cond}
 use mathlib.Core.List.{List, [], _∷_}
 use lib.Dec.{T}
 use lib.ListN.{length}
@@ -19,12 +18,7 @@ use Rattle.voice.specs.Voices.{courseOf, updates}
 use Rattle.voice.specs.WellFormed.{Formed}
 use Rattle.voice.proofs.Formed.{span-most}
 use Rattle.voice.proofs.Kept.{updates-kept, kept-of, moved-formed}
-use Rattle.static_sound.specs.declared.Signals.{Signals}
-use Rattle.static_sound.specs.Blocks.{total, turned, plays, begun, live, silent, block}
-
-pub begun-formed : (g : Signals) (v : StaticSound) → Formed v → Formed (begun g v)
-unfolding begun
-begun-formed g v h = record { setup = h .setup; rate = h .rate; seat = h .seat; fraction = h .fraction; window = h .window }
+use Rattle.playing.specs.Plays.{total, turned, plays}
 
 module _ (snd : List Float) (dt : Float) (t : T (lt naught dt)) where
   -- ---- one frame
@@ -72,11 +66,3 @@ module _ (snd : List Float) (dt : Float) (t : T (lt naught dt)) where
     where
       more : (w s n : ℕ) → w ≤ 257 → s ≤ 257 * n → w + s ≤ 257 * suc n
       more w s n h q = omega arith
-
-  pub block-formed : (ls : List Lane) (g : Signals) (v : StaticSound) → T (all (near (v .setup .«sample_rate») dt) ls) → Formed v → Formed ((block snd dt ls g v) .voice)
-  unfolding block begun
-  block-formed ls g v k h = go (live (begun g v))
-    where
-      go : (b : Bool) → Formed ((cond b (plays snd dt ls (begun g v)) (silent ls (begun g v))) .voice)
-      go true = plays-formed ls (begun g v) k (begun-formed g v h)
-      go false = begun-formed g v h

@@ -2,7 +2,6 @@
 use Prim.Native.Nat.{ℕ, _*_}
 use mathlib.Core.Path.{_≡_}
 use mathlib.Core.List.{List}
-use mathlib.Core.Bool.{cond}
 use lib.Dec.{T}
 use lib.ListN.{length}
 use lib.Ieee.{Float, binary32, binary64, add, mul, lt}
@@ -16,9 +15,7 @@ use Rattle.voice.specs.declared.Moving.{Moving}
 use Rattle.voice.specs.declared.StaticSound.{StaticSound}
 use Rattle.voice.specs.Voices.{updates, Able}
 use Rattle.voice.specs.WellFormed.{Formed}
-use Rattle.static_sound.specs.declared.Turned.{Turned}
-use Rattle.static_sound.specs.Blocks.{Played, plays, silent, live}
-use Rattle.static_sound.specs.Entries.{Outcome, acceptedWith}
+use Rattle.playing.specs.declared.Turned.{Turned}
 
 -- the frame written: the reading of four frames times fade, times volume, times each channel's gain
 unfoldable pub frameAt : Frame → Frame → Frame → Frame → Float → Float → Float → Float → Float → Frame
@@ -50,11 +47,3 @@ pub record Playable (snd : List Float) (v : StaticSound) (dt : Float) (b : Lanes
   pub long : m ≡ 2 * length (b .rate)
   pub timely : T (lt naught dt)
   pub near : T (all (near (v .setup .«sample_rate») dt) (rows b))
-
--- an accepted block's outcome: its own samples are the output
-abbrev pub acceptedAs : Played → Outcome
-acceptedAs p = acceptedWith p (p .samples)
-
--- sound or silence, from a voice that has taken its signals
-abbrev pub sounded : List Float → Float → Lanes → StaticSound → Played
-sounded snd dt b v = cond (live v) (plays snd dt (rows b) v) (silent (rows b) v)

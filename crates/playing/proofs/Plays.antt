@@ -1,24 +1,18 @@
 -- Playing: one list of lanes and then another, one frame more, two samples a frame, and what a block leaves as it is.
 -- By induction on the lanes, since a frame is one step of the definition. Assumes nothing.
-use mathlib.Core.Path.{_≡_, refl, sym, ap, ap₂, _∙_}
+use mathlib.Core.Path.{_≡_, refl, sym, ap, _∙_}
 use Prim.Native.Nat.{ℕ, suc, _+_, _*_, _<_}
 use native.Mathlib.Nat.{add-zero, zero-add, add-assoc}
 use native.Mathlib.Omega.{arith}
-use mathlib.Core.Bool.{Bool, true, false, cond}
 use mathlib.Core.List.{List, [], _∷_, _++_}
 use lib.ListN.{length, getD, take}
 use lib.Seq.{take-suc}
 use lib.Ieee.{Float}
-use Rattle.numbers.specs.Words.{naught, whole}
+use Rattle.numbers.specs.Words.{whole}
 use Rattle.frame.specs.declared.Frame.{Frame}
-use Rattle.playback_state_manager.specs.declared.PlaybackState.{PlaybackState}
-use Rattle.playback_state_manager.specs.declared.StartAnswer.the-variants.{Waiting}
-use Rattle.playback_state_manager.specs.States.{settled}
-use Rattle.playback_state_manager.proofs.Stays.{settled-quiet}
 use Rattle.lanes.specs.Lanes.{Lane}
 use Rattle.voice.specs.declared.StaticSound.{StaticSound}
-use Rattle.static_sound.specs.declared.Signals.{Signals}
-use Rattle.static_sound.specs.Blocks.{Played, then, plays, zeros, silent, total, turned, frameHeard, come, givenUp, begun, live, block, quiet}
+use Rattle.playing.specs.Plays.{Played, then, plays, total, turned, frameHeard}
 
 -- ---- one list of lanes and then another
 
@@ -31,18 +25,8 @@ then-joined f n p q =
     ap (λ (k : ℕ). record { voice = q .voice; samples = f .left ∷ f .right ∷ (p .samples ++ q .samples); steps = k })
     (sym (add-assoc n (p .steps) (q .steps)))
 
-pub zeros-append : (xs ys : List Lane) → zeros (xs ++ ys) ≡ zeros xs ++ zeros ys
-unfolding zeros
-zeros-append [] ys = refl
-zeros-append (l ∷ xs) ys = ap (λ (z : List Float). naught ∷ naught ∷ z) (zeros-append xs ys)
-
-two-more : (a n : ℕ) → a ≡ 2 * n → suc (suc a) ≡ 2 * suc n
+pub two-more : (a n : ℕ) → a ≡ 2 * n → suc (suc a) ≡ 2 * suc n
 two-more a n e = omega arith
-
-pub zeros-length : (ls : List Lane) → length (zeros ls) ≡ 2 * length ls
-unfolding zeros
-zeros-length [] = refl
-zeros-length (l ∷ ls) = two-more (length (zeros ls)) (length ls) (zeros-length ls)
 
 module _ (snd : List Float) (dt : Float) where
   pub plays-append : (xs ys : List Lane) (v : StaticSound)
@@ -96,52 +80,3 @@ module _ (snd : List Float) (dt : Float) where
   unfolding plays turned
   plays-started [] v = refl
   plays-started (l ∷ ls) v = plays-started ls (turned snd dt v l)
-
-  -- ---- the block, by whether it is silent
-
-  pub block-live : (ls : List Lane) (g : Signals) (v : StaticSound) → live (begun g v) ≡ true → block snd dt ls g v ≡ plays snd dt ls (begun g v)
-  unfolding block
-  block-live ls g v e = ap (λ (b : Bool). cond b (plays snd dt ls (begun g v)) (silent ls (begun g v))) e
-
-  pub block-silent : (ls : List Lane) (g : Signals) (v : StaticSound) → live (begun g v) ≡ false → block snd dt ls g v ≡ silent ls (begun g v)
-  unfolding block
-  block-silent ls g v e = ap (λ (b : Bool). cond b (plays snd dt ls (begun g v)) (silent ls (begun g v))) e
-
-  pub block-length : (ls : List Lane) (g : Signals) (v : StaticSound) → length ((block snd dt ls g v) .samples) ≡ 2 * length ls
-  unfolding block
-  block-length ls g v = go (live (begun g v))
-    where
-      go : (b : Bool) → length ((cond b (plays snd dt ls (begun g v)) (silent ls (begun g v))) .samples) ≡ 2 * length ls
-      go true = plays-length ls (begun g v)
-      go false = zeros-length ls
-
-  pub block-setup : (ls : List Lane) (g : Signals) (v : StaticSound) → (block snd dt ls g v) .voice .setup ≡ v .setup
-  unfolding block
-  block-setup ls g v = go (live (begun g v))
-    where
-      go : (b : Bool) → (cond b (plays snd dt ls (begun g v)) (silent ls (begun g v))) .voice .setup ≡ v .setup
-      go true = plays-setup ls (begun g v)
-      go false = refl
-
--- ---- no signals change nothing
-
-come-quiet : (b : Bool) → come Waiting b ≡ b
-come-quiet true = refl
-come-quiet false = refl
-
-given-quiet : (b : Bool) (s : PlaybackState) → givenUp Waiting b s ≡ s
-given-quiet true s = refl
-given-quiet false s = refl
-
-pub begun-quiet : (v : StaticSound) → begun quiet v ≡ v
-unfolding begun
-begun-quiet v =
-    ap₂ (λ (b : Bool) (s : PlaybackState). record {
-      setup = v .setup;
-      «playback_rate» = v .«playback_rate»;
-      started = b;
-      «fractional_position» = v .«fractional_position»;
-      moving = record { state = s; transport = v .moving .transport; resampler = v .moving .resampler };
-    })
-    (come-quiet (v .started))
-    (given-quiet (v .started) (settled false Waiting (v .moving .state)) ∙ settled-quiet (v .moving .state))

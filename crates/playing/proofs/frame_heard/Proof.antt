@@ -1,10 +1,10 @@
 -- `frame_heard` is the reading times the amplitudes, as its callees give them.
-use Rattle.static_sound.specs.Turns.{frameAt}
+use Rattle.playing.specs.Turns.{frameAt}
 use borrow.Author.Needs.{needs}
-use Rattle.static_sound.proofs.frame_heard.Statement.{statement}
-use Rattle.static_sound.proofs.frame_heard.Tie as tie
-use Rattle.static_sound.proofs.frame_heard.Reads as reads
-use Rattle.static_sound.proofs.frame_heard.Lts as lts
+use Rattle.playing.proofs.frame_heard.Statement.{statement}
+use Rattle.playing.proofs.frame_heard.Tie as tie
+use Rattle.playing.proofs.frame_heard.Reads as reads
+use Rattle.playing.proofs.frame_heard.Lts as lts
 use Rattle.frame.proofs.interpolate_frame.Reads as interpolate-frame-reads
 use Rattle.numbers.proofs.narrow.Reads as narrow-reads
 

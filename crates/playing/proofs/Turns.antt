@@ -1,5 +1,5 @@
 -- One frame's advance, sum and steps, as the code works them out.
-use mathlib.Core.Path.{_≡_, refl, sym, ap, ap₂, _∙_, subst}
+use mathlib.Core.Path.{_≡_, ap, _∙_}
 use mathlib.Core.List.{List}
 use mathlib.Core.Bool.{false}
 use Prim.Native.Nat.{ℕ}
@@ -7,14 +7,13 @@ use lib.Dec.{T}
 use lib.IntN.{pos}
 use lib.Ieee.{Float, fin, binary64, mul, add, le, lt, ofInt}
 use Rattle.numbers.specs.declared.Stepped.{Stepped}
-use Rattle.numbers.specs.Words.{naught, level, magnitude, whole, part, stepped, advance}
+use Rattle.numbers.specs.Words.{naught, level, magnitude, stepped, advance}
 use Rattle.numbers.proofs.Fractions.{advance-level}
 use Rattle.lanes.specs.Lanes.{slow}
 use Rattle.voice.specs.declared.Course.{Course}
 use Rattle.voice.specs.declared.Moving.{Moving}
 use Rattle.voice.specs.Voices.{updates}
-use Rattle.static_sound.specs.declared.Turned.{Turned}
-use Rattle.static_sound.specs.Turns.{turnOf}
+use Rattle.playing.specs.Turns.{turnOf}
 
 -- the code's product, m being the rate without its sign
 abbrev product : ℕ → Float → Float → Float

@@ -1,10 +1,10 @@
 -- `begin` hands back the voice that has taken its signals, arm by arm.
 use borrow.Author.Needs.{needs}
-use Rattle.static_sound.proofs.Begins.{begun-started, begun-waiting, begun-now, begun-never}
-use Rattle.static_sound.proofs.begin.Statement.{statement}
-use Rattle.static_sound.proofs.begin.Tie as tie
-use Rattle.static_sound.proofs.begin.Reads as reads
-use Rattle.static_sound.proofs.begin.Lts as lts
+use Rattle.block.proofs.Begins.{begun-started, begun-waiting, begun-now, begun-never}
+use Rattle.block.proofs.begin.Statement.{statement}
+use Rattle.block.proofs.begin.Tie as tie
+use Rattle.block.proofs.begin.Reads as reads
+use Rattle.block.proofs.begin.Lts as lts
 use Rattle.playback_state_manager.proofs.PlaybackState.update.Reads as update-reads
 
 -- src/block.rt:66:9

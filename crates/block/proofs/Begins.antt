@@ -7,8 +7,8 @@ use Rattle.playback_state_manager.specs.declared.StartAnswer.{StartAnswer}
 use Rattle.playback_state_manager.specs.declared.StartAnswer.the-variants.{Waiting, Now, Never}
 use Rattle.playback_state_manager.specs.States.{settled}
 use Rattle.voice.specs.declared.StaticSound.{StaticSound}
-use Rattle.static_sound.specs.declared.Signals.{Signals}
-use Rattle.static_sound.specs.Blocks.{come, givenUp, begun}
+use Rattle.block.specs.declared.Signals.{Signals}
+use Rattle.block.specs.Blocks.{come, givenUp, begun}
 
 -- the voice with another start and another state
 abbrev pub restated : StaticSound → Bool → PlaybackState → StaticSound

@@ -27,12 +27,10 @@ use Rattle.voice.specs.WellFormed.{Formed}
 use Rattle.voice.proofs.Formed.{span-most}
 use Rattle.voice.proofs.Kept.{updates-kept, kept-of, moved-formed}
 use Rattle.voice.proofs.Updates.{updates-loop}
-use Rattle.static_sound.specs.declared.Turned.{Turned}
-use Rattle.static_sound.specs.declared.Processed.{Processed}
-use Rattle.static_sound.specs.Blocks.{Played, plays, turned, total, frameHeard}
-use Rattle.static_sound.specs.Turns.{frameAt, turnOf, Turning, acceptedAs}
-use Rattle.static_sound.specs.Entries.{Outcome}
-use Rattle.static_sound.proofs.Plays.{plays-next}
+use Rattle.playing.specs.declared.Turned.{Turned}
+use Rattle.playing.specs.Plays.{Played, plays, turned, total, frameHeard}
+use Rattle.playing.specs.Turns.{frameAt, turnOf, Turning}
+use Rattle.playing.proofs.Plays.{plays-next}
 
 all-at : (p : Float → Bool) (l : List Float) (i : ℕ) → i < length l → T (all p l) → T (p (getD l i nan))
 all-at p [] i h k = absurd (not-suc-le-zero h)
@@ -107,11 +105,11 @@ module _ (snd : List Float) (dt : Float) (b : Lanes) (v : StaticSound) where
 
   pub played-all : (i steps : ℕ) (out : List Float) (u : StaticSound) → length (b .rate) ≤ i → i ≤ length (b .rate) → length out ≡ 2 * length (b .rate)
       → plays snd dt (take i (rows b)) v ≡ played u (take (2 * i) out) steps
-      → record { answer = record { refusal = 0; sound = u; steps = steps }; samples = out } ≡ acceptedAs (plays snd dt (rows b) v)
+      → played u out steps ≡ plays snd dt (rows b) v
   played-all i steps out u h k g e =
       let all-rows : take i (rows b) ≡ rows b = take-all i (rows b) (subst (λ (n : ℕ). n ≤ i) (sym (beside-length (b .fade) (b .volume) (b .left) (b .right) (b .rate))) h) in
       let all-out : take (2 * i) out ≡ out = take-all (2 * i) out (omega arith) in
-      ap acceptedAs (sym (ap (λ (z : List Float). played u z steps) all-out) ∙ sym e ∙ ap (λ (r : List Lane). plays snd dt r v) all-rows)
+      sym (ap (λ (z : List Float). played u z steps) all-out) ∙ sym e ∙ ap (λ (r : List Lane). plays snd dt r v) all-rows
 
   -- the rate at i makes a small advance
   pub slow-at : (hz i : ℕ) → i < length (b .rate) → T (all (near hz dt) (rows b)) → T (slow hz dt (getD (b .rate) i nan))

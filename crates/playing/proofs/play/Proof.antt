@@ -17,17 +17,17 @@ use Rattle.voice.specs.declared.StaticSound.{StaticSound}
 use Rattle.voice.specs.Voices.{courseOf, moved, movingOf}
 use Rattle.voice.specs.WellFormed.{Formed}
 use Rattle.voice.proofs.Formed.{able-of}
-use Rattle.static_sound.specs.declared.Turned.{Turned}
-use Rattle.static_sound.specs.Blocks.{plays}
-use Rattle.static_sound.specs.Turns.{frameAt, turnOf, Turning}
-use Rattle.static_sound.proofs.Loops.{laneAt, played, played-none, played-more, played-as, played-all, slow-at, turned-few, turned-on, turned-loop}
+use Rattle.playing.specs.declared.Turned.{Turned}
+use Rattle.playing.specs.Plays.{plays}
+use Rattle.playing.specs.Turns.{frameAt, turnOf, Turning}
+use Rattle.playing.proofs.Loops.{laneAt, played, played-none, played-more, played-as, played-all, slow-at, turned-few, turned-on, turned-loop}
 use Rattle.voice.proofs.Updates.{apart, together}
-use Rattle.static_sound.proofs.play.Statement.{statement}
-use Rattle.static_sound.proofs.play.Tie as tie
-use Rattle.static_sound.proofs.play.Reads as reads
-use Rattle.static_sound.proofs.play.Lts as lts
-use Rattle.static_sound.proofs.frame_heard.Reads as frame-heard-reads
-use Rattle.static_sound.proofs.turn.Reads as turn-reads
+use Rattle.playing.proofs.play.Statement.{statement}
+use Rattle.playing.proofs.play.Tie as tie
+use Rattle.playing.proofs.play.Reads as reads
+use Rattle.playing.proofs.play.Lts as lts
+use Rattle.playing.proofs.frame_heard.Reads as frame-heard-reads
+use Rattle.playing.proofs.turn.Reads as turn-reads
 use Rattle.voice.proofs.StaticSound.course.Reads as course-reads
 use Rattle.voice.proofs.moving_of.Reads as moving-of-reads
 

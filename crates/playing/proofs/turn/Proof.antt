@@ -3,12 +3,12 @@ use Prim.Native.Nat.{ℕ}
 use mathlib.Core.Path.{_≡_, refl, sym, ap, _∙_, subst}
 use borrow.Author.Needs.{needs}
 use denote.Ref.{now}
-use Rattle.static_sound.specs.Turns.{turnOf}
-use Rattle.static_sound.proofs.Turns.{asks, turned-as}
-use Rattle.static_sound.proofs.turn.Statement.{statement}
-use Rattle.static_sound.proofs.turn.Tie as tie
-use Rattle.static_sound.proofs.turn.Reads as reads
-use Rattle.static_sound.proofs.turn.Lts as lts
+use Rattle.playing.specs.Turns.{turnOf}
+use Rattle.playing.proofs.Turns.{asks, turned-as}
+use Rattle.playing.proofs.turn.Statement.{statement}
+use Rattle.playing.proofs.turn.Tie as tie
+use Rattle.playing.proofs.turn.Reads as reads
+use Rattle.playing.proofs.turn.Lts as lts
 use Rattle.numbers.proofs.advance_by.Reads as advance-by-reads
 use Rattle.numbers.proofs.magnitude.Reads as magnitude-reads
 use Rattle.voice.proofs.Moving.update_positions.Reads as update-positions-reads
