@@ -3,13 +3,14 @@ ghost use mathlib.Core.Path.{_≡_};
 ghost use lib.ListN.{length, replicate};
 ghost use Rattle.numbers.specs.Words.{naught};
 ghost use Rattle.lanes.specs.Lanes.{five, rows};
+ghost use Rattle.playing.specs.Plays.{acceptedAs};
 ghost use Rattle.playing.specs.Turns.{Playable};
 ghost use Rattle.block.specs.Blocks.{begun, live, block};
+use moving::Moving;
 use playback_state_manager::PlaybackState;
 use playback_state_manager::StartAnswer;
-use playing::Advanced;
+use playing::Processed;
 use playing::play;
-use voice::Moving;
 use voice::StaticSound;
 
 // What a block is told: whether the fade has finished, and the answers for the sound's start and a waiting resume.
@@ -91,16 +92,17 @@ pub fn block(
     dt: f64,
     signals: Signals,
     out: &mut [f32],
-) -> Advanced
+) -> Processed
     requires { ⌜ Playable (now sound) voice dt (five (now fade) (now volume) (now left) (now right) (now rate)) (length (now out)) ⌝ }
-    ensures { λ r. ⌜ record { voice = r .sound; samples = now (out .exit); steps = r .steps } ≡ block (now (sound .entry)) dt (rows (five (now (fade .entry)) (now (volume .entry)) (now (left .entry)) (now (right .entry)) (now (rate .entry)))) signals voice ⌝ }
+    ensures { λ r. ⌜ record { answer = r; samples = now (out .exit) } ≡ acceptedAs (block (now (sound .entry)) dt (rows (five (now (fade .entry)) (now (volume .entry)) (now (left .entry)) (now (right .entry)) (now (rate .entry)))) signals voice) ⌝ }
 {
     let begun = begin(voice, signals);
     if is_live(begun) {
         return play(begun, sound, fade, volume, left, right, rate, dt, out);
     }
     silence(out);
-    Advanced {
+    Processed {
+        refusal: 0,
         sound: begun,
         steps: 0,
     }

@@ -17,8 +17,9 @@ use Rattle.command_set.specs.declared.Commands.{Commands}
 use Rattle.command_set.specs.declared.Commanded.{Commanded}
 use Rattle.command_set.specs.Commands.{commanded}
 use Rattle.block.specs.declared.Signals.{Signals}
-use Rattle.static_sound.specs.declared.Processed.{Processed}
-use Rattle.static_sound.specs.Entries.{Outcome, processed, processedInto}
+use Rattle.playing.specs.declared.Processed.{Processed}
+use Rattle.playing.specs.Plays.{Outcome}
+use Rattle.static_sound.specs.Entries.{processed, processedInto}
 use Rattle.static_sound.proofs.Calls.{fails, passes}
 use Rattle.cableowl.specs.declared.CableowlState.{CableowlState}
 use Rattle.cableowl.specs.declared.CableowlSettings.{CableowlSettings}

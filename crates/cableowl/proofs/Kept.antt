@@ -15,7 +15,7 @@ use Rattle.creation.specs.Creation.{blankSound}
 use Rattle.creation.proofs.Answers.{created-passed, created-done, created-refused}
 use Rattle.command_set.specs.declared.Commanded.{Commanded}
 use Rattle.command_set.proofs.Answers.{commanded-refused}
-use Rattle.static_sound.specs.Entries.{Outcome}
+use Rattle.playing.specs.Plays.{Outcome}
 use Rattle.static_sound.proofs.Entries.{processed-refused, into-refused}
 use Rattle.cableowl.specs.declared.CableowlState.{CableowlState}
 use Rattle.cableowl.specs.declared.CableowlSettings.{CableowlSettings}

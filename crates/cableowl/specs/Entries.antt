@@ -11,7 +11,7 @@ use Rattle.voice.specs.Voices.{span, offset}
 use Rattle.voice.specs.WellFormed.{ours}
 use Rattle.creation.specs.Creation.{created}
 use Rattle.command_set.specs.Commands.{commanded}
-use Rattle.static_sound.specs.declared.Processed.{Processed}
+use Rattle.playing.specs.declared.Processed.{Processed}
 use Rattle.static_sound.specs.Entries.{processed, processedInto}
 use Rattle.cableowl.specs.declared.CableowlState.{CableowlState}
 use Rattle.cableowl.specs.declared.CableowlSettings.{CableowlSettings}

@@ -14,10 +14,11 @@ use Rattle.numbers.proofs.Fractions.{advance-level, sum-steps}
 use Rattle.numbers.proofs.Stepping.{sum-proper}
 use Rattle.lanes.specs.Lanes.{Lane, near}
 use Rattle.voice.specs.declared.StaticSound.{StaticSound}
-use Rattle.voice.specs.Voices.{courseOf, updates}
+use Rattle.voice.specs.Voices.{courseOf}
+use Rattle.moving.specs.Updates.{updates}
 use Rattle.voice.specs.WellFormed.{Formed}
-use Rattle.voice.proofs.Formed.{span-most}
-use Rattle.voice.proofs.Kept.{updates-kept, kept-of, moved-formed}
+use Rattle.voice.proofs.Formed.{span-most, kept-of, moved-formed}
+use Rattle.moving.proofs.Kept.{updates-kept}
 use Rattle.playing.specs.Plays.{total, turned, plays}
 
 module _ (snd : List Float) (dt : Float) (t : T (lt naught dt)) where

@@ -19,16 +19,17 @@ use Rattle.frame.specs.declared.Frame.{Frame}
 use Rattle.resampler.specs.Windows.{nth, reading}
 use Rattle.lanes.specs.Lanes.{Lane, Lanes, rows, near, slow}
 use Rattle.lanes.proofs.Rows.{beside-at, beside-length, near-all}
-use Rattle.voice.specs.declared.Moving.{Moving}
+use Rattle.moving.specs.declared.Moving.{Moving}
 use Rattle.voice.specs.declared.StaticSound.{StaticSound}
-use Rattle.voice.specs.declared.Course.{Course}
-use Rattle.voice.specs.Voices.{courseOf, moved, updates}
+use Rattle.moving.specs.declared.Course.{Course}
+use Rattle.voice.specs.Voices.{courseOf, moved}
+use Rattle.moving.specs.Updates.{updates}
 use Rattle.voice.specs.WellFormed.{Formed}
-use Rattle.voice.proofs.Formed.{span-most}
-use Rattle.voice.proofs.Kept.{updates-kept, kept-of, moved-formed}
-use Rattle.voice.proofs.Updates.{updates-loop}
+use Rattle.voice.proofs.Formed.{span-most, kept-of, moved-formed}
+use Rattle.moving.proofs.Kept.{updates-kept}
+use Rattle.moving.proofs.Updates.{updates-loop}
 use Rattle.playing.specs.declared.Turned.{Turned}
-use Rattle.playing.specs.Plays.{Played, plays, turned, total, frameHeard}
+use Rattle.playing.specs.Plays.{Played, plays, turned, total, frameHeard, Outcome, acceptedAs}
 use Rattle.playing.specs.Turns.{frameAt, turnOf, Turning}
 use Rattle.playing.proofs.Plays.{plays-next}
 
@@ -105,11 +106,11 @@ module _ (snd : List Float) (dt : Float) (b : Lanes) (v : StaticSound) where
 
   pub played-all : (i steps : ℕ) (out : List Float) (u : StaticSound) → length (b .rate) ≤ i → i ≤ length (b .rate) → length out ≡ 2 * length (b .rate)
       → plays snd dt (take i (rows b)) v ≡ played u (take (2 * i) out) steps
-      → played u out steps ≡ plays snd dt (rows b) v
+      → record { answer = record { refusal = 0; sound = u; steps = steps }; samples = out } ≡ acceptedAs (plays snd dt (rows b) v)
   played-all i steps out u h k g e =
       let all-rows : take i (rows b) ≡ rows b = take-all i (rows b) (subst (λ (n : ℕ). n ≤ i) (sym (beside-length (b .fade) (b .volume) (b .left) (b .right) (b .rate))) h) in
       let all-out : take (2 * i) out ≡ out = take-all (2 * i) out (omega arith) in
-      sym (ap (λ (z : List Float). played u z steps) all-out) ∙ sym e ∙ ap (λ (r : List Lane). plays snd dt r v) all-rows
+      ap acceptedAs (sym (ap (λ (z : List Float). played u z steps) all-out) ∙ sym e ∙ ap (λ (r : List Lane). plays snd dt r v) all-rows)
 
   -- the rate at i makes a small advance
   pub slow-at : (hz i : ℕ) → i < length (b .rate) → T (all (near hz dt) (rows b)) → T (slow hz dt (getD (b .rate) i nan))

@@ -10,9 +10,9 @@ use Rattle.numbers.specs.declared.Stepped.{Stepped}
 use Rattle.numbers.specs.Words.{naught, level, magnitude, stepped, advance}
 use Rattle.numbers.proofs.Fractions.{advance-level}
 use Rattle.lanes.specs.Lanes.{slow}
-use Rattle.voice.specs.declared.Course.{Course}
-use Rattle.voice.specs.declared.Moving.{Moving}
-use Rattle.voice.specs.Voices.{updates}
+use Rattle.moving.specs.declared.Course.{Course}
+use Rattle.moving.specs.declared.Moving.{Moving}
+use Rattle.moving.specs.Updates.{updates}
 use Rattle.playing.specs.Turns.{turnOf}
 
 -- the code's product, m being the rate without its sign

@@ -7,7 +7,9 @@ use Rattle.frame.specs.declared.Frame.{Frame}
 use Rattle.resampler.specs.Windows.{reading}
 use Rattle.lanes.specs.Lanes.{Lane}
 use Rattle.voice.specs.declared.StaticSound.{StaticSound}
-use Rattle.voice.specs.Voices.{courseOf, updates, moved}
+use Rattle.voice.specs.Voices.{courseOf, moved}
+use Rattle.playing.specs.declared.Processed.{Processed}
+use Rattle.moving.specs.Updates.{updates}
 
 -- ---- one frame
 
@@ -50,3 +52,17 @@ unfoldable pub plays : List Float → Float → List Lane → StaticSound → Pl
 unfolding turned frameHeard total whole
 plays snd dt [] v = record { voice = v; samples = []; steps = 0 }
 plays snd dt (l ∷ ls) v = then (frameHeard v l) (whole (total dt v l)) (plays snd dt ls (turned snd dt v l))
+
+-- ---- what a call gives
+
+-- what a call gives: its answer, and every sample of the lent buffer
+pub record Outcome : Type 0 where
+  pub answer : Processed
+  pub samples : List Float
+
+abbrev pub acceptedWith : Played → List Float → Outcome
+acceptedWith p out = record { answer = record { refusal = 0; sound = p .voice; steps = p .steps }; samples = out }
+
+-- an accepted block's outcome: its own samples are the output
+abbrev pub acceptedAs : Played → Outcome
+acceptedAs p = acceptedWith p (p .samples)

@@ -10,10 +10,10 @@ use Rattle.numbers.specs.Lists.{all}
 use Rattle.frame.specs.declared.Frame.{Frame}
 use Rattle.frame.specs.Frames.{interpolated}
 use Rattle.lanes.specs.Lanes.{Lanes, rows, sized, near, slow}
-use Rattle.voice.specs.declared.Course.{Course}
-use Rattle.voice.specs.declared.Moving.{Moving}
+use Rattle.moving.specs.declared.Course.{Course}
+use Rattle.moving.specs.declared.Moving.{Moving}
 use Rattle.voice.specs.declared.StaticSound.{StaticSound}
-use Rattle.voice.specs.Voices.{updates, Able}
+use Rattle.moving.specs.Updates.{updates, Able}
 use Rattle.voice.specs.WellFormed.{Formed}
 use Rattle.playing.specs.declared.Turned.{Turned}
 

@@ -4,17 +4,18 @@ ghost use lib.Dec.{T};
 ghost use lib.ListN.{length};
 ghost use Rattle.numbers.specs.Words.{proper};
 ghost use Rattle.lanes.specs.Lanes.{five, rows};
-ghost use Rattle.playing.specs.Plays.{plays};
+ghost use Rattle.playing.specs.Plays.{plays, acceptedAs};
 ghost use Rattle.playing.specs.Turns.{frameAt, turnOf, Turning, Playable};
 use frame::Frame;
 use frame::interpolate_frame;
-use voice::Course;
-use voice::Moving;
+use moving::Course;
+use moving::Moving;
+use moving::moving_of;
 use voice::StaticSound;
-use voice::moving_of;
 
-// What a block leaves: the voice, and the steps made.
-pub struct Advanced {
+// What a block answers: its refusal, 0 for none, the voice after it, and the steps made.
+pub struct Processed {
+    pub refusal: u32,
     pub sound: StaticSound,
     pub steps: usize,
 }
@@ -82,9 +83,9 @@ pub fn play(
     rate: &[f64],
     dt: f64,
     out: &mut [f32],
-) -> Advanced
+) -> Processed
     requires { ⌜ Playable (now sound) voice dt (five (now fade) (now volume) (now left) (now right) (now rate)) (length (now out)) ⌝ }
-    ensures { λ r. ⌜ record { voice = r .sound; samples = now (out .exit); steps = r .steps } ≡ plays (now (sound .entry)) dt (rows (five (now (fade .entry)) (now (volume .entry)) (now (left .entry)) (now (right .entry)) (now (rate .entry)))) voice ⌝ }
+    ensures { λ r. ⌜ record { answer = r; samples = now (out .exit) } ≡ acceptedAs (plays (now (sound .entry)) dt (rows (five (now (fade .entry)) (now (volume .entry)) (now (left .entry)) (now (right .entry)) (now (rate .entry)))) voice) ⌝ }
 {
     let course = voice.course();
     let setup = voice.setup;
@@ -188,7 +189,8 @@ pub fn play(
         nd,
         count,
     );
-    Advanced {
+    Processed {
+        refusal: 0,
         sound: StaticSound {
             fractional_position,
             moving,

@@ -11,7 +11,7 @@ use playback_position::EndPosition;
 use playback_position::PlaybackPosition;
 use playback_position::Region;
 use playback_state_manager::StartAnswer;
-use static_sound::Processed;
+use playing::Processed;
 use voice::StaticSound;
 
 struct Tally {

@@ -13,7 +13,7 @@ use playback_position::EndPosition;
 use playback_position::PlaybackPosition;
 use playback_position::Region;
 use playback_state_manager::StartAnswer;
-use static_sound::Processed;
+use playing::Processed;
 use voice::StaticSound;
 
 // What a call leaves, and whether all of its answer is the list's.

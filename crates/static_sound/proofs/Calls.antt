@@ -1,5 +1,5 @@
 -- A block's call, from its parts: the number that it gives, and what it plays.
-use mathlib.Core.Path.{_≡_, sym, ap, ap₂, _∙_}
+use mathlib.Core.Path.{_≡_, sym, ap, _∙_}
 use mathlib.Core.Bool.{Bool, true, false, not, cond}
 use mathlib.Core.List.{List, _++_}
 use Prim.Native.Nat.{ℕ, _+_, _-_, _*_, _/_, _%_, _≤_}
@@ -17,11 +17,11 @@ use Rattle.voice.specs.declared.StaticSound.{StaticSound}
 use Rattle.voice.specs.WellFormed.{ours}
 use Rattle.voice.proofs.Formed.{ours-parts}
 use Rattle.block.specs.declared.Signals.{Signals}
-use Rattle.playing.specs.Plays.{Played}
+use Rattle.playing.specs.Plays.{Outcome, acceptedWith, acceptedAs}
 use Rattle.block.specs.Blocks.{block}
 use Rattle.playing.specs.Turns.{Playable}
-use Rattle.static_sound.specs.declared.Processed.{Processed}
-use Rattle.static_sound.specs.Entries.{refusedBlock, refusedWith, acceptedWith, holds, room, mixed, processed, processedInto}
+use Rattle.playing.specs.declared.Processed.{Processed}
+use Rattle.static_sound.specs.Entries.{refusedBlock, refusedWith, holds, room, mixed, processed, processedInto}
 use Rattle.static_sound.proofs.Refusals.{accepted-parts}
 
 -- ---- the number, test by test
@@ -70,13 +70,9 @@ module _ (snd : List Float) (v : StaticSound) (dt : Float) (b : Lanes) (g : Sign
   unfolding processed
   refused-is k e n = rw (← e) (simp (ne-eqb k 0 n))
 
-  pub processed-is : (r : Processed) (p : Played) → refusedBlock (length snd) v dt b (holds b out) ≡ 0 → r ≡ record { refusal = 0; sound = p .voice; steps = p .steps } → p ≡ block snd dt (rows b) g v
-      → record { answer = r; samples = p .samples } ≡ processed snd v dt b g out
+  pub processed-is : (o : Outcome) → refusedBlock (length snd) v dt b (holds b out) ≡ 0 → o ≡ acceptedAs (block snd dt (rows b) g v) → o ≡ processed snd v dt b g out
   unfolding processed
-  processed-is r p e a h =
-      ap (λ (x : Processed). record { answer = x; samples = p .samples }) a
-      ∙ ap (λ (q : Played). acceptedWith q (q .samples)) h
-      ∙ sym (ap (λ (m : ℕ). let p = block snd dt (rows b) g v in cond (eqb m 0) (acceptedWith p (p .samples)) (refusedWith m v out)) e)
+  processed-is o e h = rw e h
 
   pub playable-out : refusedBlock (length snd) v dt b (holds b out) ≡ 0 → Playable snd v dt b (length out)
   playable-out h = playable snd v dt b (holds b out) (length out) h (eqb→eq (length out) (2 * length (b .rate)) (accepted-parts (length snd) v dt b (holds b out) h .placed))
@@ -102,13 +98,13 @@ module _ (snd : List Float) (v : StaticSound) (dt : Float) (b : Lanes) (g : Sign
   pub playable-part : number ≡ 0 → Playable snd v dt b (length (take (2 * from + 2 * length (b .rate) - 2 * from) (drop (2 * from) mix)))
   playable-part h = playable snd v dt b (room from (length (b .rate)) mix) _ h (part-long h)
 
-  pub processed-into : (r : Processed) (q : Played) → number ≡ 0 → r ≡ record { refusal = 0; sound = q .voice; steps = q .steps } → q ≡ block snd dt (rows b) g v
-      → record { answer = r; samples = take (2 * from) mix ++ (q .samples ++ drop (2 * from + 2 * length (b .rate) - 2 * from) (drop (2 * from) mix)) } ≡ processedInto snd v dt b g mix from
+  pub processed-into : (r : Processed) (samples : List Float) → number ≡ 0 → record { answer = r; samples = samples } ≡ acceptedAs (block snd dt (rows b) g v)
+      → record { answer = r; samples = take (2 * from) mix ++ (samples ++ drop (2 * from + 2 * length (b .rate) - 2 * from) (drop (2 * from) mix)) } ≡ processedInto snd v dt b g mix from
   unfolding processedInto
-  processed-into r q e a h =
+  processed-into r samples e h =
       let n = length (b .rate) in
       let k : 2 * from + (2 * from + 2 * n - 2 * from) ≡ 2 * (from + n) = omega arith in
       let p = block snd dt (rows b) g v in
-      ap₂ (λ (x : Processed) (l : List Float). record { answer = x; samples = take (2 * from) mix ++ (q .samples ++ l) }) a (drop-drop (2 * from + 2 * n - 2 * from) (2 * from) mix ∙ ap (λ (m : ℕ). drop m mix) k)
-      ∙ ap (λ (q : Played). acceptedWith q (mixed from n mix (q .samples))) h
+      ap (λ (l : List Float). record { answer = r; samples = take (2 * from) mix ++ (samples ++ l) }) (drop-drop (2 * from + 2 * n - 2 * from) (2 * from) mix ∙ ap (λ (m : ℕ). drop m mix) k)
+      ∙ ap (λ (o : Outcome). record { answer = o .answer; samples = mixed from n mix (o .samples) }) h
       ∙ sym (ap (λ (m : ℕ). cond (eqb m 0) (acceptedWith p (mixed from n mix (p .samples))) (refusedWith m v mix)) e)

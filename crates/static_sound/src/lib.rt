@@ -8,14 +8,8 @@ ghost use Rattle.static_sound.specs.Entries.{refusedBlock, processed, pr
 use block::Signals;
 use block::block;
 use playback_position::FrameRange;
-use playing::Advanced;
+use playing::Processed;
 use voice::StaticSound;
-
-pub struct Processed {
-    pub refusal: u32,
-    pub sound: StaticSound,
-    pub steps: usize,
-}
 
 // Whether an output of so many samples is that of so many frames.
 fn holds(samples: usize, frames: usize) -> bool
@@ -67,18 +61,6 @@ fn refusal_of(
     lanes::judge(setup.sample_rate, dt, fade, volume, left, right, rate)
 }
 
-// What a block that is not refused answers.
-fn accepted(played: Advanced) -> Processed
-    ensures { λ r. ⌜ r ≡ record { refusal = 0; sound = played .sound; steps = played .steps } ⌝ }
-{
-    let after = played.sound;
-    Processed {
-        refusal: 0,
-        sound: after,
-        steps: played.steps,
-    }
-}
-
 // A block into an output of its own.
 pub fn process(
     voice: StaticSound,
@@ -113,7 +95,7 @@ pub fn process(
             steps: 0,
         };
     }
-    let played = block(
+    block(
         voice,
         sound,
         fade,
@@ -124,8 +106,7 @@ pub fn process(
         dt,
         signals,
         out,
-    );
-    accepted(played)
+    )
 }
 
 // A block into the middle of a longer mix, from the frame given on; every other sample stays.
@@ -165,7 +146,7 @@ pub fn process_into(
     }
     let a = 2 * from;
     let e = a + 2 * rate.len();
-    let played = block(
+    block(
         voice,
         sound,
         fade,
@@ -176,8 +157,7 @@ pub fn process_into(
         dt,
         signals,
         &mut mix[a..e],
-    );
-    accepted(played)
+    )
 }
 
 // The sound's own part, as it is lent: that of the slice, or all of it.

@@ -14,9 +14,9 @@ use Rattle.voice.specs.declared.Setup.{Setup}
 use Rattle.voice.specs.declared.StaticSound.{StaticSound}
 use Rattle.voice.specs.WellFormed.{Formed}
 use Rattle.voice.proofs.Formed.{ours-parts}
-use Rattle.playing.specs.Plays.{Played, plays}
+use Rattle.playing.specs.Plays.{Played, plays, Outcome}
 use Rattle.block.specs.Blocks.{begun, zeros}
-use Rattle.static_sound.specs.Entries.{Outcome, holds, processed}
+use Rattle.static_sound.specs.Entries.{holds, processed}
 use Rattle.playing.proofs.Plays.{plays-append, plays-length, plays-setup}
 use Rattle.block.proofs.Blocks.{block-live}
 use Rattle.block.proofs.Keeps.{begun-formed}

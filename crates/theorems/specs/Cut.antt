@@ -10,7 +10,8 @@ use Rattle.lanes.specs.Lanes.{Lanes, firstLanes, restLanes}
 use Rattle.voice.specs.declared.StaticSound.{StaticSound}
 use Rattle.block.specs.declared.Signals.{Signals}
 use Rattle.block.specs.Blocks.{quiet}
-use Rattle.static_sound.specs.Entries.{Outcome, processed}
+use Rattle.playing.specs.Plays.{Outcome}
+use Rattle.static_sound.specs.Entries.{processed}
 use Rattle.theorems.specs.Alike.{Parts}
 
 pub record CutInTwo (uncut first rest : Outcome) : Type 0 where

@@ -11,17 +11,18 @@ use borrow.Author.Needs.{needs}
 use Rattle.lanes.specs.Lanes.{Lanes, five, rows, slow}
 use Rattle.lanes.proofs.Rows.{Sized, sized-parts}
 use Rattle.frame.specs.declared.Frame.{Frame}
-use Rattle.voice.specs.declared.Course.{Course}
-use Rattle.voice.specs.declared.Moving.{Moving}
+use Rattle.moving.specs.declared.Course.{Course}
+use Rattle.moving.specs.declared.Moving.{Moving}
 use Rattle.voice.specs.declared.StaticSound.{StaticSound}
-use Rattle.voice.specs.Voices.{courseOf, moved, movingOf}
+use Rattle.voice.specs.Voices.{courseOf, moved}
+use Rattle.moving.specs.Updates.{movingOf}
 use Rattle.voice.specs.WellFormed.{Formed}
 use Rattle.voice.proofs.Formed.{able-of}
 use Rattle.playing.specs.declared.Turned.{Turned}
 use Rattle.playing.specs.Plays.{plays}
 use Rattle.playing.specs.Turns.{frameAt, turnOf, Turning}
 use Rattle.playing.proofs.Loops.{laneAt, played, played-none, played-more, played-as, played-all, slow-at, turned-few, turned-on, turned-loop}
-use Rattle.voice.proofs.Updates.{apart, together}
+use Rattle.moving.proofs.Updates.{apart, together}
 use Rattle.playing.proofs.play.Statement.{statement}
 use Rattle.playing.proofs.play.Tie as tie
 use Rattle.playing.proofs.play.Reads as reads
@@ -29,7 +30,7 @@ use Rattle.playing.proofs.play.Lts as lts
 use Rattle.playing.proofs.frame_heard.Reads as frame-heard-reads
 use Rattle.playing.proofs.turn.Reads as turn-reads
 use Rattle.voice.proofs.StaticSound.course.Reads as course-reads
-use Rattle.voice.proofs.moving_of.Reads as moving-of-reads
+use Rattle.moving.proofs.moving_of.Reads as moving-of-reads
 
 record Sofar (snd : List Float) (dt : Float) (b : Lanes) (v : StaticSound) (i : ℕ) (out₀ out : List Float) (m : Moving) (f : Float) (steps : ℕ) : Type 0 where
   within : i ≤ length (b .rate)

@@ -11,7 +11,7 @@ use Rattle.playing.proofs.turn.Reads as reads
 use Rattle.playing.proofs.turn.Lts as lts
 use Rattle.numbers.proofs.advance_by.Reads as advance-by-reads
 use Rattle.numbers.proofs.magnitude.Reads as magnitude-reads
-use Rattle.voice.proofs.Moving.update_positions.Reads as update-positions-reads
+use Rattle.moving.proofs.Moving.update_positions.Reads as update-positions-reads
 
 int-to-float-advance : tie.Need-int-to-float-advance
 int-to-float-advance c = search needs

@@ -41,18 +41,15 @@ block-requires c κs =
     let a = start (e .before) .args in
     playable-out (now (a .sound)) (a .voice) (a .dt) (lent (e .before)) (a .signals) (now (a .out)) (sym (numbered (e .before)) ∙ e .if1 .left)
 
-accepted-requires : tie.Need-accepted-requires
-accepted-requires c κs = search needs
-
 same-length : tie.Need-same-length
 same-length c = search needs
 
 returns-2 : tie.Need-returns-2
 returns-2 c =
-    let k = c .before .before .before in
-    let e = k .before .before in
+    let p = c .before .before in
+    let e = p .before .before in
     let a = start (e .before) .args in
-    processed-is (now (a .sound)) (a .voice) (a .dt) (lent (e .before)) (a .signals) (now (a .out)) _ _ (sym (numbered (e .before)) ∙ e .if1 .left) (c .accepted .ensures) (k .block .ensures)
+    processed-is (now (a .sound)) (a .voice) (a .dt) (lent (e .before)) (a .signals) (now (a .out)) _ (sym (numbered (e .before)) ∙ e .if1 .left) (p .block .ensures)
 
 pub process-spec : {M : Type 1} → statement M
 process-spec =
@@ -62,6 +59,5 @@ process-spec =
     refusal-of-requires
     returns
     block-requires
-    accepted-requires
     same-length
     returns-2)

@@ -72,18 +72,15 @@ block-requires c κs =
     let a = start (e .before) .args in
     playable-part (now (a .sound)) (a .voice) (a .dt) (lent (e .before)) (a .signals) (now (a .mix)) (a .from) (none e)
 
-accepted-requires : tie.Need-accepted-requires
-accepted-requires c κs = search needs
-
 same-length : tie.Need-same-length
 same-length c = search needs
 
 returns-2 : tie.Need-returns-2
 returns-2 c =
-    let k = c .before .before .before in
-    let e = k .before .before in
+    let p = c .before .before in
+    let e = p .before .before in
     let a = start (e .before) .args in
-    processed-into (now (a .sound)) (a .voice) (a .dt) (lent (e .before)) (a .signals) (now (a .mix)) (a .from) _ _ (none e) (c .accepted .ensures) (k .block .ensures)
+    processed-into (now (a .sound)) (a .voice) (a .dt) (lent (e .before)) (a .signals) (now (a .mix)) (a .from) (p .block .result) _ (none e) (p .block .ensures)
 
 pub process-into-spec : {M : Type 1} → statement M
 process-into-spec =
@@ -100,6 +97,5 @@ process-into-spec =
     part-block-start
     part-block-end
     block-requires
-    accepted-requires
     same-length
     returns-2)

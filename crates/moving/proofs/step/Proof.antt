@@ -5,10 +5,10 @@ use borrow.Author.Needs.{needs}
 use Rattle.playback_position.proofs.Ranges.{within-ordered}
 use Rattle.transport.specs.declared.Transport.{Transport}
 use Rattle.transport.specs.Moves.{forward, backward}
-use Rattle.voice.specs.declared.Course.{Course}
-use Rattle.voice.specs.Voices.{stepped}
-use Rattle.voice.proofs.step.Statement.{statement}
-use Rattle.voice.proofs.step.Tie as tie
+use Rattle.moving.specs.declared.Course.{Course}
+use Rattle.moving.specs.Updates.{stepped}
+use Rattle.moving.proofs.step.Statement.{statement}
+use Rattle.moving.proofs.step.Tie as tie
 
 stepped-by : (c : Course) (t : Transport) (b : Bool) → c .backwards ≡ b → cond b (backward t) (forward (c .«num_frames») t) ≡ stepped c t
 unfolding stepped

@@ -5,12 +5,12 @@ use native.Mathlib.Omega.{arith}
 use lib.ListN.{length, length-map}
 use denote.Ref.{now}
 use borrow.Author.Needs.{needs}
-use Rattle.voice.specs.declared.Moving.{Moving}
-use Rattle.voice.specs.Voices.{updates, movingOf, Able}
-use Rattle.voice.proofs.Kept.{updated-able}
-use Rattle.voice.proofs.Updates.{apart, together, updates-one, updates-none, updated-apart}
-use Rattle.voice.proofs.Moving.update_positions.Statement.{statement}
-use Rattle.voice.proofs.Moving.update_positions.Tie as tie
+use Rattle.moving.specs.declared.Moving.{Moving}
+use Rattle.moving.specs.Updates.{updates, movingOf, Able}
+use Rattle.moving.proofs.Kept.{updated-able}
+use Rattle.moving.proofs.Updates.{apart, together, updates-one, updates-none, updated-apart}
+use Rattle.moving.proofs.Moving.update_positions.Statement.{statement}
+use Rattle.moving.proofs.Moving.update_positions.Tie as tie
 
 abbrev Inv-loop : tie.InvT-loop
 Inv-loop course sound steps loop-region state₀ position₀ playing₀ a₀ b₀ c₀ d₀ na₀ nb₀ nc₀ nd₀ count₀ left₀ state position playing a b c d na nb nc nd count left =

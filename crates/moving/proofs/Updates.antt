@@ -11,9 +11,9 @@ use Rattle.transport.specs.declared.Transport.{Transport}
 use Rattle.transport.specs.Moves.{under, back, first, landed, forward, backward}
 use Rattle.resampler.specs.declared.RecentFrame.{RecentFrame}
 use Rattle.resampler.specs.Windows.{blank, push}
-use Rattle.voice.specs.declared.Course.{Course}
-use Rattle.voice.specs.declared.Moving.{Moving}
-use Rattle.voice.specs.Voices.{pushed, stepped, updated, updates, movingOf}
+use Rattle.moving.specs.declared.Course.{Course}
+use Rattle.moving.specs.declared.Moving.{Moving}
+use Rattle.moving.specs.Updates.{pushed, stepped, updated, updates, movingOf}
 
 pub updates-one : (n : ℕ) (snd : List Float) (c : Course) (m : Moving) → 0 < n → updates (n - 1) snd c (updated snd c m) ≡ updates n snd c m
 unfolding updates

@@ -5,21 +5,18 @@ use native.Mathlib.Nat.{le-trans}
 use native.Mathlib.Omega.{arith}
 use mathlib.Core.Bool.{Bool, true, false, cond}
 use mathlib.Core.List.{List}
-use lib.Dec.{T, lit≤}
+use lib.Dec.{lit≤}
 use lib.ListN.{length}
 use lib.Ieee.{Float}
-use Rattle.numbers.specs.Words.{proper}
 use Rattle.numbers.specs.Frames.{most}
 use Rattle.transport.specs.declared.Transport.{Transport}
 use Rattle.transport.specs.Moves.{forward, backward}
 use Rattle.transport.specs.Seats.{Seated}
 use Rattle.resampler.specs.Windows.{Windowed}
 use Rattle.resampler.proofs.Windows.{push-parts}
-use Rattle.voice.specs.declared.Moving.{Moving}
-use Rattle.voice.specs.declared.StaticSound.{StaticSound}
-use Rattle.voice.specs.declared.Course.{Course}
-use Rattle.voice.specs.Voices.{span, sounding, pushed, stepped, updated, updates, moved, Able}
-use Rattle.voice.specs.WellFormed.{Formed}
+use Rattle.moving.specs.declared.Moving.{Moving}
+use Rattle.moving.specs.declared.Course.{Course}
+use Rattle.moving.specs.Updates.{sounding, pushed, stepped, updated, updates, Able}
 use Rattle.transport.proofs.Seats.{forward-seated, backward-seated}
 
 -- the moving parts are well formed over n frames
@@ -70,13 +67,3 @@ pub updates-able : (n : ℕ) (snd : List Float) (c : Course) (m : Moving) → Ab
 unfolding updates
 updates-able zero snd c m h = h
 updates-able (suc n) snd c m h = updates-able n snd c (updated snd c m) (updated-able snd c m h)
-
--- ---- the voice
-
--- a well formed voice's moving parts
-pub kept-of : (v : StaticSound) → Formed v → Kept (span (v .setup)) (v .moving)
-kept-of v h = record { seat = h .seat; window = h .window }
-
--- with another proper fraction and other well formed moving parts it stays well formed
-pub moved-formed : (v : StaticSound) (f : Float) (m : Moving) → Formed v → T (proper f) → Kept (span (v .setup)) m → Formed (moved v f m)
-moved-formed v f m h p k = record { setup = h .setup; rate = h .rate; seat = k .seat; fraction = p; window = k .window }

@@ -2,8 +2,8 @@
 use mathlib.Core.Path.{ap}
 use borrow.Author.Needs.{needs}
 use Rattle.resampler.specs.declared.MaybeFrame.the-variants as maybe
-use Rattle.voice.proofs.frame_to_push.Statement.{statement}
-use Rattle.voice.proofs.frame_to_push.Tie as tie
+use Rattle.moving.proofs.frame_to_push.Statement.{statement}
+use Rattle.moving.proofs.frame_to_push.Tie as tie
 
 frame-at-index-requires : tie.Need-frame-at-index-requires
 frame-at-index-requires c κs = c .before .before .pre (c .if1 .taken)

@@ -1,9 +1,9 @@
 -- `Moving::push_frame_to_resampler` meets its contract: the frame that it pushes is the one at the position.
 use borrow.Author.Needs.{needs}
-use Rattle.voice.specs.Voices.{pushed}
-use Rattle.voice.proofs.Kept.{able-reads}
-use Rattle.voice.proofs.Moving.push_frame_to_resampler.Statement.{statement}
-use Rattle.voice.proofs.Moving.push_frame_to_resampler.Tie as tie
+use Rattle.moving.specs.Updates.{pushed}
+use Rattle.moving.proofs.Kept.{able-reads}
+use Rattle.moving.proofs.Moving.push_frame_to_resampler.Statement.{statement}
+use Rattle.moving.proofs.Moving.push_frame_to_resampler.Tie as tie
 
 add-frame-to-push : tie.Need-add-frame-to-push
 add-frame-to-push c = search needs

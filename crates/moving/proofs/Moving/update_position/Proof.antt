@@ -8,11 +8,11 @@ use Rattle.playback_state_manager.specs.declared.PlaybackState.the-variants as 
 use Rattle.transport.specs.declared.Transport.{Transport}
 use Rattle.resampler.specs.declared.Resampler.{Resampler}
 use Rattle.resampler.specs.Windows.{isEmpty}
-use Rattle.voice.specs.declared.Moving.{Moving}
-use Rattle.voice.specs.declared.Course.{Course}
-use Rattle.voice.specs.Voices.{pushed, stepped, updated}
-use Rattle.voice.proofs.Moving.update_position.Statement.{statement}
-use Rattle.voice.proofs.Moving.update_position.Tie as tie
+use Rattle.moving.specs.declared.Moving.{Moving}
+use Rattle.moving.specs.declared.Course.{Course}
+use Rattle.moving.specs.Updates.{pushed, stepped, updated}
+use Rattle.moving.proofs.Moving.update_position.Statement.{statement}
+use Rattle.moving.proofs.Moving.update_position.Tie as tie
 
 -- after the push and the step, with the answer e to whether the window is empty
 updated-by : (snd : List Float) (c : Course) (m : Moving) (t : Transport) (w : Resampler) (e b : Bool)
