@@ -16,20 +16,21 @@ use Rattle.creation.specs.Creation.{created}
 use Rattle.command_set.specs.declared.Commands.{Commands}
 use Rattle.command_set.specs.declared.Commanded.{Commanded}
 use Rattle.command_set.specs.Commands.{commanded}
-use Rattle.static_sound.specs.declared.Signals.{Signals}
-use Rattle.static_sound.specs.declared.Processed.{Processed}
-use Rattle.static_sound.specs.Entries.{Outcome, processed, processedInto}
+use Rattle.block.specs.declared.Signals.{Signals}
+use Rattle.playing.specs.declared.Processed.{Processed}
+use Rattle.playing.specs.Plays.{Outcome}
+use Rattle.static_sound.specs.Entries.{processed, processedInto}
 use Rattle.static_sound.proofs.Calls.{fails, passes}
-use Rattle.cableowl.specs.declared.CableowlState.{CableowlState}
-use Rattle.cableowl.specs.declared.CableowlSettings.{CableowlSettings}
-use Rattle.cableowl.specs.declared.CableowlCommands.{CableowlCommands}
-use Rattle.cableowl.specs.declared.CableowlSignals.{CableowlSignals}
+use Rattle.records.specs.declared.CableowlState.{CableowlState}
+use Rattle.inputs.specs.declared.CableowlSettings.{CableowlSettings}
+use Rattle.inputs.specs.declared.CableowlCommands.{CableowlCommands}
+use Rattle.inputs.specs.declared.CableowlSignals.{CableowlSignals}
 use Rattle.cableowl.specs.declared.CableowlCreated.{CableowlCreated}
 use Rattle.cableowl.specs.declared.CableowlCommanded.{CableowlCommanded}
 use Rattle.cableowl.specs.declared.CableowlProcessed.{CableowlProcessed}
 use Rattle.cableowl.specs.declared.CableowlPart.{CableowlPart}
-use Rattle.cableowl.specs.Records.{decoded, encoded}
-use Rattle.cableowl.specs.Inputs.{settingsOf, commandsOf, signalsOf}
+use Rattle.records.specs.Records.{decoded, encoded}
+use Rattle.inputs.specs.Inputs.{settingsOf, commandsOf, signalsOf}
 use Rattle.cableowl.specs.Entries.{after, createdC, commandedC, answered, OutcomeC, processedC, processedIntoC, partC}
 use Rattle.cableowl.proofs.Few.{countOf, ours-few, created-few, commanded-ours, processed-ours, into-ours}
 

@@ -22,8 +22,9 @@ use Rattle.command_set.specs.Commands.{commanded}
 use Rattle.command_set.proofs.Refusals.{obeyable-parts}
 use Rattle.command_set.proofs.Orders.{obeyed-ours}
 use Rattle.command_set.proofs.Answers.{commanded-passed, commanded-done}
-use Rattle.static_sound.specs.declared.Signals.{Signals}
-use Rattle.static_sound.specs.Entries.{Outcome, holds, processed, room, processedInto}
+use Rattle.block.specs.declared.Signals.{Signals}
+use Rattle.playing.specs.Plays.{Outcome}
+use Rattle.static_sound.specs.Entries.{holds, processed, room, processedInto}
 use Rattle.static_sound.proofs.Refusals.{accepted-parts}
 use Rattle.static_sound.proofs.Entries.{block-ours, processed-passed, processed-done, into-passed, into-done}
 

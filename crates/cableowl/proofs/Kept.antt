@@ -15,17 +15,17 @@ use Rattle.creation.specs.Creation.{blankSound}
 use Rattle.creation.proofs.Answers.{created-passed, created-done, created-refused}
 use Rattle.command_set.specs.declared.Commanded.{Commanded}
 use Rattle.command_set.proofs.Answers.{commanded-refused}
-use Rattle.static_sound.specs.Entries.{Outcome}
+use Rattle.playing.specs.Plays.{Outcome}
 use Rattle.static_sound.proofs.Entries.{processed-refused, into-refused}
-use Rattle.cableowl.specs.declared.CableowlState.{CableowlState}
-use Rattle.cableowl.specs.declared.CableowlSettings.{CableowlSettings}
-use Rattle.cableowl.specs.declared.CableowlCommands.{CableowlCommands}
-use Rattle.cableowl.specs.declared.CableowlSignals.{CableowlSignals}
-use Rattle.cableowl.specs.Records.{lawful, decoded, encoded}
-use Rattle.cableowl.specs.Inputs.{settingsOf, commandsOf, signalsOf}
+use Rattle.records.specs.declared.CableowlState.{CableowlState}
+use Rattle.inputs.specs.declared.CableowlSettings.{CableowlSettings}
+use Rattle.inputs.specs.declared.CableowlCommands.{CableowlCommands}
+use Rattle.inputs.specs.declared.CableowlSignals.{CableowlSignals}
+use Rattle.records.specs.Records.{lawful, decoded, encoded}
+use Rattle.inputs.specs.Inputs.{settingsOf, commandsOf, signalsOf}
 use Rattle.cableowl.specs.Entries.{after, createdC, commandedC, OutcomeC, processedC, processedIntoC}
 use Rattle.cableowl.proofs.Few.{created-ours, commanded-ours, processed-ours, into-ours}
-use Rattle.cableowl.proofs.Inverse.{lawful-encoded, decoded-encoded}
+use Rattle.records.proofs.Inverse.{lawful-encoded, decoded-encoded}
 
 -- a record that the next call takes over this sound
 abbrev pub Good : List Float → CableowlState → Type 0

@@ -1,8 +1,6 @@
 -- Laws of the C ABI's definitions.
-pub mod Fours
 pub mod Few
 pub mod Answers
-pub mod Inverse
 pub mod Kept
 pub mod Unknown
 pub mod Parts

@@ -17,9 +17,9 @@ use Rattle.voice.specs.Voices.{span, offset}
 use Rattle.voice.specs.WellFormed.{ours}
 use Rattle.voice.proofs.Formed.{ours-parts}
 use Rattle.static_sound.specs.Entries.{sliced, stretchOf}
-use Rattle.cableowl.specs.declared.CableowlState.{CableowlState}
+use Rattle.records.specs.declared.CableowlState.{CableowlState}
 use Rattle.cableowl.specs.declared.CableowlPart.{CableowlPart}
-use Rattle.cableowl.specs.Records.{decoded}
+use Rattle.records.specs.Records.{decoded}
 use Rattle.cableowl.specs.Entries.{partC}
 
 -- the samples of a part

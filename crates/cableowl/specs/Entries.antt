@@ -11,18 +11,18 @@ use Rattle.voice.specs.Voices.{span, offset}
 use Rattle.voice.specs.WellFormed.{ours}
 use Rattle.creation.specs.Creation.{created}
 use Rattle.command_set.specs.Commands.{commanded}
-use Rattle.static_sound.specs.declared.Processed.{Processed}
+use Rattle.playing.specs.declared.Processed.{Processed}
 use Rattle.static_sound.specs.Entries.{processed, processedInto}
-use Rattle.cableowl.specs.declared.CableowlState.{CableowlState}
-use Rattle.cableowl.specs.declared.CableowlSettings.{CableowlSettings}
-use Rattle.cableowl.specs.declared.CableowlCommands.{CableowlCommands}
-use Rattle.cableowl.specs.declared.CableowlSignals.{CableowlSignals}
+use Rattle.records.specs.declared.CableowlState.{CableowlState}
+use Rattle.inputs.specs.declared.CableowlSettings.{CableowlSettings}
+use Rattle.inputs.specs.declared.CableowlCommands.{CableowlCommands}
+use Rattle.inputs.specs.declared.CableowlSignals.{CableowlSignals}
 use Rattle.cableowl.specs.declared.CableowlCreated.{CableowlCreated}
 use Rattle.cableowl.specs.declared.CableowlCommanded.{CableowlCommanded}
 use Rattle.cableowl.specs.declared.CableowlProcessed.{CableowlProcessed}
 use Rattle.cableowl.specs.declared.CableowlPart.{CableowlPart}
-use Rattle.cableowl.specs.Records.{decoded, encoded}
-use Rattle.cableowl.specs.Inputs.{settingsOf, commandsOf, signalsOf}
+use Rattle.records.specs.Records.{decoded, encoded}
+use Rattle.inputs.specs.Inputs.{settingsOf, commandsOf, signalsOf}
 
 -- the state that comes back: after a refusal the given one
 unfoldable pub after : ℕ → StaticSound → CableowlState → CableowlState

@@ -1,4 +1,2 @@
 -- What the contracts of the C ABI cite.
-pub mod Records
-pub mod Inputs
 pub mod Entries

@@ -17,8 +17,8 @@ use Rattle.voice.specs.declared.Setup.{Setup}
 use Rattle.voice.specs.declared.StaticSound.{StaticSound}
 use Rattle.voice.specs.Voices.{span, courseOf}
 use Rattle.voice.specs.WellFormed.{ours, Formed}
-use Rattle.voice.proofs.Formed.{span-most, ours-parts, ours-of}
-use Rattle.voice.proofs.Kept.{Kept, pushed-windowed, moved-formed}
+use Rattle.voice.proofs.Formed.{span-most, ours-parts, ours-of, moved-formed}
+use Rattle.moving.proofs.Kept.{Kept, pushed-windowed}
 use Rattle.command_set.specs.declared.Amount.{Amount}
 use Rattle.command_set.specs.declared.Amount.the-variants as amount
 use Rattle.command_set.specs.declared.LoopCommand.{LoopCommand}

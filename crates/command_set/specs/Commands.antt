@@ -16,9 +16,10 @@ use Rattle.playback_state_manager.specs.States.{advancing, pausing, resuming, s
 use Rattle.transport.specs.Moves.{seek}
 use Rattle.resampler.specs.Windows.{heardNumber}
 use Rattle.voice.specs.declared.StaticSound.{StaticSound}
-use Rattle.voice.specs.declared.Moving.{Moving}
-use Rattle.voice.specs.declared.Course.{Course}
-use Rattle.voice.specs.Voices.{span, courseOf, pushed, moved}
+use Rattle.moving.specs.declared.Moving.{Moving}
+use Rattle.moving.specs.declared.Course.{Course}
+use Rattle.voice.specs.Voices.{span, courseOf, moved}
+use Rattle.moving.specs.Updates.{pushed}
 use Rattle.voice.specs.WellFormed.{ours}
 use Rattle.command_set.specs.declared.Amount.{Amount}
 use Rattle.command_set.specs.declared.Amount.the-variants as amount

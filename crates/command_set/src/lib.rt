@@ -13,11 +13,11 @@ ghost use Rattle.transport.specs.Moves.{reloop};
 ghost use Rattle.resampler.specs.Windows.{heardNumber};
 ghost use Rattle.voice.specs.WellFormed.{ours};
 ghost use Rattle.command_set.specs.Commands.{loopable, rateable, targetBy, targetTo, seekable, refusedSet, orElse, looped, woken, told, sought, soughtBy, soughtTo, obeyed, reported, commanded};
+use moving::Moving;
 use playback_position::FrameRange;
 use playback_position::Region;
 use playback_state_manager::PlaybackState;
 use transport::Transport;
-use voice::Moving;
 use voice::StaticSound;
 
 pub enum Amount {

@@ -19,10 +19,11 @@ use Rattle.transport.proofs.Seats.{begun-seated}
 use Rattle.resampler.proofs.Windows.{fresh-parts}
 use Rattle.voice.specs.declared.Setup.{Setup}
 use Rattle.voice.specs.declared.StaticSound.{StaticSound}
-use Rattle.voice.specs.Voices.{span, courseOf, updates}
+use Rattle.voice.specs.Voices.{span, courseOf}
+use Rattle.moving.specs.Updates.{updates}
 use Rattle.voice.specs.WellFormed.{setUp, wellFormed, ours, Formed}
-use Rattle.voice.proofs.Formed.{span-most, ours-of}
-use Rattle.voice.proofs.Kept.{updates-kept, kept-of, moved-formed}
+use Rattle.voice.proofs.Formed.{span-most, ours-of, kept-of, moved-formed}
+use Rattle.moving.proofs.Kept.{updates-kept}
 use Rattle.creation.specs.declared.OptionalRegion.{OptionalRegion}
 use Rattle.creation.specs.declared.OptionalRegion.the-variants as optional
 use Rattle.creation.specs.declared.Settings.{Settings}

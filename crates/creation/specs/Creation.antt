@@ -17,7 +17,8 @@ use Rattle.resampler.specs.Windows.{fresh}
 use Rattle.voice.specs.declared.Setup.{Setup}
 use Rattle.voice.specs.declared.StaticSound.{StaticSound}
 use Rattle.voice.specs.Refusals.{unless}
-use Rattle.voice.specs.Voices.{span, courseOf, updates, moved}
+use Rattle.voice.specs.Voices.{span, courseOf, moved}
+use Rattle.moving.specs.Updates.{updates}
 use Rattle.creation.specs.declared.OptionalRegion.{OptionalRegion}
 use Rattle.creation.specs.declared.OptionalRegion.the-variants as optional
 use Rattle.creation.specs.declared.Settings.{Settings}

@@ -5,13 +5,13 @@ ghost use mathlib.Core.Bool.{_&&_};
 ghost use lib.Dec.{leb, ltb, eqb};
 ghost use lib.ListN.{length};
 ghost use Rattle.creation.specs.Creation.{ranged, allowed, setupOf, startable, refusedNew, opened, transportOf, made, blankSound, created};
+use moving::Moving;
 use playback_position::FrameRange;
 use playback_position::PlaybackPosition;
 use playback_position::Region;
 use playback_state_manager::PlaybackState;
 use resampler::Resampler;
 use transport::Transport;
-use voice::Moving;
 use voice::Setup;
 use voice::StaticSound;
 

@@ -1,5 +1,6 @@
 // Document 01's marked examples of the sound that no theorem states: each is run, shown and compared.
 // 1 Hz, rate 1, a time step of 1 and unit lanes unless said. Of a yes or no, 1 is shown for yes.
+use block::Signals;
 use command_set::Amount;
 use command_set::Commands;
 use command_set::LoopCommand;
@@ -10,8 +11,7 @@ use playback_position::EndPosition;
 use playback_position::PlaybackPosition;
 use playback_position::Region;
 use playback_state_manager::StartAnswer;
-use static_sound::Processed;
-use static_sound::Signals;
+use playing::Processed;
 use voice::StaticSound;
 
 struct Tally {

@@ -2,6 +2,7 @@
 use crate::input;
 use crate::states;
 ghost use Rattle.sound_list.specs.Counts.{Counts};
+use block::Signals;
 use command_set::Amount;
 use command_set::Commands;
 use command_set::LoopCommand;
@@ -12,8 +13,7 @@ use playback_position::EndPosition;
 use playback_position::PlaybackPosition;
 use playback_position::Region;
 use playback_state_manager::StartAnswer;
-use static_sound::Processed;
-use static_sound::Signals;
+use playing::Processed;
 use voice::StaticSound;
 
 // What a call leaves, and whether all of its answer is the list's.

@@ -1,12 +1,12 @@
 // A whole state as the list has it: 28 numbers, in the order of the fields.
 use crate::input;
 use frame::Frame;
+use moving::Moving;
 use playback_position::FrameRange;
 use playback_state_manager::PlaybackState;
 use resampler::RecentFrame;
 use resampler::Resampler;
 use transport::Transport;
-use voice::Moving;
 use voice::Setup;
 use voice::StaticSound;
 

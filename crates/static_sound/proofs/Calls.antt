@@ -1,30 +1,28 @@
 -- A block's call, from its parts: the number that it gives, and what it plays.
-use mathlib.Core.Path.{_≡_, refl, sym, ap, _∙_}
-use mathlib.Core.Bool.{Bool, true, false, not, _&&_, cond}
-use mathlib.Core.List.{List, [], _∷_, _++_}
+use mathlib.Core.Path.{_≡_, sym, ap, _∙_}
+use mathlib.Core.Bool.{Bool, true, false, not, cond}
+use mathlib.Core.List.{List, _++_}
 use Prim.Native.Nat.{ℕ, _+_, _-_, _*_, _/_, _%_, _≤_}
 use native.Mathlib.Omega.{arith}
-use lib.Dec.{T, leb, eqb, leb→le, eqb→eq}
-use lib.ListN.{length, take, drop, replicate, length-take, length-drop}
+use lib.Dec.{leb, eqb, leb→le, eqb→eq}
+use lib.ListN.{length, take, drop, length-take, length-drop}
 use lib.Seq.{drop-drop}
 use lib.Ieee.{Float}
-use lib.Ieee.Fits.{and-l, and-r}
+use lib.Ieee.Fits.{and-r}
 use borrow.Author.Tests.{ne-eqb, not-true, not-false}
 use Rattle.numbers.specs.Words.{finite, naught}
 use lib.Ieee.{lt}
 use Rattle.lanes.specs.Lanes.{Lanes, rows, sized, timely, judged}
-use Rattle.lanes.proofs.Rows.{beside-length}
 use Rattle.voice.specs.declared.StaticSound.{StaticSound}
 use Rattle.voice.specs.WellFormed.{ours}
 use Rattle.voice.proofs.Formed.{ours-parts}
-use Rattle.static_sound.specs.declared.Signals.{Signals}
-use Rattle.static_sound.specs.declared.Processed.{Processed}
-use Rattle.static_sound.specs.Blocks.{Played, begun, block, plays, silent, live, zeros}
-use Rattle.static_sound.specs.Turns.{Playable, acceptedAs, sounded}
-use Rattle.static_sound.specs.Entries.{refusedBlock, Outcome, refusedWith, acceptedWith, holds, room, mixed, processed, processedInto}
-use Rattle.static_sound.proofs.Fills.{zeros-filled}
-use Rattle.static_sound.proofs.Keeps.{begun-formed}
-use Rattle.static_sound.proofs.Refusals.{Accepted, accepted-parts}
+use Rattle.block.specs.declared.Signals.{Signals}
+use Rattle.playing.specs.Plays.{Outcome, acceptedWith, acceptedAs}
+use Rattle.block.specs.Blocks.{block}
+use Rattle.playing.specs.Turns.{Playable}
+use Rattle.playing.specs.declared.Processed.{Processed}
+use Rattle.static_sound.specs.Entries.{refusedBlock, refusedWith, holds, room, mixed, processed, processedInto}
+use Rattle.static_sound.proofs.Refusals.{accepted-parts}
 
 -- ---- the number, test by test
 
@@ -56,28 +54,14 @@ module _ (len : ℕ) (v : StaticSound) (dt : Float) (b : Lanes) (placed : Bool) 
   unfolding refusedBlock
   number-judged h s p t = simp (h, s, p, t)
 
--- ---- sound or silence
-
-module _ (snd : List Float) (dt : Float) (b : Lanes) (v : StaticSound) where
-  pub sounded-live : live v ≡ true → (o : Outcome) → o ≡ acceptedAs (plays snd dt (rows b) v) → o ≡ acceptedAs (sounded snd dt b v)
-  sounded-live e o h = h ∙ sym (ap (λ (t : Bool). acceptedAs (cond t (plays snd dt (rows b) v) (silent (rows b) v))) e)
-
-  pub sounded-silent : live v ≡ false → (out : List Float) (n : ℕ) → out ≡ replicate n naught → n ≡ 2 * length (b .rate)
-      → record { answer = record { refusal = 0; sound = v; steps = 0 }; samples = out } ≡ acceptedAs (sounded snd dt b v)
-  sounded-silent e out n h k =
-      ap (λ (z : List Float). acceptedAs (record { voice = v; samples = z; steps = 0 }))
-      (h ∙ ap (λ (m : ℕ). replicate m naught) (k ∙ ap (λ (m : ℕ). 2 * m) (sym (beside-length (b .fade) (b .volume) (b .left) (b .right) (b .rate)))) ∙ sym (zeros-filled (rows b)))
-      ∙ sym (ap (λ (t : Bool). acceptedAs (cond t (plays snd dt (rows b) v) (silent (rows b) v))) e)
-
 -- ---- what an accepted call asks of the sound
 
-playable : (snd : List Float) (v : StaticSound) (dt : Float) (b : Lanes) (placed : Bool) (g : Signals) (m : ℕ) → refusedBlock (length snd) v dt b placed ≡ 0 → m ≡ 2 * length (b .rate)
-    → Playable snd (begun g v) dt b m
-unfolding begun
-playable snd v dt b placed g m h k =
+playable : (snd : List Float) (v : StaticSound) (dt : Float) (b : Lanes) (placed : Bool) (m : ℕ) → refusedBlock (length snd) v dt b placed ≡ 0 → m ≡ 2 * length (b .rate)
+    → Playable snd v dt b m
+playable snd v dt b placed m h k =
     let p = accepted-parts (length snd) v dt b placed h in
     let o = ours-parts (length snd) v (p .ours) in
-    record { formed = begun-formed g v (o .0); lent = o .1; sized = p .sized; long = k; timely = and-r (finite dt) (lt naught dt) (p .timely); near = p .near }
+    record { formed = o .0; lent = o .1; sized = p .sized; long = k; timely = and-r (finite dt) (lt naught dt) (p .timely); near = p .near }
 
 -- ---- the two entries
 
@@ -86,12 +70,12 @@ module _ (snd : List Float) (v : StaticSound) (dt : Float) (b : Lanes) (g : Sign
   unfolding processed
   refused-is k e n = rw (← e) (simp (ne-eqb k 0 n))
 
-  pub processed-is : (o : Outcome) → refusedBlock (length snd) v dt b (holds b out) ≡ 0 → o ≡ acceptedAs (sounded snd dt b (begun g v)) → o ≡ processed snd v dt b g out
-  unfolding processed block
+  pub processed-is : (o : Outcome) → refusedBlock (length snd) v dt b (holds b out) ≡ 0 → o ≡ acceptedAs (block snd dt (rows b) g v) → o ≡ processed snd v dt b g out
+  unfolding processed
   processed-is o e h = rw e h
 
-  pub playable-out : refusedBlock (length snd) v dt b (holds b out) ≡ 0 → Playable snd (begun g v) dt b (length out)
-  playable-out h = playable snd v dt b (holds b out) g (length out) h (eqb→eq (length out) (2 * length (b .rate)) (accepted-parts (length snd) v dt b (holds b out) h .placed))
+  pub playable-out : refusedBlock (length snd) v dt b (holds b out) ≡ 0 → Playable snd v dt b (length out)
+  playable-out h = playable snd v dt b (holds b out) (length out) h (eqb→eq (length out) (2 * length (b .rate)) (accepted-parts (length snd) v dt b (holds b out) h .placed))
 
 module _ (snd : List Float) (v : StaticSound) (dt : Float) (b : Lanes) (g : Signals) (mix : List Float) (from : ℕ) where
   abbrev number : ℕ
@@ -111,16 +95,16 @@ module _ (snd : List Float) (v : StaticSound) (dt : Float) (b : Lanes) (g : Sign
   part-long : number ≡ 0 → length (take (2 * from + 2 * length (b .rate) - 2 * from) (drop (2 * from) mix)) ≡ 2 * length (b .rate)
   part-long h = let l = inside h in simp (length-take, length-drop) (omega arith)
 
-  pub playable-part : number ≡ 0 → Playable snd (begun g v) dt b (length (take (2 * from + 2 * length (b .rate) - 2 * from) (drop (2 * from) mix)))
-  playable-part h = playable snd v dt b (room from (length (b .rate)) mix) g _ h (part-long h)
+  pub playable-part : number ≡ 0 → Playable snd v dt b (length (take (2 * from + 2 * length (b .rate) - 2 * from) (drop (2 * from) mix)))
+  playable-part h = playable snd v dt b (room from (length (b .rate)) mix) _ h (part-long h)
 
-  pub processed-into : (r : Processed) (samples : List Float) → number ≡ 0 → record { answer = r; samples = samples } ≡ acceptedAs (sounded snd dt b (begun g v))
+  pub processed-into : (r : Processed) (samples : List Float) → number ≡ 0 → record { answer = r; samples = samples } ≡ acceptedAs (block snd dt (rows b) g v)
       → record { answer = r; samples = take (2 * from) mix ++ (samples ++ drop (2 * from + 2 * length (b .rate) - 2 * from) (drop (2 * from) mix)) } ≡ processedInto snd v dt b g mix from
-  unfolding processedInto block
+  unfolding processedInto
   processed-into r samples e h =
       let n = length (b .rate) in
       let k : 2 * from + (2 * from + 2 * n - 2 * from) ≡ 2 * (from + n) = omega arith in
-      let p = sounded snd dt b (begun g v) in
+      let p = block snd dt (rows b) g v in
       ap (λ (l : List Float). record { answer = r; samples = take (2 * from) mix ++ (samples ++ l) }) (drop-drop (2 * from + 2 * n - 2 * from) (2 * from) mix ∙ ap (λ (m : ℕ). drop m mix) k)
       ∙ ap (λ (o : Outcome). record { answer = o .answer; samples = mixed from n mix (o .samples) }) h
       ∙ sym (ap (λ (m : ℕ). cond (eqb m 0) (acceptedWith p (mixed from n mix (p .samples))) (refusedWith m v mix)) e)

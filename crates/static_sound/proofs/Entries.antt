@@ -15,11 +15,12 @@ use Rattle.voice.specs.declared.Setup.{Setup}
 use Rattle.voice.specs.declared.StaticSound.{StaticSound}
 use Rattle.voice.specs.WellFormed.{ours}
 use Rattle.voice.proofs.Formed.{ours-parts, ours-of}
-use Rattle.static_sound.specs.declared.Signals.{Signals}
-use Rattle.static_sound.specs.Blocks.{block}
-use Rattle.static_sound.specs.Entries.{Outcome, refusedBlock, refusedWith, acceptedWith, holds, processed, room, mixed, processedInto}
-use Rattle.static_sound.proofs.Plays.{block-setup}
-use Rattle.static_sound.proofs.Keeps.{block-formed}
+use Rattle.block.specs.declared.Signals.{Signals}
+use Rattle.block.specs.Blocks.{block}
+use Rattle.playing.specs.Plays.{Outcome, acceptedWith}
+use Rattle.static_sound.specs.Entries.{refusedBlock, refusedWith, holds, processed, room, mixed, processedInto}
+use Rattle.block.proofs.Blocks.{block-setup}
+use Rattle.block.proofs.Keeps.{block-formed}
 use Rattle.static_sound.proofs.Refusals.{Accepted}
 
 -- ---- an accepted block

@@ -1,6 +1,6 @@
 -- The block's entries, accepted and refused together: block, block into a mix, stretch (document 01, refusals 1 and 9 to 12).
 use Prim.Native.Nat.{ℕ, _+_, _-_, _*_, _/_, _%_}
-use mathlib.Core.Bool.{Bool, true, false, _&&_, cond}
+use mathlib.Core.Bool.{Bool, _&&_, cond}
 use mathlib.Core.List.{List, [], _++_}
 use lib.Dec.{leb, eqb}
 use lib.ListN.{length, take, drop}
@@ -11,10 +11,10 @@ use Rattle.lanes.specs.Lanes.{Lanes, rows, sized, timely, laned, near}
 use Rattle.numbers.specs.Lists.{all}
 use Rattle.voice.specs.declared.StaticSound.{StaticSound}
 use Rattle.voice.specs.WellFormed.{ours}
-use Rattle.static_sound.specs.declared.Signals.{Signals}
-use Rattle.static_sound.specs.declared.Processed.{Processed}
+use Rattle.block.specs.declared.Signals.{Signals}
 use Rattle.voice.specs.Refusals.{unless}
-use Rattle.static_sound.specs.Blocks.{Played, block}
+use Rattle.playing.specs.Plays.{Outcome, acceptedWith}
+use Rattle.block.specs.Blocks.{block}
 
 -- the number of a refused block, 0 where it is accepted; `placed` says whether the output holds it
 unfoldable pub refusedBlock : ℕ → StaticSound → Float → Lanes → Bool → ℕ
@@ -25,16 +25,8 @@ refusedBlock len v dt b placed =
     (unless (all laned (rows b)) 11
     (unless (all (near (v .setup .«sample_rate») dt) (rows b)) 12 0))))
 
--- what a call gives: its answer, and every sample of the lent buffer
-pub record Outcome : Type 0 where
-  pub answer : Processed
-  pub samples : List Float
-
 abbrev pub refusedWith : ℕ → StaticSound → List Float → Outcome
 refusedWith k v out = record { answer = record { refusal = k; sound = v; steps = 0 }; samples = out }
-
-abbrev pub acceptedWith : Played → List Float → Outcome
-acceptedWith p out = record { answer = record { refusal = 0; sound = p .voice; steps = p .steps }; samples = out }
 
 -- the output's length is that of the block
 abbrev pub holds : Lanes → List Float → Bool

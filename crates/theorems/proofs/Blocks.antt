@@ -16,10 +16,13 @@ use Rattle.playback_state_manager.specs.States.{advancing, number}
 use Rattle.lanes.specs.Lanes.{Lane, laned, near}
 use Rattle.voice.specs.declared.StaticSound.{StaticSound}
 use Rattle.voice.specs.WellFormed.{Formed}
-use Rattle.static_sound.specs.declared.Signals.{Signals}
-use Rattle.static_sound.specs.Blocks.{Played, plays, silent, begun, live, block, quiet}
-use Rattle.static_sound.proofs.Plays.{plays-append, zeros-append, plays-started, plays-setup, block-live, block-silent, begun-quiet}
-use Rattle.static_sound.proofs.Keeps.{begun-formed, plays-formed}
+use Rattle.block.specs.declared.Signals.{Signals}
+use Rattle.playing.specs.Plays.{Played, plays}
+use Rattle.block.specs.Blocks.{silent, begun, live, block, quiet}
+use Rattle.playing.proofs.Plays.{plays-append, plays-started, plays-setup}
+use Rattle.block.proofs.Blocks.{zeros-append, block-live, block-silent, begun-quiet}
+use Rattle.block.proofs.Keeps.{begun-formed}
+use Rattle.playing.proofs.Keeps.{plays-formed}
 use Rattle.theorems.specs.Alike.{bare, awake}
 use Rattle.theorems.specs.LawfulEnd.{EndsOnly}
 use Rattle.theorems.proofs.Ends.{plays-ends, plays-idle}

@@ -7,7 +7,7 @@ use Rattle.lanes.specs.Lanes.{Lanes}
 use Rattle.voice.specs.declared.StaticSound.{StaticSound}
 use Rattle.creation.specs.declared.Settings.{Settings}
 use Rattle.command_set.specs.declared.Commands.{Commands}
-use Rattle.static_sound.specs.declared.Signals.{Signals}
+use Rattle.block.specs.declared.Signals.{Signals}
 use Rattle.creation.specs.Creation.{created}
 use Rattle.command_set.specs.Commands.{commanded}
 use Rattle.static_sound.specs.Entries.{processed, processedInto, stretchOf}

@@ -17,10 +17,10 @@ use Rattle.voice.specs.declared.Setup.{Setup}
 use Rattle.voice.specs.declared.StaticSound.{StaticSound}
 use Rattle.voice.specs.WellFormed.{ours}
 use Rattle.voice.proofs.Formed.{ours-parts}
-use Rattle.static_sound.specs.declared.Signals.{Signals}
-use Rattle.static_sound.specs.Blocks.{block, quiet}
+use Rattle.block.specs.declared.Signals.{Signals}
+use Rattle.block.specs.Blocks.{block, quiet}
 use Rattle.static_sound.specs.Entries.{refusedBlock, holds}
-use Rattle.static_sound.proofs.Plays.{block-setup}
+use Rattle.block.proofs.Blocks.{block-setup}
 use Rattle.static_sound.proofs.Refusals.{Accepted, accepted-parts, accepted-of}
 use Rattle.static_sound.proofs.Entries.{timely-above, block-ours, processed-passed, processed-done}
 use Rattle.theorems.specs.Cut.{CutBlocks}

@@ -28,13 +28,15 @@ use Rattle.resampler.specs.Windows.{push, given-count, isEmpty, hushed, Windowe
 use Rattle.resampler.proofs.Silence.{hushed-frame, empty-hushed, reading-naught}
 use Rattle.lanes.specs.Lanes.{Lane, laned, near}
 use Rattle.voice.specs.declared.Setup.{Setup}
-use Rattle.voice.specs.declared.Moving.{Moving}
-use Rattle.voice.specs.declared.Course.{Course}
+use Rattle.moving.specs.declared.Moving.{Moving}
+use Rattle.moving.specs.declared.Course.{Course}
 use Rattle.voice.specs.declared.StaticSound.{StaticSound}
-use Rattle.voice.specs.Voices.{courseOf, sounding, pushed, stepped, updated, updates}
+use Rattle.voice.specs.Voices.{courseOf}
+use Rattle.moving.specs.Updates.{sounding, pushed, stepped, updated, updates}
 use Rattle.voice.specs.WellFormed.{Formed}
-use Rattle.static_sound.specs.Blocks.{Played, total, turned, frameHeard, plays, zeros}
-use Rattle.static_sound.proofs.Keeps.{turned-formed}
+use Rattle.playing.specs.Plays.{Played, total, turned, frameHeard, plays}
+use Rattle.block.specs.Blocks.{zeros}
+use Rattle.playing.proofs.Keeps.{turned-formed}
 use Rattle.theorems.specs.Alike.{unnumbered, bare}
 use Rattle.theorems.specs.LawfulEnd.{Ended, EndsOnly}
 

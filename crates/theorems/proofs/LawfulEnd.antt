@@ -14,10 +14,13 @@ use Rattle.voice.specs.declared.Setup.{Setup}
 use Rattle.voice.specs.declared.StaticSound.{StaticSound}
 use Rattle.voice.specs.WellFormed.{Formed}
 use Rattle.voice.proofs.Formed.{ours-parts}
-use Rattle.static_sound.specs.Blocks.{Played, begun, plays, zeros}
-use Rattle.static_sound.specs.Entries.{Outcome, holds, processed}
-use Rattle.static_sound.proofs.Plays.{plays-append, plays-length, plays-setup, block-live}
-use Rattle.static_sound.proofs.Keeps.{begun-formed, plays-formed}
+use Rattle.playing.specs.Plays.{Played, plays, Outcome}
+use Rattle.block.specs.Blocks.{begun, zeros}
+use Rattle.static_sound.specs.Entries.{holds, processed}
+use Rattle.playing.proofs.Plays.{plays-append, plays-length, plays-setup}
+use Rattle.block.proofs.Blocks.{block-live}
+use Rattle.block.proofs.Keeps.{begun-formed}
+use Rattle.playing.proofs.Keeps.{plays-formed}
 use Rattle.static_sound.proofs.Refusals.{Accepted, accepted-parts}
 use Rattle.static_sound.proofs.Entries.{timely-above, processed-passed, processed-done}
 use Rattle.theorems.specs.LawfulEnd.{Ended, EndsOnly, UpdateEnds, BlockEnds}

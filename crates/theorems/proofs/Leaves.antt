@@ -24,13 +24,17 @@ use Rattle.playback_state_manager.specs.declared.PlaybackState.{PlaybackState}
 use Rattle.playback_state_manager.specs.declared.PlaybackState.the-variants.{Stopped}
 use Rattle.playback_state_manager.specs.declared.StartAnswer.{StartAnswer}
 use Rattle.playback_state_manager.specs.States.{number, advancing, pausing, resuming, stopping, settled}
-use Rattle.lanes.specs.Lanes.{Lanes, sized, timely, judged}
+use Rattle.lanes.specs.Lanes.{Lanes, rows, sized, timely, judged}
 use Rattle.voice.specs.declared.Setup.{Setup}
-use Rattle.voice.specs.declared.Moving.{Moving}
+use Rattle.moving.specs.declared.Moving.{Moving}
 use Rattle.voice.specs.declared.StaticSound.{StaticSound}
-use Rattle.voice.specs.declared.Course.{Course}
-use Rattle.voice.specs.Voices.{span, offset, courseOf, pushed, updated, updates, movingOf}
+use Rattle.moving.specs.declared.Course.{Course}
+use Rattle.voice.specs.Voices.{span, offset, courseOf}
+use Rattle.moving.specs.Updates.{pushed, updated, updates, movingOf}
 use Rattle.voice.specs.WellFormed.{ours}
+use Rattle.playing.specs.Plays.{Outcome, plays, acceptedAs}
+use Rattle.block.specs.declared.Signals.{Signals}
+use Rattle.block.specs.Blocks.{block}
 use Rattle.theorems.specs.Coincide.{Decides}
 use Rattle.theorems.proofs.Coincide.{named}
 
@@ -176,15 +180,25 @@ voice-staticsound-course = named (λ (x : StaticSound). courseOf x)
 pub voice-staticsound-is-well-formed : Decides (λ (x : StaticSound × ℕ) (o : Bool). o ≡ ours (x .1) (x .0))
 voice-staticsound-is-well-formed = named (λ (x : StaticSound × ℕ). ours (x .1) (x .0))
 
-pub voice-moving-push-frame-to-resampler : Decides (λ (x : Moving × Course × List Float) (o : Resampler). o ≡ pushed (x .2) (x .1) (x .0))
-voice-moving-push-frame-to-resampler = named (λ (x : Moving × Course × List Float). pushed (x .2) (x .1) (x .0))
+-- ---- moving
 
-pub voice-moving-update-position : Decides (λ (x : Moving × Course × List Float) (o : Moving). o ≡ updated (x .2) (x .1) (x .0))
-voice-moving-update-position = named (λ (x : Moving × Course × List Float). updated (x .2) (x .1) (x .0))
+pub moving-moving-push-frame-to-resampler : Decides (λ (x : Moving × Course × List Float) (o : Resampler). o ≡ pushed (x .2) (x .1) (x .0))
+moving-moving-push-frame-to-resampler = named (λ (x : Moving × Course × List Float). pushed (x .2) (x .1) (x .0))
 
-pub voice-moving-update-positions : Decides (λ (x : Moving × Course × List Float × ℕ) (o : Moving). o ≡ updates (x .3) (x .2) (x .1) (x .0))
-voice-moving-update-positions = named (λ (x : Moving × Course × List Float × ℕ). updates (x .3) (x .2) (x .1) (x .0))
+pub moving-moving-update-position : Decides (λ (x : Moving × Course × List Float) (o : Moving). o ≡ updated (x .2) (x .1) (x .0))
+moving-moving-update-position = named (λ (x : Moving × Course × List Float). updated (x .2) (x .1) (x .0))
 
-pub voice-moving-of : Decides (λ (x : FrameRange × PlaybackState × ℕ × Bool × Frame × Frame × Frame × Frame × ℕ × ℕ × ℕ × ℕ × ℕ) (o : Moving). o ≡ movingOf (x .0) (x .1) (x .2) (x .3) (x .4) (x .5) (x .6) (x .7) (x .8) (x .9) (x .10) (x .11) (x .12))
-voice-moving-of =
+pub moving-moving-update-positions : Decides (λ (x : Moving × Course × List Float × ℕ) (o : Moving). o ≡ updates (x .3) (x .2) (x .1) (x .0))
+moving-moving-update-positions = named (λ (x : Moving × Course × List Float × ℕ). updates (x .3) (x .2) (x .1) (x .0))
+
+pub moving-moving-of : Decides (λ (x : FrameRange × PlaybackState × ℕ × Bool × Frame × Frame × Frame × Frame × ℕ × ℕ × ℕ × ℕ × ℕ) (o : Moving). o ≡ movingOf (x .0) (x .1) (x .2) (x .3) (x .4) (x .5) (x .6) (x .7) (x .8) (x .9) (x .10) (x .11) (x .12))
+moving-moving-of =
     named (λ (x : FrameRange × PlaybackState × ℕ × Bool × Frame × Frame × Frame × Frame × ℕ × ℕ × ℕ × ℕ × ℕ). movingOf (x .0) (x .1) (x .2) (x .3) (x .4) (x .5) (x .6) (x .7) (x .8) (x .9) (x .10) (x .11) (x .12))
+
+-- ---- playing, block
+
+pub playing-play : Decides (λ (x : List Float × Float × Lanes × StaticSound) (o : Outcome). o ≡ acceptedAs (plays (x .0) (x .1) (rows (x .2)) (x .3)))
+playing-play = named (λ (x : List Float × Float × Lanes × StaticSound). acceptedAs (plays (x .0) (x .1) (rows (x .2)) (x .3)))
+
+pub block-block : Decides (λ (x : List Float × Float × Lanes × Signals × StaticSound) (o : Outcome). o ≡ acceptedAs (block (x .0) (x .1) (rows (x .2)) (x .3) (x .4)))
+block-block = named (λ (x : List Float × Float × Lanes × Signals × StaticSound). acceptedAs (block (x .0) (x .1) (rows (x .2)) (x .3) (x .4)))

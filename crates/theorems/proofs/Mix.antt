@@ -11,9 +11,9 @@ use lib.Ieee.Fits.{and-i, and-l, and-r, eq→eqb}
 use Rattle.lanes.specs.Lanes.{Lanes, rows, firstLanes, restLanes}
 use Rattle.lanes.proofs.Rows.{beside-length}
 use Rattle.voice.specs.declared.StaticSound.{StaticSound}
-use Rattle.static_sound.specs.Blocks.{block, quiet}
+use Rattle.block.specs.Blocks.{block, quiet}
 use Rattle.static_sound.specs.Entries.{refusedBlock, room, mixed}
-use Rattle.static_sound.proofs.Plays.{block-length}
+use Rattle.block.proofs.Blocks.{block-length}
 use Rattle.static_sound.proofs.Refusals.{Accepted, accepted-parts, accepted-of}
 use Rattle.static_sound.proofs.Entries.{into-passed, into-done}
 use Rattle.theorems.specs.Mix.{CutMixes}

@@ -16,10 +16,11 @@ use Rattle.lanes.proofs.Rows.{beside-take, beside-length, rows-cut}
 use Rattle.voice.specs.declared.Setup.{Setup}
 use Rattle.voice.specs.declared.StaticSound.{StaticSound}
 use Rattle.voice.proofs.Formed.{ours-parts}
-use Rattle.static_sound.specs.declared.Signals.{Signals}
-use Rattle.static_sound.specs.Blocks.{Played, block, quiet}
-use Rattle.static_sound.specs.Entries.{Outcome, acceptedWith, holds, processed}
-use Rattle.static_sound.proofs.Plays.{block-setup}
+use Rattle.block.specs.declared.Signals.{Signals}
+use Rattle.playing.specs.Plays.{Played, Outcome, acceptedWith}
+use Rattle.block.specs.Blocks.{block, quiet}
+use Rattle.static_sound.specs.Entries.{holds, processed}
+use Rattle.block.proofs.Blocks.{block-setup}
 use Rattle.static_sound.proofs.Refusals.{Accepted, accepted-parts}
 use Rattle.static_sound.proofs.Entries.{timely-above, processed-passed, processed-done}
 use Rattle.theorems.specs.Sums.{sum}

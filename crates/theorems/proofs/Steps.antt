@@ -10,15 +10,18 @@ use lib.Ieee.{Float}
 use Rattle.numbers.specs.Words.{whole}
 use Rattle.lanes.specs.Lanes.{Lane, rows, near}
 use Rattle.lanes.proofs.Rows.{beside-length}
-use Rattle.voice.specs.declared.Moving.{Moving}
-use Rattle.voice.specs.declared.Course.{Course}
+use Rattle.moving.specs.declared.Moving.{Moving}
+use Rattle.moving.specs.declared.Course.{Course}
 use Rattle.voice.specs.declared.StaticSound.{StaticSound}
-use Rattle.voice.specs.Voices.{courseOf, updates, updated}
+use Rattle.voice.specs.Voices.{courseOf}
+use Rattle.moving.specs.Updates.{updates, updated}
 use Rattle.voice.proofs.Formed.{ours-parts}
-use Rattle.static_sound.specs.Blocks.{total, turned, plays, begun, live, block}
-use Rattle.static_sound.specs.Entries.{acceptedWith, holds}
-use Rattle.static_sound.proofs.Plays.{block-live, block-silent}
-use Rattle.static_sound.proofs.Keeps.{begun-formed, plays-steps}
+use Rattle.playing.specs.Plays.{total, turned, plays, acceptedWith}
+use Rattle.block.specs.Blocks.{begun, live, block}
+use Rattle.static_sound.specs.Entries.{holds}
+use Rattle.block.proofs.Blocks.{block-live, block-silent}
+use Rattle.block.proofs.Keeps.{begun-formed}
+use Rattle.playing.proofs.Keeps.{plays-steps}
 use Rattle.static_sound.proofs.Refusals.{Accepted, accepted-parts}
 use Rattle.static_sound.proofs.Entries.{timely-above, processed-passed, processed-done}
 use Rattle.theorems.specs.Sums.{sum}

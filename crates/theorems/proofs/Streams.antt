@@ -14,9 +14,10 @@ use Rattle.numbers.specs.Lists.{all}
 use Rattle.lanes.specs.Lanes.{Lanes, rows, laned, near, firstLanes, restLanes}
 use Rattle.lanes.proofs.Rows.{sized-of}
 use Rattle.voice.specs.declared.StaticSound.{StaticSound}
-use Rattle.static_sound.specs.declared.Signals.{Signals}
-use Rattle.static_sound.specs.Blocks.{block, quiet}
-use Rattle.static_sound.specs.Entries.{acceptedWith, holds, processed}
+use Rattle.block.specs.declared.Signals.{Signals}
+use Rattle.block.specs.Blocks.{block, quiet}
+use Rattle.playing.specs.Plays.{acceptedWith}
+use Rattle.static_sound.specs.Entries.{holds, processed}
 use Rattle.static_sound.proofs.Refusals.{Accepted, accepted-of}
 use Rattle.static_sound.proofs.Entries.{block-ours, processed-done}
 use Rattle.theorems.specs.Sums.{sum}

@@ -10,7 +10,7 @@ use Rattle.resampler.specs.declared.RecentFrame.{RecentFrame}
 use Rattle.resampler.specs.declared.Resampler.{Resampler}
 use Rattle.playback_state_manager.specs.States.{number}
 use Rattle.voice.specs.declared.StaticSound.{StaticSound}
-use Rattle.static_sound.specs.declared.Processed.{Processed}
+use Rattle.playing.specs.declared.Processed.{Processed}
 
 -- the entry without its number
 abbrev pub unnumbered : RecentFrame → RecentFrame

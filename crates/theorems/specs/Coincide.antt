@@ -10,10 +10,11 @@ use Rattle.creation.specs.declared.Settings.{Settings}
 use Rattle.creation.specs.declared.Created.{Created}
 use Rattle.command_set.specs.declared.Commands.{Commands}
 use Rattle.command_set.specs.declared.Commanded.{Commanded}
-use Rattle.static_sound.specs.declared.Signals.{Signals}
+use Rattle.block.specs.declared.Signals.{Signals}
 use Rattle.creation.specs.Creation.{created}
 use Rattle.command_set.specs.Commands.{commanded}
-use Rattle.static_sound.specs.Entries.{Outcome, processed, processedInto, stretchOf}
+use Rattle.playing.specs.Plays.{Outcome}
+use Rattle.static_sound.specs.Entries.{processed, processedInto, stretchOf}
 
 -- a promise over inputs I and outcomes O
 abbrev pub Decides {ℓ κ} : {I : Type ℓ} {O : Type κ} → (I → O → Type κ) → Type (ℓ ⊔ κ)

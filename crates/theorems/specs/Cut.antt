@@ -8,9 +8,10 @@ use lib.ListN.{length, take, drop}
 use lib.Ieee.{Float}
 use Rattle.lanes.specs.Lanes.{Lanes, firstLanes, restLanes}
 use Rattle.voice.specs.declared.StaticSound.{StaticSound}
-use Rattle.static_sound.specs.declared.Signals.{Signals}
-use Rattle.static_sound.specs.Blocks.{quiet}
-use Rattle.static_sound.specs.Entries.{Outcome, processed}
+use Rattle.block.specs.declared.Signals.{Signals}
+use Rattle.block.specs.Blocks.{quiet}
+use Rattle.playing.specs.Plays.{Outcome}
+use Rattle.static_sound.specs.Entries.{processed}
 use Rattle.theorems.specs.Alike.{Parts}
 
 pub record CutInTwo (uncut first rest : Outcome) : Type 0 where

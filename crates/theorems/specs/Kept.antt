@@ -13,10 +13,11 @@ use Rattle.voice.specs.declared.StaticSound.{StaticSound}
 use Rattle.voice.specs.WellFormed.{wellFormed, ours}
 use Rattle.creation.specs.declared.Settings.{Settings}
 use Rattle.command_set.specs.declared.Commands.{Commands}
-use Rattle.static_sound.specs.declared.Signals.{Signals}
+use Rattle.block.specs.declared.Signals.{Signals}
 use Rattle.creation.specs.Creation.{created, blankSound}
 use Rattle.command_set.specs.Commands.{commanded}
-use Rattle.static_sound.specs.Entries.{Outcome, processed, processedInto}
+use Rattle.playing.specs.Plays.{Outcome}
+use Rattle.static_sound.specs.Entries.{processed, processedInto}
 
 -- accepted, and refused
 abbrev pub Either : ℕ → Type 0 → Type 0 → Type 0

@@ -10,12 +10,13 @@ use lib.Ieee.{Float}
 use Rattle.playback_state_manager.specs.declared.PlaybackState.{PlaybackState}
 use Rattle.playback_state_manager.specs.declared.PlaybackState.the-variants.{Stopped}
 use Rattle.lanes.specs.Lanes.{Lanes, rows}
-use Rattle.voice.specs.declared.Moving.{Moving}
-use Rattle.voice.specs.declared.Course.{Course}
+use Rattle.moving.specs.declared.Moving.{Moving}
+use Rattle.moving.specs.declared.Course.{Course}
 use Rattle.voice.specs.declared.StaticSound.{StaticSound}
-use Rattle.voice.specs.Voices.{updated}
-use Rattle.static_sound.specs.declared.Signals.{Signals}
-use Rattle.static_sound.specs.Blocks.{begun, live, plays, zeros}
+use Rattle.moving.specs.Updates.{updated}
+use Rattle.block.specs.declared.Signals.{Signals}
+use Rattle.block.specs.Blocks.{begun, live, zeros}
+use Rattle.playing.specs.Plays.{plays}
 use Rattle.static_sound.specs.Entries.{processed}
 
 -- Stopped, the transport not playing, nothing left to hear

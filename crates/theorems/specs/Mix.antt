@@ -7,9 +7,10 @@ use lib.ListN.{length}
 use lib.Ieee.{Float}
 use Rattle.lanes.specs.Lanes.{Lanes, firstLanes, restLanes}
 use Rattle.voice.specs.declared.StaticSound.{StaticSound}
-use Rattle.static_sound.specs.declared.Signals.{Signals}
-use Rattle.static_sound.specs.Blocks.{quiet}
-use Rattle.static_sound.specs.Entries.{Outcome, processedInto}
+use Rattle.block.specs.declared.Signals.{Signals}
+use Rattle.block.specs.Blocks.{quiet}
+use Rattle.playing.specs.Plays.{Outcome}
+use Rattle.static_sound.specs.Entries.{processedInto}
 use Rattle.theorems.specs.Alike.{Parts}
 
 pub record CutInMix (uncut first rest : Outcome) : Type 0 where

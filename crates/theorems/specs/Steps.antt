@@ -9,10 +9,12 @@ use lib.Ieee.{Float}
 use Rattle.numbers.specs.Words.{whole}
 use Rattle.lanes.specs.Lanes.{Lane, Lanes, rows}
 use Rattle.voice.specs.declared.StaticSound.{StaticSound}
-use Rattle.voice.specs.Voices.{courseOf, updates}
-use Rattle.static_sound.specs.declared.Signals.{Signals}
-use Rattle.static_sound.specs.Blocks.{total, turned, begun, live}
-use Rattle.static_sound.specs.Entries.{Outcome, processed}
+use Rattle.voice.specs.Voices.{courseOf}
+use Rattle.moving.specs.Updates.{updates}
+use Rattle.block.specs.declared.Signals.{Signals}
+use Rattle.playing.specs.Plays.{total, turned, Outcome}
+use Rattle.block.specs.Blocks.{begun, live}
+use Rattle.static_sound.specs.Entries.{processed}
 use Rattle.theorems.specs.Sums.{sum}
 
 -- the steps of each frame

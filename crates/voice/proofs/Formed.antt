@@ -21,7 +21,10 @@ use Rattle.resampler.specs.Windows.{windowed}
 use Rattle.resampler.proofs.Windows.{windowed-parts, windowed-of}
 use Rattle.voice.specs.declared.Setup.{Setup}
 use Rattle.voice.specs.declared.StaticSound.{StaticSound}
-use Rattle.voice.specs.Voices.{span, offset, courseOf, Able}
+use Rattle.voice.specs.Voices.{span, offset, courseOf, moved}
+use Rattle.moving.specs.Updates.{Able}
+use Rattle.moving.specs.declared.Moving.{Moving}
+use Rattle.moving.proofs.Kept.{Kept}
 use Rattle.voice.specs.WellFormed.{setUp, wellFormed, ours, Formed}
 use Rattle.transport.proofs.Seats.{seated-parts, seated-of}
 
@@ -125,3 +128,13 @@ able-of snd v h e =
       few = span-few (v .setup) (h .setup);
       inside = subst (λ (n : ℕ). 2 * (offset (v .setup) + span (v .setup)) ≤ n) (sym e) (span-inside (v .setup) (h .setup));
     }
+
+-- ---- what moves
+
+-- a well formed voice's moving parts
+pub kept-of : (v : StaticSound) → Formed v → Kept (span (v .setup)) (v .moving)
+kept-of v h = record { seat = h .seat; window = h .window }
+
+-- with another proper fraction and other well formed moving parts it stays well formed
+pub moved-formed : (v : StaticSound) (f : Float) (m : Moving) → Formed v → T (proper f) → Kept (span (v .setup)) m → Formed (moved v f m)
+moved-formed v f m h p k = record { setup = h .setup; rate = h .rate; seat = k .seat; fraction = p; window = k .window }

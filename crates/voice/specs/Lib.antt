@@ -1,4 +1,4 @@
--- What a voice holds and what one update does to it.
+-- What a voice holds and when it is well formed.
 pub mod Voices
 pub mod WellFormed
 pub mod Refusals

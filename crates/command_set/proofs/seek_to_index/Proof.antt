@@ -15,9 +15,10 @@ use Rattle.transport.specs.declared.Transport.{Transport}
 use Rattle.transport.specs.Moves.{seek}
 use Rattle.resampler.specs.declared.Resampler.{Resampler}
 use Rattle.voice.specs.declared.StaticSound.{StaticSound}
-use Rattle.voice.specs.declared.Moving.{Moving}
-use Rattle.voice.specs.declared.Course.{Course}
-use Rattle.voice.specs.Voices.{span, courseOf, pushed, moved, Able}
+use Rattle.moving.specs.declared.Moving.{Moving}
+use Rattle.moving.specs.declared.Course.{Course}
+use Rattle.voice.specs.Voices.{span, courseOf, moved}
+use Rattle.moving.specs.Updates.{pushed, Able}
 use Rattle.voice.specs.WellFormed.{ours}
 use Rattle.voice.proofs.Formed.{ours-parts, able-of}
 use Rattle.command_set.specs.Commands.{sought}

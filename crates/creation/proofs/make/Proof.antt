@@ -8,11 +8,12 @@ use denote.Ref.{now}
 use lib.Ieee.{Float}
 use borrow.Author.Needs.{needs}
 use Rattle.voice.specs.declared.StaticSound.{StaticSound}
-use Rattle.voice.specs.declared.Moving.{Moving}
-use Rattle.voice.specs.declared.Course.{Course}
-use Rattle.voice.specs.Voices.{courseOf, updated, updates, moved, Able}
+use Rattle.moving.specs.declared.Moving.{Moving}
+use Rattle.moving.specs.declared.Course.{Course}
+use Rattle.voice.specs.Voices.{courseOf, moved}
+use Rattle.moving.specs.Updates.{updated, updates, Able}
 use Rattle.voice.proofs.Formed.{able-of}
-use Rattle.voice.proofs.Kept.{updated-able}
+use Rattle.moving.proofs.Kept.{updated-able}
 use Rattle.creation.specs.declared.Settings.{Settings}
 use Rattle.creation.specs.Creation.{setupOf, opened, filled, transportOf, made}
 use Rattle.creation.proofs.Refusals.{Creatable, creatable-parts}

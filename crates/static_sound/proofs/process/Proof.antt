@@ -1,4 +1,4 @@
--- `process` gives its number, or takes its signals and plays.
+-- `process` gives its number, or plays its block.
 use mathlib.Core.Path.{_≡_, sym, ap, _∙_}
 use denote.Ref.{now}
 use Prim.Native.Nat.{ℕ}
@@ -11,9 +11,8 @@ use Rattle.static_sound.proofs.process.Statement.{statement}
 use Rattle.static_sound.proofs.process.Tie as tie
 use Rattle.static_sound.proofs.process.Reads as reads
 use Rattle.static_sound.proofs.process.Lts as lts
-use Rattle.static_sound.proofs.begin.Reads as begin-reads
 use Rattle.static_sound.proofs.holds.Reads as holds-reads
-use Rattle.static_sound.proofs.play_or_rest.Reads as play-or-rest-reads
+use Rattle.block.proofs.block.Reads as block-reads
 use Rattle.static_sound.proofs.refusal_of.Reads as refusal-of-reads
 
 abbrev start : tie.After-refusal-of → tie.Start
@@ -27,43 +26,30 @@ numbered : (c : tie.After-refusal-of)
     c .refusal-of .result ≡ refusedBlock (length (now (a .sound))) (a .voice) (a .dt) (lent c) (holds (lent c) (now (a .out))))
 numbered c = rw (c .before .holds .ensures) at (c .refusal-of .ensures)
 
--- src/block.rt:284:9
 holds-requires : tie.Need-holds-requires
 holds-requires c κs = search needs
 
--- src/block.rt:285:9
 refusal-of-requires : tie.Need-refusal-of-requires
 refusal-of-requires c κs = search needs
 
--- src/block.rt:297:9
 returns : tie.Need-returns
 returns c = let a = start (c .before) .args in refused-is (now (a .sound)) (a .voice) (a .dt) (lent (c .before)) (a .signals) (now (a .out)) _ (numbered (c .before)) (c .if1 .taken)
 
--- src/block.rt:303:9
-begin-requires : tie.Need-begin-requires
-begin-requires c κs = search needs
-
--- src/block.rt:304:5
-play-or-rest-requires : tie.Need-play-or-rest-requires
-play-or-rest-requires c κs =
-    let b = c .before in
-    let e = b .before in
+block-requires : tie.Need-block-requires
+block-requires c κs =
+    let e = c .before in
     let a = start (e .before) .args in
-    rw (b .begin .ensures) (playable-out (now (a .sound)) (a .voice) (a .dt) (lent (e .before)) (a .signals) (now (a .out)) (sym (numbered (e .before)) ∙ e .if1 .left))
+    playable-out (now (a .sound)) (a .voice) (a .dt) (lent (e .before)) (a .signals) (now (a .out)) (sym (numbered (e .before)) ∙ e .if1 .left)
 
--- src/block.rt:270:1
 same-length : tie.Need-same-length
 same-length c = search needs
 
--- src/block.rt:270:1
 returns-2 : tie.Need-returns-2
 returns-2 c =
     let p = c .before .before in
-    let b = p .before .before in
-    let e = b .before in
+    let e = p .before .before in
     let a = start (e .before) .args in
-    processed-is (now (a .sound)) (a .voice) (a .dt) (lent (e .before)) (a .signals) (now (a .out)) _ (sym (numbered (e .before)) ∙ e .if1 .left)
-    (rw (b .begin .ensures) at (p .play-or-rest .ensures))
+    processed-is (now (a .sound)) (a .voice) (a .dt) (lent (e .before)) (a .signals) (now (a .out)) _ (sym (numbered (e .before)) ∙ e .if1 .left) (p .block .ensures)
 
 pub process-spec : {M : Type 1} → statement M
 process-spec =
@@ -72,7 +58,6 @@ process-spec =
     holds-requires
     refusal-of-requires
     returns
-    begin-requires
-    play-or-rest-requires
+    block-requires
     same-length
     returns-2)

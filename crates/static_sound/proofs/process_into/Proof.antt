@@ -1,4 +1,4 @@
--- `process_into` gives its number, or takes its signals and plays into its part of the mix.
+-- `process_into` gives its number, or plays its block into its part of the mix.
 use mathlib.Core.Path.{_≡_, sym, ap, _∙_}
 use native.Mathlib.Omega.{arith}
 use denote.Ref.{now}
@@ -12,9 +12,8 @@ use Rattle.static_sound.proofs.process_into.Statement.{statement}
 use Rattle.static_sound.proofs.process_into.Tie as tie
 use Rattle.static_sound.proofs.process_into.Reads as reads
 use Rattle.static_sound.proofs.process_into.Lts as lts
-use Rattle.static_sound.proofs.begin.Reads as begin-reads
 use Rattle.static_sound.proofs.has_room.Reads as has-room-reads
-use Rattle.static_sound.proofs.play_or_rest.Reads as play-or-rest-reads
+use Rattle.block.proofs.block.Reads as block-reads
 use Rattle.static_sound.proofs.refusal_of.Reads as refusal-of-reads
 
 abbrev start : tie.After-refusal-of → tie.Start
@@ -37,71 +36,51 @@ none c = sym (numbered (c .before)) ∙ c .if1 .left
 fits : (c : tie.Else1) → (let a = start (c .before) .args in 2 * (a .from + length (now (a .rate))) ≤ length (now (a .mix)))
 fits c = let a = start (c .before) .args in inside (now (a .sound)) (a .voice) (a .dt) (lent (c .before)) (a .signals) (now (a .mix)) (a .from) (none c)
 
--- src/block.rt:323:9
 has-room-requires : tie.Need-has-room-requires
 has-room-requires c κs = search needs
 
--- src/block.rt:324:9
 refusal-of-requires : tie.Need-refusal-of-requires
 refusal-of-requires c κs = search needs
 
--- src/block.rt:336:9
 returns : tie.Need-returns
 returns c = let a = start (c .before) .args in refused-into (now (a .sound)) (a .voice) (a .dt) (lent (c .before)) (a .signals) (now (a .mix)) (a .from) _ (numbered (c .before)) (c .if1 .taken)
 
--- src/block.rt:342:9
-begin-requires : tie.Need-begin-requires
-begin-requires c κs = search needs
-
--- src/block.rt:343:13
 mul-a : tie.Need-mul-a
-mul-a c = omega (arith, fits (c .before), start (c .before .before) .good .1 .1 .1 .1 .1 .1 .1 .1 .1 .0)
+mul-a c = omega (arith, fits c, start (c .before) .good .1 .1 .1 .1 .1 .1 .1 .1 .1 .0)
 
--- src/block.rt:344:17
 mul-e : tie.Need-mul-e
-mul-e c = omega (arith, fits (c .before), start (c .before .before) .good .1 .1 .1 .1 .1 .1 .1 .1 .1 .0)
+mul-e c = omega (arith, fits c, start (c .before) .good .1 .1 .1 .1 .1 .1 .1 .1 .1 .0)
 
--- src/block.rt:344:13
 add-e : tie.Need-add-e
-add-e c = omega (arith, fits (c .before), start (c .before .before) .good .1 .1 .1 .1 .1 .1 .1 .1 .1 .0)
+add-e c = omega (arith, fits c, start (c .before) .good .1 .1 .1 .1 .1 .1 .1 .1 .1 .0)
 
--- src/block.rt:354:9
-mul-play-or-rest : tie.Need-mul-play-or-rest
-mul-play-or-rest c = omega (arith, fits (c .before), start (c .before .before) .good .1 .1 .1 .1 .1 .1 .1 .1 .1 .0)
+mul-block : tie.Need-mul-block
+mul-block c = omega (arith, fits c, start (c .before) .good .1 .1 .1 .1 .1 .1 .1 .1 .1 .0)
 
--- src/block.rt:354:9
-sub-play-or-rest : tie.Need-sub-play-or-rest
-sub-play-or-rest c = search needs
+sub-block : tie.Need-sub-block
+sub-block c = search needs
 
--- src/block.rt:354:9
-part-play-or-rest-start : tie.Need-part-play-or-rest-start
-part-play-or-rest-start c = search needs
+part-block-start : tie.Need-part-block-start
+part-block-start c = search needs
 
--- src/block.rt:354:9
-part-play-or-rest-end : tie.Need-part-play-or-rest-end
-part-play-or-rest-end c = omega (arith, fits (c .before), start (c .before .before) .good .1 .1 .1 .1 .1 .1 .1 .1 .1 .0)
+part-block-end : tie.Need-part-block-end
+part-block-end c = omega (arith, fits c, start (c .before) .good .1 .1 .1 .1 .1 .1 .1 .1 .1 .0)
 
--- src/block.rt:345:5
-play-or-rest-requires : tie.Need-play-or-rest-requires
-play-or-rest-requires c κs =
-    let b = c .before in
-    let e = b .before in
+block-requires : tie.Need-block-requires
+block-requires c κs =
+    let e = c .before in
     let a = start (e .before) .args in
-    rw (b .begin .ensures) (playable-part (now (a .sound)) (a .voice) (a .dt) (lent (e .before)) (a .signals) (now (a .mix)) (a .from) (none e))
+    playable-part (now (a .sound)) (a .voice) (a .dt) (lent (e .before)) (a .signals) (now (a .mix)) (a .from) (none e)
 
--- src/block.rt:308:1
 same-length : tie.Need-same-length
 same-length c = search needs
 
--- src/block.rt:308:1
 returns-2 : tie.Need-returns-2
 returns-2 c =
     let p = c .before .before in
-    let b = p .before .before in
-    let e = b .before in
+    let e = p .before .before in
     let a = start (e .before) .args in
-    processed-into (now (a .sound)) (a .voice) (a .dt) (lent (e .before)) (a .signals) (now (a .mix)) (a .from) (p .play-or-rest .result) _ (none e)
-    (rw (b .begin .ensures) at (p .play-or-rest .ensures))
+    processed-into (now (a .sound)) (a .voice) (a .dt) (lent (e .before)) (a .signals) (now (a .mix)) (a .from) (p .block .result) _ (none e) (p .block .ensures)
 
 pub process-into-spec : {M : Type 1} → statement M
 process-into-spec =
@@ -110,14 +89,13 @@ process-into-spec =
     has-room-requires
     refusal-of-requires
     returns
-    begin-requires
     mul-a
     mul-e
     add-e
-    mul-play-or-rest
-    sub-play-or-rest
-    part-play-or-rest-start
-    part-play-or-rest-end
-    play-or-rest-requires
+    mul-block
+    sub-block
+    part-block-start
+    part-block-end
+    block-requires
     same-length
     returns-2)

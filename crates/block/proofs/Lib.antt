@@ -1,0 +1,6 @@
+-- Laws of a block.
+pub mod Begins
+pub mod Blocks
+pub mod Fills
+pub mod Keeps
+pub mod Sounds

@@ -1,0 +1,2 @@
+-- An accepted block.
+pub mod Blocks

@@ -1,0 +1,109 @@
+// An accepted block: the voice takes its signals, then it plays or is silent.
+ghost use mathlib.Core.Path.{_≡_};
+ghost use lib.ListN.{length, replicate};
+ghost use Rattle.numbers.specs.Words.{naught};
+ghost use Rattle.lanes.specs.Lanes.{five, rows};
+ghost use Rattle.playing.specs.Plays.{acceptedAs};
+ghost use Rattle.playing.specs.Turns.{Playable};
+ghost use Rattle.block.specs.Blocks.{begun, live, block};
+use moving::Moving;
+use playback_state_manager::PlaybackState;
+use playback_state_manager::StartAnswer;
+use playing::Processed;
+use playing::play;
+use voice::StaticSound;
+
+// What a block is told: whether the fade has finished, and the answers for the sound's start and a waiting resume.
+pub struct Signals {
+    pub finished: bool,
+    pub start: StartAnswer,
+    pub resume: StartAnswer,
+}
+
+// A voice takes its signals: states, then the start answer.
+fn begin(voice: StaticSound, signals: Signals) -> StaticSound
+    ensures { λ r. ⌜ r ≡ begun signals voice ⌝ }
+{
+    let moving = voice.moving;
+    let before = moving.state;
+    let resume = signals.resume;
+    let start = signals.start;
+    let state = before.update(signals.finished, resume);
+    let settled = Moving { state, ..moving };
+    if voice.started {
+        return StaticSound {
+            moving: settled,
+            ..voice
+        };
+    }
+    match start {
+        StartAnswer::Waiting => StaticSound {
+            moving: settled,
+            ..voice
+        },
+        StartAnswer::Now => StaticSound {
+            started: true,
+            moving: settled,
+            ..voice
+        },
+        StartAnswer::Never => {
+            let stopped = Moving {
+                state: PlaybackState::Stopped,
+                ..moving
+            };
+            StaticSound {
+                moving: stopped,
+                ..voice
+            }
+        }
+    }
+}
+
+// Started, and in a state that advances.
+fn is_live(voice: StaticSound) -> bool
+    ensures { λ r. ⌜ r ≡ live voice ⌝ }
+{
+    let moving = voice.moving;
+    let state = moving.state;
+    if voice.started {
+        state.is_advancing()
+    } else {
+        false
+    }
+}
+
+fn silence(out: &mut [f32])
+    ensures { λ r. ⌜ now (out .exit) ≡ replicate (length (now (out .entry))) naught ⌝ }
+{
+    for i in 0..out.len() {
+        out[i] = 0.0;
+    }
+}
+
+// The block of a well formed voice over lanes that were judged.
+pub fn block(
+    voice: StaticSound,
+    sound: &[f32],
+    fade: &[f32],
+    volume: &[f32],
+    left: &[f32],
+    right: &[f32],
+    rate: &[f64],
+    dt: f64,
+    signals: Signals,
+    out: &mut [f32],
+) -> Processed
+    requires { ⌜ Playable (now sound) voice dt (five (now fade) (now volume) (now left) (now right) (now rate)) (length (now out)) ⌝ }
+    ensures { λ r. ⌜ record { answer = r; samples = now (out .exit) } ≡ acceptedAs (block (now (sound .entry)) dt (rows (five (now (fade .entry)) (now (volume .entry)) (now (left .entry)) (now (right .entry)) (now (rate .entry)))) signals voice) ⌝ }
+{
+    let begun = begin(voice, signals);
+    if is_live(begun) {
+        return play(begun, sound, fade, volume, left, right, rate, dt, out);
+    }
+    silence(out);
+    Processed {
+        refusal: 0,
+        sound: begun,
+        steps: 0,
+    }
+}

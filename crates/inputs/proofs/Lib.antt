@@ -1,0 +1,2 @@
+-- Laws of the inputs.
+pub mod Unknown

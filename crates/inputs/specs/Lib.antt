@@ -1,0 +1,2 @@
+-- Inputs from records of numbers.
+pub mod Inputs

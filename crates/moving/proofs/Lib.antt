@@ -1,0 +1,3 @@
+-- Laws of updates.
+pub mod Kept
+pub mod Updates

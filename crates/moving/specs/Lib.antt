@@ -1,0 +1,2 @@
+-- What an update does.
+pub mod Updates

@@ -1,0 +1,82 @@
+-- Playing: one list of lanes and then another, one frame more, two samples a frame, and what a block leaves as it is.
+-- By induction on the lanes, since a frame is one step of the definition. Assumes nothing.
+use mathlib.Core.Path.{_≡_, refl, sym, ap, _∙_}
+use Prim.Native.Nat.{ℕ, suc, _+_, _*_, _<_}
+use native.Mathlib.Nat.{add-zero, zero-add, add-assoc}
+use native.Mathlib.Omega.{arith}
+use mathlib.Core.List.{List, [], _∷_, _++_}
+use lib.ListN.{length, getD, take}
+use lib.Seq.{take-suc}
+use lib.Ieee.{Float}
+use Rattle.numbers.specs.Words.{whole}
+use Rattle.frame.specs.declared.Frame.{Frame}
+use Rattle.lanes.specs.Lanes.{Lane}
+use Rattle.voice.specs.declared.StaticSound.{StaticSound}
+use Rattle.playing.specs.Plays.{Played, then, plays, total, turned, frameHeard}
+
+-- ---- one list of lanes and then another
+
+-- what is played first, and what follows it
+abbrev pub joined : Played → Played → Played
+joined p q = record { voice = q .voice; samples = p .samples ++ q .samples; steps = p .steps + q .steps }
+
+then-joined : (f : Frame) (n : ℕ) (p q : Played) → then f n (joined p q) ≡ joined (then f n p) q
+then-joined f n p q =
+    ap (λ (k : ℕ). record { voice = q .voice; samples = f .left ∷ f .right ∷ (p .samples ++ q .samples); steps = k })
+    (sym (add-assoc n (p .steps) (q .steps)))
+
+pub two-more : (a n : ℕ) → a ≡ 2 * n → suc (suc a) ≡ 2 * suc n
+two-more a n e = omega arith
+
+module _ (snd : List Float) (dt : Float) where
+  pub plays-append : (xs ys : List Lane) (v : StaticSound)
+      → plays snd dt (xs ++ ys) v ≡ joined (plays snd dt xs v) (plays snd dt ys ((plays snd dt xs v) .voice))
+  unfolding plays
+  plays-append [] ys v =
+      ap (λ (k : ℕ). record { voice = (plays snd dt ys v) .voice; samples = (plays snd dt ys v) .samples; steps = k })
+      (sym (zero-add ((plays snd dt ys v) .steps)))
+  plays-append (l ∷ xs) ys v =
+      let u = turned snd dt v l in
+      ap (then (frameHeard v l) (whole (total dt v l))) (plays-append xs ys u)
+      ∙ then-joined (frameHeard v l) (whole (total dt v l)) (plays snd dt xs u) (plays snd dt ys ((plays snd dt xs u) .voice))
+
+  -- one frame more
+  pub plays-next : (ls : List Lane) (v : StaticSound) (i : ℕ) (z : Lane) → i < length ls
+      → let p = plays snd dt (take i ls) v in
+      let l = getD ls i z in
+      plays snd dt (take (suc i) ls) v
+      ≡ record {
+        voice = turned snd dt (p .voice) l;
+        samples = p .samples ++ (frameHeard (p .voice) l .left ∷ frameHeard (p .voice) l .right ∷ []);
+        steps = p .steps + whole (total dt (p .voice) l);
+      }
+  unfolding plays
+  plays-next ls v i z h =
+      let p = plays snd dt (take i ls) v in
+      let l = getD ls i z in
+      ap (λ (x : List Lane). plays snd dt x v) (take-suc ls i z h)
+      ∙ plays-append (take i ls) (l ∷ []) v
+      ∙ ap (λ (n : ℕ). record {
+        voice = turned snd dt (p .voice) l;
+        samples = p .samples ++ (frameHeard (p .voice) l .left ∷ frameHeard (p .voice) l .right ∷ []);
+        steps = p .steps + n;
+      }) (add-zero (whole (total dt (p .voice) l)))
+
+  -- each frame has two samples
+  pub plays-length : (ls : List Lane) (v : StaticSound) → length ((plays snd dt ls v) .samples) ≡ 2 * length ls
+  unfolding plays
+  plays-length [] v = refl
+  plays-length (l ∷ ls) v =
+      let u = turned snd dt v l in
+      two-more (length ((plays snd dt ls u) .samples)) (length ls) (plays-length ls u)
+
+  -- what a block leaves as it is
+  pub plays-setup : (ls : List Lane) (v : StaticSound) → (plays snd dt ls v) .voice .setup ≡ v .setup
+  unfolding plays turned
+  plays-setup [] v = refl
+  plays-setup (l ∷ ls) v = plays-setup ls (turned snd dt v l)
+
+  pub plays-started : (ls : List Lane) (v : StaticSound) → (plays snd dt ls v) .voice .started ≡ v .started
+  unfolding plays turned
+  plays-started [] v = refl
+  plays-started (l ∷ ls) v = plays-started ls (turned snd dt v l)

@@ -1,0 +1,68 @@
+-- A started, advancing block, frame after frame (document 01, "Creation, commands, block").
+use Prim.Native.Nat.{ℕ, _+_}
+use mathlib.Core.List.{List, [], _∷_}
+use lib.Ieee.{Float, binary32, binary64, add, mul}
+use Rattle.numbers.specs.Words.{narrowed, whole, part, advance}
+use Rattle.frame.specs.declared.Frame.{Frame}
+use Rattle.resampler.specs.Windows.{reading}
+use Rattle.lanes.specs.Lanes.{Lane}
+use Rattle.voice.specs.declared.StaticSound.{StaticSound}
+use Rattle.voice.specs.Voices.{courseOf, moved}
+use Rattle.playing.specs.declared.Processed.{Processed}
+use Rattle.moving.specs.Updates.{updates}
+
+-- ---- one frame
+
+-- the sum whose whole part is the steps
+unfoldable pub total : Float → StaticSound → Lane → Float
+unfolding advance
+total dt v l = add binary64 (v .«fractional_position») (advance (v .setup .«sample_rate») (l .rate) dt)
+
+-- the voice after one frame: as many updates as the sum's whole part, and the rest of the sum
+unfoldable pub turned : List Float → Float → StaticSound → Lane → StaticSound
+unfolding total updates whole part
+turned snd dt v l =
+    let x = total dt v l in
+    moved v (part x) (updates (whole x) snd (courseOf v) (v .moving))
+
+-- a reading times fade, times volume, times the channel's gain
+abbrev pub heard : Lane → Float → Float → Float
+heard l x gain = mul binary32 (mul binary32 (mul binary32 x (l .fade)) (l .volume)) gain
+
+-- the frame written: the window is read before the voice moves
+unfoldable pub frameHeard : StaticSound → Lane → Frame
+frameHeard v l =
+    let x = reading (v .moving .resampler) (narrowed (v .«fractional_position»)) in
+    record { left = heard l (x .left) (l .left); right = heard l (x .right) (l .right) }
+
+-- ---- a block
+
+-- what a block gives: the voice after it, the samples it wrote, the steps it made
+pub record Played : Type 0 where
+  pub voice : StaticSound
+  pub samples : List Float
+  pub steps : ℕ
+
+-- one frame, and what follows it
+abbrev pub then : Frame → ℕ → Played → Played
+then f n p = record { voice = p .voice; samples = f .left ∷ f .right ∷ p .samples; steps = n + p .steps }
+
+-- a started, advancing block
+unfoldable pub plays : List Float → Float → List Lane → StaticSound → Played
+unfolding turned frameHeard total whole
+plays snd dt [] v = record { voice = v; samples = []; steps = 0 }
+plays snd dt (l ∷ ls) v = then (frameHeard v l) (whole (total dt v l)) (plays snd dt ls (turned snd dt v l))
+
+-- ---- what a call gives
+
+-- what a call gives: its answer, and every sample of the lent buffer
+pub record Outcome : Type 0 where
+  pub answer : Processed
+  pub samples : List Float
+
+abbrev pub acceptedWith : Played → List Float → Outcome
+acceptedWith p out = record { answer = record { refusal = 0; sound = p .voice; steps = p .steps }; samples = out }
+
+-- an accepted block's outcome: its own samples are the output
+abbrev pub acceptedAs : Played → Outcome
+acceptedAs p = acceptedWith p (p .samples)

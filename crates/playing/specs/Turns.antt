@@ -1,0 +1,49 @@
+-- One frame of a block over what moves, as the block's loop has it; and what the loop asks.
+use Prim.Native.Nat.{ℕ, _*_}
+use mathlib.Core.Path.{_≡_}
+use mathlib.Core.List.{List}
+use lib.Dec.{T}
+use lib.ListN.{length}
+use lib.Ieee.{Float, binary32, binary64, add, mul, lt}
+use Rattle.numbers.specs.Words.{naught, proper, narrowed, whole, part, advance}
+use Rattle.numbers.specs.Lists.{all}
+use Rattle.frame.specs.declared.Frame.{Frame}
+use Rattle.frame.specs.Frames.{interpolated}
+use Rattle.lanes.specs.Lanes.{Lanes, rows, sized, near, slow}
+use Rattle.moving.specs.declared.Course.{Course}
+use Rattle.moving.specs.declared.Moving.{Moving}
+use Rattle.voice.specs.declared.StaticSound.{StaticSound}
+use Rattle.moving.specs.Updates.{updates, Able}
+use Rattle.voice.specs.WellFormed.{Formed}
+use Rattle.playing.specs.declared.Turned.{Turned}
+
+-- the frame written: the reading of four frames times fade, times volume, times each channel's gain
+unfoldable pub frameAt : Frame → Frame → Frame → Frame → Float → Float → Float → Float → Float → Frame
+frameAt a b c d f fade volume left right =
+    let x = interpolated a b c d (narrowed f) in
+    record {
+      left = mul binary32 (mul binary32 (mul binary32 (x .left) fade) volume) left;
+      right = mul binary32 (mul binary32 (mul binary32 (x .right) fade) volume) right;
+    }
+
+-- what one frame leaves of the moving parts and the fraction
+unfoldable pub turnOf : List Float → Course → ℕ → Float → Float → Moving → Float → Turned
+turnOf snd c hz rate dt m f =
+    let x = add binary64 f (advance hz rate dt) in
+    record { moving = updates (whole x) snd c m; «fractional_position» = part x; steps = whole x }
+
+-- what a frame asks
+pub record Turning (snd : List Float) (c : Course) (hz : ℕ) (rate dt : Float) (m : Moving) (f : Float) : Type 0 where
+  pub able : Able snd c m
+  pub below : T (proper f)
+  pub timely : T (lt naught dt)
+  pub slow : T (slow hz dt rate)
+
+-- what a block asks that is neither refused nor judged again; m is the output's length
+pub record Playable (snd : List Float) (v : StaticSound) (dt : Float) (b : Lanes) (m : ℕ) : Type 0 where
+  pub formed : Formed v
+  pub lent : length snd ≡ 2 * v .setup .«num_frames»
+  pub sized : T (sized b)
+  pub long : m ≡ 2 * length (b .rate)
+  pub timely : T (lt naught dt)
+  pub near : T (all (near (v .setup .«sample_rate») dt) (rows b))

@@ -1,0 +1,3 @@
+-- Laws of the record of a voice.
+pub mod Fours
+pub mod Inverse

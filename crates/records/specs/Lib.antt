@@ -1,0 +1,2 @@
+-- A voice as a record of numbers.
+pub mod Records
