@@ -7,4 +7,5 @@ pub mod Mix
 pub mod Kept
 pub mod LawfulEnd
 pub mod Steps
+pub mod AnyOrder
 pub mod Coincide
