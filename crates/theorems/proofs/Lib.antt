@@ -9,6 +9,7 @@ pub mod Kept
 pub mod LawfulEnd
 pub mod Steps
 pub mod AnyOrder
+pub mod InTheLoop
 pub mod Coincide
 pub mod Examples
 pub mod Leaves

@@ -8,4 +8,5 @@ pub mod Kept
 pub mod LawfulEnd
 pub mod Steps
 pub mod AnyOrder
+pub mod InTheLoop
 pub mod Coincide
