@@ -1,6 +1,6 @@
 -- The order of steps in a loop does not matter: a step is a remainder, and a remainder goes on as the number it is of. By induction on the steps. Assumes nothing.
 use mathlib.Core.Path.{_≡_, refl, sym, ap, ap₂, _∙_, subst}
-use Prim.Native.Nat.{ℕ, zero, suc, _+_, _-_, _*_, _/_, _%_, _≤_, _<_}
+use Prim.Native.Nat.{ℕ, suc, _+_, _-_, _*_, _/_, _%_, _≤_, _<_}
 use native.Mathlib.Nat.{mod-lt, mod-add-mod, add-mul-mod-self-left, mod-eq-of-lt, mod-add-div, add-assoc, sub-zero}
 use native.Mathlib.Omega.{arith}
 use mathlib.Core.Bool.{Bool, true, false, cond}
@@ -14,7 +14,7 @@ use Rattle.transport.specs.declared.Transport.{Transport}
 use Rattle.transport.specs.Moves.{cycled, landed, forward, backward}
 use Rattle.transport.specs.Seats.{Inside}
 use Rattle.transport.proofs.Wraps.{cycled-above, cycled-below, cycled-lt}
-use Rattle.theorems.specs.AnyOrder.{Step, Forward, Backward, forwards, backwards, step, walked, Round, AnyOrder, ThereAndBack, Permuted, none, kept, swapped, then, Permutations}
+use Rattle.theorems.specs.AnyOrder.{Step, Forward, Backward, forwards, backwards, step, walked, AnyOrder, ThereAndBack, Permuted, none, kept, swapped, then, Permutations}
 
 -- ---- remainders
 

@@ -6,10 +6,9 @@ use native.Mathlib.Omega.{arith}
 use mathlib.Core.Bool.{Bool, true, false, false≢true, not, _&&_, _||_, cond}
 use mathlib.Core.List.{List, [], _∷_}
 use lib.Dec.{T, leb, ltb, eqb}
-use lib.ListN.{length}
 use lib.Ieee.{Float}
 use borrow.Author.Tests.{leb-false, ltb-true, ltb-false, lt-ltb, eqb-true, eqb-false}
-use Rattle.numbers.specs.Words.{whole, part}
+use Rattle.numbers.specs.Words.{whole}
 use Rattle.numbers.specs.Frames.{cutOff}
 use Rattle.playback_position.specs.declared.FrameRange.{FrameRange}
 use Rattle.playback_position.specs.declared.FrameRange.the-variants.{Frames}
@@ -26,13 +25,12 @@ use Rattle.transport.specs.Seats.{Inside}
 use Rattle.transport.proofs.Wraps.{wrapped-lt}
 use Rattle.transport.proofs.Seats.{forward-inside, backward-inside}
 use Rattle.resampler.specs.Windows.{isEmpty}
-use Rattle.lanes.specs.Lanes.{Lane, Lanes, rows}
+use Rattle.lanes.specs.Lanes.{Lane, rows}
 use Rattle.voice.specs.declared.Setup.{Setup}
 use Rattle.voice.specs.declared.Moving.{Moving}
 use Rattle.voice.specs.declared.Course.{Course}
 use Rattle.voice.specs.declared.StaticSound.{StaticSound}
 use Rattle.voice.specs.Voices.{span, courseOf, pushed, stepped, updated, updates}
-use Rattle.voice.specs.WellFormed.{wellFormed}
 use Rattle.voice.proofs.Formed.{formed-parts}
 use Rattle.command_set.specs.declared.Amount.{Amount}
 use Rattle.command_set.specs.declared.Amount.the-variants as amount
@@ -49,7 +47,7 @@ use Rattle.static_sound.specs.Blocks.{total, turned, plays, begun, live, silent
 use Rattle.static_sound.specs.Entries.{processed, processedInto}
 use Rattle.static_sound.proofs.Plays.{block-setup}
 use Rattle.static_sound.proofs.Entries.{processed-passed, processed-done, processed-refused, into-passed, into-done, into-refused}
-use Rattle.theorems.specs.InTheLoop.{Call, Block, Mix, Command, after, accepted, afterAll, someAccepted, changesLoop, reloops, isNever, stops, ending, Stays, InTheLoop}
+use Rattle.theorems.specs.InTheLoop.{Call, Block, Mix, Command, after, accepted, afterAll, someAccepted, changesLoop, reloops, isNever, stops, ending, InTheLoop}
 
 -- ---- the transport's moves
 

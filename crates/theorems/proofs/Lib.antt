@@ -10,6 +10,7 @@ pub mod LawfulEnd
 pub mod Steps
 pub mod AnyOrder
 pub mod InTheLoop
+pub mod Budget
 pub mod Coincide
 pub mod Examples
 pub mod Leaves

@@ -3,7 +3,6 @@
 -- So one forward and one back, in either order, return to where it was, and two rows of steps that are permutations of each other end alike.
 use Prim.Native.Nat.{ℕ, suc, _+_, _-_, _≤_}
 use mathlib.Core.Path.{_≡_}
-use mathlib.Core.Bool.{true}
 use mathlib.Core.List.{List, [], _∷_}
 use lib.ListN.{take}
 use Rattle.transport.specs.declared.Transport.{Transport}

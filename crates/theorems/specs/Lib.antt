@@ -9,4 +9,5 @@ pub mod LawfulEnd
 pub mod Steps
 pub mod AnyOrder
 pub mod InTheLoop
+pub mod Budget
 pub mod Coincide
