@@ -3,7 +3,7 @@
 use mathlib.Core.Path.{_≡_, refl, sym, ap, _∙_, subst}
 use Prim.Native.Nat.{ℕ, suc, _+_, _-_, _*_, _≤_}
 use native.Mathlib.Omega.{arith}
-use mathlib.Core.Bool.{Bool, true, false, true≢false}
+use mathlib.Core.Bool.{Bool, true, false, true≢false, cond}
 use mathlib.Core.List.{List, [], _∷_}
 use lib.Dec.{T, leb, eqb, le→leb, eqb→eq}
 use lib.IntN.{negsuc}
@@ -32,6 +32,7 @@ use Rattle.theorems.specs.Steps.{stepsOf}
 use Rattle.theorems.specs.Schedules.{playedBy}
 use Rattle.theorems.specs.Budget.{atMost, Slow, Within, BlockBudget, MixBudget, StreamBudget}
 use Rattle.theorems.proofs.Cut.{first-all, rest-all}
+use Rattle.theorems.proofs.Steps.{plays-sum}
 
 abbrev few : ℕ → ℕ → Bool
 few k n = leb n (k + 1)
@@ -90,11 +91,12 @@ module _ (k : ℕ) (small : k ≤ 256) (snd : List Float) (v : StaticSound) (dt 
       go true e =
           rw (block-live snd dt (rows b) g v e)
           (record {
+            reported = plays-sum snd dt (rows b) (begun g v) ∙ sym (ap (λ (c : Bool). cond c (sum (stepsOf snd dt (rows b) (begun g v))) 0) e);
             block = subst (λ (n : ℕ). (plays snd dt (rows b) (begun g v)) .steps ≤ n * (k + 1)) sized (f .sum);
             frames = f .each;
             silent = λ q. absurd (true≢false (sym e ∙ q));
           })
-      go false e = rw (block-silent snd dt (rows b) g v e) (record { block = omega arith; frames = f .each; silent = λ q. refl })
+      go false e = rw (block-silent snd dt (rows b) g v e) (record { reported = sym (ap (λ (c : Bool). cond c (sum (stepsOf snd dt (rows b) (begun g v))) 0) e); block = omega arith; frames = f .each; silent = λ q. refl })
 
 pub block-budget : BlockBudget
 block-budget k snd v dt b g out e small s =

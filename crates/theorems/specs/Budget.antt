@@ -3,7 +3,7 @@
 -- The bound is reached: a fraction of 1 - 2 ^ -53 and an advance of 1 make two steps.
 use Prim.Native.Nat.{ℕ, _+_, _*_, _≤_}
 use mathlib.Core.Path.{_≡_}
-use mathlib.Core.Bool.{Bool, false}
+use mathlib.Core.Bool.{Bool, false, cond}
 use mathlib.Core.List.{List}
 use lib.Dec.{T, leb}
 use lib.IntN.{pos}
@@ -31,8 +31,10 @@ Slow k v dt b = T (all (atMost k (v .setup .«sample_rate») dt) (rows b))
 
 -- of an accepted block's answer
 pub record Within (k : ℕ) (snd : List Float) (v : StaticSound) (dt : Float) (b : Lanes) (g : Signals) (a : Processed) : Type 0 where
-  pub block : a .steps ≤ length (b .rate) * (k + 1)
+  -- what is reported is what the frames make, each at most k + 1
+  pub reported : a .steps ≡ cond (live (begun g v)) (sum (stepsOf snd dt (rows b) (begun g v))) 0
   pub frames : T (all (λ (n : ℕ). leb n (k + 1)) (stepsOf snd dt (rows b) (begun g v)))
+  pub block : a .steps ≤ length (b .rate) * (k + 1)
   pub silent : live (begun g v) ≡ false → a .steps ≡ 0
 
 abbrev pub BlockBudget : Type 0
