@@ -8,6 +8,9 @@ pub mod Mix
 pub mod Kept
 pub mod LawfulEnd
 pub mod Steps
+pub mod AnyOrder
+pub mod InTheLoop
+pub mod Budget
 pub mod Coincide
 pub mod Examples
 pub mod Leaves

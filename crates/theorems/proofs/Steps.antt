@@ -33,7 +33,7 @@ updates-add zero n snd c m = ap (λ (k : ℕ). updates k snd c m) (zero-add n)
 updates-add (suc a) n snd c m = ap (λ (k : ℕ). updates k snd c m) (suc-add a n) ∙ updates-add a n snd c (updated snd c m)
 
 module _ (snd : List Float) (dt : Float) where
-  plays-sum : (ls : List Lane) (v : StaticSound) → (plays snd dt ls v) .steps ≡ sum (stepsOf snd dt ls v)
+  pub plays-sum : (ls : List Lane) (v : StaticSound) → (plays snd dt ls v) .steps ≡ sum (stepsOf snd dt ls v)
   unfolding plays stepsOf
   plays-sum [] v = refl
   plays-sum (l ∷ ls) v = ap (λ (n : ℕ). whole (total dt v l) + n) (plays-sum ls (turned snd dt v l))

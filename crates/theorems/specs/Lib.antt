@@ -7,4 +7,7 @@ pub mod Mix
 pub mod Kept
 pub mod LawfulEnd
 pub mod Steps
+pub mod AnyOrder
+pub mod InTheLoop
+pub mod Budget
 pub mod Coincide

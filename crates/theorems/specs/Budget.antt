@@ -1,0 +1,57 @@
+-- How much work a block may cost. If each advance of an accepted block of n frames is at most a whole number k from 0 to 256, each of its frames makes at most k + 1 steps,
+-- and the block reports at most n times (k + 1); a silent one reports 0. So do both entries, and so does a stream of blocks, however it is cut.
+-- The bound is reached: a fraction of 1 - 2 ^ -53 and an advance of 1 make two steps.
+use Prim.Native.Nat.{ℕ, _+_, _*_, _≤_}
+use mathlib.Core.Path.{_≡_}
+use mathlib.Core.Bool.{Bool, false, cond}
+use mathlib.Core.List.{List}
+use lib.Dec.{T, leb}
+use lib.IntN.{pos}
+use lib.ListN.{length}
+use lib.Ieee.{Float, binary64, le, ofInt}
+use Rattle.numbers.specs.Words.{advance}
+use Rattle.numbers.specs.Lists.{all}
+use Rattle.lanes.specs.Lanes.{Lane, Lanes, rows}
+use Rattle.voice.specs.declared.StaticSound.{StaticSound}
+use Rattle.block.specs.declared.Signals.{Signals}
+use Rattle.playing.specs.declared.Processed.{Processed}
+use Rattle.block.specs.Blocks.{begun, live}
+use Rattle.static_sound.specs.Entries.{processed, processedInto}
+use Rattle.theorems.specs.Sums.{sum}
+use Rattle.theorems.specs.Steps.{stepsOf}
+use Rattle.theorems.specs.Schedules.{playedBy}
+
+-- the advance of a frame is at most k
+abbrev pub atMost : ℕ → ℕ → Float → Lane → Bool
+atMost k hz dt l = le (advance hz (l .rate) dt) (ofInt binary64 (pos k))
+
+-- each advance of a block is
+abbrev pub Slow : ℕ → StaticSound → Float → Lanes → Type 0
+Slow k v dt b = T (all (atMost k (v .setup .«sample_rate») dt) (rows b))
+
+-- of an accepted block's answer
+pub record Within (k : ℕ) (snd : List Float) (v : StaticSound) (dt : Float) (b : Lanes) (g : Signals) (a : Processed) : Type 0 where
+  -- what is reported is what the frames make, each at most k + 1
+  pub reported : a .steps ≡ cond (live (begun g v)) (sum (stepsOf snd dt (rows b) (begun g v))) 0
+  pub frames : T (all (λ (n : ℕ). leb n (k + 1)) (stepsOf snd dt (rows b) (begun g v)))
+  pub block : a .steps ≤ length (b .rate) * (k + 1)
+  pub silent : live (begun g v) ≡ false → a .steps ≡ 0
+
+abbrev pub BlockBudget : Type 0
+BlockBudget =
+    (k : ℕ) (snd : List Float) (v : StaticSound) (dt : Float) (b : Lanes) (g : Signals) (out : List Float)
+    → let a = (processed snd v dt b g out) .answer in
+    a .refusal ≡ 0 → k ≤ 256 → Slow k v dt b → Within k snd v dt b g a
+
+abbrev pub MixBudget : Type 0
+MixBudget =
+    (k : ℕ) (snd : List Float) (v : StaticSound) (dt : Float) (b : Lanes) (g : Signals) (mix : List Float) (from : ℕ)
+    → let a = (processedInto snd v dt b g mix from) .answer in
+    a .refusal ≡ 0 → k ≤ 256 → Slow k v dt b → Within k snd v dt b g a
+
+-- a stream of lanes, played in blocks of j frames and then of the sizes that follow
+abbrev pub StreamBudget : Type 0
+StreamBudget =
+    (k : ℕ) (snd : List Float) (dt : Float) (b : Lanes) (g : Signals) (v : StaticSound) (j : ℕ) (js : List ℕ) (out : List Float)
+    → let r = playedBy snd dt j js b g v out in
+    j + sum js ≡ length (b .rate) → T (r .accepted) → k ≤ 256 → Slow k v dt b → r .steps ≤ length (b .rate) * (k + 1)

@@ -1,0 +1,98 @@
+-- Once in the loop, always in the loop. Take a well formed voice whose transport plays inside its loop, and any row of calls: blocks, into an output or into a mix,
+-- and command sets, each with a sound of its own. As long as no accepted one holds a loop command, the transport still plays, inside that loop;
+-- and the voice is Stopped only if an accepted one held a stop command or a never answer, or if it was Stopping or Stopped at first.
+-- Of refused calls nothing is asked: they may hold anything. Seeks are commands like others, and stay inside.
+use Prim.Native.Nat.{ℕ}
+use mathlib.Core.Path.{_≡_}
+use mathlib.Core.Bool.{Bool, true, false, _&&_, _||_, not}
+use mathlib.Core.List.{List, [], _∷_}
+use lib.Dec.{T, eqb}
+use lib.Ieee.{Float}
+use Rattle.playback_state_manager.specs.declared.PlaybackState.{PlaybackState}
+use Rattle.playback_state_manager.specs.declared.PlaybackState.the-variants.{Playing, Pausing, Paused, WaitingToResume, Resuming, Stopping, Stopped}
+use Rattle.playback_state_manager.specs.declared.StartAnswer.{StartAnswer}
+use Rattle.playback_state_manager.specs.declared.StartAnswer.the-variants as answer
+use Rattle.transport.specs.Seats.{Inside}
+use Rattle.lanes.specs.Lanes.{Lanes}
+use Rattle.voice.specs.declared.StaticSound.{StaticSound}
+use Rattle.voice.specs.WellFormed.{wellFormed}
+use Rattle.command_set.specs.declared.LoopCommand.{LoopCommand}
+use Rattle.command_set.specs.declared.LoopCommand.the-variants as loop
+use Rattle.command_set.specs.declared.Commands.{Commands}
+use Rattle.command_set.specs.Commands.{commanded}
+use Rattle.block.specs.declared.Signals.{Signals}
+use Rattle.static_sound.specs.Entries.{processed, processedInto}
+
+-- ---- calls
+
+-- all that a call is given but the voice
+pub data Call : Type 0 where
+  Block : (sound : List Float) (dt : Float) (lanes : Lanes) (signals : Signals) (out : List Float) → Call
+  Mix : (sound : List Float) (dt : Float) (lanes : Lanes) (signals : Signals) (mix : List Float) (from : ℕ) → Call
+  Command : (sound : List Float) (commands : Commands) → Call
+
+-- the voice that a call gives back
+abbrev pub after : Call → StaticSound → StaticSound
+after (Block snd dt b g out) v = (processed snd v dt b g out) .answer .sound
+after (Mix snd dt b g mix from) v = (processedInto snd v dt b g mix from) .answer .sound
+after (Command snd c) v = (commanded snd v c) .sound
+
+abbrev pub accepted : Call → StaticSound → Bool
+accepted (Block snd dt b g out) v = eqb ((processed snd v dt b g out) .answer .refusal) 0
+accepted (Mix snd dt b g mix from) v = eqb ((processedInto snd v dt b g mix from) .answer .refusal) 0
+accepted (Command snd c) v = eqb ((commanded snd v c) .refusal) 0
+
+-- a row of calls, the first one first, each on what the one before left
+unfoldable pub afterAll : List Call → StaticSound → StaticSound
+afterAll [] v = v
+afterAll (c ∷ cs) v = afterAll cs (after c v)
+
+-- whether some accepted call of the row is of a kind
+unfoldable pub someAccepted : (Call → Bool) → List Call → StaticSound → Bool
+someAccepted kind [] v = false
+someAccepted kind (c ∷ cs) v = (accepted c v && kind c) || someAccepted kind cs (after c v)
+
+-- ---- what they hold
+
+abbrev pub changesLoop : LoopCommand → Bool
+changesLoop loop.Keep = false
+changesLoop loop.Clear = true
+changesLoop (loop.Set r) = true
+
+-- a loop command
+abbrev pub reloops : Call → Bool
+reloops (Block snd dt b g out) = false
+reloops (Mix snd dt b g mix from) = false
+reloops (Command snd c) = changesLoop (c .«loop_region»)
+
+abbrev pub isNever : StartAnswer → Bool
+isNever answer.Waiting = false
+isNever answer.Now = false
+isNever answer.Never = true
+
+-- a stop command or a never answer
+abbrev pub stops : Call → Bool
+stops (Block snd dt b g out) = isNever (g .start) || isNever (g .resume)
+stops (Mix snd dt b g mix from) = isNever (g .start) || isNever (g .resume)
+stops (Command snd c) = c .stop
+
+-- Stopping or Stopped
+abbrev pub ending : PlaybackState → Bool
+ending Playing = false
+ending Pausing = false
+ending Paused = false
+ending WaitingToResume = false
+ending Resuming = false
+ending Stopping = true
+ending Stopped = true
+
+-- ---- what is promised
+
+pub record Stays (s e : ℕ) (cs : List Call) (v : StaticSound) : Type 0 where
+  pub inside : Inside s e ((afterAll cs v) .moving .transport)
+  pub stopped : (afterAll cs v) .moving .state ≡ Stopped → T (someAccepted stops cs v || ending (v .moving .state))
+
+abbrev pub InTheLoop : Type 0
+InTheLoop =
+    (s e : ℕ) (cs : List Call) (v : StaticSound)
+    → T (wellFormed v) → Inside s e (v .moving .transport) → T (not (someAccepted reloops cs v)) → Stays s e cs v
