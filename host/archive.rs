@@ -65,27 +65,31 @@ fn prove_and_link(name: &str) -> Result<()> {
     let Some(kit) = module::kit() else {
         return without_the_kit(&root, &out);
     };
-    let copy = out.join(format!("lib{name}.a"));
     // One at a time: two would write the same files.
     let turn = File::open(root.join("crates.txt"))?;
     turn.lock()?;
     let root = writable(&root, &out, &crates)?;
     let proved = Proved::of(&root, &crates, name, &kit)?;
-    let archive = match target.way {
-        Way::Kit => proved.archive,
-        Way::Module => {
-            let folder = root.join("target/archive").join(&target.arch);
-            module::compile(name, &root, &kit, &proved.module, &target.arch, &folder)?
+    let folder = root.join("target/archive").join(target.folder());
+    fs::create_dir_all(&folder)?;
+    let archive = folder.join(format!("lib{name}.a"));
+    match target.way {
+        Way::Kit => {
+            fs::copy(proved.archive, &archive)?;
         }
-    };
+        Way::Module => {
+            let src = root.join("crates").join(name).join("src");
+            module::compile(&kit, &proved.module, &src, &target.arch, &archive)?;
+        }
+    }
     // A copy: `rt ci` begins by removing target/.
+    let copy = out.join(format!("lib{name}.a"));
     fs::copy(archive, &copy)?;
     println!("cargo::rustc-env=LINKED_ARCHIVE={}", copy.display());
     Ok(())
 }
 
 /// How an archive is made: by the kit, or from the module that the kit compiles.
-#[derive(PartialEq)]
 enum Way {
     Kit,
     Module,
@@ -118,6 +122,14 @@ impl Target {
             }
         };
         Ok(Self { arch, way })
+    }
+
+    /// Where its archives are, below target/archive/: for C too.
+    fn folder(&self) -> String {
+        match (self.arch.as_str(), &self.way) {
+            ("x86_64", Way::Module) => "x86_64-module".to_owned(),
+            (arch, _) => arch.to_owned(),
+        }
     }
 }
 
@@ -227,7 +239,8 @@ struct Proved {
 impl Proved {
     /// Has `rt` prove the crate, unless what is kept was proved from the very same text by the same kit.
     fn of(root: &Path, crates: &BTreeSet<String>, name: &str, kit: &module::Kit) -> Result<Self> {
-        let kept = root.join("target/archive");
+        let kept = root.join("target/archive/proved");
+        fs::create_dir_all(&kept)?;
         let proved = Self {
             archive: kept.join(format!("lib{name}.a")),
             module: kept.join(format!("{name}.bc")),
@@ -245,7 +258,7 @@ impl Proved {
         told(&format!(
             "proving {name} and what it depends on, which takes minutes where nothing is proved yet"
         ));
-        prove(root, name, &shadow)?;
+        prove(root, crates, name, &shadow)?;
         fs::copy(
             root.join(format!("target/staticlib/lib{name}.a")),
             &proved.archive,
@@ -273,11 +286,29 @@ fn proved_from(root: &Path, crates: &BTreeSet<String>, kit: &module::Kit) -> Res
     Ok(text)
 }
 
-/// `rt staticlib NAME`, each crate told as it is proved.
-fn prove(root: &Path, name: &str, shadow: &module::Shadow) -> Result<()> {
+/// What the crate depends on, several at a time, then the crate itself and its archive.
+fn prove(
+    root: &Path,
+    crates: &BTreeSet<String>,
+    name: &str,
+    shadow: &module::Shadow,
+) -> Result<()> {
+    let below = crates
+        .iter()
+        .map(String::as_str)
+        .filter(|other| *other != name);
+    let check: Vec<&str> = ["check"].into_iter().chain(below).collect();
+    if check.len() > 1 {
+        rt(root, &check, shadow)?;
+    }
+    rt(root, &["staticlib", name], shadow)
+}
+
+/// One command of `rt`, each crate told as it is proved.
+fn rt(root: &Path, words: &[&str], shadow: &module::Shadow) -> Result<()> {
     let (reader, writer) = io::pipe()?;
     let mut rt = Command::new("rt")
-        .args(["staticlib", name])
+        .args(words)
         .current_dir(root)
         .env("RATTLE_HOME", &shadow.home)
         .stdout(writer.try_clone()?)
@@ -286,7 +317,7 @@ fn prove(root: &Path, name: &str, shadow: &module::Shadow) -> Result<()> {
     let mut said = String::new();
     for line in BufReader::new(reader).lines() {
         let line = line?;
-        if line.starts_with("rt: ") && !line.contains("(unchanged") {
+        if line.starts_with("rt: ") && line.contains("roved (") && !line.contains("(unchanged") {
             told(&line);
         }
         if !is_noise(&line) {
@@ -300,12 +331,12 @@ fn prove(root: &Path, name: &str, shadow: &module::Shadow) -> Result<()> {
         .lines()
         .filter(|line| line.contains("NOT PROVED"))
         .collect();
-    let which = if failed.is_empty() {
-        format!("rt: {name} NOT PROVED")
-    } else {
+    Err(format!(
+        "{said}\n`rt {}` failed, so nothing is linked. {}",
+        words.join(" "),
         failed.join("\n")
-    };
-    Err(format!("{said}\n`rt staticlib {name}` failed, so nothing is linked:\n{which}").into())
+    )
+    .into())
 }
 
 /// What `rt` lists of each crate that is proved, and its notes.

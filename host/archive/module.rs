@@ -66,6 +66,28 @@ impl Kit {
         Command::new(self.machine().join("toolchain/bin").join(name))
     }
 
+    /// The kit's clang for a processor, with the kit's own options; no product is fused with a sum.
+    fn compiler(&self, arch: &str) -> Command {
+        let mut clang = self.tool("clang");
+        clang
+            .arg(format!("--target={arch}-unknown-linux-gnu"))
+            .args([
+                "-c",
+                "-O3",
+                "-fPIC",
+                "-ffunction-sections",
+                "-fdata-sections",
+                "-ffp-contract=off",
+                "-mllvm",
+                "-trap-unreachable",
+                "-mllvm",
+                "-no-trap-after-noreturn",
+                "--no-default-config",
+                "-Werror",
+            ]);
+        clang
+    }
+
     /// Links to everything of the kit, with another clang.
     pub fn that_keeps_the_module(&self, home: &Path) -> Result<Shadow> {
         if home.exists() {
@@ -130,17 +152,10 @@ fn not_this_kit(why: &str) -> Box<dyn std::error::Error> {
     .into()
 }
 
-/// Compiles the crate's module for a processor, with that processor's C convention, and gives the archive's path.
-pub fn compile(
-    name: &str,
-    root: &Path,
-    kit: &Kit,
-    module: &Path,
-    arch: &str,
-    folder: &Path,
-) -> Result<PathBuf> {
-    fs::create_dir_all(folder)?;
-    let text = folder.join(format!("{name}.ll"));
+/// Compiles a module for a processor, with that processor's C convention for what `src` exports, into an archive.
+pub fn compile(kit: &Kit, module: &Path, src: &Path, arch: &str, archive: &Path) -> Result<()> {
+    let beside = |extension: &str| archive.with_extension(extension);
+    let (text, shim) = (beside("ll"), beside("c"));
     run(kit
         .tool("clang")
         .args([
@@ -153,59 +168,33 @@ pub fn compile(
         .arg(module)
         .arg("-o")
         .arg(&text))?;
-    let exports = convention::exports(&root.join("crates").join(name).join("src"))?;
-    let plain = retarget(&fs::read_to_string(&text)?, &exports, arch)?;
-    fs::write(&text, plain)?;
-    let shim = folder.join(format!("{name}.c"));
+    let exports = convention::exports(src)?;
+    fs::write(
+        &text,
+        retarget(&fs::read_to_string(&text)?, &exports, arch)?,
+    )?;
     fs::write(&shim, exports.in_c()?)?;
-    let (code, entries) = (
-        folder.join(format!("{name}.o")),
-        folder.join(format!("{name}-entries.o")),
-    );
-    // The module's options are the kit's own; no product is fused with a sum.
-    let options = [
-        "-O3",
-        "-fPIC",
-        "-ffunction-sections",
-        "-fdata-sections",
-        "-ffp-contract=off",
-        "-Werror",
-        "--no-default-config",
-    ];
-    let target = format!("--target={arch}-unknown-linux-gnu");
+    let (code, entries) = (beside("o"), beside("entries.o"));
     run(kit
-        .tool("clang")
-        .arg(&target)
-        .args(options)
-        .args([
-            "-mllvm",
-            "-trap-unreachable",
-            "-mllvm",
-            "-no-trap-after-noreturn",
-            "-Wno-override-module",
-            "-c",
-            "-x",
-            "ir",
-        ])
+        .compiler(arch)
+        .args(["-Wno-override-module", "-x", "ir"])
         .arg(&text)
         .arg("-o")
         .arg(&code))?;
     run(kit
-        .tool("clang")
-        .arg(&target)
-        .args(options)
-        .args(["-ffreestanding", "-c"])
+        .compiler(arch)
+        .arg("-ffreestanding")
         .arg(&shim)
         .arg("-o")
         .arg(&entries))?;
-    let archive = folder.join(format!("lib{name}.a"));
-    let _ = fs::remove_file(&archive);
+    if archive.exists() {
+        fs::remove_file(archive)?;
+    }
     run(kit
         .tool("llvm-ar")
         .arg("rcs")
-        .arg(&archive)
-        .args([code, entries]))?;
-    Ok(archive)
+        .arg(archive)
+        .args([code, entries]))
 }
 
 fn run(command: &mut Command) -> Result<()> {
