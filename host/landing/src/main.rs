@@ -10,6 +10,9 @@ use std::{
 
 use landing::{Change, Items, change, contracts, definitions};
 
+/// How the items of a part are read off a commit's files.
+type Reads = fn(&Texts) -> Items;
+
 type Result<T> = std::result::Result<T, Box<dyn Error>>;
 
 fn main() -> ExitCode {
@@ -35,7 +38,7 @@ fn report(before: &str, after: &str) -> Result<String> {
     let mut text = format!("From {before} to {after}:\n\n");
     text += "| part | new | changed | removed | stayed | lines added | lines removed |\n|---|---|---|---|---|---|---|\n";
     let mut names = String::new();
-    let parts: [(&str, fn(&Texts) -> Items); 4] = [
+    let parts: [(&str, Reads); 4] = [
         ("definitions (specs/)", |texts| {
             texts.items("specs", definitions)
         }),
