@@ -6,7 +6,11 @@ use std::{
     os::unix::fs::PermissionsExt,
     path::{Path, PathBuf},
     process::Command,
+    sync::{Mutex, PoisonError},
 };
+
+/// One gate at a time: a script that is being written while another is started cannot be run.
+static TURN: Mutex<()> = Mutex::new(());
 
 /// What the tools say and how they end.
 struct Tools {
@@ -34,6 +38,7 @@ impl Default for Tools {
 
 /// The gate's last line, whether it says that all is well, and all it wrote.
 fn gate(name: &str, tools: &Tools) -> (String, bool, String) {
+    let _turn = TURN.lock().unwrap_or_else(PoisonError::into_inner);
     let room = Room::new(name);
     let bin = room.0.join("bin");
     let script = |name: &str, text: &str| {
