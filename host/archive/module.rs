@@ -54,8 +54,10 @@ impl Kit {
     /// The kit's one line.
     pub fn identity(&self) -> Result<String> {
         let file = self.home.join("KIT-ID");
-        fs::read_to_string(&file)
-            .map_err(|error| not_this_kit(&format!("{}: {error}", file.display())))
+        fs::read_to_string(&file).map_err(|error| {
+            let file = file.display();
+            format!("`rt` on PATH stands in no kit ({file}: {error}): set RATTLE_HOME to the kit's folder").into()
+        })
     }
 
     fn machine(&self) -> PathBuf {
