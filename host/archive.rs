@@ -1,21 +1,43 @@
-// For build scripts: has `rt` prove a crate of this repository and write its archive, and links it.
-// CABLEOWL_NO_ARCHIVE=1 leaves all of that out, for lints, which link nothing.
+// For build scripts: has `rt` prove a crate of this repository, and links its archive: on x86-64 the one that the kit
+// writes, on Arm (aarch64) one compiled from the same module (archive/module.rs).
+//
+// CABLEOWL_NO_ARCHIVE=1 leaves all of that out, for lints, which link nothing. CABLEOWL_ARCHIVE=module compiles the
+// module on x86-64 too, so that the way to Arm is tried there. CABLEOWL_PROGRESS=FILE has what takes minutes told to
+// that file; else it is told to the terminal, if there is one.
 
 use std::{
     collections::BTreeSet,
     env,
     error::Error,
-    fs::{self, File},
-    io,
+    fmt::Write as _,
+    fs::{self, File, OpenOptions},
+    io::{self, BufRead, BufReader, Write as _},
     path::{Path, PathBuf},
     process::{Command, ExitCode},
 };
 
+#[path = "archive/convention.rs"]
+mod convention;
+#[path = "archive/module.rs"]
+mod module;
+
+type Result<T> = std::result::Result<T, Box<dyn Error>>;
+
+/// What a crate is proved from.
+const PARTS: [&str; 3] = ["src", "specs", "proofs"];
+
 /// A build script's whole work: links the archive of the crate `name`, and tells its path to the
 /// package's own code as LINKED_ARCHIVE.
 pub fn link(name: &str) -> ExitCode {
-    println!("cargo::rerun-if-env-changed=CABLEOWL_NO_ARCHIVE");
-    for file in ["build.rs", "../archive.rs"] {
+    for variable in [
+        "CABLEOWL_NO_ARCHIVE",
+        "CABLEOWL_ARCHIVE",
+        "PATH",
+        "RATTLE_HOME",
+    ] {
+        println!("cargo::rerun-if-env-changed={variable}");
+    }
+    for file in ["build.rs", "../archive.rs", "../archive"] {
         println!("cargo::rerun-if-changed={file}");
     }
     if env::var_os("CABLEOWL_NO_ARCHIVE").is_some_and(|value| value == "1") {
@@ -30,56 +52,113 @@ pub fn link(name: &str) -> ExitCode {
     }
 }
 
-fn prove_and_link(name: &str) -> Result<(), Box<dyn Error>> {
-    let (arch, os) = (
-        env::var("CARGO_CFG_TARGET_ARCH")?,
-        env::var("CARGO_CFG_TARGET_OS")?,
-    );
-    if (arch.as_str(), os.as_str()) != ("x86_64", "linux") {
-        return Err(format!(
-            "the archive of {name} links into x86-64 Linux programs only, and this is {arch} {os}"
-        )
-        .into());
-    }
+fn prove_and_link(name: &str) -> Result<()> {
+    let target = Target::asked_for(name)?;
     let root = Path::new(&env::var("CARGO_MANIFEST_DIR")?)
         .join("../..")
         .canonicalize()?;
-    rerun_if_changed(&root, name)?;
-    // One `rt` at a time: two would write the same files.
-    let turn = File::open(root.join("crates.txt"))?;
-    turn.lock()?;
-    write_archive(&root, name)?;
-    // A copy: `rt ci` begins by removing target/.
-    let file = format!("lib{name}.a");
     let out = PathBuf::from(env::var("OUT_DIR")?);
-    let copy = out.join(&file);
-    fs::copy(root.join("target/staticlib").join(file), &copy)?;
     println!("cargo::rustc-link-search=native={}", out.display());
     println!("cargo::rustc-link-lib=static={name}");
+    let crates = crates_of(&root, name)?;
+    watch(&root, &crates);
+    let Some(kit) = module::kit() else {
+        return without_the_kit(&root, &out);
+    };
+    // One at a time: two would write the same files.
+    let turn = File::open(root.join("crates.txt"))?;
+    turn.lock()?;
+    let root = writable(&root, &out, &crates)?;
+    let proved = Proved::of(&root, &crates, name, &kit)?;
+    let folder = root.join("target/archive").join(target.folder());
+    fs::create_dir_all(&folder)?;
+    let archive = folder.join(format!("lib{name}.a"));
+    match target.way {
+        Way::Kit => {
+            fs::copy(proved.archive, &archive)?;
+        }
+        Way::Module => {
+            let src = root.join("crates").join(name).join("src");
+            module::compile(&kit, &proved.module, &src, &target.arch, &archive)?;
+        }
+    }
+    // A copy: `rt ci` begins by removing target/.
+    let copy = out.join(format!("lib{name}.a"));
+    fs::copy(archive, &copy)?;
     println!("cargo::rustc-env=LINKED_ARCHIVE={}", copy.display());
     Ok(())
 }
 
-/// Watches crates.txt and the code of the crate and of what it depends on.
-fn rerun_if_changed(root: &Path, name: &str) -> Result<(), Box<dyn Error>> {
-    let list = root.join("crates.txt");
-    println!("cargo::rerun-if-changed={}", list.display());
-    let text = fs::read_to_string(list)?;
-    let mut found = BTreeSet::new();
-    let mut next = vec![name];
-    while let Some(name) = next.pop() {
-        if found.insert(name) {
-            next.extend(dependencies(&text, name));
+/// How an archive is made: by the kit, or from the module that the kit compiles.
+enum Way {
+    Kit,
+    Module,
+}
+
+/// What the archive is for.
+struct Target {
+    arch: String,
+    way: Way,
+}
+
+impl Target {
+    fn asked_for(name: &str) -> Result<Self> {
+        let arch = env::var("CARGO_CFG_TARGET_ARCH")?;
+        let os = env::var("CARGO_CFG_TARGET_OS")?;
+        let asked = env::var("CABLEOWL_ARCHIVE").unwrap_or_default();
+        let way = match (arch.as_str(), os.as_str(), asked.as_str()) {
+            ("x86_64", "linux", "") => Way::Kit,
+            ("x86_64", "linux", "module") | ("aarch64", "linux", "" | "module") => Way::Module,
+            ("x86_64" | "aarch64", "linux", _) => {
+                return Err(
+                    format!("CABLEOWL_ARCHIVE is 'module' or not set, and not '{asked}'").into(),
+                );
+            }
+            _ => {
+                return Err(format!(
+                    "the archive of {name} links into programs for Linux on x86-64 or Arm (aarch64), and this is {arch} {os}"
+                )
+                .into());
+            }
+        };
+        Ok(Self { arch, way })
+    }
+
+    /// Where its archives are, below target/archive/: for C too.
+    fn folder(&self) -> String {
+        match (self.arch.as_str(), &self.way) {
+            ("x86_64", Way::Module) => "x86_64-module".to_owned(),
+            (arch, _) => arch.to_owned(),
         }
     }
-    for name in found {
-        let src = root.join("crates").join(name).join("src");
-        // The kit's own libraries have no folder here.
-        if src.is_dir() {
-            println!("cargo::rerun-if-changed={}", src.display());
-        }
-    }
+}
+
+/// `cargo check` and `cargo doc` link nothing and go on; a build stops at the library that is not there.
+fn without_the_kit(root: &Path, out: &Path) -> Result<()> {
+    let kit = fs::read_to_string(root.join("KIT"))?;
+    println!(
+        "cargo::warning=the Rattle kit is needed to link: there is no `rt` on PATH. The kit is \"{}\", see file KIT in {}. \
+         `cargo check` and `cargo doc` work without it.",
+        kit.trim(),
+        root.display()
+    );
+    // A path that is not there: the next run looks for the kit again.
+    println!("cargo::rerun-if-changed={}", out.join("the-kit").display());
     Ok(())
+}
+
+/// The crate and all of this repository that it depends on.
+fn crates_of(root: &Path, name: &str) -> Result<BTreeSet<String>> {
+    let list = fs::read_to_string(root.join("crates.txt"))?;
+    let mut found = BTreeSet::new();
+    let mut next = vec![name.to_owned()];
+    while let Some(name) = next.pop() {
+        // The kit's own libraries have no folder here.
+        if root.join("crates").join(&name).is_dir() && found.insert(name.clone()) {
+            next.extend(dependencies(&list, &name).map(str::to_owned));
+        }
+    }
+    Ok(found)
 }
 
 /// What a line `NAME: DEP DEP` of crates.txt says of this crate.
@@ -91,28 +170,193 @@ fn dependencies<'a>(list: &'a str, name: &str) -> impl Iterator<Item = &'a str> 
         .split_whitespace()
 }
 
-fn write_archive(root: &Path, name: &str) -> Result<(), Box<dyn Error>> {
-    let run = Command::new("rt")
-        .args(["staticlib", name])
-        .current_dir(root)
-        .output();
-    let said = match run {
-        Ok(said) => said,
-        Err(error) if error.kind() == io::ErrorKind::NotFound => {
-            let kit = fs::read_to_string(root.join("KIT"))?;
-            return Err(format!(
-                "the Rattle kit is needed: there is no `rt` on PATH. The kit is \"{}\", see file KIT in {}",
-                kit.trim(),
-                root.display()
-            )
-            .into());
+/// Whatever a proof is made from is watched: after an edit of any of it `rt` decides again.
+fn watch(root: &Path, crates: &BTreeSet<String>) {
+    println!(
+        "cargo::rerun-if-changed={}",
+        root.join("crates.txt").display()
+    );
+    for folder in folders(root, crates) {
+        println!("cargo::rerun-if-changed={}", folder.display());
+    }
+}
+
+fn folders(root: &Path, crates: &BTreeSet<String>) -> impl Iterator<Item = PathBuf> {
+    crates
+        .iter()
+        .flat_map(move |name| PARTS.map(|part| root.join("crates").join(name).join(part)))
+        .filter(|folder| folder.is_dir())
+}
+
+/// The repository, or where nothing can be written there a copy of the crates below OUT_DIR: `rt` writes to target/
+/// beside crates.txt.
+fn writable(root: &Path, out: &Path, crates: &BTreeSet<String>) -> Result<PathBuf> {
+    let probe = root.join("target/archive/probe");
+    let can_write =
+        fs::create_dir_all(root.join("target/archive")).is_ok() && fs::write(&probe, "").is_ok();
+    if can_write {
+        fs::remove_file(probe)?;
+        return Ok(root.to_owned());
+    }
+    let copy = out.join("source");
+    let _ = fs::remove_dir_all(copy.join("crates"));
+    for folder in folders(root, crates) {
+        for file in files(&folder)? {
+            let to = copy.join(file.strip_prefix(root)?);
+            fs::create_dir_all(to.parent().ok_or("a file has a folder")?)?;
+            fs::write(to, fs::read(file)?)?;
         }
-        Err(error) => return Err(error.into()),
-    };
-    if said.status.success() {
+    }
+    fs::write(copy.join("crates.txt"), fs::read(root.join("crates.txt"))?)?;
+    fs::create_dir_all(copy.join("target/archive"))?;
+    Ok(copy)
+}
+
+/// All files below a folder, in one order.
+fn files(folder: &Path) -> io::Result<Vec<PathBuf>> {
+    let mut found = Vec::new();
+    let mut next = vec![folder.to_owned()];
+    while let Some(folder) = next.pop() {
+        for entry in fs::read_dir(folder)? {
+            let path = entry?.path();
+            if path.is_dir() {
+                next.push(path)
+            } else {
+                found.push(path)
+            }
+        }
+    }
+    found.sort();
+    Ok(found)
+}
+
+/// What `rt staticlib` gave for a crate: its archive for x86-64, and the module that was compiled for it.
+struct Proved {
+    archive: PathBuf,
+    module: PathBuf,
+}
+
+impl Proved {
+    /// Has `rt` prove the crate, unless what is kept was proved from the very same text by the same kit.
+    fn of(root: &Path, crates: &BTreeSet<String>, name: &str, kit: &module::Kit) -> Result<Self> {
+        let kept = root.join("target/archive/proved");
+        fs::create_dir_all(&kept)?;
+        let proved = Self {
+            archive: kept.join(format!("lib{name}.a")),
+            module: kept.join(format!("{name}.bc")),
+        };
+        let from = kept.join(format!("{name}.from"));
+        let text = proved_from(root, crates, kit)?;
+        if fs::read(&from).is_ok_and(|kept| kept == text)
+            && proved.archive.is_file()
+            && proved.module.is_file()
+        {
+            return Ok(proved);
+        }
+        let _ = fs::remove_file(&from);
+        let shadow = kit.that_keeps_the_module(&kept.join(format!("kit-{name}")))?;
+        told(&format!(
+            "proving {name} and what it depends on, which takes minutes where nothing is proved yet"
+        ));
+        prove(root, crates, name, &shadow)?;
+        fs::copy(
+            root.join(format!("target/staticlib/lib{name}.a")),
+            &proved.archive,
+        )?;
+        fs::copy(shadow.module()?, &proved.module)?;
+        fs::write(from, text)?;
+        Ok(proved)
+    }
+}
+
+/// Everything that decides what `rt` answers: the kit, crates.txt, and each file of the crates.
+fn proved_from(root: &Path, crates: &BTreeSet<String>, kit: &module::Kit) -> Result<Vec<u8>> {
+    let mut text = format!(
+        "{}\n{}\n",
+        kit.identity()?,
+        fs::read_to_string(root.join("crates.txt"))?
+    )
+    .into_bytes();
+    for folder in folders(root, crates) {
+        for file in files(&folder)? {
+            writeln!(text, "{}", file.strip_prefix(root)?.display())?;
+            text.extend(fs::read(file)?);
+        }
+    }
+    Ok(text)
+}
+
+/// What the crate depends on, several at a time, then the crate itself and its archive.
+fn prove(
+    root: &Path,
+    crates: &BTreeSet<String>,
+    name: &str,
+    shadow: &module::Shadow,
+) -> Result<()> {
+    let below = crates
+        .iter()
+        .map(String::as_str)
+        .filter(|other| *other != name);
+    let check: Vec<&str> = ["check"].into_iter().chain(below).collect();
+    if check.len() > 1 {
+        rt(root, &check, shadow)?;
+    }
+    rt(root, &["staticlib", name], shadow)
+}
+
+/// One command of `rt`, each crate told as it is proved.
+fn rt(root: &Path, words: &[&str], shadow: &module::Shadow) -> Result<()> {
+    let (reader, writer) = io::pipe()?;
+    let mut rt = Command::new("rt")
+        .args(words)
+        .current_dir(root)
+        .env("RATTLE_HOME", &shadow.home)
+        .stdout(writer.try_clone()?)
+        .stderr(writer)
+        .spawn()?;
+    let mut said = String::new();
+    for line in BufReader::new(reader).lines() {
+        let line = line?;
+        if line.starts_with("rt: ") && line.contains("roved (") && !line.contains("(unchanged") {
+            told(&line);
+        }
+        if !is_noise(&line) {
+            writeln!(said, "{line}")?;
+        }
+    }
+    if rt.wait()?.success() {
         return Ok(());
     }
-    let text = [said.stdout, said.stderr].concat();
-    let text = String::from_utf8_lossy(&text);
-    Err(format!("`rt staticlib {name}` failed:\n{text}").into())
+    let failed: Vec<&str> = said
+        .lines()
+        .filter(|line| line.contains("NOT PROVED"))
+        .collect();
+    Err(format!(
+        "{said}\n`rt {}` failed, so nothing is linked. {}",
+        words.join(" "),
+        failed.join("\n")
+    )
+    .into())
+}
+
+/// What `rt` lists of each crate that is proved, and its notes.
+fn is_noise(line: &str) -> bool {
+    const LISTED: [&str; 7] = [
+        "fn ",
+        "struct ",
+        "enum ",
+        "const ",
+        "library ",
+        "logic=proved",
+        "note: ",
+    ];
+    LISTED.iter().any(|start| line.starts_with(start)) || line.contains(": note: ")
+}
+
+/// Tells what takes long. Cargo keeps a build script's output to itself, so it goes past it.
+fn told(line: &str) {
+    let to = env::var("CABLEOWL_PROGRESS").unwrap_or_else(|_| "/dev/tty".to_owned());
+    if let Ok(mut file) = OpenOptions::new().append(true).open(to) {
+        let _ = writeln!(file, "cableowl: {}", line.trim_start_matches("rt: "));
+    }
 }

@@ -1,5 +1,5 @@
 /* Cableowl: kira's static sound, proved. The C interface of the archive libcableowl.a, which
- * `rt staticlib cableowl` writes for x86-64 Linux.
+ * `make archive` writes for Linux on x86-64 or Arm (aarch64).
  *
  * Every call takes any numbers and refuses bad ones by number (0: accepted). A refused call gives
  * back the state it was given, byte for byte (creation: the blank state), and writes nothing. No

@@ -1,0 +1,152 @@
+//! The items of a text that a landing counts: definitions of specs/ and contracts of src/, each by its name, and what
+//! became of them between two commits.
+#![deny(unsafe_code)]
+#![warn(missing_docs)]
+
+use std::collections::BTreeMap;
+
+/// Items by name, each with its lines that are neither empty nor a comment.
+pub type Items = BTreeMap<String, Vec<String>>;
+
+/// Words that may stand before a definition's name.
+const BEFORE: [&str; 6] = ["unfoldable", "abbrev", "opaque", "pub", "record", "data"];
+
+/// The definitions of a text of antt: a name, its type, and all lines up to the next name.
+#[must_use]
+pub fn definitions(text: &str) -> Items {
+    let mut found = Items::new();
+    let mut current = None;
+    for line in text.lines() {
+        if line.trim().is_empty() || line.trim_start().starts_with("--") {
+            continue;
+        }
+        if let Some(name) = defined(line) {
+            current = Some(name.to_owned());
+        } else if line.starts_with("use ")
+            || line.starts_with("pub mod ")
+            || line.starts_with("mod ")
+        {
+            current = None;
+        }
+        if let Some(name) = &current {
+            found.entry(name.clone()).or_default().push(line.to_owned());
+        }
+    }
+    found
+}
+
+/// The name that a line gives a type, where it begins a definition.
+fn defined(line: &str) -> Option<&str> {
+    if line.starts_with(char::is_whitespace) {
+        return None;
+    }
+    let mut words = line
+        .split_whitespace()
+        .skip_while(|word| BEFORE.contains(word));
+    let name = words.next()?;
+    let is_record = line
+        .split_whitespace()
+        .any(|word| word == "record" || word == "data");
+    // Parameters may stand between a record's name and its type.
+    (words.next() == Some(":") || (is_record && line.contains(" : "))).then_some(name)
+}
+
+/// The contracts of a text of Rattle: for each function that has one, its signature and its clauses.
+#[must_use]
+pub fn contracts(text: &str) -> Items {
+    let mut found = Items::new();
+    let mut owner = String::new();
+    let mut open: Option<(String, Vec<String>)> = None;
+    for line in text.lines() {
+        let trimmed = line.trim();
+        if let Some(rest) = line.strip_prefix("impl ") {
+            owner = format!("{}::", rest.trim_end_matches(" {"));
+        } else if line == "}" {
+            owner.clear();
+        }
+        if let Some(name) = function(trimmed) {
+            open = Some((format!("{owner}{name}"), Vec::new()));
+        }
+        let Some((name, lines)) = &mut open else {
+            continue;
+        };
+        let has_clause = lines
+            .iter()
+            .chain([&line.to_owned()])
+            .any(|line| is_clause(line));
+        if trimmed == "{" || (!has_clause && trimmed.ends_with('{')) {
+            if has_clause {
+                found.insert(std::mem::take(name), std::mem::take(lines));
+            }
+            open = None;
+        } else if !trimmed.is_empty() && !trimmed.starts_with("//") {
+            lines.push(line.to_owned());
+        }
+    }
+    found
+}
+
+fn function(line: &str) -> Option<&str> {
+    let line = line.strip_prefix("pub ").unwrap_or(line);
+    let line = line.strip_prefix("extern \"C\" ").unwrap_or(line);
+    let rest = line.strip_prefix("fn ")?;
+    rest.split(['(', '<']).next()
+}
+
+fn is_clause(line: &str) -> bool {
+    let line = line.trim_start();
+    line.starts_with("requires ") || line.starts_with("ensures ")
+}
+
+/// What became of a set of items.
+#[derive(Debug, Default, PartialEq, Eq)]
+pub struct Change {
+    /// Names that were not there before.
+    pub new: Vec<String>,
+    /// Names whose lines are others.
+    pub changed: Vec<String>,
+    /// Names that are no longer there.
+    pub removed: Vec<String>,
+    /// How many stayed word for word.
+    pub stayed: usize,
+    /// Lines that the new and the changed have and did not have before.
+    pub added_lines: usize,
+    /// Lines that the changed and the removed no longer have.
+    pub removed_lines: usize,
+}
+
+/// What became of the items before.
+#[must_use]
+pub fn change(before: &Items, after: &Items) -> Change {
+    let mut change = Change::default();
+    for (name, lines) in after {
+        match before.get(name) {
+            None => change.new.push(name.clone()),
+            Some(old) if old == lines => change.stayed += 1,
+            Some(_) => change.changed.push(name.clone()),
+        }
+        change.added_lines += missing(lines, before.get(name));
+    }
+    for (name, lines) in before {
+        if !after.contains_key(name) {
+            change.removed.push(name.clone());
+        }
+        change.removed_lines += missing(lines, after.get(name));
+    }
+    change
+}
+
+/// How many of the lines the other text lacks, each line of it answering for one.
+fn missing(lines: &[String], other: Option<&Vec<String>>) -> usize {
+    let mut left: Vec<&String> = other.into_iter().flatten().collect();
+    let mut count = 0;
+    for line in lines {
+        match left.iter().position(|one| *one == line) {
+            Some(at) => {
+                left.swap_remove(at);
+            }
+            None => count += 1,
+        }
+    }
+    count
+}
