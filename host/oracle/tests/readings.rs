@@ -3,7 +3,10 @@
 mod common;
 
 use common::{frames, play, ramp};
-use oracle::{Answer, Commands, LaneBuffers, Oracle, PlaybackState, Settings, Signals, State};
+use oracle::{
+    Answer, Commands, LaneBuffers, Oracle, PlaybackPosition::Samples, PlaybackState, Settings,
+    Signals, State,
+};
 
 /// A voice at rest at a position far enough from everything.
 fn at(sample_rate: u32, position: usize) -> Oracle {
