@@ -6,13 +6,13 @@ use native.Mathlib.Nat.{add-mod-left, mod-eq-of-lt, mul-pos, zero-lt-suc}
 use native.Mathlib.Omega.{arith}
 use mathlib.Core.Bool.{Bool, true, false, not, _&&_, _||_, Bool·beq, cond, true≢false, false≢true}
 use lib.IntN.{ℤ, pos, negsuc}
-use lib.Dec.{T, ltb, eqb, eqb→eq, eqb-refl}
+use lib.Dec.{T, ltb, leb, eqb, eqb→eq, eqb-refl}
 use lib.Bits.{bitAnd, and-mask}
 use lib.Ieee.{Float, nan, inf, fin, Format, binary32, binary64, prec, low, emax, top, up, down, odd, units, round, neg, mul, div, lt, le, eq, fits, isNan, toBits, ofBits, nanBits}
 use lib.Ieee.Fits.{up-pos, neg-fits, inf-fits, and-l}
 use lib.Ieee.Bits.{ofBits-toBits, toBits-lt, nanBits-is}
-use borrow.Author.Tests.{lt-ltb, le-ltb}
-use Rattle.numbers.specs.Words.{naught, one, finite, level, isNaught, proper, magnitude}
+use borrow.Author.Tests.{lt-ltb, le-ltb, le-leb, lt-leb}
+use Rattle.numbers.specs.Words.{naught, one, finite, level, isNaught, negative, proper, magnitude}
 use Rattle.numbers.proofs.Values.{zero-exp}
 
 -- ---- no set sign bit
@@ -172,12 +172,16 @@ self-nan (inf false) h = absurd (true≢false h)
 self-nan (fin s m e) h = absurd (true≢false (sym (equal-self (fin s m e) tt) ∙ h))
 
 -- ---- tests by the top bit, once it is known that there is no NaN
+more : (t b : ℕ) → t ≤ t + b
+more t b = omega arith
+
 low-bits : (f : Format) (s : Bool) (m : ℕ) (e : ℤ) → T (fits f (fin s m e)) → ltb (toBits f (fin s m e)) (top f) ≡ not s
 low-bits f true m e t = ap (λ (n : ℕ). ltb n (top f)) (set-bit f m e) ∙ le-ltb _ _ (more (top f) (toBits f (fin false m e)))
-  where
-    more : (t b : ℕ) → t ≤ t + b
-    more t b = omega arith
 low-bits f false m e t = lt-ltb _ _ (clear-bit f m e t)
+
+high-bits : (f : Format) (s : Bool) (m : ℕ) (e : ℤ) → T (fits f (fin s m e)) → leb (top f) (toBits f (fin s m e)) ≡ s
+high-bits f true m e t = ap (λ (n : ℕ). leb (top f) n) (set-bit f m e) ∙ le-leb _ _ (more (top f) (toBits f (fin false m e)))
+high-bits f false m e t = lt-leb _ _ (clear-bit f m e t)
 
 -- level
 pub below-number : (x y : Float) → lt x y ≡ true → T (not (isNan x))
@@ -213,6 +217,20 @@ not-proper nan h = h
 not-proper (inf s) h = h
 not-proper (fin true m e) h = h
 not-proper (fin false m e) h = refl
+
+-- negative
+pub negative-bits : (x : Float) → T (fits binary64 x) → eq x x ≡ true → leb (2 ^ 63) (toBits binary64 x) ≡ negative x
+negative-bits nan t h = unfold eq in absurd (false≢true h)
+negative-bits (inf true) t h = unfold toBits in refl
+negative-bits (inf false) t h = unfold toBits in refl
+negative-bits (fin s m e) t h = high-bits binary64 s m e t
+
+pub not-negative : (x : Float) → eq x x ≡ false → eq x x ≡ negative x
+unfolding eq
+not-negative nan h = refl
+not-negative (inf true) h = absurd (true≢false h)
+not-negative (inf false) h = absurd (true≢false h)
+not-negative (fin s m e) h = absurd (true≢false (sym (equal-self (fin s m e) tt) ∙ h))
 
 -- positive zero
 pub equal-number : (x y : Float) → eq x y ≡ true → T (not (isNan x))

@@ -35,9 +35,11 @@ isNaught (fin false zero (negsuc k)) = false
 isNaught (fin false zero (pos (suc k))) = false
 isNaught (fin false zero (pos zero)) = true
 
--- below 0: minus zero is not
+-- the sign bit is set: minus zero is negative
 abbrev pub negative : Float → Bool
-negative x = lt x naught
+negative nan = false
+negative (inf s) = s
+negative (fin s m e) = s
 
 -- at least 0, below 1, and the sign bit is clear
 abbrev pub proper : Float → Bool

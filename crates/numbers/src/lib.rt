@@ -87,11 +87,11 @@ pub fn is_finite(x: f64) -> bool
     x < top && x > -top
 }
 
-// Minus zero is not negative.
+// Its sign bit is set: minus zero is negative. A NaN has no bits that can be told, so it is not.
 pub fn is_negative(x: f64) -> bool
     ensures { λ r. ⌜ r ≡ negative x ⌝ }
 {
-    x < 0.0
+    x == x && f64::to_bits(x) >= 0x8000_0000_0000_0000
 }
 
 // A fraction: at least 0, below 1, its sign bit clear.

@@ -1,4 +1,4 @@
-// Document 01's marked examples of the sound that no theorem states: each is run, shown and compared.
+// Document 01's marked examples of the sound that no theorem states, and both zeros as held rates: each is run, shown and compared.
 // 1 Hz, rate 1, a time step of 1 and unit lanes unless said. Of a yes or no, 1 is shown for yes.
 use block::Signals;
 use command_set::Amount;
@@ -251,6 +251,98 @@ fn show_seeks(given: Tally) -> Tally {
     show(t, b"and after seek_by(0)", seek_by_nothing(), 14)
 }
 
+// ---- both zeros as held rates
+
+// Created at 1 of three frames: where three updates lead.
+fn created_at_rate(playback_rate: f64, reverse: bool) -> u64 {
+    let sound = [1.0f32, 1.0, 2.0, 2.0, 3.0, 3.0];
+    let plain = settings(1, 1, OptionalRegion::Absent);
+    let held = Settings {
+        reverse,
+        playback_rate,
+        ..plain
+    };
+    let made = creation::new(held, &sound);
+    position(made.sound)
+}
+
+// Created at 4 of ten frames at rate 1: at 7, or with reverse at 2.
+fn ten_frames(reverse: bool) -> StaticSound {
+    let sound = [0.0f32; 20];
+    let plain = settings(1, 4, OptionalRegion::Absent);
+    let held = Settings { reverse, ..plain };
+    let made = creation::new(held, &sound);
+    made.sound
+}
+
+fn told_rate(voice: StaticSound, rate: f64) -> StaticSound {
+    let sound = [0.0f32; 20];
+    let plain = commands(LoopCommand::Keep, Amount::Absent);
+    let set = Commands {
+        playback_rate: Amount::Given(rate),
+        ..plain
+    };
+    let told = command_set::on_start_processing(voice, &sound, set);
+    told.sound
+}
+
+fn one_frame_more(voice: StaticSound) -> StaticSound {
+    let sound = [0.0f32; 20];
+    let unit = [1.0f32; 1];
+    let rate = [1.0f64; 1];
+    let mut out = [9.0f32; 2];
+    let made = play(voice, &sound, &unit, &rate, 1.0, &mut out);
+    made.sound
+}
+
+// A rate told, then a block.
+fn told_before(rate: f64, reverse: bool) -> u64 {
+    position(one_frame_more(told_rate(ten_frames(reverse), rate)))
+}
+
+// A rate told between the two parts of a cut block.
+fn told_between(rate: f64, reverse: bool) -> u64 {
+    let first = one_frame_more(ten_frames(reverse));
+    position(one_frame_more(told_rate(first, rate)))
+}
+
+fn amplitude_of_minus_zero() -> u64 {
+    let sound = [1.0f32, 1.0, 2.0, 2.0, 3.0, 3.0];
+    let unit = [-0.0f32; 1];
+    let rate = [1.0f64; 1];
+    let mut out = [9.0f32; 2];
+    let made = play(three_frames(), &sound, &unit, &rate, 1.0, &mut out);
+    made.refusal as u64
+}
+
+fn show_zeros_at_creation(given: Tally) -> Tally {
+    let mut t = given;
+    t = show(t, b"created at 0, position", created_at_rate(0.0, false), 3);
+    t = show(t, b"created at -0", created_at_rate(-0.0, false), 0);
+    t = show(t, b"created at 0, reverse", created_at_rate(0.0, true), 0);
+    show(t, b"created at -0, reverse", created_at_rate(-0.0, true), 3)
+}
+
+fn show_zeros_told(given: Tally) -> Tally {
+    let mut t = given;
+    t = show(t, b"at 7 told 0, a frame later", told_before(0.0, false), 8);
+    t = show(t, b"told -0", told_before(-0.0, false), 6);
+    t = show(t, b"at 2 told 0, reverse", told_before(0.0, true), 1);
+    t = show(t, b"told -0, reverse", told_before(-0.0, true), 3);
+    t = show(t, b"at 8 told 0 at the cut", told_between(0.0, false), 9);
+    t = show(t, b"told -0", told_between(-0.0, false), 7);
+    t = show(t, b"at 1 told 0, reverse", told_between(0.0, true), 0);
+    show(t, b"told -0, reverse", told_between(-0.0, true), 2)
+}
+
+fn show_zeros_in_lanes(given: Tally) -> Tally {
+    let mut t = given;
+    let made = advanced(-0.0);
+    t = show(t, b"a lane rate of -0", made.refusal as u64, 0);
+    t = show(t, b"its steps", made.steps as u64, 0);
+    show(t, b"an amplitude of -0", amplitude_of_minus_zero(), 11)
+}
+
 // ---- refused calls
 
 fn is_untouched(out: &[f32; 4]) -> bool {
@@ -304,6 +396,9 @@ fn main() {
     t = show_loops(t);
     t = show_advances(t);
     t = show_seeks(t);
+    t = show_zeros_at_creation(t);
+    t = show_zeros_told(t);
+    t = show_zeros_in_lanes(t);
     t = show_refusals(t);
     io::print_decimal(1, t.examples);
     io::write_all(1, b" examples, ");

@@ -17,7 +17,7 @@ span k = elim (k .slice) [ Absent ↦ k .«num_frames» | Frames s e ↦ e - s ]
 abbrev pub offset : Setup → ℕ
 offset k = elim (k .slice) [ Absent ↦ 0 | Frames s e ↦ s ]
 
--- backward when the held rate is below 0, turned round by reverse
+-- backward when the held rate's sign bit is set, minus zero included, turned round by reverse
 abbrev pub backwards : Float → Bool → Bool
 backwards rate reverse = cond (negative rate) (not reverse) reverse
 

@@ -1,7 +1,7 @@
 // One workload, played by ours or by kira's text: the same sound, loop, lanes and blocks.
 
 use oracle::{
-    EndPosition, Frame, LaneBuffers, MinusZero, Oracle, PlaybackPosition, Region, Settings, Signals,
+    EndPosition, Frame, LaneBuffers, Oracle, PlaybackPosition, Region, Settings, Signals,
 };
 use random::Random;
 use raw::{CableowlSignals, CableowlState, convert};
@@ -135,7 +135,7 @@ impl Kira {
     #[must_use]
     pub fn new(workload: &Workload, sound: &[f32]) -> Self {
         Self {
-            voice: Oracle::create(&workload.settings(), sound, MinusZero::Forward),
+            voice: Oracle::create(&workload.settings(), sound),
             lanes: workload.lanes(),
             out: vec![Frame::ZERO; workload.block],
             steps: 0,

@@ -110,6 +110,7 @@ fn one_thread(options: &Options, thread: u64, threads: u64) -> Tally {
     let first = thread == 0;
     if first {
         runs::tiny_creations(&mut harness, 8);
+        runs::zeros(&mut harness, 6);
         runs::tiny_seeks(&mut harness, 8, extent);
         Big::new().run(&mut harness);
     }

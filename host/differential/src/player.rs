@@ -1,6 +1,6 @@
 // Who answers calls: ours through the C entries, kira's text, and a model of the rules.
 
-use oracle::{MinusZero, Oracle, State};
+use oracle::{Oracle, State};
 use raw::convert;
 use rules::{Document, Rules, Voice, refusals};
 
@@ -168,9 +168,9 @@ impl Player for Kira {
         }
         let mut outcome = Outcome::untouched(call);
         let frames = || call.sound.frames();
-        let found = |state| Oracle::inject_shared(state, frames(), MinusZero::Forward);
+        let found = |state| Oracle::inject_shared(state, frames());
         let voice = match &call.ask {
-            Ask::Create(settings) => Oracle::create_shared(settings, frames(), MinusZero::Forward),
+            Ask::Create(settings) => Oracle::create_shared(settings, frames()),
             Ask::Command(state, commands) => {
                 let mut voice = found(state);
                 outcome.position = voice.command(commands).ok()?;

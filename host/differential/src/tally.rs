@@ -13,6 +13,8 @@ pub enum Kind {
     TinySeek,
     /// Every block over a tiny sound.
     TinyBlock,
+    /// Creations, command sets and blocks with a held rate of zero.
+    Zeros,
     /// Random creations.
     Creation,
     /// Random command sets.
@@ -35,10 +37,11 @@ pub enum Kind {
 
 impl Kind {
     /// All kinds, each at its place.
-    pub const ALL: [Self; 12] = [
+    pub const ALL: [Self; 13] = [
         Self::TinyCreation,
         Self::TinySeek,
         Self::TinyBlock,
+        Self::Zeros,
         Self::Creation,
         Self::Commands,
         Self::Block,
@@ -55,6 +58,7 @@ impl Kind {
             Self::TinyCreation => "tiny creations",
             Self::TinySeek => "tiny seeks",
             Self::TinyBlock => "tiny blocks",
+            Self::Zeros => "held zeros",
             Self::Creation => "random creations",
             Self::Commands => "random command sets",
             Self::Block => "random blocks",

@@ -54,7 +54,8 @@ fn by_rule() -> Vec<Box<dyn Player>> {
         Box::new(Model::new("the position is entry 2's", NextEntryHeard)),
         Box::new(Model::new("reverse starts at N - start", ReverseOneOff)),
         Box::new(Model::new("seek_by adds frames", SeekByFrames)),
-        Box::new(Model::new("minus zero plays backward", MinusZeroBackward)),
+        Box::new(Model::new("minus zero plays forward", MinusZeroForward)),
+        Box::new(Model::new("minus zero is created forward", CreatedForward)),
         Box::new(Model::new("an empty push keeps the count", PushKeepsCount)),
         Box::new(Model::new("a resume waits for the fade", FinishedResumes)),
     ]
@@ -98,7 +99,7 @@ impl Rules for WrapsBelow {
 struct LaneDirection;
 impl Rules for LaneDirection {
     fn is_backward(&self, held: f64, lane: Option<f64>, reverse: bool) -> bool {
-        (lane.unwrap_or(held) < 0.0) != reverse
+        lane.unwrap_or(held).is_sign_negative() != reverse
     }
 }
 
@@ -213,10 +214,20 @@ impl Rules for SeekByFrames {
     }
 }
 
-struct MinusZeroBackward;
-impl Rules for MinusZeroBackward {
+struct MinusZeroForward;
+impl Rules for MinusZeroForward {
     fn is_backward(&self, held: f64, _: Option<f64>, reverse: bool) -> bool {
-        held.is_sign_negative() != reverse
+        (held < 0.0) != reverse
+    }
+}
+
+struct CreatedForward;
+impl Rules for CreatedForward {
+    fn is_backward(&self, held: f64, lane: Option<f64>, reverse: bool) -> bool {
+        match lane {
+            None => MinusZeroForward.is_backward(held, lane, reverse),
+            Some(_) => Document.is_backward(held, lane, reverse),
+        }
     }
 }
 

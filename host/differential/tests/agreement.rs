@@ -38,6 +38,12 @@ fn tiny_blocks() {
 }
 
 #[test]
+fn held_zeros() {
+    let harness = assert_agreement(|harness| runs::zeros(harness, 6));
+    assert!(harness.tally.calls[Kind::Zeros as usize] >= 100_000);
+}
+
+#[test]
 fn random_voices() {
     rounds(5_000, runs::large);
 }

@@ -23,7 +23,7 @@ pub fn is_finite(x: f64) -> bool {
     calls::cableowl_test_is_finite(x) != 0
 }
 
-/// Below 0; minus zero is not.
+/// Its sign bit is set; a NaN is not negative.
 #[must_use]
 pub fn is_negative(x: f64) -> bool {
     calls::cableowl_test_is_negative(x) != 0
@@ -104,7 +104,7 @@ fn advances_alike(fraction: f64, advance: f64) -> bool {
 
 fn tests_alike(x: f64, sample: f32) -> bool {
     is_finite(x) == x.is_finite()
-        && is_negative(x) == (x < 0.0)
+        && is_negative(x) == (!x.is_nan() && x.is_sign_negative())
         && is_proper(x) == proper(x)
         && is_level(sample) == (sample.is_finite() && sample.is_sign_positive())
         && is_naught(sample) == (sample.to_bits() == 0)

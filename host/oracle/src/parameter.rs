@@ -2,7 +2,7 @@
 
 use std::cell::Cell;
 
-use crate::{Decibels, MinusZero, Panning, PlaybackRate, Tween, Value, info::Info};
+use crate::{Decibels, Panning, PlaybackRate, Tween, Value, info::Info};
 
 /// What a lane can stand in for.
 pub trait Laned: Copy {
@@ -11,11 +11,6 @@ pub trait Laned: Copy {
 
     /// The lane's value at an output frame.
     fn at(store: &Self::Store, frame: usize) -> Self;
-
-    /// The held value as kira's text is to see it.
-    fn judged(self, _rule: MinusZero) -> Self {
-        self
-    }
 }
 
 impl Laned for Decibels {
@@ -43,48 +38,29 @@ impl Laned for PlaybackRate {
     fn at(store: &Vec<f64>, frame: usize) -> Self {
         Self(store[frame])
     }
-
-    fn judged(self, rule: MinusZero) -> Self {
-        match rule {
-            MinusZero::Forward if self.0 == 0.0 => Self(0.0),
-            _ => self,
-        }
-    }
 }
 
 /// A held value, and the lane a block reads in its place.
 pub struct Parameter<T: Laned> {
     held: T,
-    rule: MinusZero,
-    answer: T,
     asked: Cell<u64>,
     lane: T::Store,
     next_frame: Cell<usize>,
 }
 
 impl<T: Laned> Parameter<T> {
-    pub fn new(value: Value<T>, _default: T) -> Self {
-        let (held, rule) = match value {
-            Value::Fixed(held) => (held, MinusZero::default()),
-            Value::Judged(held, rule) => (held, rule),
-        };
+    pub fn new(Value::Fixed(held): Value<T>, _default: T) -> Self {
         Self {
             held,
-            rule,
-            answer: held.judged(rule),
             asked: Cell::new(0),
             lane: T::Store::default(),
             next_frame: Cell::new(0),
         }
     }
 
-    /// Sets the held value at once; the rule it is judged by stays unless one is given.
-    pub fn set(&mut self, value: Value<T>, _tween: Tween) {
-        (self.held, self.rule) = match value {
-            Value::Fixed(held) => (held, self.rule),
-            Value::Judged(held, rule) => (held, rule),
-        };
-        self.answer = self.held.judged(self.rule);
+    /// Sets the held value at once.
+    pub fn set(&mut self, Value::Fixed(held): Value<T>, _tween: Tween) {
+        self.held = held;
     }
 
     /// Begins a block: the lane is read from its first frame; true when the fade has finished.
@@ -93,11 +69,11 @@ impl<T: Laned> Parameter<T> {
         info.finished
     }
 
-    /// The held value, under the minus-zero rule; each question is counted.
+    /// The held value; each question is counted.
     #[inline]
     pub fn value(&self) -> T {
         self.asked.set(self.asked.get() + 1);
-        self.answer
+        self.held
     }
 
     /// The lane's value at the next output frame: kira asks once a frame, in order.
@@ -108,7 +84,7 @@ impl<T: Laned> Parameter<T> {
         T::at(&self.lane, frame)
     }
 
-    /// The held value, bit for bit and uncounted.
+    /// The held value, uncounted.
     pub fn held(&self) -> T {
         self.held
     }

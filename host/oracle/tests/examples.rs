@@ -2,7 +2,7 @@
 
 mod common;
 
-use common::{BASE, frames, numbers, play, ramp};
+use common::{frames, numbers, play, ramp};
 use oracle::{
     Commands, Frame, Oracle,
     PlaybackPosition::Samples,
@@ -67,14 +67,14 @@ fn whole_loop_is_accepted() {
         loop_region: Some(frames(0, 10)),
         ..Settings::new(1)
     };
-    let voice = Oracle::create(&settings, &ramp(0, 10), BASE);
+    let voice = Oracle::create(&settings, &ramp(0, 10));
     assert_eq!(voice.state().loop_region, Some((0, 10)));
 }
 
 #[test]
 fn two_and_a_half_seconds() {
     assert_eq!(leaves::into_samples(Seconds(2.5), 1), 3);
-    let mut voice = Oracle::create(&Settings::new(1), &ramp(0, 10), BASE);
+    let mut voice = Oracle::create(&Settings::new(1), &ramp(0, 10));
     let seek = Commands {
         seek_to: Some(2.5),
         ..Commands::default()
@@ -85,7 +85,7 @@ fn two_and_a_half_seconds() {
 
 #[test]
 fn creation() {
-    let voice = Oracle::create(&Settings::new(1), &ramp(0, 10), BASE);
+    let voice = Oracle::create(&Settings::new(1), &ramp(0, 10));
     assert_eq!(numbers(&voice), [0, 0, 1, 2]);
     assert_eq!(voice.state().position, 3);
     assert_eq!(voice.state().count, 4);
@@ -98,7 +98,7 @@ fn creation_in_reverse() {
         start: Samples(2),
         ..Settings::new(1)
     };
-    let voice = Oracle::create(&settings, &ramp(0, 10), BASE);
+    let voice = Oracle::create(&settings, &ramp(0, 10));
     assert_eq!(numbers(&voice), [7, 7, 6, 5]);
     assert_eq!(voice.state().position, 4);
 }
@@ -114,13 +114,13 @@ fn reading_half_way() {
 
 #[test]
 fn three_frames() {
-    let mut voice = Oracle::create(&Settings::new(1), &ramp(1, 3), BASE);
+    let mut voice = Oracle::create(&Settings::new(1), &ramp(1, 3));
     let states = [0, 0, 0, 6, 6, 6].map(|number| PlaybackState::from_number(number).unwrap());
     for (frame, state) in [1.0, 2.0, 3.0, 0.0, 0.0, 0.0].into_iter().zip(states) {
         assert_eq!(play(&mut voice, 1, 1.0, 1.0).0, [frame]);
         assert_eq!(voice.state().playback, state, "after {frame}");
     }
-    let mut voice = Oracle::create(&Settings::new(1), &ramp(1, 3), BASE);
+    let mut voice = Oracle::create(&Settings::new(1), &ramp(1, 3));
     let expected = (vec![1.0, 2.0, 3.0, 0.0, 0.0, 0.0], 6);
     assert_eq!(play(&mut voice, 6, 1.0, 1.0), expected);
 }
@@ -131,6 +131,6 @@ fn advance_of_256() {
         loop_region: Some(frames(0, 10)),
         ..Settings::new(1)
     };
-    let mut voice = Oracle::create(&settings, &ramp(0, 10), BASE);
+    let mut voice = Oracle::create(&settings, &ramp(0, 10));
     assert_eq!(play(&mut voice, 2, 256.0, 1.0).1, 512);
 }

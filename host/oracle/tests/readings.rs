@@ -2,9 +2,10 @@
 
 mod common;
 
-use common::{BASE, frames, play, ramp};
+use common::{frames, play, ramp};
 use oracle::{
-    Answer, Commands, LaneBuffers, MinusZero, Oracle, PlaybackState, Settings, Signals, State,
+    Answer, Commands, LaneBuffers, Oracle, PlaybackPosition::Samples, PlaybackState, Settings,
+    Signals, State,
 };
 
 /// A voice at rest at a position far enough from everything.
@@ -12,9 +13,9 @@ fn at(sample_rate: u32, position: usize) -> Oracle {
     let samples = ramp(0, 100);
     let state = State {
         position,
-        ..Oracle::create(&Settings::new(sample_rate), &samples, BASE).state()
+        ..Oracle::create(&Settings::new(sample_rate), &samples).state()
     };
-    Oracle::inject(&state, &samples, BASE)
+    Oracle::inject(&state, &samples)
 }
 
 fn told(voice: &mut Oracle, n: usize, signals: Signals) -> Vec<f32> {
@@ -31,10 +32,10 @@ fn the_sum_is_rounded() {
         fraction: 1.0f64.next_down(),
         ..voice.state()
     };
-    voice = Oracle::inject(&state, &ramp(0, 100), BASE);
+    voice = Oracle::inject(&state, &ramp(0, 100));
     assert_eq!(play(&mut voice, 1, 1.0, 1.0).1, 2);
     assert_eq!(voice.state().fraction.to_bits(), 0);
-    let mut voice = Oracle::inject(&state, &ramp(0, 100), BASE);
+    let mut voice = Oracle::inject(&state, &ramp(0, 100));
     assert_eq!(play(&mut voice, 1, 256.0, 1.0).1, 257);
 }
 
@@ -47,14 +48,14 @@ fn states_then_start() {
     };
     let state = State {
         playback: PlaybackState::Resuming,
-        ..Oracle::create(&waiting, &samples, BASE).state()
+        ..Oracle::create(&waiting, &samples).state()
     };
     let signals = Signals {
         finished: true,
         start: Answer::Never,
         resume: Answer::Waiting,
     };
-    let mut voice = Oracle::inject(&state, &samples, BASE);
+    let mut voice = Oracle::inject(&state, &samples);
     told(&mut voice, 1, signals);
     assert_eq!(voice.state().playback, PlaybackState::Stopped);
     assert!(!voice.state().started);
@@ -104,7 +105,7 @@ fn an_empty_block_takes_its_signals() {
 
 #[test]
 fn a_negative_reading_times_zero_is_minus_zero() {
-    let mut voice = Oracle::create(&Settings::new(1), &[-1.0; 8], BASE);
+    let mut voice = Oracle::create(&Settings::new(1), &[-1.0; 8]);
     let lanes = LaneBuffers::constant(1, 0.0, 1.0, (1.0, 1.0), 1.0);
     let mut out = [f32::NAN; 2];
     voice.block(&lanes.lend(), 1.0, Signals::default(), &mut out);
@@ -128,43 +129,54 @@ fn seek_by_zero_may_land_one_lower() {
 }
 
 #[test]
-fn minus_zero_has_two_rules() {
+fn a_held_minus_zero_is_backward() {
     let samples = ramp(0, 4);
     let settings = Settings {
         loop_region: Some(frames(0, 3)),
         ..Settings::new(1)
     };
-    let state = State {
-        position: 0,
-        rate: -0.0,
-        ..Oracle::create(&settings, &samples, BASE).state()
-    };
-    for (rule, to) in [(MinusZero::Forward, 1), (MinusZero::Backward, 2)] {
-        let mut voice = Oracle::inject(&state, &samples, rule);
-        play(&mut voice, 1, 1.0, 1.0);
-        assert_eq!(voice.state().position, to, "{rule:?}");
-        assert_eq!(voice.state().rate.to_bits(), (-0.0f64).to_bits());
-        let created = Settings {
-            rate: -0.0,
-            ..settings
+    for (rate, to) in [(0.0, 1), (-0.0, 2)] {
+        let state = State {
+            position: 0,
+            rate,
+            ..Oracle::create(&settings, &samples).state()
         };
-        let voice = Oracle::create(&created, &samples, rule);
-        assert_eq!(voice.state().position, 0, "three steps of three: {rule:?}");
-        let last = voice.state().window[3].number;
-        assert_eq!(last, 3 - to, "{rule:?}");
+        let mut voice = Oracle::inject(&state, &samples);
+        play(&mut voice, 1, 1.0, 1.0);
+        assert_eq!(voice.state().position, to, "{rate:?}");
+        assert_eq!(voice.state().rate.to_bits(), rate.to_bits());
     }
 }
 
 #[test]
-fn the_rate_command_keeps_the_rule() {
-    let commands = Commands {
-        rate: Some(-0.0),
-        ..Commands::default()
-    };
-    for (rule, to) in [(MinusZero::Forward, 51), (MinusZero::Backward, 49)] {
-        let mut voice = Oracle::inject(&at(1, 50).state(), &ramp(0, 100), rule);
+fn a_created_minus_zero_is_backward() {
+    for (rate, reverse, to) in [
+        (0.0, false, 3),
+        (-0.0, false, 0),
+        (0.0, true, 0),
+        (-0.0, true, 3),
+    ] {
+        let settings = Settings {
+            start: Samples(1),
+            rate,
+            reverse,
+            ..Settings::new(1)
+        };
+        let voice = Oracle::create(&settings, &ramp(0, 3));
+        assert_eq!(voice.state().position, to, "{rate:?}, reverse {reverse}");
+    }
+}
+
+#[test]
+fn a_rate_command_brings_the_sign_of_its_zero() {
+    for (rate, to) in [(0.0, 51), (-0.0, 49)] {
+        let commands = Commands {
+            rate: Some(rate),
+            ..Commands::default()
+        };
+        let mut voice = Oracle::inject(&at(1, 50).state(), &ramp(0, 100));
         voice.command(&commands).unwrap();
         play(&mut voice, 1, 1.0, 1.0);
-        assert_eq!(voice.state().position, to);
+        assert_eq!(voice.state().position, to, "{rate:?}");
     }
 }

@@ -2,7 +2,7 @@
 
 mod common;
 
-use common::{BASE, frames, ramp};
+use common::{frames, ramp};
 use oracle::{
     Commands, MAX_TURNS, Oracle, Settings, TooManyTurns,
     leaves::{self, Transport},
@@ -64,7 +64,7 @@ fn far_seeks_change_nothing() {
         loop_region: Some(frames(4, 5)),
         ..Settings::new(1)
     };
-    let mut voice = Oracle::create(&settings, &ramp(0, 10), BASE);
+    let mut voice = Oracle::create(&settings, &ramp(0, 10));
     let before = voice.state();
     let far = (MAX_TURNS + 5) as f64;
     let seek = |seconds| Commands {

@@ -12,7 +12,7 @@ fn empty_slices_may_be_null() {
     let refused = unsafe { entries::cableowl_new(convert::settings_in(&settings), null(), 0) };
     assert_eq!(refused.refusal, 3);
     let sound = [0.5; 8];
-    let state = convert::state_in(&Oracle::create(&settings, &sound, Default::default()).state());
+    let state = convert::state_in(&Oracle::create(&settings, &sound).state());
     // SAFETY: the sound is lent whole, and of the other slices nothing.
     let answer = unsafe {
         entries::cableowl_process(

@@ -164,7 +164,7 @@ pub trait Rules {
 
     /// The direction, from the held rate; the lane's rate is shown to it and does not count.
     fn is_backward(&self, held: f64, _lane: Option<f64>, reverse: bool) -> bool {
-        (held < 0.0) != reverse
+        held.is_sign_negative() != reverse
     }
 
     /// The fraction after a sum, once its whole part is taken off.

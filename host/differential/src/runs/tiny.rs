@@ -24,7 +24,7 @@ pub enum Extent {
 }
 
 /// A sound of so many frames, no two samples the same.
-fn sound(frames: usize) -> Arc<Sound> {
+pub(super) fn sound(frames: usize) -> Arc<Sound> {
     let sample = |i: usize| [0.5, -0.75][i % 2] * (i as f32 + 1.0);
     Sound::new((0..2 * frames).map(sample).collect())
 }
@@ -81,25 +81,33 @@ fn window(count: usize) -> [Entry; 4] {
     })
 }
 
-/// Every creation over so many frames, from 1 frame on.
-pub fn tiny_creations(harness: &mut Harness, most: usize) {
+/// Settings that create a voice with this slice, loop, place and direction.
+pub(super) fn settings_at(state: &State) -> Settings {
     let region = |(start, end)| Region {
         start: PlaybackPosition::Samples(start),
         end: EndPosition::Custom(PlaybackPosition::Samples(end)),
     };
+    Settings {
+        sample_rate: state.sample_rate,
+        slice: state.slice.map(region),
+        start: PlaybackPosition::Samples(state.position),
+        loop_region: state.loop_region.map(region),
+        reverse: state.reverse,
+        rate: state.rate,
+        waits: false,
+    }
+}
+
+/// Every creation over so many frames, from 1 frame on.
+pub fn tiny_creations(harness: &mut Harness, most: usize) {
     for total in 1..=most {
         let sound = sound(total);
         // A creation starts where a transport plays; the other transports have no creation.
         for state in transports(total).filter(|state| state.playing) {
             for waits in [false, true] {
                 let settings = Settings {
-                    sample_rate: 1,
-                    slice: state.slice.map(region),
-                    start: PlaybackPosition::Samples(state.position),
-                    loop_region: state.loop_region.map(region),
-                    reverse: state.reverse,
-                    rate: state.rate,
                     waits,
+                    ..settings_at(&state)
                 };
                 let call = Call {
                     ask: Ask::Create(settings),

@@ -50,12 +50,7 @@ pub fn unit(n: usize, rate: f64) -> Block {
 
 /// The state in which a sound of so many frames, as a ramp, is created at 1 Hz.
 pub fn created(first: usize, frames: usize) -> State {
-    Oracle::create(
-        &Settings::new(1),
-        &ramp(first, frames),
-        oracle::MinusZero::Forward,
-    )
-    .state()
+    Oracle::create(&Settings::new(1), &ramp(first, frames)).state()
 }
 
 /// Document 01's marked examples.
@@ -142,21 +137,41 @@ fn readings(list: &mut Words) {
         ..unit(0, 1.0)
     });
 
-    let mut scene = Scene::begin(list, &ramp(0, 4));
-    for rate in [0.0, -0.0] {
-        scene.create(&Settings {
-            loop_region: Some(frames(0, 3)),
-            rate,
-            ..Settings::new(1)
-        });
-        scene.block(&unit(3, -0.0));
-        scene.block(&unit(3, -1.0));
-        scene.command(&Commands {
-            rate: Some(-rate),
-            ..Commands::default()
-        });
-        scene.block(&unit(3, 1.0));
+    zeros(list);
+}
+
+/// Both zeros as held rates, with and without reverse: at creation, by a command before a block, and by a
+/// command between the two parts of a cut block; and in the lanes.
+fn zeros(list: &mut Words) {
+    let held = |rate| Commands {
+        rate: Some(rate),
+        ..Commands::default()
+    };
+    for looped in [None, Some(frames(0, 3))] {
+        let mut scene = Scene::begin(list, &ramp(0, 4));
+        for (rate, reverse) in [(0.0, false), (-0.0, false), (0.0, true), (-0.0, true)] {
+            scene.create(&Settings {
+                start: Samples(1),
+                loop_region: looped,
+                rate,
+                reverse,
+                ..Settings::new(1)
+            });
+            scene.block(&unit(3, -0.0));
+            scene.block(&unit(3, -1.0));
+            scene.command(&held(-rate));
+            scene.block(&unit(3, 1.0));
+            scene.command(&held(rate));
+            scene.block(&unit(2, -1.0));
+        }
     }
+    let mut scene = Scene::begin(list, &ramp(1, 3));
+    scene.create(&Settings {
+        start: Samples(1),
+        rate: -0.0,
+        ..Settings::new(1)
+    });
+    scene.block(&unit(4, 1.0));
 }
 
 /// Slices, their stretches, and places in a mix.

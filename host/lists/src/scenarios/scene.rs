@@ -1,8 +1,6 @@
 // A scenario as it is written: each record beside what the oracle answers, or document 01's refusal.
 
-use oracle::{
-    Commands, Entry, LaneBuffers, MinusZero, Oracle, PlaybackState, Settings, Signals, State,
-};
+use oracle::{Commands, Entry, LaneBuffers, Oracle, PlaybackState, Settings, Signals, State};
 
 use super::words::Words;
 
@@ -15,9 +13,6 @@ const COMMAND_SET: u64 = 5;
 const BLOCK: u64 = 6;
 const MIX: u64 = 7;
 const STRETCH: u64 = 8;
-
-/// Document 01's rule for a held rate of minus zero.
-const RULE: MinusZero = MinusZero::Forward;
 
 /// What a refused creation leaves.
 const BLANK: State = State {
@@ -81,7 +76,7 @@ impl<'a> Scene<'a> {
         self.list.state(state);
         self.state = *state;
         let fits = state.is_well_formed() && self.sound.len() == 2 * state.total_frames;
-        self.voice = fits.then(|| Oracle::inject(state, &self.sound, RULE));
+        self.voice = fits.then(|| Oracle::inject(state, &self.sound));
     }
 
     /// From here on so many of the sound's samples are lent.
@@ -92,7 +87,7 @@ impl<'a> Scene<'a> {
     }
 
     pub fn create(&mut self, settings: &Settings) {
-        let voice = Oracle::create(settings, &self.sound, RULE);
+        let voice = Oracle::create(settings, &self.sound);
         self.state = voice.state();
         self.voice = Some(voice);
         self.write_creation(settings, 0);

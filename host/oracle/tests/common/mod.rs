@@ -1,9 +1,7 @@
 // What the tests share: small sounds, unit lanes, and a play call.
 #![allow(dead_code)]
 
-use oracle::{
-    EndPosition, LaneBuffers, MinusZero, Oracle, PlaybackPosition::Samples, Region, Signals,
-};
+use oracle::{EndPosition, LaneBuffers, Oracle, PlaybackPosition::Samples, Region, Signals};
 
 /// A mono sound in both channels: `first`, `first + 1` and so on.
 pub fn ramp(first: usize, frames: usize) -> Vec<f32> {
@@ -33,6 +31,3 @@ pub fn play(voice: &mut Oracle, n: usize, rate: f64, dt: f64) -> (Vec<f32>, u64)
 pub fn numbers(voice: &Oracle) -> [usize; 4] {
     voice.state().window.map(|entry| entry.number)
 }
-
-/// Document 01's rule for minus zero, which most tests use.
-pub const BASE: MinusZero = MinusZero::Forward;

@@ -12,7 +12,6 @@ impl StaticSound {
     pub(super) fn from_state(
         state: &crate::State,
         frames: Arc<[Frame]>,
-        rule: crate::MinusZero,
     ) -> Self {
         let resampler = Resampler::from_window(&state.window());
         let position = resampler.current_frame_index() as f64 / state.sample_rate as f64;
@@ -33,7 +32,7 @@ impl StaticSound {
             fractional_position: state.fraction,
             volume: Parameter::new(crate::Value::Fixed(Decibels::IDENTITY), Decibels::IDENTITY),
             playback_rate: Parameter::new(
-                crate::Value::Judged(PlaybackRate(state.rate), rule),
+                crate::Value::Fixed(PlaybackRate(state.rate)),
                 PlaybackRate(1.0),
             ),
             panning: Parameter::new(crate::Value::Fixed(Panning::CENTER), Panning::CENTER),
