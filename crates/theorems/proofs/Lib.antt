@@ -8,6 +8,8 @@ pub mod Mix
 pub mod Kept
 pub mod LawfulEnd
 pub mod Steps
-pub mod Coincide
+pub mod AtZero
 pub mod Examples
+pub mod Promises
+pub mod Coincide
 pub mod Leaves

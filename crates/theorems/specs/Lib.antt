@@ -1,4 +1,4 @@
--- What is shown of the entries beyond each one's own promise: a file a theorem.
+-- What is shown of the entries beyond each one's own promise: a file a theorem, and their list in Promises.
 pub mod Sums
 pub mod Alike
 pub mod Cut
@@ -7,4 +7,9 @@ pub mod Mix
 pub mod Kept
 pub mod LawfulEnd
 pub mod Steps
+pub mod Stays
+pub mod AtZero
+pub mod Wraps
+pub mod Examples
+pub mod Promises
 pub mod Coincide

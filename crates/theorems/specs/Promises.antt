@@ -1,0 +1,41 @@
+-- All that is promised beyond the functions' own contracts: a field a theorem, each stated in the file that its type comes from.
+-- The contract of `promised` is this record, so the prover refuses a field that is false or has no proof.
+use Rattle.theorems.specs.Cut.{CutBlocks}
+use Rattle.theorems.specs.Mix.{CutMixes}
+use Rattle.theorems.specs.Schedules.{AnySizes, AllAccepted}
+use Rattle.theorems.specs.Kept.{CreationKeeps, BlankIsNot, CommandsKeep, BlocksKeep, MixesKeep}
+use Rattle.theorems.specs.LawfulEnd.{UpdateEnds, BlockEnds}
+use Rattle.theorems.specs.Steps.{StepsMade}
+use Rattle.theorems.specs.Stays.{SeekStartsNothing, StoppedStays, LoopStays}
+use Rattle.theorems.specs.AtZero.{ReadsB}
+use Rattle.theorems.specs.Wraps.{RustAgrees}
+use Rattle.theorems.specs.Examples.{ExamplesHold}
+
+pub record Promises : Type 0 where
+  -- a block cut in two is the same block
+  pub cut-blocks : CutBlocks
+  pub cut-mixes : CutMixes
+  -- and so is a stream of blocks of any sizes, each of which is accepted
+  pub any-sizes : AnySizes
+  pub all-accepted : AllAccepted
+  -- an accepted call leaves a well formed state, a refused one all that it was given
+  pub creation-keeps : CreationKeeps
+  pub blank-is-not : BlankIsNot
+  pub commands-keep : CommandsKeep
+  pub blocks-keep : BlocksKeep
+  pub mixes-keep : MixesKeep
+  -- a voice stops inside a block only at its end, and then every sample is +0
+  pub update-ends : UpdateEnds
+  pub block-ends : BlockEnds
+  -- the steps reported are the updates made
+  pub steps-made : StepsMade
+  -- what is over stays over, and a loop is not left
+  pub seek-starts-nothing : SeekStartsNothing
+  pub stopped-stays : StoppedStays
+  pub loop-stays : LoopStays
+  -- at fraction 0 the frame read is b
+  pub reads-b : ReadsB
+  -- kira's wraps and ours agree
+  pub rust-agrees : RustAgrees
+  -- document 01's examples marked [P]
+  pub examples-hold : ExamplesHold
