@@ -17,7 +17,7 @@ use Rattle.voice.specs.WellFormed.{ours}
 use Rattle.creation.specs.Creation.{allowed}
 use Rattle.creation.proofs.Makes.{blank-not}
 use Rattle.command_set.specs.Commands.{loopable, rateable, seekable, refusedSet, commanded}
-use Rattle.static_sound.specs.Entries.{refusedBlock, processed, processedInto}
+use Rattle.static_sound.specs.Entries.{refusedBlock, processed, processedInto, stretchOf, stretchAt}
 use Rattle.cableowl.specs.declared.CableowlState.{CableowlState}
 use Rattle.cableowl.specs.declared.CableowlPlace.{CableowlPlace}
 use Rattle.cableowl.specs.declared.CableowlRegion.{CableowlRegion}
@@ -48,7 +48,7 @@ module _ (snd : List Float) (c : CableowlState) (dt : Float) (b : Lanes) (g : Ca
   into-1 mix from = rw (unlawful (length snd) c e)
 
 pub part-1 : (snd : List Float) (c : CableowlState) → lawful c ≡ false → partC snd c ≡ record { offset = 0; length = 0 }
-unfolding partC
+unfolding partC stretchOf stretchAt
 part-1 snd c e = rw (unlawful (length snd) c e)
 
 -- ---- places and regions

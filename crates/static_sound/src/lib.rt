@@ -4,11 +4,12 @@ ghost use Prim.Native.Nat.{_+_, _*_, _/_, _%_};
 ghost use mathlib.Core.Bool.{_&&_};
 ghost use lib.Dec.{T, leb, eqb};
 ghost use lib.ListN.{length, replicate};
+ghost use denote.Ref.{ptr};
 ghost use Rattle.numbers.specs.Words.{naught, proper};
 ghost use Rattle.lanes.specs.Lanes.{five, rows};
 ghost use Rattle.static_sound.specs.Blocks.{begun, live, plays};
 ghost use Rattle.static_sound.specs.Turns.{frameAt, turnOf, Turning, Playable, acceptedAs, sounded};
-ghost use Rattle.static_sound.specs.Entries.{refusedBlock, processed, processedInto, stretchOf};
+ghost use Rattle.static_sound.specs.Entries.{refusedBlock, processed, processedInto, stretchOf, stretchAt, sampleAt};
 use frame::Frame;
 use frame::interpolate_frame;
 use playback_position::FrameRange;
@@ -437,9 +438,10 @@ pub fn process_into(
     )
 }
 
-// The sound's own part, as it is lent: that of the slice, or all of it.
+// The sound's own part, as it is lent and where it lies: that of the slice, or all of it; refused, the empty part at their start.
 pub fn stretch(voice: StaticSound, sound: &[f32]) -> &[f32]
     ensures { λ r. ⌜ now r ≡ stretchOf (now (sound .entry)) voice ⌝ }
+    ensures { λ r. ⌜ ptr r ≡ sampleAt (ptr (sound .entry)) (stretchAt (length (now (sound .entry))) voice) ⌝ }
 {
     if !voice.is_well_formed(sound.len()) {
         return &sound[..0];

@@ -19,34 +19,27 @@ start c = c .before .before .before .before .before .before .before .before
 abbrev lent : tie.After-is-live → Lanes
 lent c = let a = start c .args in five (now (a .fade)) (now (a .volume)) (now (a .left)) (now (a .right)) (now (a .rate))
 
--- src/block.rt:217:8
 is-live-requires : tie.Need-is-live-requires
 is-live-requires c κs = search needs
 
--- src/block.rt:218:9
 play-requires : tie.Need-play-requires
 play-requires c κs = search needs
 
--- src/block.rt:218:9
 same-length : tie.Need-same-length
 same-length c = search needs
 
--- src/block.rt:218:9
 returns : tie.Need-returns
 returns c =
     let l = c .before .before .before .before in
     let a = start (l .before) .args in
     sounded-live (now (a .sound)) (a .dt) (lent (l .before)) (a .voice) (sym (l .before .is-live .ensures) ∙ l .if1 .taken) _ (c .before .before .play .ensures)
 
--- src/block.rt:220:5
 silence-requires : tie.Need-silence-requires
 silence-requires c κs = search needs
 
--- src/block.rt:203:1
 same-length-2 : tie.Need-same-length-2
 same-length-2 c = search needs
 
--- src/block.rt:203:1
 returns-2 : tie.Need-returns-2
 returns-2 c =
     let l = c .before .before .before .before in

@@ -27,23 +27,18 @@ numbered : (c : tie.After-refusal-of)
     c .refusal-of .result ≡ refusedBlock (length (now (a .sound))) (a .voice) (a .dt) (lent c) (holds (lent c) (now (a .out))))
 numbered c = rw (c .before .holds .ensures) at (c .refusal-of .ensures)
 
--- src/block.rt:284:9
 holds-requires : tie.Need-holds-requires
 holds-requires c κs = search needs
 
--- src/block.rt:285:9
 refusal-of-requires : tie.Need-refusal-of-requires
 refusal-of-requires c κs = search needs
 
--- src/block.rt:297:9
 returns : tie.Need-returns
 returns c = let a = start (c .before) .args in refused-is (now (a .sound)) (a .voice) (a .dt) (lent (c .before)) (a .signals) (now (a .out)) _ (numbered (c .before)) (c .if1 .taken)
 
--- src/block.rt:303:9
 begin-requires : tie.Need-begin-requires
 begin-requires c κs = search needs
 
--- src/block.rt:304:5
 play-or-rest-requires : tie.Need-play-or-rest-requires
 play-or-rest-requires c κs =
     let b = c .before in
@@ -51,11 +46,9 @@ play-or-rest-requires c κs =
     let a = start (e .before) .args in
     rw (b .begin .ensures) (playable-out (now (a .sound)) (a .voice) (a .dt) (lent (e .before)) (a .signals) (now (a .out)) (sym (numbered (e .before)) ∙ e .if1 .left))
 
--- src/block.rt:270:1
 same-length : tie.Need-same-length
 same-length c = search needs
 
--- src/block.rt:270:1
 returns-2 : tie.Need-returns-2
 returns-2 c =
     let p = c .before .before in

@@ -37,51 +37,39 @@ none c = sym (numbered (c .before)) ∙ c .if1 .left
 fits : (c : tie.Else1) → (let a = start (c .before) .args in 2 * (a .from + length (now (a .rate))) ≤ length (now (a .mix)))
 fits c = let a = start (c .before) .args in inside (now (a .sound)) (a .voice) (a .dt) (lent (c .before)) (a .signals) (now (a .mix)) (a .from) (none c)
 
--- src/block.rt:323:9
 has-room-requires : tie.Need-has-room-requires
 has-room-requires c κs = search needs
 
--- src/block.rt:324:9
 refusal-of-requires : tie.Need-refusal-of-requires
 refusal-of-requires c κs = search needs
 
--- src/block.rt:336:9
 returns : tie.Need-returns
 returns c = let a = start (c .before) .args in refused-into (now (a .sound)) (a .voice) (a .dt) (lent (c .before)) (a .signals) (now (a .mix)) (a .from) _ (numbered (c .before)) (c .if1 .taken)
 
--- src/block.rt:342:9
 begin-requires : tie.Need-begin-requires
 begin-requires c κs = search needs
 
--- src/block.rt:343:13
 mul-a : tie.Need-mul-a
 mul-a c = omega (arith, fits (c .before), start (c .before .before) .good .1 .1 .1 .1 .1 .1 .1 .1 .1 .0)
 
--- src/block.rt:344:17
 mul-e : tie.Need-mul-e
 mul-e c = omega (arith, fits (c .before), start (c .before .before) .good .1 .1 .1 .1 .1 .1 .1 .1 .1 .0)
 
--- src/block.rt:344:13
 add-e : tie.Need-add-e
 add-e c = omega (arith, fits (c .before), start (c .before .before) .good .1 .1 .1 .1 .1 .1 .1 .1 .1 .0)
 
--- src/block.rt:354:9
 mul-play-or-rest : tie.Need-mul-play-or-rest
 mul-play-or-rest c = omega (arith, fits (c .before), start (c .before .before) .good .1 .1 .1 .1 .1 .1 .1 .1 .1 .0)
 
--- src/block.rt:354:9
 sub-play-or-rest : tie.Need-sub-play-or-rest
 sub-play-or-rest c = search needs
 
--- src/block.rt:354:9
 part-play-or-rest-start : tie.Need-part-play-or-rest-start
 part-play-or-rest-start c = search needs
 
--- src/block.rt:354:9
 part-play-or-rest-end : tie.Need-part-play-or-rest-end
 part-play-or-rest-end c = omega (arith, fits (c .before), start (c .before .before) .good .1 .1 .1 .1 .1 .1 .1 .1 .1 .0)
 
--- src/block.rt:345:5
 play-or-rest-requires : tie.Need-play-or-rest-requires
 play-or-rest-requires c κs =
     let b = c .before in
@@ -89,11 +77,9 @@ play-or-rest-requires c κs =
     let a = start (e .before) .args in
     rw (b .begin .ensures) (playable-part (now (a .sound)) (a .voice) (a .dt) (lent (e .before)) (a .signals) (now (a .mix)) (a .from) (none e))
 
--- src/block.rt:308:1
 same-length : tie.Need-same-length
 same-length c = search needs
 
--- src/block.rt:308:1
 returns-2 : tie.Need-returns-2
 returns-2 c =
     let p = c .before .before in
