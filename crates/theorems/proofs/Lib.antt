@@ -10,6 +10,6 @@ pub mod LawfulEnd
 pub mod Steps
 pub mod AtZero
 pub mod Examples
-pub mod Promises
+pub mod Archive
 pub mod Coincide
-pub mod Leaves
+pub mod Promises

@@ -11,5 +11,7 @@ pub mod Stays
 pub mod AtZero
 pub mod Wraps
 pub mod Examples
-pub mod Promises
+pub mod Archive
+pub mod ArchiveKept
 pub mod Coincide
+pub mod Promises

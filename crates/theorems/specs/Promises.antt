@@ -10,6 +10,9 @@ use Rattle.theorems.specs.Stays.{SeekStartsNothing, StoppedStays, LoopSt
 use Rattle.theorems.specs.AtZero.{ReadsB}
 use Rattle.theorems.specs.Wraps.{RustAgrees}
 use Rattle.theorems.specs.Examples.{ExamplesHold}
+use Rattle.theorems.specs.Archive.{CutBlocksC, CutMixesC}
+use Rattle.theorems.specs.ArchiveKept.{ArchiveKeeps, ReadBack, UnlawfulRefused, TagsRefused, PartIsStretch}
+use Rattle.theorems.specs.Coincide.{Coincide}
 
 pub record Promises : Type 0 where
   -- a block cut in two is the same block
@@ -18,6 +21,14 @@ pub record Promises : Type 0 where
   -- and so is a stream of blocks of any sizes, each of which is accepted
   pub any-sizes : AnySizes
   pub all-accepted : AllAccepted
+  -- the same of the archive's entries, on records of numbers
+  pub archive-cut-blocks : CutBlocksC
+  pub archive-cut-mixes : CutMixesC
+  pub archive-keeps : ArchiveKeeps
+  pub archive-read-back : ReadBack
+  pub archive-unlawful-refused : UnlawfulRefused
+  pub archive-tags-refused : TagsRefused
+  pub archive-part-is-stretch : PartIsStretch
   -- an accepted call leaves a well formed state, a refused one all that it was given
   pub creation-keeps : CreationKeeps
   pub blank-is-not : BlankIsNot
@@ -39,3 +50,5 @@ pub record Promises : Type 0 where
   pub rust-agrees : RustAgrees
   -- document 01's examples marked [P]
   pub examples-hold : ExamplesHold
+  -- each contract says enough: any two outcomes that it allows coincide
+  pub coincide : Coincide

@@ -72,7 +72,7 @@ pub struct Told {
     pub promises: String,
     /// docs/EXCEPTIONS.md
     pub exceptions: String,
-    /// the law files of the crate `theorems`
+    /// the record of lines that outcomes coincide, crates/theorems/specs/Coincide.antt
     pub laws: String,
 }
 
@@ -91,7 +91,8 @@ impl Told {
         }
         let law = law_of(function);
         let has_law = self.laws.lines().any(|line| {
-            line.strip_prefix("pub ")
+            line.trim_start()
+                .strip_prefix("pub ")
                 .and_then(|rest| rest.split_whitespace().next())
                 == Some(law.as_str())
         });

@@ -16,8 +16,7 @@ fn told() -> Told {
     Told {
         promises: read("docs/PROMISES.md"),
         exceptions: read("docs/EXCEPTIONS.md"),
-        laws: read("crates/theorems/proofs/Coincide.antt")
-            + &read("crates/theorems/proofs/Leaves.antt"),
+        laws: read("crates/theorems/specs/Coincide.antt"),
     }
 }
 
