@@ -61,6 +61,9 @@ fn each_wrong_answer_named_is_an_edit_that_must_be_refused() {
             continue;
         };
         let (function, rest) = rest.split_once('`').expect("a function's name ends");
+        if !function.contains("::") {
+            continue;
+        }
         let krate = function.split("::").next().expect("a crate's name");
         let wrong = rest.trim_end_matches(" |").rsplit(" | ").next();
         for edit in wrong.expect("a last column").split(", ") {
@@ -70,4 +73,28 @@ fn each_wrong_answer_named_is_an_edit_that_must_be_refused() {
         }
     }
     assert!(named > 100, "only {named} found");
+}
+
+#[test]
+fn the_first_page_is_the_record_of_promises() {
+    let record = read("crates/theorems/specs/Promises.antt");
+    let mut fields: Vec<&str> = record
+        .lines()
+        .filter_map(|line| line.strip_prefix("  pub "))
+        .filter_map(|line| line.split_whitespace().next())
+        .collect();
+    let page = read("docs/PROMISES.md");
+    let mut rows: Vec<&str> = page
+        .lines()
+        .skip_while(|line| *line != "| field | file | says |")
+        .skip(2)
+        .take_while(|line| line.starts_with("| `"))
+        .filter_map(|line| line.strip_prefix("| "))
+        .filter_map(|line| line.split(" | ").next())
+        .flat_map(|names| names.split(", "))
+        .map(|name| name.trim_matches('`'))
+        .collect();
+    fields.sort_unstable();
+    rows.sort_unstable();
+    assert_eq!(fields, rows);
 }
