@@ -8,6 +8,8 @@ pub mod Mix
 pub mod Kept
 pub mod LawfulEnd
 pub mod Steps
+pub mod Plain
+pub mod MixSchedules
 pub mod AtZero
 pub mod Examples
 pub mod Archive

@@ -11,6 +11,8 @@ use Rattle.theorems.specs.Promises.{Promises}
 use Rattle.theorems.proofs.Cut.{cut-blocks}
 use Rattle.theorems.proofs.Mix.{cut-mixes}
 use Rattle.theorems.proofs.Schedules.{any-sizes}
+use Rattle.theorems.proofs.MixSchedules.{any-sizes-mix}
+use Rattle.theorems.proofs.Plain.{mix-steps-made, mix-ends}
 use Rattle.theorems.proofs.Streams.{all-accepted}
 use Rattle.theorems.proofs.Kept.{creation-keeps, blank-is-not, commands-keep, blocks-keep, mixes-keep}
 use Rattle.theorems.proofs.LawfulEnd.{update-ends, block-ends}
@@ -48,6 +50,7 @@ promises =
       cut-blocks = cut-blocks;
       cut-mixes = cut-mixes;
       any-sizes = any-sizes;
+      any-sizes-mix = any-sizes-mix;
       all-accepted = all-accepted;
       archive-cut-blocks = archive-cut-blocks;
       archive-cut-mixes = archive-cut-mixes;
@@ -63,7 +66,9 @@ promises =
       mixes-keep = mixes-keep;
       update-ends = update-ends;
       block-ends = block-ends;
+      mix-ends = mix-ends;
       steps-made = steps-made;
+      mix-steps-made = mix-steps-made;
       seek-starts-nothing = seek-starts-nothing;
       stopped-stays = record { pause = pausing-stopped; resume = resuming-stopped; stop = stopping-stopped; signals = settled-stopped };
       loop-stays = record { forward = forward-inside; backward = backward-inside };

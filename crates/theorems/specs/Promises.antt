@@ -2,10 +2,10 @@
 -- The contract of `promised` is this record, so the prover refuses a field that is false or has no proof.
 use Rattle.theorems.specs.Cut.{CutBlocks}
 use Rattle.theorems.specs.Mix.{CutMixes}
-use Rattle.theorems.specs.Schedules.{AnySizes, AllAccepted}
+use Rattle.theorems.specs.Schedules.{AnySizes, AnySizesMix, AllAccepted}
 use Rattle.theorems.specs.Kept.{CreationKeeps, BlankIsNot, CommandsKeep, BlocksKeep, MixesKeep}
-use Rattle.theorems.specs.LawfulEnd.{UpdateEnds, BlockEnds}
-use Rattle.theorems.specs.Steps.{StepsMade}
+use Rattle.theorems.specs.LawfulEnd.{UpdateEnds, BlockEnds, MixEnds}
+use Rattle.theorems.specs.Steps.{StepsMade, MixStepsMade}
 use Rattle.theorems.specs.Stays.{SeekStartsNothing, StoppedStays, LoopStays}
 use Rattle.theorems.specs.AtZero.{ReadsB}
 use Rattle.theorems.specs.Wraps.{RustAgrees}
@@ -20,6 +20,7 @@ pub record Promises : Type 0 where
   pub cut-mixes : CutMixes
   -- and so is a stream of blocks of any sizes, each of which is accepted
   pub any-sizes : AnySizes
+  pub any-sizes-mix : AnySizesMix
   pub all-accepted : AllAccepted
   -- the same of the archive's entries, on records of numbers
   pub archive-cut-blocks : CutBlocksC
@@ -38,8 +39,10 @@ pub record Promises : Type 0 where
   -- a voice stops inside a block only at its end, and then every sample is +0
   pub update-ends : UpdateEnds
   pub block-ends : BlockEnds
+  pub mix-ends : MixEnds
   -- the steps reported are the updates made
   pub steps-made : StepsMade
+  pub mix-steps-made : MixStepsMade
   -- what is over stays over, and a loop is not left
   pub seek-starts-nothing : SeekStartsNothing
   pub stopped-stays : StoppedStays

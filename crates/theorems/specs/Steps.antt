@@ -12,7 +12,7 @@ use Rattle.voice.specs.declared.StaticSound.{StaticSound}
 use Rattle.voice.specs.Voices.{courseOf, updates}
 use Rattle.static_sound.specs.declared.Signals.{Signals}
 use Rattle.static_sound.specs.Blocks.{total, turned, begun, live}
-use Rattle.static_sound.specs.Entries.{Outcome, processed}
+use Rattle.static_sound.specs.Entries.{Outcome, processed, processedInto}
 use Rattle.theorems.specs.Sums.{sum}
 
 -- the steps of each frame
@@ -30,3 +30,8 @@ abbrev pub StepsMade : Type 0
 StepsMade =
     (snd : List Float) (v : StaticSound) (dt : Float) (b : Lanes) (g : Signals) (out : List Float)
     → let o = processed snd v dt b g out in o .answer .refusal ≡ 0 → Stepped snd v dt b g o
+
+abbrev pub MixStepsMade : Type 0
+MixStepsMade =
+    (snd : List Float) (v : StaticSound) (dt : Float) (b : Lanes) (g : Signals) (mix : List Float) (from : ℕ)
+    → let o = processedInto snd v dt b g mix from in o .answer .refusal ≡ 0 → Stepped snd v dt b g o
