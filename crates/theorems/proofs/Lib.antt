@@ -13,5 +13,6 @@ pub mod MixSchedules
 pub mod AtZero
 pub mod Examples
 pub mod Archive
+pub mod ArchiveSchedules
 pub mod Coincide
 pub mod Promises

@@ -11,13 +11,14 @@ use Rattle.theorems.specs.Promises.{Promises}
 use Rattle.theorems.proofs.Cut.{cut-blocks}
 use Rattle.theorems.proofs.Mix.{cut-mixes}
 use Rattle.theorems.proofs.Schedules.{any-sizes}
-use Rattle.theorems.proofs.MixSchedules.{any-sizes-mix}
+use Rattle.theorems.proofs.MixSchedules.{any-sizes-mix, all-accepted-mix}
 use Rattle.theorems.proofs.Plain.{mix-steps-made, mix-ends}
 use Rattle.theorems.proofs.Streams.{all-accepted}
 use Rattle.theorems.proofs.Kept.{creation-keeps, blank-is-not, commands-keep, blocks-keep, mixes-keep}
 use Rattle.theorems.proofs.LawfulEnd.{update-ends, block-ends}
 use Rattle.theorems.proofs.Steps.{steps-made}
 use Rattle.theorems.proofs.Archive.{archive-cut-blocks, archive-cut-mixes}
+use Rattle.theorems.proofs.ArchiveSchedules.{archive-any-sizes, archive-any-sizes-mix, archive-all-accepted, archive-all-accepted-mix}
 use Rattle.theorems.proofs.Coincide.{coincide}
 use Rattle.theorems.proofs.AtZero.{reads-b}
 use Rattle.theorems.proofs.Examples.{examples-hold}
@@ -52,8 +53,13 @@ promises =
       any-sizes = any-sizes;
       any-sizes-mix = any-sizes-mix;
       all-accepted = all-accepted;
+      all-accepted-mix = all-accepted-mix;
       archive-cut-blocks = archive-cut-blocks;
       archive-cut-mixes = archive-cut-mixes;
+      archive-any-sizes = archive-any-sizes;
+      archive-any-sizes-mix = archive-any-sizes-mix;
+      archive-all-accepted = archive-all-accepted;
+      archive-all-accepted-mix = archive-all-accepted-mix;
       archive-keeps = archive-keeps;
       archive-read-back = record { voice = decoded-encoded; numbers = encoded-decoded };
       archive-unlawful-refused = record { commands = commanded-1; block = processed-1; mix = into-1; stretch = part-1 };

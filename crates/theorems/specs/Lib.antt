@@ -12,6 +12,7 @@ pub mod AtZero
 pub mod Wraps
 pub mod Examples
 pub mod Archive
+pub mod ArchiveSchedules
 pub mod ArchiveKept
 pub mod Coincide
 pub mod Promises

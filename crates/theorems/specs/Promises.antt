@@ -2,7 +2,7 @@
 -- The contract of `promised` is this record, so the prover refuses a field that is false or has no proof.
 use Rattle.theorems.specs.Cut.{CutBlocks}
 use Rattle.theorems.specs.Mix.{CutMixes}
-use Rattle.theorems.specs.Schedules.{AnySizes, AnySizesMix, AllAccepted}
+use Rattle.theorems.specs.Schedules.{AnySizes, AnySizesMix, AllAccepted, AllAcceptedMix}
 use Rattle.theorems.specs.Kept.{CreationKeeps, BlankIsNot, CommandsKeep, BlocksKeep, MixesKeep}
 use Rattle.theorems.specs.LawfulEnd.{UpdateEnds, BlockEnds, MixEnds}
 use Rattle.theorems.specs.Steps.{StepsMade, MixStepsMade}
@@ -11,6 +11,7 @@ use Rattle.theorems.specs.AtZero.{ReadsB}
 use Rattle.theorems.specs.Wraps.{RustAgrees}
 use Rattle.theorems.specs.Examples.{ExamplesHold}
 use Rattle.theorems.specs.Archive.{CutBlocksC, CutMixesC}
+use Rattle.theorems.specs.ArchiveSchedules.{AnySizesC, AnySizesMixC, AllAcceptedC, AllAcceptedMixC}
 use Rattle.theorems.specs.ArchiveKept.{ArchiveKeeps, ReadBack, UnlawfulRefused, TagsRefused, PartIsStretch}
 use Rattle.theorems.specs.Coincide.{Coincide}
 
@@ -22,9 +23,14 @@ pub record Promises : Type 0 where
   pub any-sizes : AnySizes
   pub any-sizes-mix : AnySizesMix
   pub all-accepted : AllAccepted
+  pub all-accepted-mix : AllAcceptedMix
   -- the same of the archive's entries, on records of numbers
   pub archive-cut-blocks : CutBlocksC
   pub archive-cut-mixes : CutMixesC
+  pub archive-any-sizes : AnySizesC
+  pub archive-any-sizes-mix : AnySizesMixC
+  pub archive-all-accepted : AllAcceptedC
+  pub archive-all-accepted-mix : AllAcceptedMixC
   pub archive-keeps : ArchiveKeeps
   pub archive-read-back : ReadBack
   pub archive-unlawful-refused : UnlawfulRefused

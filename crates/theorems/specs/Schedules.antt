@@ -15,7 +15,7 @@ use Rattle.voice.specs.declared.StaticSound.{StaticSound}
 use Rattle.voice.specs.WellFormed.{ours}
 use Rattle.static_sound.specs.declared.Signals.{Signals}
 use Rattle.static_sound.specs.Blocks.{quiet}
-use Rattle.static_sound.specs.Entries.{Outcome, processed, processedInto}
+use Rattle.static_sound.specs.Entries.{Outcome, room, processed, processedInto}
 use Rattle.theorems.specs.Sums.{sum}
 use Rattle.theorems.specs.Alike.{bare, awake}
 
@@ -84,26 +84,35 @@ mixedBy snd dt k (j ∷ ks) b g v mix from =
 abbrev pub AnySizesMix : Type 0
 AnySizesMix =
     (snd : List Float) (dt : Float) (b : Lanes) (g : Signals) (v : StaticSound) (k : ℕ) (ks : List ℕ) (j : ℕ) (js : List ℕ) (mix : List Float) (from : ℕ)
-    → k + sum ks ≡ length (b .rate) → j + sum js ≡ length (b .rate)
+    → k + sum ks ≡ length (b .rate)
+    → j + sum js ≡ length (b .rate)
     → let r = mixedBy snd dt k ks b g v mix from in
     let s = mixedBy snd dt j js b g v mix from in
     T (r .accepted) → T (s .accepted) → Agree r s
 
 -- ---- a row of blocks is accepted
 
--- a lawful stream: the state is well formed over the sound, the other lanes and the output are as long as the rate lane, and nothing in it is refused by 10 to 12
-pub record Stream (snd : List Float) (dt : Float) (b : Lanes) (v : StaticSound) (out : List Float) : Type 0 where
+-- a lawful stream: the state is well formed over the sound, the other lanes are as long as the rate lane, and nothing in it is refused by 10 to 12
+pub record Stream (snd : List Float) (dt : Float) (b : Lanes) (v : StaticSound) : Type 0 where
   pub ours : T (ours (length snd) v)
   pub fade : length (b .fade) ≡ length (b .rate)
   pub volume : length (b .volume) ≡ length (b .rate)
   pub left : length (b .left) ≡ length (b .rate)
   pub right : length (b .right) ≡ length (b .rate)
-  pub output : length out ≡ 2 * length (b .rate)
   pub timely : T (timely dt)
   pub laned : T (all laned (rows b))
   pub near : T (all (near (v .setup .«sample_rate») dt) (rows b))
 
+-- no block has more than 4,096 frames
+abbrev pub short : List ℕ → Bool
+short ks = all (λ (n : ℕ). leb n 4096) ks
+
 abbrev pub AllAccepted : Type 0
 AllAccepted =
     (snd : List Float) (dt : Float) (b : Lanes) (g : Signals) (v : StaticSound) (k : ℕ) (ks : List ℕ) (out : List Float)
-    → Stream snd dt b v out → k + sum ks ≡ length (b .rate) → T (all (λ (n : ℕ). leb n 4096) (k ∷ ks)) → T ((playedBy snd dt k ks b g v out) .accepted)
+    → Stream snd dt b v → length out ≡ 2 * length (b .rate) → k + sum ks ≡ length (b .rate) → T (short (k ∷ ks)) → T ((playedBy snd dt k ks b g v out) .accepted)
+
+abbrev pub AllAcceptedMix : Type 0
+AllAcceptedMix =
+    (snd : List Float) (dt : Float) (b : Lanes) (g : Signals) (v : StaticSound) (k : ℕ) (ks : List ℕ) (mix : List Float) (from : ℕ)
+    → Stream snd dt b v → T (room from (length (b .rate)) mix) → k + sum ks ≡ length (b .rate) → T (short (k ∷ ks)) → T ((mixedBy snd dt k ks b g v mix from) .accepted)
