@@ -1,6 +1,9 @@
 //! Every public function's promise is told, and a function whose promise is not told is found.
 
-use promises::{Told, all_public_functions, public_functions};
+use promises::{
+    Told, all_functions, all_public_functions, callers_told, files_named, functions,
+    public_functions,
+};
 use std::fs;
 use std::path::{Path, PathBuf};
 
@@ -97,4 +100,77 @@ fn the_first_page_is_the_record_of_promises() {
     fields.sort_unstable();
     rows.sort_unstable();
     assert_eq!(fields, rows);
+}
+
+#[test]
+fn each_function_that_asks_has_a_row_with_its_callers() {
+    let all = all_functions(&root().join("crates"));
+    let told = callers_told(&read("docs/EXCEPTIONS.md"));
+    let mut wrong = Vec::new();
+    for asking in all.iter().filter(|f| f.asks) {
+        let Some((_, named)) = told.iter().find(|(path, _)| *path == asking.path) else {
+            wrong.push(format!("{}: no row", asking.path));
+            continue;
+        };
+        let mut named = named.clone();
+        let mut calling: Vec<String> = all
+            .iter()
+            .filter(|f| f.calls(&asking.path))
+            .map(|f| f.path.clone())
+            .collect();
+        named.sort_unstable();
+        calling.sort_unstable();
+        if named != calling {
+            wrong.push(format!("{}: {named:?} against {calling:?}", asking.path));
+        }
+    }
+    for (path, _) in &told {
+        if !all.iter().any(|f| f.asks && f.path == *path) {
+            wrong.push(format!("{path}: asks nothing"));
+        }
+    }
+    assert!(told.len() > 20, "only {} found", told.len());
+    assert!(wrong.is_empty(), "{}", wrong.join("\n"));
+}
+
+#[test]
+fn a_call_is_found_by_its_path() {
+    let source = "fn held(x: u32) -> u32\n    requires { ⌜ x ⌝ }\n{\n    x\n}\nfn one() -> u32 {\n    // held(2)\n    upheld(1) + k::other(held(1))\n}\n";
+    let found = functions("k", source);
+    assert!(found[0].asks && !found[1].asks);
+    assert!(found[1].calls("k::held") && found[1].calls("k::other"));
+    assert!(!found[0].calls("k::held") && !found[1].calls("j::held"));
+}
+
+#[test]
+fn each_file_that_a_comment_names_is_there() {
+    let mut missing = Vec::new();
+    let mut folders = vec![root().join("crates")];
+    let mut named = 0;
+    while let Some(folder) = folders.pop() {
+        for entry in fs::read_dir(&folder).expect("a folder") {
+            let path = entry.expect("an entry").path();
+            if path.is_dir() {
+                folders.push(path);
+                continue;
+            }
+            let end = path.extension().unwrap_or_default();
+            if end != "rt" && end != "antt" {
+                continue;
+            }
+            let below = path.strip_prefix(root().join("crates")).expect("below");
+            let krate = root()
+                .join("crates")
+                .join(below.iter().next().expect("a crate"));
+            let text = fs::read_to_string(&path).expect("a source is text");
+            for file in files_named(&text) {
+                named += 1;
+                if !krate.join(&file).is_file() && !root().join(&file).is_file() {
+                    missing.push(format!("{}: {file}", below.display()));
+                }
+            }
+        }
+    }
+    assert!(named > 0, "no comment names a file");
+    assert!(missing.is_empty(), "{}", missing.join("\n"));
 }
