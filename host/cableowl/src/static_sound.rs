@@ -140,8 +140,12 @@ impl StaticSound {
     ///
     /// let sound = [0.0, 0.5, 1.0, 1.5, 2.0, 2.5];
     /// let voice = StaticSound::new(Settings::new(1).slice(1..3), &sound)?;
-    /// assert_eq!(voice.stretch(&sound), [1.0, 1.5, 2.0, 2.5]);
-    /// assert!(voice.stretch(&sound[2..]).is_empty());
+    /// let part = voice.stretch(&sound);
+    /// assert_eq!(part, [1.0, 1.5, 2.0, 2.5]);
+    /// assert_eq!(part.as_ptr(), sound[2..].as_ptr(), "the lent samples themselves");
+    /// let none = voice.stretch(&sound[2..]);
+    /// assert!(none.is_empty());
+    /// assert_eq!(none.as_ptr(), sound[2..].as_ptr(), "the empty part at their start");
     /// # Ok::<(), cableowl::Refusal>(())
     /// ```
     #[must_use]
@@ -150,7 +154,7 @@ impl StaticSound {
         let (start, length) = (part.offset as usize, part.length as usize);
         sound
             .get(start..start.saturating_add(length))
-            .unwrap_or_default()
+            .unwrap_or(&sound[..0])
     }
 
     /// What the voice is doing.
