@@ -3,7 +3,7 @@
 use std::fmt::Write;
 
 use crate::{
-    measure::{BLOCKS, RATES, Row},
+    measure::{BLOCKS, FORWARD, Row},
     workload::{HZ, LONG_LOOP},
 };
 
@@ -56,7 +56,7 @@ tools/instructions                                                        # inst
     )
 }
 
-/// The long loop as bars: a panel a block size, a pair of bars a rate.
+/// The long loop, forward, as bars: a panel a block size, a pair of bars a rate.
 #[must_use]
 pub fn plot(rows: &[Row]) -> String {
     let long: Vec<&Row> = rows
@@ -78,7 +78,7 @@ pub fn plot(rows: &[Row]) -> String {
             left + 140
         )
         .expect("a string takes all");
-        for (place, rate) in RATES.into_iter().enumerate() {
+        for (place, rate) in FORWARD.into_iter().enumerate() {
             let found = long
                 .iter()
                 .find(|row| row.workload.block == block && row.workload.rate == rate);
