@@ -42,11 +42,12 @@ pub fn document(rows: &[Row]) -> String {
     format!(
         "# Benchmark
 
-Nanoseconds a stereo frame at 48 kHz, ours through the C entry with every check against kira's own text (`host/oracle`, no checks, no copies), in turns in one process; 200 repetitions of 8,192 frames. The last column is how many of our voices one core plays at 48 kHz. Machines differ: use the ratios.
+Nanoseconds a stereo frame at 48 kHz, ours through the C entry with every check against kira's own text (`host/oracle`, no checks, no copies), in turns in one process; 200 repetitions of 8,192 frames. A negative rate plays backward. The last column is how many of our voices one core plays at 48 kHz. Machines differ: use the ratios.
 
 ```
 cd host && cargo run --release --offline -p benches -- --write ../docs    # writes this page and the plot
 tools/instructions                                                        # instructions a frame, by callgrind
+tools/divisions                                                           # divisions in a loop of 3 frames, by callgrind
 ```
 
 ![Nanoseconds a frame, ours and kira's text](benchmark.svg)
