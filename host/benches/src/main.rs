@@ -1,6 +1,6 @@
 // Times ours against kira's text:
 //   benches [--write DIR]
-//   benches --play ours|kira|none --rate R --block N --looped N --frames N   (one workload, to be counted)
+//   benches --play ours|kira|none --rate R --block N --looped N --start N --frames N   (one workload, to be counted)
 
 mod measure;
 mod report;
@@ -53,6 +53,7 @@ fn play(who: &str, words: &[String]) -> Result<(), Box<dyn Error>> {
         rate: number(words, "--rate", 0.93)?,
         block: number(words, "--block", 512)?,
         looped: number(words, "--looped", LONG_LOOP)?,
+        start: option(words, "--start").map(str::parse).transpose()?,
     };
     let frames: usize = number(words, "--frames", 512_000)?;
     let sound = workload::sound();

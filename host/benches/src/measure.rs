@@ -4,8 +4,10 @@ use std::time::Instant;
 
 use crate::workload::{Kira, LONG_LOOP, Ours, SHORT_LOOP, Voice, Workload, sound};
 
-/// The rates played.
-pub const RATES: [f64; 5] = [0.5, 0.93, 1.0, 2.0, 16.0];
+/// The rates played forward.
+pub const FORWARD: [f64; 5] = [0.5, 0.93, 1.0, 2.0, 16.0];
+/// The rates played backward.
+const BACKWARD: [f64; 3] = [-1.0, -2.0, -16.0];
 /// The blocks played, in frames.
 pub const BLOCKS: [usize; 3] = [64, 512, 4_096];
 /// The loops played, in frames.
@@ -52,10 +54,12 @@ pub fn all() -> Vec<Row> {
         .flat_map(|looped| BLOCKS.map(|block| (looped, block)));
     with_blocks
         .flat_map(|(looped, block)| {
-            RATES.map(|rate| Workload {
+            let rates = FORWARD.into_iter().chain(BACKWARD);
+            rates.map(move |rate| Workload {
                 rate,
                 block,
                 looped,
+                start: None,
             })
         })
         .map(|workload| row(workload, &sound))

@@ -3,7 +3,7 @@
 use std::fmt::Write;
 
 use crate::{
-    measure::{BLOCKS, RATES, Row},
+    measure::{BLOCKS, FORWARD, Row},
     workload::{HZ, LONG_LOOP},
 };
 
@@ -42,11 +42,12 @@ pub fn document(rows: &[Row]) -> String {
     format!(
         "# Benchmark
 
-Nanoseconds a stereo frame at 48 kHz, ours through the C entry with every check against kira's own text (`host/oracle`, no checks, no copies), in turns in one process; 200 repetitions of 8,192 frames. The last column is how many of our voices one core plays at 48 kHz. Machines differ: use the ratios.
+Nanoseconds a stereo frame at 48 kHz, ours through the C entry with every check against kira's own text (`host/oracle`, no checks, no copies), in turns in one process; 200 repetitions of 8,192 frames. A negative rate plays backward. The last column is how many of our voices one core plays at 48 kHz. Machines differ: use the ratios.
 
 ```
 cd host && cargo run --release --offline -p benches -- --write ../docs    # writes this page and the plot
 tools/instructions                                                        # instructions a frame, by callgrind
+tools/divisions                                                           # divisions in a loop of 3 frames, by callgrind
 ```
 
 ![Nanoseconds a frame, ours and kira's text](benchmark.svg)
@@ -56,7 +57,7 @@ tools/instructions                                                        # inst
     )
 }
 
-/// The long loop as bars: a panel a block size, a pair of bars a rate.
+/// The long loop, forward, as bars: a panel a block size, a pair of bars a rate.
 #[must_use]
 pub fn plot(rows: &[Row]) -> String {
     let long: Vec<&Row> = rows
@@ -78,7 +79,7 @@ pub fn plot(rows: &[Row]) -> String {
             left + 140
         )
         .expect("a string takes all");
-        for (place, rate) in RATES.into_iter().enumerate() {
+        for (place, rate) in FORWARD.into_iter().enumerate() {
             let found = long
                 .iter()
                 .find(|row| row.workload.block == block && row.workload.rate == rate);

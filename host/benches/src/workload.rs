@@ -20,6 +20,8 @@ pub struct Workload {
     pub block: usize,
     /// Frames of the loop.
     pub looped: usize,
+    /// The frame it starts at; none is the loop's first.
+    pub start: Option<usize>,
 }
 
 /// The loop of the whole sound.
@@ -31,7 +33,7 @@ impl Workload {
     fn settings(&self) -> Settings {
         let start = (FRAMES - self.looped) / 2;
         Settings {
-            start: PlaybackPosition::Samples(start),
+            start: PlaybackPosition::Samples(self.start.unwrap_or(start)),
             loop_region: Some(Region {
                 start: PlaybackPosition::Samples(start),
                 end: EndPosition::Custom(PlaybackPosition::Samples(start + self.looped)),
