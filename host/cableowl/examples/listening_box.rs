@@ -228,10 +228,7 @@ impl<'a> ListeningBox<'a> {
             .rate(rate)
             .volume(0.8)
             .left(0.9);
-        let signals = Signals {
-            finished: self.clock == fade_ends,
-            ..Signals::default()
-        };
+        let signals = Signals::new().finished(self.clock == fade_ends);
         let dt = 1.0 / f64::from(DEVICE_RATE);
         let block = self
             .voice
@@ -241,12 +238,11 @@ impl<'a> ListeningBox<'a> {
     }
 
     /// The plausible slip: what lies between two frames is forgotten.
-    fn clear_fraction(&mut self) {
-        let state = self.voice.state();
-        self.voice = StaticSound::from_state(State {
-            fractional_position: 0.0,
-            ..state
-        });
+    fn clear_fraction(&mut self) -> Result<(), Refusal> {
+        let mut state = self.voice.state();
+        state.fractional_position = 0.0;
+        self.voice = StaticSound::from_state(state, self.sound)?;
+        Ok(())
     }
 }
 
@@ -293,7 +289,7 @@ fn evening(sound: &[f32], mut blocks: Blocks, slip: bool, name: &str) -> Result<
             steps += stepped;
             digest = out[..2 * frames].iter().fold(digest, digested);
             if slip {
-                player.clear_fraction();
+                player.clear_fraction()?;
             }
             progress.at(player.clock as f64 / clock_at(f64::from(EVENING)) as f64);
         }

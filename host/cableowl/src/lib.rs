@@ -35,12 +35,14 @@
 
 mod commands;
 mod ffi;
+mod float_mode;
 #[cfg(test)]
 mod header;
 mod lanes;
 mod playback_position;
 mod playback_state;
 mod refusal;
+mod saved;
 mod settings;
 mod state;
 mod static_sound;
@@ -49,7 +51,8 @@ pub use commands::{Commands, LoopCommand, ResumeCommand};
 pub use lanes::{BlockLanes, Lane, Lanes};
 pub use playback_position::{EndPosition, PlaybackPosition, Region};
 pub use playback_state::{PlaybackState, Signals, StartAnswer};
-pub use refusal::Refusal;
+pub use refusal::{LaneName, Refusal};
+pub use saved::Unreadable;
 pub use settings::Settings;
 pub use state::{Frame, RecentFrame, State};
 pub use static_sound::{Processed, StaticSound};
