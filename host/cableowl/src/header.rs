@@ -178,6 +178,7 @@ fn run_c(name: &str, more: &str) {
             "-Wextra",
             "-Wpedantic",
             "-Werror",
+            "-pthread",
             "-I",
         ])
         .arg(here().join("../include"))
@@ -305,6 +306,11 @@ fn header_agrees_and_c_can_call_each_entry() {
         more += &format!("_Static_assert({name} == {number}, \"{name}\");\n");
     }
     run_c("calls", &more);
+}
+
+#[test]
+fn a_call_needs_4_kilobytes_of_stack_at_most() {
+    run_c("stack", "");
 }
 
 #[test]

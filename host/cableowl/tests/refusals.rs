@@ -240,6 +240,9 @@ fn block_9() {
     assert_eq!(voice.state(), state);
 }
 
+/// Lanes with one that is wrong.
+type Wrong<'a> = &'a dyn Fn(&mut Lanes) -> BlockLanes<'_>;
+
 #[test]
 fn block_10_to_12() {
     let state = voice().state();
@@ -250,7 +253,7 @@ fn block_10_to_12() {
         );
     }
     for amplitude in [-0.0, -1.0, f32::NAN, f32::INFINITY] {
-        let wrong: [(LaneName, &dyn Fn(&mut Lanes) -> BlockLanes<'_>); 4] = [
+        let wrong: [(LaneName, Wrong); 4] = [
             (LaneName::Fade, &|room| room.frames(2).fade(amplitude)),
             (LaneName::Volume, &|room| room.frames(2).volume(amplitude)),
             (LaneName::Left, &|room| room.frames(2).left(amplitude)),
