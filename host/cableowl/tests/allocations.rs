@@ -46,7 +46,7 @@ fn evening(sound: &[f32], lanes: &mut Lanes, out: &mut [f32]) -> Result<State, R
     let settings = Settings::new(48_000)
         .loop_region(0.001..0.01)
         .start_waits(true);
-    assert!(StaticSound::new(settings.slice(5..2), sound).is_err());
+    assert!(StaticSound::new(settings.slice(5..5), sound).is_err());
     let mut voice = StaticSound::new(settings, sound)?;
     let (dt, signals) = (
         1.0 / 48_000.0,
