@@ -2,76 +2,9 @@
 
 use cableowl::{Commands, Lanes, Refusal, Settings, Signals, State, StaticSound};
 
+mod mode;
+
 use mode::Mode;
-
-#[cfg(target_arch = "x86_64")]
-mod mode {
-    use std::arch::asm;
-
-    #[derive(Debug, Clone, Copy, PartialEq, Eq)]
-    pub struct Mode(u32);
-
-    /// Plain; FTZ; DAZ; both; rounding down, up and to zero; up with both; exceptions not masked.
-    pub const ALL: [Mode; 9] = [
-        Mode(0x1f80),
-        Mode(0x9f80),
-        Mode(0x1fc0),
-        Mode(0x9fc0),
-        Mode(0x3f80),
-        Mode(0x5f80),
-        Mode(0x7f80),
-        Mode(0xdfc0),
-        Mode(0x0000),
-    ];
-
-    impl Mode {
-        pub fn now() -> Self {
-            let mut word = 0_u32;
-            // SAFETY: stores MXCSR into `word`.
-            unsafe { asm!("stmxcsr [{}]", in(reg) &raw mut word, options(nostack)) };
-            // The flags of what has happened are no part of the mode.
-            Self(word & !0x3f)
-        }
-
-        pub fn set(self) {
-            // SAFETY: no float operation of this thread's own is made in this mode.
-            unsafe { asm!("ldmxcsr [{}]", in(reg) &raw const self.0, options(nostack)) };
-        }
-    }
-}
-
-#[cfg(target_arch = "aarch64")]
-mod mode {
-    use std::arch::asm;
-
-    #[derive(Debug, Clone, Copy, PartialEq, Eq)]
-    pub struct Mode(u64);
-
-    /// Plain; FZ; rounding up, down and to zero; up with FZ; NaNs by default.
-    pub const ALL: [Mode; 7] = [
-        Mode(0),
-        Mode(1 << 24),
-        Mode(1 << 22),
-        Mode(2 << 22),
-        Mode(3 << 22),
-        Mode(1 << 24 | 1 << 22),
-        Mode(1 << 25),
-    ];
-
-    impl Mode {
-        pub fn now() -> Self {
-            let word;
-            // SAFETY: reads FPCR.
-            unsafe { asm!("mrs {}, fpcr", out(reg) word, options(nostack)) };
-            Self(word)
-        }
-
-        pub fn set(self) {
-            // SAFETY: no float operation of this thread's own is made in this mode.
-            unsafe { asm!("msr fpcr, {}", in(reg) self.0, options(nostack)) };
-        }
-    }
-}
 
 /// Makes the call in each mode: the mode is there after it, and the answers are those of the plain one.
 fn in_every_mode<T: PartialEq + std::fmt::Debug>(call: impl Fn() -> T) -> T {

@@ -55,6 +55,14 @@ pub fn run(seed: u64, calls: u64) -> Report {
     report
 }
 
+/// So many calls from a seed, of which only their return is told.
+#[must_use]
+pub fn unjudged(seed: u64, calls: u64) -> u64 {
+    let mut random = Random::new(seed);
+    let answered = |_: &u64| Case::any(&mut random).answer().refusal <= 12;
+    (0..calls).filter(answered).count() as u64
+}
+
 impl fmt::Display for Report {
     fn fmt(&self, f: &mut fmt::Formatter<'_>) -> fmt::Result {
         writeln!(f, "calls     {:>12}", self.answers.iter().sum::<u64>())?;
