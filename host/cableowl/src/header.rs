@@ -199,8 +199,8 @@ fn run_c(name: &str, more: &str) {
 #[test]
 fn four_declarations_are_one() {
     let ours = rust_structs(&read("../../crates/cableowl/src/lib.rt"));
-    assert_eq!(ours.len(), 11);
-    assert_eq!(ours[1].1.len(), 17, "the state's fields");
+    let fields: usize = ours.iter().map(|(_, fields)| fields.len()).sum();
+    assert!(ours.len() >= 11 && fields >= 58, "they are read: {ours:?}");
     assert_eq!(c_structs(&header_text()), ours, "cableowl.h");
     assert_eq!(rust_structs(&read("src/ffi.rs")), ours, "ffi.rs");
     assert_eq!(rust_structs(&read("../raw/src/structs.rs")), ours, "raw");
@@ -260,7 +260,8 @@ fn constants_are_rust_s() {
         numbers
     };
     assert_eq!(named("CABLEOWL_STATE_"), Vec::from_iter(0..7));
-    assert_eq!(named("CABLEOWL_REFUSAL_"), Vec::from_iter(1..=12));
+    let refusals = named("CABLEOWL_REFUSAL_");
+    assert!(refusals.iter().copied().eq(1..=refusals.len() as u64));
     for prefix in ["PLACE", "LOOP", "RESUME", "ANSWER"] {
         assert_eq!(named(&format!("CABLEOWL_{prefix}_")), [0, 1, 2], "{prefix}");
     }
@@ -278,7 +279,7 @@ fn constants_are_rust_s() {
         let name = format!("CABLEOWL_STATE{}", in_c(format!("{state:?}")));
         assert_eq!(value(&name), state.number().into());
     }
-    let refusals = [
+    let of_one_word = [
         crate::Refusal::State,
         crate::Refusal::SampleRate,
         crate::Refusal::FrameCount,
@@ -290,7 +291,7 @@ fn constants_are_rust_s() {
         crate::Refusal::Block,
         crate::Refusal::TimeStep,
     ];
-    for refusal in refusals {
+    for refusal in of_one_word {
         let name = format!("CABLEOWL_REFUSAL{}", in_c(format!("{refusal:?}")));
         assert_eq!(value(&name), refusal.number().into());
     }
