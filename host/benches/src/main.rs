@@ -1,9 +1,11 @@
 // Times ours against kira's text:
 //   benches [--write DIR]
+//   benches --modes                                                         (what the float mode costs a call)
 //   benches --play ours|safe|kira|none --rate R --block N --looped long|3|subnormal --frames N
 //                                                                          (one workload, to be counted)
 
 mod measure;
+mod modes;
 mod report;
 mod workload;
 
@@ -24,6 +26,11 @@ fn main() -> ExitCode {
 fn run(words: &[String]) -> Result<(), Box<dyn Error>> {
     if let Some(who) = option(words, "--play") {
         return play(who, words);
+    }
+    if words.iter().any(|word| word == "--modes") {
+        let [plain, flushing] = modes::cost();
+        println!("a call of 64 frames: {plain:.1} ns; from a host that flushes: {flushing:.1} ns");
+        return Ok(());
     }
     let rows = measure::all();
     let table = report::table(&rows);

@@ -1,7 +1,7 @@
 // The float modes that a host may have set on its thread, for tests.
-#![allow(dead_code)]
+#![allow(dead_code, unused_imports)]
 
-pub use word::{ALL, Mode};
+pub use word::{ALL, FLUSHING, Mode};
 
 #[cfg(target_arch = "x86_64")]
 mod word {
@@ -9,6 +9,9 @@ mod word {
 
     #[derive(Debug, Clone, Copy, PartialEq, Eq)]
     pub struct Mode(u32);
+
+    /// FTZ and DAZ, as audio hosts set them.
+    pub const FLUSHING: Mode = Mode(0x9fc0);
 
     /// Plain; FTZ; DAZ; both; rounding down, up and to zero; up with both; exceptions not masked.
     pub const ALL: [Mode; 9] = [
@@ -50,6 +53,9 @@ mod word {
 
     #[derive(Debug, Clone, Copy, PartialEq, Eq)]
     pub struct Mode(u64);
+
+    /// FZ, as audio hosts set it.
+    pub const FLUSHING: Mode = Mode(1 << 24);
 
     /// Plain; FZ; rounding up, down and to zero; up with FZ; NaNs by default.
     pub const ALL: [Mode; 7] = [
