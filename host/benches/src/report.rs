@@ -40,12 +40,13 @@ pub fn document(rows: &[Row]) -> String {
     format!(
         "# Benchmark
 
-Nanoseconds a stereo frame at 48 kHz: ours with every check, through the C entry and through the safe crate (which sets the float mode of each call), against kira's own text (`host/timed`: no checks, no counts, no copies), in turns in one process; 200 repetitions of 8,192 frames. \"Subnormal\" is the long loop over samples of about 2^-130, the tail of a decay. The last column is how many of our voices one core plays at 48 kHz. Machines differ: use the ratios.
+Nanoseconds a stereo frame at 48 kHz: ours with every check, through the C entry and through the safe crate (which sets the float mode of each call), against kira's own text (`host/timed`: no checks, no counts, no copies), in turns in one process; 200 repetitions of 8,192 frames. \"Subnormal\" is the long loop over samples of about 2^-130, the tail of a decay. Such a frame costs x86-64 some forty times as much, kira's text as ours, and a host's flush-to-zero does not help, since each call of the safe crate runs in the plain mode: clear subnormal samples when a sound is loaded, if it has any. The last column is how many of our voices one core plays at 48 kHz. Machines differ: use the ratios.
 
 Measured on {}.
 
 ```
 cd host && cargo run --release --offline -p benches -- --write ../docs    # writes this page and the plot
+cd host && cargo run --release --offline -p benches -- --modes            # what the float mode costs a call
 tools/instructions                                                        # instructions a frame, by callgrind
 ```
 

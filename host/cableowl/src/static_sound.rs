@@ -76,6 +76,9 @@ impl StaticSound {
 
     /// Plays a block into `out`, two samples a frame. `dt` is the seconds of one output frame.
     ///
+    /// Subnormal samples are played as they are, whatever the thread's float mode, and are slow on
+    /// some processors (docs/BENCHMARK.md): clear them when a sound is loaded, if it has any.
+    ///
     /// ```
     /// use cableowl::{Lanes, PlaybackState, Settings, Signals, StaticSound};
     ///
