@@ -10,7 +10,7 @@ use std::{
     process::Command,
 };
 
-use crate::{MAX_BLOCK_FRAMES, PlaybackState, ffi};
+use crate::{MAX_BLOCK_FRAMES, PlaybackState, Refusal, ffi};
 
 /// A field: its name and its type, in Rust's words.
 type Field = (String, String);
@@ -64,8 +64,11 @@ fn c_structs(text: &str) -> Structs {
                     "uint64_t" => "u64".into(),
                     other => short(other),
                 };
-                Some(match name.strip_suffix("[4]") {
-                    Some(name) => (name.into(), format!("[{kind}; 4]")),
+                Some(match name.split_once('[') {
+                    Some((name, many)) => {
+                        let many = many.trim_end_matches(']');
+                        (name.into(), format!("[{kind}; {many}]"))
+                    }
                     None => (name.into(), kind),
                 })
             });
@@ -96,12 +99,13 @@ fn layout(structs: &Structs, kind: &str, offsets: &mut Vec<usize>) -> (usize, us
         "u64" | "f64" => return (8, 8),
         _ => {}
     }
-    if let Some(kind) = kind
-        .strip_prefix('[')
-        .and_then(|kind| kind.strip_suffix("; 4]"))
-    {
+    if let Some(array) = kind.strip_prefix('[') {
+        let (kind, many) = array
+            .trim_end_matches(']')
+            .split_once("; ")
+            .expect("a length");
         let (size, align) = layout(structs, kind, &mut Vec::new());
-        return (4 * size, align);
+        return (many.parse::<usize>().expect("a number") * size, align);
     }
     let (_, fields) = structs
         .iter()
@@ -261,7 +265,10 @@ fn constants_are_rust_s() {
     };
     assert_eq!(named("CABLEOWL_STATE_"), Vec::from_iter(0..7));
     let refusals = named("CABLEOWL_REFUSAL_");
-    assert!(refusals.iter().copied().eq(1..=refusals.len() as u64));
+    assert!(
+        refusals.is_sorted_by(|one, next| one < next),
+        "{refusals:?}"
+    );
     for prefix in ["PLACE", "LOOP", "RESUME", "ANSWER"] {
         assert_eq!(named(&format!("CABLEOWL_{prefix}_")), [0, 1, 2], "{prefix}");
     }
@@ -279,22 +286,11 @@ fn constants_are_rust_s() {
         let name = format!("CABLEOWL_STATE{}", in_c(format!("{state:?}")));
         assert_eq!(value(&name), state.number().into());
     }
-    let of_one_word = [
-        crate::Refusal::State,
-        crate::Refusal::SampleRate,
-        crate::Refusal::FrameCount,
-        crate::Refusal::Slice,
-        crate::Refusal::StartPosition,
-        crate::Refusal::LoopRegion,
-        crate::Refusal::PlaybackRate,
-        crate::Refusal::Seek,
-        crate::Refusal::Block,
-        crate::Refusal::TimeStep,
-    ];
-    for refusal in of_one_word {
+    for refusal in Refusal::PLAIN {
         let name = format!("CABLEOWL_REFUSAL{}", in_c(format!("{refusal:?}")));
         assert_eq!(value(&name), refusal.number().into());
     }
+    assert_eq!(refusals.len(), Refusal::PLAIN.len() + 2, "lane and advance");
     assert_eq!(value("CABLEOWL_REFUSAL_LANE"), 11);
     assert_eq!(value("CABLEOWL_REFUSAL_ADVANCE"), 12);
 }

@@ -100,22 +100,28 @@ impl Refusal {
         }
     }
 
+    /// All that name no place, by number.
+    pub(crate) const PLAIN: &[Self] = &[
+        Self::State,
+        Self::SampleRate,
+        Self::FrameCount,
+        Self::Slice,
+        Self::StartPosition,
+        Self::LoopRegion,
+        Self::PlaybackRate,
+        Self::Seek,
+        Self::Block,
+        Self::TimeStep,
+    ];
+
     /// What the library's answer to a creation or a command set says: 0 is no refusal.
     pub(crate) fn check(number: u32) -> Result<(), Self> {
-        Err(match number {
-            0 => return Ok(()),
-            2 => Self::SampleRate,
-            3 => Self::FrameCount,
-            4 => Self::Slice,
-            5 => Self::StartPosition,
-            6 => Self::LoopRegion,
-            7 => Self::PlaybackRate,
-            8 => Self::Seek,
-            9 => Self::Block,
-            10 => Self::TimeStep,
-            // 1, and the library has no other here.
-            _ => Self::State,
-        })
+        if number == 0 {
+            return Ok(());
+        }
+        let named = |refusal: &&Self| refusal.number() == number;
+        // The library has no other number.
+        Err(*Self::PLAIN.iter().find(named).unwrap_or(&Self::State))
     }
 
     /// The same of a block: refusals 11 and 12 are told their place, which is looked for only then.
