@@ -18,8 +18,11 @@
  * 10  time step not finite or not above 0
  * 11  an amplitude or gain not finite or with its sign bit set, or a lane rate not finite
  * 12  an advance, (sample rate * |lane rate|) * time step, above 256
+ * 13  a level above 601
+ * 14  a ramp's count 0 or above 65,536, or not its lane's length
  *
- * The lowest number wins. Creation uses 2 to 7, a command set 1 and 6 to 8, a block 1 and 9 to 12.
+ * The lowest number wins. Creation uses 2 to 7, a command set 1 and 6 to 8, a block 1 and 9 to 12,
+ * a fade ramp 13 and 14.
  */
 #ifndef CABLEOWL_H
 #define CABLEOWL_H
@@ -155,6 +158,15 @@ CableowlProcessed cableowl_process_into(CableowlState state, const float *sound,
 
 /* The part of the sound that the voice plays; where it would be refused with 1, the empty part at 0. */
 CableowlPart cableowl_stretch(CableowlState state, const float *sound, size_t sound_len);
+
+/* A level is 0 to 600 tenths of a decibel below full level, or 601 for silence. Its amplitude is e / 2^24 exactly, for
+ * the largest whole e with (e / 2^24)^200 * 10^level at most 1; silence is +0. Answers 0, or 13 and writes nothing. */
+uint32_t cableowl_amplitude(uint32_t level, float *to);
+
+/* Fills a fade lane with amplitudes whose levels run straight from start on the first frame to end on the last, rounded
+ * down: (start * (count - 1 - i) + end * i) / (count - 1) on frame i; one frame takes the end level. A block is lent the
+ * part of the lane that it plays. Answers 0, or 13, then 14, and writes nothing. */
+uint32_t cableowl_fade_ramp(uint32_t start, uint32_t end, uint32_t count, float *lane, size_t lane_len);
 
 #ifdef __cplusplus
 }

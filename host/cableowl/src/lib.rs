@@ -34,6 +34,7 @@
 #![deny(unsafe_code)]
 
 mod commands;
+mod fades;
 mod ffi;
 #[cfg(test)]
 mod header;
@@ -46,6 +47,7 @@ mod state;
 mod static_sound;
 
 pub use commands::{Commands, LoopCommand, ResumeCommand};
+pub use fades::{Level, MAX_RAMP_FRAMES, fade_ramp};
 pub use lanes::{BlockLanes, Lane, Lanes};
 pub use playback_position::{EndPosition, PlaybackPosition, Region};
 pub use playback_state::{PlaybackState, Signals, StartAnswer};

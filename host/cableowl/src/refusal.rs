@@ -4,7 +4,8 @@ use std::{error::Error, fmt};
 
 /// Why a call was refused: its number, and a sentence to act on.
 ///
-/// The lowest number wins over the whole input. A refused call changes nothing.
+/// Of 1 to 12 the lowest number wins over the whole input; 13 comes before 14. A refused call
+/// changes nothing.
 ///
 /// ```
 /// use cableowl::{Refusal, Settings, StaticSound};
@@ -42,11 +43,15 @@ pub enum Refusal {
     Lane,
     /// 12: an advance.
     Advance,
+    /// 13: a level.
+    Level,
+    /// 14: a ramp's frame count, or its lane's length.
+    Ramp,
 }
 
 impl Refusal {
-    /// All twelve, from number 1 on.
-    pub const ALL: [Self; 12] = [
+    /// All of them, from number 1 on.
+    pub const ALL: [Self; 14] = [
         Self::State,
         Self::SampleRate,
         Self::FrameCount,
@@ -59,9 +64,11 @@ impl Refusal {
         Self::TimeStep,
         Self::Lane,
         Self::Advance,
+        Self::Level,
+        Self::Ramp,
     ];
 
-    /// Document 01's number, 1 to 12.
+    /// Its number in the one list of refusals.
     #[must_use]
     pub fn number(self) -> u32 {
         self as u32
@@ -78,7 +85,7 @@ impl Refusal {
     pub(crate) fn check(number: u32) -> Result<(), Self> {
         match number {
             0 => Ok(()),
-            // The library has no number past 12.
+            // The library has no other number.
             _ => Err(Self::from_number(number).unwrap_or(Self::State)),
         }
     }
@@ -116,6 +123,12 @@ impl Refusal {
             }
             Self::Advance => {
                 "sample rate times lane rate times time step must be at most 256 in every frame: lower the rate"
+            }
+            Self::Level => {
+                "a level is 0 to 600 tenths of a decibel below full level, or 601 for silence"
+            }
+            Self::Ramp => {
+                "a ramp has 1 to 65,536 frames, and its lane as many: cut a longer fade into several ramps"
             }
         }
     }

@@ -65,7 +65,7 @@ fn numbers_and_sentences() {
         );
     }
     assert_eq!(Refusal::from_number(0), None);
-    assert_eq!(Refusal::from_number(13), None);
+    assert_eq!(Refusal::from_number(15), None);
 }
 
 #[test]
