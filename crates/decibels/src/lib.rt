@@ -3,19 +3,20 @@ ghost use mathlib.Core.Path.{_≡_};
 ghost use Prim.Native.Nat.{_/_, _<_, _≤_};
 ghost use lib.ListN.{length};
 ghost use Rattle.decibels.specs.Levels as Levels;
-ghost use Rattle.decibels.specs.Levels.{levelRefusal, amplitudeOr};
+ghost use Rattle.decibels.specs.Levels.{Table, levelRefusal, amplitudeOr};
 ghost use Rattle.decibels.specs.Ramps.{levelAt, frames, refusal, faded};
 ghost use Rattle.decibels.specs.Promises.{Promises};
 
 mod table;
 
 // An entry of the table is at most 2^24, so it is an f32 and its quotient is exact.
-fn amplitude(level: u32) -> f32
+fn amplitude(entries: &[u32; 601], level: u32) -> f32
+    requires { ⌜ Table (now entries) ⌝ }
     requires { ⌜ level ≤ 601 ⌝ }
     ensures { λ r. ⌜ r ≡ Levels.amplitude level ⌝ }
 {
     if level < 601 {
-        let e = table::entry(level as usize);
+        let e = entries[level as usize];
         (e as f32) / 16777216.0
     } else {
         0.0
@@ -29,7 +30,8 @@ pub fn as_amplitude(level: u32, to: &mut f32) -> u32
     if level > 601 {
         return 13;
     }
-    *to = amplitude(level);
+    let entries = table::all();
+    *to = amplitude(&entries, level);
     0
 }
 
@@ -57,7 +59,8 @@ fn level_at(start: u32, end: u32, count: u32, i: u32) -> u32
     divided(sum, last)
 }
 
-fn fill(start: u32, end: u32, count: u32, lane: &mut [f32])
+fn fill(entries: &[u32; 601], start: u32, end: u32, count: u32, lane: &mut [f32])
+    requires { ⌜ Table (now entries) ⌝ }
     requires { ⌜ start ≤ 601 ⌝ }
     requires { ⌜ end ≤ 601 ⌝ }
     requires { ⌜ count ≤ 65536 ⌝ }
@@ -67,7 +70,7 @@ fn fill(start: u32, end: u32, count: u32, lane: &mut [f32])
     let mut i: u32 = 0;
     while i < count {
         let level = level_at(start, end, count, i);
-        lane[i as usize] = amplitude(level);
+        lane[i as usize] = amplitude(entries, level);
         i += 1;
     }
 }
@@ -98,7 +101,8 @@ pub fn fade_ramp(start: u32, end: u32, count: u32, lane: &mut [f32]) -> u32
     if refused > 0 {
         return refused;
     }
-    fill(start, end, count, lane);
+    let entries = table::all();
+    fill(&entries, start, end, count, lane);
     0
 }
 

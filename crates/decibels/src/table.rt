@@ -1,7 +1,5 @@
 // The amplitudes of levels 0 to 600, tenths of a decibel below full level, scaled by 2^24.
-ghost use mathlib.Core.Path.{_≡_};
-ghost use Prim.Native.Nat.{_<_};
-ghost use Rattle.decibels.specs.Levels.{Entry, scaled, Table};
+ghost use Rattle.decibels.specs.Levels.{Table};
 
 const AMPLITUDES: [u32; 601] = [
     16777216,
@@ -607,16 +605,9 @@ const AMPLITUDES: [u32; 601] = [
     16777,
 ];
 
-fn all() -> [u32; 601]
+// Lend it to every look-up of a loop: each call copies the table.
+pub fn all() -> [u32; 601]
     ensures { λ r. ⌜ Table r ⌝ }
 {
     AMPLITUDES
-}
-
-pub fn entry(level: usize) -> u32
-    requires { ⌜ level < 601 ⌝ }
-    ensures { λ r. ⌜ (r ≡ scaled level) × Entry level r ⌝ }
-{
-    let entries = all();
-    entries[level]
 }

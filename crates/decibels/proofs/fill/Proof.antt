@@ -14,14 +14,14 @@ use Rattle.decibels.proofs.amplitude.Reads as amplitude-reads
 use Rattle.decibels.proofs.level_at.Reads as level-at-reads
 
 abbrev Inv-loop : tie.InvT-loop
-Inv-loop start end count lane₀ i₀ lane i = (i ≤ count) × (length lane ≡ count) × (take i lane ≡ frames start end count i)
+Inv-loop entries start end count lane₀ i₀ lane i = (i ≤ count) × (length lane ≡ count) × (take i lane ≡ frames start end count i)
 
 abbrev μ-loop : tie.MeasureT-loop
-μ-loop start end count lane₀ i₀ lane i = count - i
+μ-loop entries start end count lane₀ i₀ lane i = count - i
 
 -- src/lib.rt:47:5
 loop-holds : tie.Need-loop-holds Inv-loop μ-loop
-loop-holds c = (omega arith, c .before .pre .1 .1 .1, refl)
+loop-holds c = (omega arith, c .before .pre .1 .1 .1 .1, refl)
 
 -- src/lib.rt:48:13
 level-at-requires : tie.Need-level-at-requires Inv-loop μ-loop
@@ -29,7 +29,7 @@ level-at-requires c κs = search needs
 
 -- src/lib.rt:49:28
 amplitude-requires : tie.Need-amplitude-requires Inv-loop μ-loop
-amplitude-requires c κs = c .«level-at» .ensures .1
+amplitude-requires c κs = (c .before .before .before .before .pre .0, c .«level-at» .ensures .1)
 
 -- src/lib.rt:49:14
 cast-lane : tie.Need-cast-lane Inv-loop μ-loop
@@ -64,7 +64,7 @@ loop-again c =
 
 -- src/lib.rt:39:1
 same-length : tie.Need-same-length Inv-loop μ-loop
-same-length c = c .before .loop .inv .1 ∙ sym (c .before .before .before .pre .1 .1 .1)
+same-length c = c .before .loop .inv .1 ∙ sym (c .before .before .before .pre .1 .1 .1 .1)
 
 -- src/lib.rt:39:1
 returns : tie.Need-returns Inv-loop μ-loop
