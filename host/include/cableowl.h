@@ -18,8 +18,11 @@
  * 10  time step not finite or not above 0
  * 11  an amplitude or gain not finite or with its sign bit set, or a lane rate not finite
  * 12  an advance, (sample rate * |lane rate|) * time step, above 256
+ * 13  a level above 601
+ * 14  a ramp's count 0 or above 65,536, or not its lane's length
  *
- * The lowest number wins. Creation uses 2 to 7, a command set 1 and 6 to 8, a block 1 and 9 to 12.
+ * The lowest number wins. Creation uses 2 to 7, a command set 1 and 6 to 8, a block 1 and 9 to 12,
+ * a fade ramp 13 and 14.
  *
  * The float mode. What is promised of frames and refusals is promised in the mode that a program
  * begins with: rounding to nearest, subnormals kept (x86-64: neither FTZ nor DAZ; Arm: no FZ),
@@ -59,6 +62,7 @@ extern "C" {
 #define CABLEOWL_MAX_FRAMES 16777216
 #define CABLEOWL_MAX_BLOCK_FRAMES 4096
 #define CABLEOWL_MAX_ADVANCE 256
+#define CABLEOWL_MAX_RAMP_FRAMES 65536
 
 /* The refusals. */
 enum {
@@ -74,7 +78,9 @@ enum {
     CABLEOWL_REFUSAL_BLOCK = 9,
     CABLEOWL_REFUSAL_TIME_STEP = 10,
     CABLEOWL_REFUSAL_LANE = 11,
-    CABLEOWL_REFUSAL_ADVANCE = 12
+    CABLEOWL_REFUSAL_ADVANCE = 12,
+    CABLEOWL_REFUSAL_LEVEL = 13,
+    CABLEOWL_REFUSAL_RAMP = 14
 };
 
 /* What a voice is doing: CableowlState's state. */
@@ -223,6 +229,15 @@ CableowlProcessed cableowl_process_into(CableowlState state, const float *sound,
 
 /* The part of the sound that the voice plays; where it would be refused with 1, the empty part at 0. */
 CableowlPart cableowl_stretch(CableowlState state, const float *sound, size_t sound_len);
+
+/* A level is 0 to 600 tenths of a decibel below full level, or 601 for silence. Its amplitude is e / 2^24 exactly, for
+ * the largest whole e with (e / 2^24)^200 * 10^level at most 1; silence is +0. Answers 0, or 13 and writes nothing. */
+uint32_t cableowl_amplitude(uint32_t level, float *to);
+
+/* Fills a fade lane with amplitudes whose levels run straight from start on the first frame to end on the last, rounded
+ * down: (start * (count - 1 - i) + end * i) / (count - 1) on frame i; one frame takes the end level. A block is lent the
+ * part of the lane that it plays. Answers 0, or 13, then 14, and writes nothing. */
+uint32_t cableowl_fade_ramp(uint32_t start, uint32_t end, uint32_t count, float *lane, size_t lane_len);
 
 /* The mode that floats were in, given back after the calls. */
 typedef uint64_t CableowlFloatMode;

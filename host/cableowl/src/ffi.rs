@@ -193,8 +193,8 @@ unsafe extern "C" {
 }
 
 // SAFETY, for every call below: each pointer goes with the length of the same slice, lent for the
-// call; the archive keeps no pointer, reads within those lengths and writes within `out` or `mix`
-// alone, which nothing else borrows. Every number is accepted as input.
+// call; the archive keeps no pointer, reads within those lengths and writes within what it is lent
+// as `&mut` alone, which nothing else borrows. Every number is accepted as input.
 
 pub fn version() -> u32 {
     cableowl_version()
@@ -274,4 +274,20 @@ pub fn process_into(
 
 pub fn stretch(state: State, sound: &[f32]) -> Part {
     unsafe { cableowl_stretch(state, sound.as_ptr(), sound.len()) }
+}
+
+// Levels and fades: plain numbers and one lent lane.
+unsafe extern "C" {
+    fn cableowl_amplitude(level: u32, to: *mut f32) -> u32;
+
+    fn cableowl_fade_ramp(start: u32, end: u32, count: u32, lane: *mut f32, lane_len: usize)
+    -> u32;
+}
+
+pub fn amplitude(level: u32, to: &mut f32) -> u32 {
+    unsafe { cableowl_amplitude(level, to) }
+}
+
+pub fn fade_ramp(start: u32, end: u32, count: u32, lane: &mut [f32]) -> u32 {
+    unsafe { cableowl_fade_ramp(start, end, count, lane.as_mut_ptr(), lane.len()) }
 }

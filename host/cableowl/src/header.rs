@@ -202,7 +202,9 @@ fn run_c(name: &str, more: &str) {
 
 #[test]
 fn four_declarations_are_one() {
-    let ours = rust_structs(&read("../../crates/cableowl/src/lib.rt"));
+    let sources = ["records", "inputs", "cableowl"];
+    let sources = sources.map(|name| read(&format!("../../crates/{name}/src/lib.rt")));
+    let ours = rust_structs(&sources.concat());
     let fields: usize = ours.iter().map(|(_, fields)| fields.len()).sum();
     assert!(ours.len() >= 11 && fields >= 58, "they are read: {ours:?}");
     assert_eq!(c_structs(&header_text()), ours, "cableowl.h");

@@ -35,6 +35,7 @@
 #![deny(unsafe_code)]
 
 mod commands;
+mod fades;
 mod ffi;
 mod float_mode;
 #[cfg(test)]
@@ -49,6 +50,7 @@ mod state;
 mod static_sound;
 
 pub use commands::{Commands, LoopCommand, ResumeCommand};
+pub use fades::{Level, MAX_RAMP_FRAMES, fade_ramp};
 pub use lanes::{BlockLanes, Lane, Lanes};
 pub use playback_position::{EndPosition, PlaybackPosition, Region};
 pub use playback_state::{PlaybackState, Signals, StartAnswer};

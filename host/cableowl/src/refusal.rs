@@ -33,7 +33,8 @@ impl fmt::Display for LaneName {
 
 /// Why a call was refused: its number, and a sentence to act on.
 ///
-/// The lowest number wins over the whole input. A refused call changes nothing.
+/// Of 1 to 12 the lowest number wins over the whole input; 13 comes before 14. A refused call
+/// changes nothing.
 ///
 /// ```
 /// use cableowl::{Refusal, Settings, StaticSound};
@@ -78,6 +79,10 @@ pub enum Refusal {
         /// The first frame of the block, from 0, that goes too far.
         frame: usize,
     },
+    /// 13: a level.
+    Level,
+    /// 14: a ramp's frame count, or its lane's length.
+    Ramp,
 }
 
 impl Refusal {
@@ -97,6 +102,8 @@ impl Refusal {
             Self::TimeStep => 10,
             Self::Lane { .. } => 11,
             Self::Advance { .. } => 12,
+            Self::Level => 13,
+            Self::Ramp => 14,
         }
     }
 
@@ -112,6 +119,8 @@ impl Refusal {
         Self::Seek,
         Self::Block,
         Self::TimeStep,
+        Self::Level,
+        Self::Ramp,
     ];
 
     /// What the library's answer to a creation or a command set says: 0 is no refusal.
@@ -177,6 +186,12 @@ impl Refusal {
             }
             Self::Advance { .. } => {
                 "sample rate times lane rate times time step must be at most 256 in every frame: lower the rate"
+            }
+            Self::Level => {
+                "a level is 0 to 600 tenths of a decibel below full level, or 601 for silence"
+            }
+            Self::Ramp => {
+                "a ramp has 1 to 65,536 frames, and its lane as many: cut a longer fade into several ramps"
             }
         }
     }

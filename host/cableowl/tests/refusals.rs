@@ -58,7 +58,7 @@ fn played(
 }
 
 /// The refusals, from number 1 on.
-const ALL: [Refusal; 12] = [
+const ALL: [Refusal; 14] = [
     Refusal::State,
     Refusal::SampleRate,
     Refusal::FrameCount,
@@ -71,6 +71,8 @@ const ALL: [Refusal; 12] = [
     Refusal::TimeStep,
     at(LaneName::Fade, 0),
     Refusal::Advance { frame: 0 },
+    Refusal::Level,
+    Refusal::Ramp,
 ];
 
 const fn at(lane: LaneName, frame: usize) -> Refusal {

@@ -60,6 +60,16 @@ int main(void) {
     const CableowlPart none = cableowl_stretch(unknown, sound, 6);
     expect(none.offset == 0 && none.length == 0, "stretch: a state that means nothing");
 
+    float amplitude = 9;
+    expect(cableowl_amplitude(600, &amplitude) == 0 && amplitude * 16777216 == 16777, "amplitude");
+    expect(cableowl_amplitude(602, &amplitude) == 13 && amplitude * 16777216 == 16777, "amplitude: a level too high");
+    float lane[3] = {9, 9, 9};
+    expect(cableowl_fade_ramp(602, 0, 0, lane, 3) == 13, "fade_ramp: the level first");
+    expect(cableowl_fade_ramp(0, 601, 2, lane, 3) == 14 && cableowl_fade_ramp(0, 0, 0, lane, 0) == 14, "fade_ramp: count");
+    expect(lane[0] == 9 && lane[1] == 9 && lane[2] == 9, "fade_ramp: refused");
+    expect(cableowl_fade_ramp(0, 601, 3, lane, 3) == 0, "fade_ramp: refusal");
+    expect(lane[0] == 1 && lane[1] * 16777216 == 530542 && lane[2] == 0, "fade_ramp: amplitudes");
+
     printf("%d differ\n", faults);
     return faults == 0 ? 0 : 1;
 }
