@@ -2,7 +2,6 @@
 -- Every loop is in frames and judged over all frames of the sound, which the table records.
 use Prim.Native.Nat.{ℕ}
 use mathlib.Core.Bool.{Bool, _&&_, _||_, cond}
-use mathlib.Core.List.{List}
 use lib.Dec.{eqb, leb, ltb}
 use lib.ListN.{getD, set, replicate}
 use Rattle.numbers.specs.Lists.{all}

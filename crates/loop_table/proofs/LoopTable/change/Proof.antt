@@ -2,7 +2,6 @@
 use Prim.Native.Nat.{_<_}
 use native.Mathlib.Omega.{arith}
 use borrow.Author.Tests.{eq-eqb, ne-eqb}
-use borrow.Author.Needs.{needs}
 use Rattle.loop_table.proofs.LoopTable.change.Statement.{statement}
 use Rattle.loop_table.proofs.LoopTable.change.Tie as tie
 
