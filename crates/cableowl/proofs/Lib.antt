@@ -2,6 +2,7 @@
 pub mod Fours
 pub mod Few
 pub mod Answers
+pub mod Takes
 pub mod Inverse
 pub mod Kept
 pub mod Unknown

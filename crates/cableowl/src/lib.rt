@@ -8,6 +8,9 @@ ghost use Rattle.lanes.specs.Lanes.{five};
 ghost use Rattle.cableowl.specs.Records.{yes, bit, lawfulRange, lawful, stateOf, rangeOf, recentOf, windowOf, decoded, given, startOf, endingOf, entryOf, encoded};
 ghost use Rattle.cableowl.specs.Inputs.{placeOf, endOf, regionIf, optionalOf, settingsOf, amountOf, loopOf, resumeOf, commandsOf, answerOf, signalsOf};
 ghost use Rattle.cableowl.specs.Entries.{after, createdC, commandedC, answered, processedC, processedIntoC, partC};
+
+mod loops;
+
 use command_set::Amount;
 use command_set::Commands;
 use command_set::LoopCommand;
