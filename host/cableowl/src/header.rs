@@ -9,7 +9,8 @@ use std::{
 };
 
 use crate::ffi::{
-    Commanded, Commands, Created, Entry, Part, Place, Processed, Region, Settings, Signals, State,
+    Commanded, Commands, Created, Entry, LoopChanged, LoopFound, LoopSlot, LoopTable, Part, Place,
+    Processed, Region, Settings, Signals, State,
 };
 
 /// C assertions that a struct has Rust's size, and each field Rust's place.
@@ -43,6 +44,10 @@ fn layouts() -> String {
         layout!("CableowlCommanded", Commanded, state position refusal),
         layout!("CableowlProcessed", Processed, state steps refusal),
         layout!("CableowlPart", Part, offset length),
+        layout!("CableowlLoopSlot", LoopSlot, start end),
+        layout!("CableowlLoopTable", LoopTable, num_frames slots),
+        layout!("CableowlLoopChanged", LoopChanged, table refusal),
+        layout!("CableowlLoopFound", LoopFound, slot refusal),
     ]
     .concat()
 }
@@ -69,6 +74,7 @@ impl Drop for Folder {
 fn sizes_are_the_abi_s() {
     assert_eq!(size_of::<Entry>(), 16);
     assert_eq!(size_of::<State>(), 160);
+    assert_eq!(size_of::<LoopTable>(), 264);
 }
 
 #[test]

@@ -38,6 +38,7 @@ mod ffi;
 #[cfg(test)]
 mod header;
 mod lanes;
+mod loop_table;
 mod playback_position;
 mod playback_state;
 mod refusal;
@@ -47,6 +48,7 @@ mod static_sound;
 
 pub use commands::{Commands, LoopCommand, ResumeCommand};
 pub use lanes::{BlockLanes, Lane, Lanes};
+pub use loop_table::{Hall, LoopTable};
 pub use playback_position::{EndPosition, PlaybackPosition, Region};
 pub use playback_state::{PlaybackState, Signals, StartAnswer};
 pub use refusal::Refusal;

@@ -42,11 +42,17 @@ pub enum Refusal {
     Lane,
     /// 12: an advance.
     Advance,
+    /// 20: a slot of a loop table.
+    LoopSlot = 20,
+    /// 21: a write or a clear of the other hall's slot.
+    OtherHall,
+    /// 22: a read of an empty slot.
+    EmptySlot,
 }
 
 impl Refusal {
-    /// All twelve, from number 1 on.
-    pub const ALL: [Self; 12] = [
+    /// All of them, by number.
+    pub const ALL: [Self; 15] = [
         Self::State,
         Self::SampleRate,
         Self::FrameCount,
@@ -59,9 +65,12 @@ impl Refusal {
         Self::TimeStep,
         Self::Lane,
         Self::Advance,
+        Self::LoopSlot,
+        Self::OtherHall,
+        Self::EmptySlot,
     ];
 
-    /// Document 01's number, 1 to 12.
+    /// Its number: document 01's 1 to 12, and those of a loop table.
     #[must_use]
     pub fn number(self) -> u32 {
         self as u32
@@ -70,15 +79,14 @@ impl Refusal {
     /// The refusal with this number, if one has it.
     #[must_use]
     pub fn from_number(number: u32) -> Option<Self> {
-        let index = usize::try_from(number).ok()?.checked_sub(1)?;
-        Self::ALL.get(index).copied()
+        Self::ALL.into_iter().find(|it| it.number() == number)
     }
 
     /// What the library's answer says: 0 is no refusal.
     pub(crate) fn check(number: u32) -> Result<(), Self> {
         match number {
             0 => Ok(()),
-            // The library has no number past 12.
+            // The library has no other number.
             _ => Err(Self::from_number(number).unwrap_or(Self::State)),
         }
     }
@@ -117,6 +125,11 @@ impl Refusal {
             Self::Advance => {
                 "sample rate times lane rate times time step must be at most 256 in every frame: lower the rate"
             }
+            Self::LoopSlot => "a loop table has the slots 0 to 15",
+            Self::OtherHall => {
+                "hall A writes and clears slots 0 to 7, hall B slots 8 to 15: ask the other hall"
+            }
+            Self::EmptySlot => "the slot holds no loop: its hall must write one first",
         }
     }
 }
