@@ -5,6 +5,8 @@ use mathlib.Core.Bool.{Bool, _&&_, _||_, cond}
 use lib.Dec.{eqb, leb, ltb}
 use lib.ListN.{getD, set, replicate}
 use Rattle.numbers.specs.Lists.{all}
+use Rattle.playback_position.specs.declared.FrameRange.the-variants.{Frames}
+use Rattle.playback_position.specs.Positions.{within}
 use Rattle.loop_table.specs.declared.Hall.{Hall}
 use Rattle.loop_table.specs.declared.Hall.the-variants as hall
 use Rattle.loop_table.specs.declared.LoopSlot.{LoopSlot}
@@ -16,9 +18,9 @@ use Rattle.loop_table.specs.declared.Found.{Found}
 abbrev pub unless : Bool → ℕ → ℕ → ℕ
 unless ok n rest = cond ok rest n
 
--- 6: start < end <= n
+-- 6: start < end <= n, as for every loop
 abbrev pub looping : ℕ → ℕ → ℕ → Bool
-looping n s e = ltb s e && leb e n
+looping n s e = within n (Frames s e)
 
 abbrev pub slotOf : ℕ → ℕ → LoopSlot
 slotOf s e = record { start = s; end = e }
