@@ -1,7 +1,10 @@
 // The loop table's C entries against a model of their own: every call over 1 to 4 frames, long rows of calls, any bytes.
 
 use random::Random;
-use raw::{CableowlLoopSlot, CableowlLoopTable, clear_loop, loop_table, read_loop, write_loop};
+use raw::{
+    CableowlCommands, CableowlLoopSlot, CableowlLoopTable, CableowlPlace, CableowlRegion,
+    CableowlSettings, CableowlState, clear_loop, loop_table, read_loop, write_loop,
+};
 
 const EMPTY: CableowlLoopSlot = CableowlLoopSlot { start: 0, end: 0 };
 
@@ -177,4 +180,68 @@ fn any_bytes() {
     }
     println!("answers by number: {numbers:?}");
     assert!([0, 1, 6, 20, 21, 22].iter().all(|k| numbers[*k] > 1_000));
+}
+
+#[test]
+fn a_take_is_a_read_and_a_command_set() {
+    let mut random = Random::new(10_900);
+    let sound = [0.5, -0.5, 0.25, -0.25, 1.0, -1.0, 0.0, 0.125, 2.0, -2.0];
+    let settings = CableowlSettings {
+        sample_rate: 1,
+        playback_rate: 1.0,
+        start: place(0),
+        ..CableowlSettings::default()
+    };
+    let created = raw::new(settings, &sound);
+    assert_eq!(created.refusal, 0);
+    let mut numbers = [0u64; 23];
+    for _ in 0..300_000 {
+        let mut table = loop_table(5);
+        for slot in &mut table.slots {
+            if random.coin() {
+                let (start, end) = (random.below(5) as u64, random.below(6) as u64);
+                *slot = write_loop(loop_table(5), 0, 0, start, end).table.slots[0];
+            }
+        }
+        if random.one_in(20) {
+            table.slots[random.below(16)].start = random.word();
+        }
+        let mut bytes = created.state.to_bytes();
+        for _ in 0..random.below(3) {
+            bytes[random.below(bytes.len())] ^= 1 << random.below(8);
+        }
+        let state = CableowlState::from_bytes(bytes);
+        let slot = random.below(18) as u64;
+        let taken = raw::take_loop(table, slot, state, &sound);
+        numbers[taken.refusal as usize] += 1;
+        let read = read_loop(table, slot);
+        let (number, after, position) = if read.refusal != 0 {
+            (read.refusal, state, 0.0)
+        } else {
+            let commands = CableowlCommands {
+                loop_command: 2,
+                loop_region: CableowlRegion {
+                    start: place(read.slot.start),
+                    end: place(read.slot.end),
+                },
+                ..CableowlCommands::default()
+            };
+            let told = raw::on_start_processing(state, &sound, commands);
+            (told.refusal, told.state, told.position)
+        };
+        assert_eq!(taken.refusal, number);
+        assert_eq!(taken.state.to_bytes(), after.to_bytes());
+        assert_eq!(taken.position.to_bits(), position.to_bits());
+    }
+    println!("answers by number: {numbers:?}");
+    assert!([0, 1, 20, 22].iter().all(|k| numbers[*k] > 1_000));
+}
+
+/// A place in frames.
+fn place(samples: u64) -> CableowlPlace {
+    CableowlPlace {
+        kind: 1,
+        samples,
+        ..CableowlPlace::default()
+    }
 }
