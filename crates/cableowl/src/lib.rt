@@ -6,6 +6,7 @@ ghost use Rattle.lanes.specs.Lanes.{five};
 ghost use Rattle.cableowl.specs.Entries.{after, createdC, commandedC, answered, processedC, processedIntoC, partC};
 
 mod fades;
+mod loops;
 
 use inputs::CableowlCommands;
 use inputs::CableowlSettings;

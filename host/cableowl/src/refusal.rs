@@ -83,6 +83,12 @@ pub enum Refusal {
     Level,
     /// 14: a ramp's frame count, or its lane's length.
     Ramp,
+    /// 20: a slot of a loop table.
+    LoopSlot,
+    /// 21: a write or a clear of the other hall's slot.
+    OtherHall,
+    /// 22: a read of an empty slot.
+    EmptySlot,
 }
 
 impl Refusal {
@@ -104,6 +110,9 @@ impl Refusal {
             Self::Advance { .. } => 12,
             Self::Level => 13,
             Self::Ramp => 14,
+            Self::LoopSlot => 20,
+            Self::OtherHall => 21,
+            Self::EmptySlot => 22,
         }
     }
 
@@ -121,6 +130,9 @@ impl Refusal {
         Self::TimeStep,
         Self::Level,
         Self::Ramp,
+        Self::LoopSlot,
+        Self::OtherHall,
+        Self::EmptySlot,
     ];
 
     /// What the library's answer to a creation or a command set says: 0 is no refusal.
@@ -193,6 +205,11 @@ impl Refusal {
             Self::Ramp => {
                 "a ramp has 1 to 65,536 frames, and its lane as many: cut a longer fade into several ramps"
             }
+            Self::LoopSlot => "a loop table has the slots 0 to 15",
+            Self::OtherHall => {
+                "hall A writes and clears slots 0 to 7, hall B slots 8 to 15: ask the other hall"
+            }
+            Self::EmptySlot => "the slot holds no loop: its hall must write one first",
         }
     }
 }
