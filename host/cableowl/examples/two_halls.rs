@@ -41,7 +41,7 @@ fn evening(
     for turn in 0..BLOCKS {
         for edit in 0..edits {
             let slot = first + ((turn + edit) % 8) as usize;
-            let start = (turn * 997 + edit * 131) % (FRAMES - 100);
+            let start = (turn * 997 + edit * 131 + first as u64 * 1_013) % (FRAMES - 100);
             // The lock is held for one call.
             table
                 .lock()

@@ -192,8 +192,14 @@ fn a_take_is_a_read_and_a_command_set() {
         start: place(0),
         ..CableowlSettings::default()
     };
-    let created = raw::new(settings, &sound);
-    assert_eq!(created.refusal, 0);
+    // Over a slice, a lawful slot may still be refused with 6.
+    let sliced = CableowlSettings {
+        has_slice: 1,
+        slice: region(1, 4),
+        ..settings
+    };
+    let created = [settings, sliced].map(|settings| raw::new(settings, &sound));
+    assert!(created.iter().all(|created| created.refusal == 0));
     let mut numbers = [0u64; 23];
     for _ in 0..300_000 {
         let mut table = loop_table(5);
@@ -206,7 +212,7 @@ fn a_take_is_a_read_and_a_command_set() {
         if random.one_in(20) {
             table.slots[random.below(16)].start = random.word();
         }
-        let mut bytes = created.state.to_bytes();
+        let mut bytes = created[random.below(2)].state.to_bytes();
         for _ in 0..random.below(3) {
             bytes[random.below(bytes.len())] ^= 1 << random.below(8);
         }
@@ -220,10 +226,7 @@ fn a_take_is_a_read_and_a_command_set() {
         } else {
             let commands = CableowlCommands {
                 loop_command: 2,
-                loop_region: CableowlRegion {
-                    start: place(read.slot.start),
-                    end: place(read.slot.end),
-                },
+                loop_region: region(read.slot.start, read.slot.end),
                 ..CableowlCommands::default()
             };
             let told = raw::on_start_processing(state, &sound, commands);
@@ -234,7 +237,7 @@ fn a_take_is_a_read_and_a_command_set() {
         assert_eq!(taken.position.to_bits(), position.to_bits());
     }
     println!("answers by number: {numbers:?}");
-    assert!([0, 1, 20, 22].iter().all(|k| numbers[*k] > 1_000));
+    assert!([0, 1, 6, 20, 22].iter().all(|k| numbers[*k] > 1_000));
 }
 
 /// A place in frames.
@@ -243,5 +246,13 @@ fn place(samples: u64) -> CableowlPlace {
         kind: 1,
         samples,
         ..CableowlPlace::default()
+    }
+}
+
+/// A region in frames.
+fn region(start: u64, end: u64) -> CableowlRegion {
+    CableowlRegion {
+        start: place(start),
+        end: place(end),
     }
 }
