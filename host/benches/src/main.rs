@@ -1,9 +1,11 @@
 // Times ours against kira's text:
 //   benches [--write DIR]
 //   benches --modes                                                         (what the float mode costs a call)
+//   benches --budget                                                        (voices a core by block size and steps a frame)
 //   benches --play ours|safe|kira|none --rate R --block N --looped long|3|subnormal --start N --frames N
 //                                                                          (one workload, to be counted)
 
+mod budget;
 mod measure;
 mod modes;
 mod report;
@@ -30,6 +32,10 @@ fn run(words: &[String]) -> Result<(), Box<dyn Error>> {
     if words.iter().any(|word| word == "--modes") {
         let [plain, flushing] = modes::cost();
         println!("a call of 64 frames: {plain:.1} ns; from a host that flushes: {flushing:.1} ns");
+        return Ok(());
+    }
+    if words.iter().any(|word| word == "--budget") {
+        print!("{}", budget::table());
         return Ok(());
     }
     let rows = measure::all();

@@ -78,6 +78,13 @@ fn row(workload: Workload, sound: &[f32]) -> Row {
     }
 }
 
+/// Nanoseconds a frame of one voice alone, the least of all repetitions.
+#[must_use]
+pub fn least(voice: &mut dyn Voice, block: usize) -> f64 {
+    let times = (0..REPETITIONS).map(|_| timed(voice, block));
+    times.fold(f64::INFINITY, f64::min)
+}
+
 fn timed(voice: &mut dyn Voice, block: usize) -> f64 {
     let begun = Instant::now();
     (0..FRAMES / block).for_each(|_| voice.block());
