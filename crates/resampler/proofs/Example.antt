@@ -22,6 +22,6 @@ recent x = record { frame = both x; «frame_index» = 0 }
 abbrev pub rising : Resampler
 rising = record { frames = recent naught ∷ recent one ∷ recent (fin false 1 (pos 1)) ∷ recent (fin false 3 (pos 0)) ∷ []; «time_until_empty» = 4 }
 
-pub rising-half : reading rising (fin false 1 (negsuc 0)) ≡ both (fin false 3 (negsuc 0))
+pub rising-half : (reading rising (fin false 1 (negsuc 0))) .frame ≡ both (fin false 3 (negsuc 0))
 unfolding reading interpolated cubic add sub mul
 rising-half = refl
