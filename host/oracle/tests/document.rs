@@ -72,7 +72,7 @@ fn windows_and_readings_agree() {
         assert_eq!(leaves::empty(&next), next.count == 0);
         window = next;
         let fraction = random.unit() as f32;
-        let heard = leaves::get(&window, fraction);
+        let (heard, _) = leaves::get(&window, fraction;
         let [left, right] = [
             window.entries.map(|e| e.left),
             window.entries.map(|e| e.right),

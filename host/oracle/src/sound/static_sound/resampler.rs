@@ -1,9 +1,6 @@
 // kira's resampler.rs, unchanged, with the way into its private window; around it, a resampler that
 // remembers the lowest count it was read at; and the leaves over it.
-use std::{
-    cell::Cell,
-    ops::{Deref, DerefMut},
-};
+use std::cell::Cell;
 
 use crate::{Frame, leaves::Window};
 
@@ -65,6 +62,21 @@ impl Resampler {
         self.text.window()
     }
 
+    #[inline]
+    pub fn push_frame(&mut self, frame: Option<Frame>, frame_index: usize) {
+        self.text.push_frame(frame, frame_index);
+    }
+
+    #[inline]
+    pub fn current_frame_index(&self) -> usize {
+        self.text.current_frame_index()
+    }
+
+    #[inline]
+    pub fn empty(&self) -> bool {
+        self.text.empty()
+    }
+
     /// kira's `get`; its count before each read is remembered.
     #[inline]
     pub fn get(&self, fractional_position: f32) -> Frame {
@@ -84,22 +96,6 @@ impl Resampler {
             text,
             lowest: Cell::new(4),
         }
-    }
-}
-
-impl Deref for Resampler {
-    type Target = text::Resampler;
-
-    #[inline]
-    fn deref(&self) -> &text::Resampler {
-        &self.text
-    }
-}
-
-impl DerefMut for Resampler {
-    #[inline]
-    fn deref_mut(&mut self) -> &mut text::Resampler {
-        &mut self.text
     }
 }
 
