@@ -25,11 +25,12 @@ use Rattle.moving.specs.declared.Course.{Course}
 use Rattle.moving.specs.Updates.{sounding, pushed, stepped, updated, updates}
 use Rattle.voice.specs.declared.StaticSound.{StaticSound}
 use Rattle.voice.specs.Voices.{offset, courseOf, moved}
-use Rattle.creation.specs.Creation.{made, blankSound, created}
+use Rattle.creation.specs.Creation.{setupOf, opened, transportOf, made}
 use Rattle.creation.proofs.Answers.{created-passed, created-done}
 use Rattle.command_set.specs.declared.Amount.{Amount}
 use Rattle.command_set.specs.declared.Amount.the-variants as amount
 use Rattle.command_set.specs.declared.Commands.{Commands}
+use Rattle.command_set.specs.declared.Commanded.{Commanded}
 use Rattle.command_set.specs.Commands.{refusedSet, told, jumped, refilled, sought, soughtBy, soughtTo, obeyed, reported, commanded}
 use Rattle.block.specs.declared.Signals.{Signals}
 use Rattle.block.specs.Blocks.{begun, live, silent, block}
@@ -96,7 +97,10 @@ pub creation-feeds : CreationFeeds
 unfolding made updates
 creation-feeds snd s e =
     subst (FedVoice snd) (sym (created-done snd s (created-passed snd s e)))
-    (updates-fed snd _ 2 _ (stepped-fed snd _ _ (first-fed snd _ _ refl)))
+    (let k = setupOf (length snd) s in
+    let v = opened k (transportOf k s) (s .«playback_rate») (s .«start_waits») in
+    let c = courseOf v in
+    updates-fed snd c 2 (updated snd c (v .moving)) (stepped-fed snd c (v .moving) (first-fed snd c (v .moving) refl)))
 
 and-still : (a b : Bool) → a ≡ false → (a && b) ≡ false
 and-still a b e = ap (λ (x : Bool). x && b) e
@@ -155,7 +159,7 @@ commands-feed snd v c h = go (eqb (refusedSet (length snd) v c) 0)
   where
     go : (b : Bool)
         → FedVoice snd
-        ((cond b (record { refusal = 0; sound = obeyed snd c v; position = reported v }) (record { refusal = refusedSet (length snd) v c; sound = v; position = naught })) .sound)
+        ((cond {A = Commanded} b (record { refusal = 0; sound = obeyed snd c v; position = reported v }) (record { refusal = refusedSet (length snd) v c; sound = v; position = naught })) .sound)
     go true = obeyed-fed snd v c h
     go false = h
 
@@ -242,26 +246,23 @@ module _ (snd : List Float) (dt : Float) where
     where
       not-below : 4 < 4 → ⊥
       not-below h = omega arith
-  lowest-read (l ∷ ls) v h = go (leb t r) refl
+  lowest-read (l ∷ ls) v h = go (leb t r) refl (λ k. lowest-read ls (turned snd dt v l) k)
     where
-      u : StaticSound
-      u = turned snd dt v l
-
       t : ℕ
       t = countOf v
 
       r : ℕ
       r = (plays snd dt ls (turned snd dt v l)) .«lowest_count»
 
-      go : (b : Bool) → leb t r ≡ b → Read (l ∷ ls) v
-      go true e = record { read = 0; within = omega arith; count = lower-first t r (leb-true t r e) }
-      go false e =
+      more : (a b : ℕ) → a < b → suc a < suc b
+      more a b h = omega arith
+
+      go : (b : Bool) → leb t r ≡ b → (r < 4 → Read ls (turned snd dt v l)) → Read (l ∷ ls) v
+      go true e f = record { read = 0; within = omega arith; count = lower-first t r (leb-true t r e) }
+      go false e f =
           let k = lower-second t r (leb-false t r e) in
-          let q = lowest-read ls u (subst (λ (n : ℕ). n < 4) k h) in
+          let q = f (subst (λ (n : ℕ). n < 4) k h) in
           record { read = suc (q .read); within = more (q .read) (length ls) (q .within); count = k ∙ q .count }
-        where
-          more : (a b : ℕ) → a < b → suc a < suc b
-          more a b h = omega arith
 
   plays-tells : (ls : List Lane) (v : StaticSound) → FedVoice snd v → Tells snd dt ls v ((plays snd dt ls v) .«lowest_count»)
   plays-tells ls v h =
