@@ -57,8 +57,9 @@
 extern "C" {
 #endif
 
-/* The version of this interface, which cableowl_version() answers. */
-#define CABLEOWL_VERSION 1
+/* The version of this interface, which cableowl_version() answers. Since 1: CableowlProcessed has
+ * lowest_count. */
+#define CABLEOWL_VERSION 2
 
 /* The limits. */
 #define CABLEOWL_MAX_SAMPLE_RATE 768000
@@ -197,10 +198,15 @@ typedef struct CableowlCommanded {
     uint32_t refusal;
 } CableowlCommanded;
 
+/* For a monitor: a lowest_count of 4 says that at every read of the block the newest entry was a frame of
+ * the sound, so no tail had begun. t below 4 says that at one of its reads 4 - t pushes had been made
+ * without a frame (0: at least four), so the transport had ended: silence is the sound's tail, no gap.
+ * For a block cut in two it is the smaller of the two, unless the voice had stopped by the cut. */
 typedef struct CableowlProcessed {
     CableowlState state;
     uint64_t steps; /* frames of the sound stepped over */
     uint32_t refusal;
+    uint32_t lowest_count; /* the lowest count of the window that was read; 4 for 0 frames, silent or refused */
 } CableowlProcessed;
 
 /* A part of the lent samples; its numbers count samples, two a frame. */

@@ -1,7 +1,8 @@
--- A block, by whether it is silent: what it gives and what it leaves as it is; and no signals change nothing.
+-- A block, by whether it is silent: what it gives, a count of at most 4, and what it leaves as it is; and no signals change nothing.
 -- By cases. Assumes nothing.
 use mathlib.Core.Path.{_≡_, refl, ap, ap₂, _∙_}
-use Prim.Native.Nat.{_+_, _*_}
+use Prim.Native.Nat.{_+_, _*_, _≤_}
+use native.Mathlib.Nat.{le-refl}
 use mathlib.Core.Bool.{Bool, true, false, cond}
 use mathlib.Core.List.{List, [], _∷_, _++_}
 use lib.ListN.{length}
@@ -13,7 +14,7 @@ use Rattle.playback_state_manager.specs.States.{settled}
 use Rattle.playback_state_manager.proofs.Stays.{settled-quiet}
 use Rattle.lanes.specs.Lanes.{Lane}
 use Rattle.voice.specs.declared.StaticSound.{StaticSound}
-use Rattle.playing.proofs.Plays.{two-more, plays-length, plays-setup}
+use Rattle.playing.proofs.Plays.{two-more, plays-lowest, plays-length, plays-setup}
 use Rattle.block.specs.declared.Signals.{Signals}
 use Rattle.playing.specs.Plays.{plays}
 use Rattle.block.specs.Blocks.{zeros, silent, come, givenUp, begun, live, block, quiet}
@@ -46,6 +47,14 @@ module _ (snd : List Float) (dt : Float) where
       go : (b : Bool) → length ((cond b (plays snd dt ls (begun g v)) (silent ls (begun g v))) .samples) ≡ 2 * length ls
       go true = plays-length snd dt ls (begun g v)
       go false = zeros-length ls
+
+  pub block-lowest : (ls : List Lane) (g : Signals) (v : StaticSound) → (block snd dt ls g v) .«lowest_count» ≤ 4
+  unfolding block
+  block-lowest ls g v = go (live (begun g v))
+    where
+      go : (b : Bool) → (cond b (plays snd dt ls (begun g v)) (silent ls (begun g v))) .«lowest_count» ≤ 4
+      go true = plays-lowest snd dt ls (begun g v)
+      go false = le-refl 4
 
   pub block-setup : (ls : List Lane) (g : Signals) (v : StaticSound) → (block snd dt ls g v) .voice .setup ≡ v .setup
   unfolding block

@@ -23,9 +23,9 @@ module _ (snd : List Float) (dt : Float) (b : Lanes) (g : Signals) (v u : Static
       h ∙ ap acceptedAs (ap (plays snd dt (rows b)) e ∙ sym (block-live snd dt (rows b) g v (subst (λ (w : StaticSound). live w ≡ true) e t)))
 
   pub rests : live u ≡ false → (out : List Float) (n : ℕ) → out ≡ replicate n naught → n ≡ 2 * length (b .rate)
-      → record { answer = record { refusal = 0; sound = u; steps = 0 }; samples = out } ≡ acceptedAs (block snd dt (rows b) g v)
+      → record { answer = record { refusal = 0; sound = u; steps = 0; «lowest_count» = 4 }; samples = out } ≡ acceptedAs (block snd dt (rows b) g v)
   rests t out n h k =
-      ap (λ (z : List Float). acceptedAs (record { voice = u; samples = z; steps = 0 }))
+      ap (λ (z : List Float). acceptedAs (record { voice = u; samples = z; steps = 0; «lowest_count» = 4 }))
       (h ∙ ap (λ (m : ℕ). replicate m naught) (k ∙ ap (λ (m : ℕ). 2 * m) (sym (beside-length (b .fade) (b .volume) (b .left) (b .right) (b .rate)))) ∙ sym (zeros-filled (rows b)))
       ∙ ap acceptedAs (ap (silent (rows b)) e ∙ sym (block-silent snd dt (rows b) g v (subst (λ (w : StaticSound). live w ≡ false) e t)))
 

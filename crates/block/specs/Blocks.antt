@@ -18,9 +18,9 @@ unfoldable pub zeros : List Lane → List Float
 zeros [] = []
 zeros (l ∷ ls) = naught ∷ naught ∷ zeros ls
 
--- positive zeros are written and nothing moves
+-- positive zeros are written and nothing moves; no window is read, and the count is 4
 abbrev pub silent : List Lane → StaticSound → Played
-silent ls v = record { voice = v; samples = zeros ls; steps = 0 }
+silent ls v = record { voice = v; samples = zeros ls; steps = 0; «lowest_count» = 4 }
 
 -- whether the start has come: one that has come stays so
 abbrev pub come : StartAnswer → Bool → Bool

@@ -105,5 +105,6 @@ pub fn block(
         refusal: 0,
         sound: begun,
         steps: 0,
+        lowest_count: 4,
     }
 }

@@ -26,7 +26,7 @@ use Rattle.cableowl.specs.declared.CableowlProcessed.{CableowlProcessed}
 use Rattle.records.specs.Records.{decoded, encoded}
 use Rattle.inputs.specs.Inputs.{settingsOf, commandsOf, signalsOf}
 use Rattle.cableowl.specs.Entries.{after, createdC, commandedC, answered, OutcomeC, processedC, processedIntoC}
-use Rattle.cableowl.proofs.Few.{countOf, ours-few, created-few, commanded-ours, processed-ours, into-ours}
+use Rattle.cableowl.proofs.Few.{countOf, ours-few, created-few, commanded-ours, processed-ours, into-ours, processed-low, into-low}
 
 -- ---- creation
 
@@ -60,15 +60,21 @@ module _ (snd : List Float) (c : CableowlState) (dt : Float) (b : Lanes) (g : Ca
   abbrev pub told : CableowlProcessed → OutcomeC
   told a = record { answer = a; samples = samples }
 
-  pub block-few : (out : List Float) → given ≡ processed snd v dt b w out → r .refusal ≡ 0 → countOf (r .sound) ≤ 4
-  block-few out f = subst (λ (o : Outcome). o .answer .refusal ≡ 0 → countOf (o .answer .sound) ≤ 4) (sym f) (λ z. ours-few (length snd) _ (processed-ours snd v dt b w out z))
+  pub block-few : (out : List Float) → given ≡ processed snd v dt b w out → (r .refusal ≡ 0 → countOf (r .sound) ≤ 4) × (r .«lowest_count» ≤ 4)
+  block-few out f = (
+    subst (λ (o : Outcome). o .answer .refusal ≡ 0 → countOf (o .answer .sound) ≤ 4) (sym f) (λ z. ours-few (length snd) _ (processed-ours snd v dt b w out z)),
+    subst (λ (o : Outcome). o .answer .«lowest_count» ≤ 4) (sym f) (processed-low snd v dt b w out),
+  )
 
   pub block-is : (out : List Float) → given ≡ processed snd v dt b w out → (a : CableowlProcessed) → a ≡ answered r c → told a ≡ processedC snd c dt b g out
   unfolding processedC
   block-is out f a h = ap told h ∙ ap (λ (o : Outcome). record { answer = answered (o .answer) c; samples = o .samples }) f ∙ rw (e, d)
 
-  pub mix-few : (mix : List Float) (from : ℕ) → given ≡ processedInto snd v dt b w mix from → r .refusal ≡ 0 → countOf (r .sound) ≤ 4
-  mix-few mix from f = subst (λ (o : Outcome). o .answer .refusal ≡ 0 → countOf (o .answer .sound) ≤ 4) (sym f) (λ z. ours-few (length snd) _ (into-ours snd v dt b w mix from z))
+  pub mix-few : (mix : List Float) (from : ℕ) → given ≡ processedInto snd v dt b w mix from → (r .refusal ≡ 0 → countOf (r .sound) ≤ 4) × (r .«lowest_count» ≤ 4)
+  mix-few mix from f = (
+    subst (λ (o : Outcome). o .answer .refusal ≡ 0 → countOf (o .answer .sound) ≤ 4) (sym f) (λ z. ours-few (length snd) _ (into-ours snd v dt b w mix from z)),
+    subst (λ (o : Outcome). o .answer .«lowest_count» ≤ 4) (sym f) (into-low snd v dt b w mix from),
+  )
 
   pub mix-is : (mix : List Float) (from : ℕ) → given ≡ processedInto snd v dt b w mix from → (a : CableowlProcessed) → a ≡ answered r c → told a ≡ processedIntoC snd c dt b g mix from
   unfolding processedIntoC

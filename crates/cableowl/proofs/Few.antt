@@ -2,13 +2,14 @@
 -- An accepted call leaves a state that is well formed over its sound, and there the count is at most 4. Assumes nothing.
 use mathlib.Core.Path.{_≡_}
 use Prim.Native.Nat.{ℕ, _+_, _*_, _≤_}
+use native.Mathlib.Nat.{le-refl}
 use native.Mathlib.Omega.{arith}
 use mathlib.Core.Bool.{Bool, true, false, cond}
 use mathlib.Core.List.{List}
 use lib.Dec.{T, eqb, eqb→eq}
 use lib.ListN.{length}
 use lib.Ieee.{Float}
-use Rattle.lanes.specs.Lanes.{Lanes}
+use Rattle.lanes.specs.Lanes.{Lanes, rows}
 use Rattle.voice.specs.declared.StaticSound.{StaticSound}
 use Rattle.voice.specs.Voices.{span, offset}
 use Rattle.voice.specs.WellFormed.{ours}
@@ -23,8 +24,10 @@ use Rattle.command_set.proofs.Refusals.{obeyable-parts}
 use Rattle.command_set.proofs.Orders.{obeyed-ours}
 use Rattle.command_set.proofs.Answers.{commanded-passed, commanded-done}
 use Rattle.block.specs.declared.Signals.{Signals}
-use Rattle.playing.specs.Plays.{Outcome}
-use Rattle.static_sound.specs.Entries.{holds, processed, room, processedInto}
+use Rattle.playing.specs.Plays.{Played, Outcome, acceptedWith}
+use Rattle.block.specs.Blocks.{block}
+use Rattle.block.proofs.Blocks.{block-lowest}
+use Rattle.static_sound.specs.Entries.{refusedBlock, refusedWith, holds, processed, room, mixed, processedInto}
 use Rattle.static_sound.proofs.Refusals.{accepted-parts}
 use Rattle.static_sound.proofs.Entries.{block-ours, processed-passed, processed-done, into-passed, into-done}
 
@@ -54,6 +57,9 @@ commanded-ours snd v c e =
     rw (commanded-done snd v c k) (obeyed-ours snd c v (obeyable-parts (length snd) v c k))
 
 module _ (snd : List Float) (v : StaticSound) (dt : Float) (b : Lanes) (g : Signals) where
+  abbrev p : Played
+  p = block snd dt (rows b) g v
+
   abbrev pub OursAfter : Outcome → Type 0
   OursAfter o = o .answer .refusal ≡ 0 → T (ours (length snd) (o .answer .sound))
 
@@ -67,6 +73,30 @@ module _ (snd : List Float) (v : StaticSound) (dt : Float) (b : Lanes) (g : Sign
       let k = into-passed snd v dt b g mix from e in
       let r = room from (length (b .rate)) mix in
       rw (into-done snd v dt b g mix from k) (block-ours snd v dt b g r (accepted-parts (length snd) v dt b r k))
+
+  -- ---- and the lowest count that a block reports, refused or not
+
+  pub processed-low : (out : List Float) → (processed snd v dt b g out) .answer .«lowest_count» ≤ 4
+  unfolding processed
+  processed-low out = go (eqb k 0)
+    where
+      k : ℕ
+      k = refusedBlock (length snd) v dt b (holds b out)
+
+      go : (t : Bool) → (cond t (acceptedWith p (p .samples)) (refusedWith k v out)) .answer .«lowest_count» ≤ 4
+      go true = block-lowest snd dt (rows b) g v
+      go false = le-refl 4
+
+  pub into-low : (mix : List Float) (from : ℕ) → (processedInto snd v dt b g mix from) .answer .«lowest_count» ≤ 4
+  unfolding processedInto
+  into-low mix from = go (eqb k 0)
+    where
+      k : ℕ
+      k = refusedBlock (length snd) v dt b (room from (length (b .rate)) mix)
+
+      go : (t : Bool) → (cond t (acceptedWith p (mixed from (length (b .rate)) mix (p .samples))) (refusedWith k v mix)) .answer .«lowest_count» ≤ 4
+      go true = block-lowest snd dt (rows b) g v
+      go false = le-refl 4
 
 -- ---- and so the count that it leaves
 

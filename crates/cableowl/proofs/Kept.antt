@@ -77,19 +77,19 @@ commanded-given snd c k n = (
   ap (λ (r : Commanded). r .position) (commanded-refused snd (decoded c) (commandsOf k) n),
 )
 
--- the record, the steps and the samples of a refused block
+-- the record, the steps, the count and the samples of a refused block
 abbrev pub Given : CableowlState → List Float → OutcomeC → Type 0
-Given c out o = (o .answer .state ≡ c) × (o .answer .steps ≡ 0) × (o .samples ≡ out)
+Given c out o = (o .answer .state ≡ c) × (o .answer .steps ≡ 0) × (o .answer .«lowest_count» ≡ 4) × (o .samples ≡ out)
 
 module _ (snd : List Float) (c : CableowlState) (dt : Float) (b : Lanes) (g : CableowlSignals) where
   pub processed-given : (out : List Float) → let o = processedC snd c dt b g out in (o .answer .refusal ≡ 0 → ⊥) → Given c out o
   unfolding processedC
   processed-given out n =
       let e = processed-refused snd (decoded c) dt b (signalsOf g) out n in
-      (after-given _ _ c n, ap (λ (o : Outcome). o .answer .steps) e, ap (λ (o : Outcome). o .samples) e)
+      (after-given _ _ c n, ap (λ (o : Outcome). o .answer .steps) e, ap (λ (o : Outcome). o .answer .«lowest_count») e, ap (λ (o : Outcome). o .samples) e)
 
   pub into-given : (mix : List Float) (from : ℕ) → let o = processedIntoC snd c dt b g mix from in (o .answer .refusal ≡ 0 → ⊥) → Given c mix o
   unfolding processedIntoC
   into-given mix from n =
       let e = into-refused snd (decoded c) dt b (signalsOf g) mix from n in
-      (after-given _ _ c n, ap (λ (o : Outcome). o .answer .steps) e, ap (λ (o : Outcome). o .samples) e)
+      (after-given _ _ c n, ap (λ (o : Outcome). o .answer .steps) e, ap (λ (o : Outcome). o .answer .«lowest_count») e, ap (λ (o : Outcome). o .samples) e)

@@ -38,7 +38,7 @@ commandedC snd c k =
 
 -- the answer of a block that was given this state
 abbrev pub answered : Processed → CableowlState → CableowlProcessed
-answered p c = record { state = after (p .refusal) (p .sound) c; steps = p .steps; refusal = p .refusal }
+answered p c = record { state = after (p .refusal) (p .sound) c; steps = p .steps; refusal = p .refusal; «lowest_count» = p .«lowest_count» }
 
 -- what a block's call gives: its answer, and every sample of the lent buffer
 pub record OutcomeC : Type 0 where

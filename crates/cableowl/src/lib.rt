@@ -38,6 +38,7 @@ pub struct CableowlProcessed {
     pub state: CableowlState,
     pub steps: u64,
     pub refusal: u32,
+    pub lowest_count: u32,
 }
 
 // A part of the lent sound, in samples.
@@ -59,23 +60,25 @@ fn state_after(refusal: u32, voice: StaticSound, state: CableowlState) -> Cableo
 }
 
 fn answer(processed: Processed, state: CableowlState) -> CableowlProcessed
-    requires { ⌜ (processed .refusal ≡ 0 → processed .sound .moving .resampler .«time_until_empty» ≤ 4) ⌝ }
+    requires { ⌜ (processed .refusal ≡ 0 → processed .sound .moving .resampler .«time_until_empty» ≤ 4) × (processed .«lowest_count» ≤ 4) ⌝ }
     ensures { λ r. ⌜ r ≡ answered processed state ⌝ }
 {
     let voice = processed.sound;
+    let lowest_count = processed.lowest_count as u32;
     CableowlProcessed {
         state: state_after(processed.refusal, voice, state),
         steps: processed.steps as u64,
         refusal: processed.refusal,
+        lowest_count,
     }
 }
 
 // The version of this ABI.
 #[no_mangle]
 pub extern "C" fn cableowl_version() -> u32
-    ensures { λ r. ⌜ r ≡ 1 ⌝ }
+    ensures { λ r. ⌜ r ≡ 2 ⌝ }
 {
-    1
+    2
 }
 
 #[no_mangle]

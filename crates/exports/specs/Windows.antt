@@ -5,12 +5,14 @@ use mathlib.Core.List.{[], _∷_}
 use lib.Dec.{eqb}
 use lib.ListN.{getD}
 use Rattle.frame.specs.declared.Frame.{Frame}
+use Rattle.resampler.specs.declared.Reading.{Reading}
 use Rattle.resampler.specs.declared.RecentFrame.{RecentFrame}
 use Rattle.resampler.specs.declared.Resampler.{Resampler}
 use Rattle.resampler.specs.declared.MaybeFrame.{MaybeFrame}
 use Rattle.resampler.specs.declared.MaybeFrame.the-variants.{Absent, Present}
 use Rattle.resampler.specs.Windows.{blank}
 use Rattle.exports.specs.declared.window.PlainFrame.{PlainFrame}
+use Rattle.exports.specs.declared.window.PlainReading.{PlainReading}
 use Rattle.exports.specs.declared.window.PlainEntry.{PlainEntry}
 use Rattle.exports.specs.declared.window.PlainWindow.{PlainWindow}
 
@@ -19,6 +21,9 @@ frameOf f = record { left = f .left; right = f .right }
 
 abbrev pub plainFrame : Frame → PlainFrame
 plainFrame f = record { left = f .left; right = f .right }
+
+abbrev pub plainReading : Reading → PlainReading
+plainReading r = record { frame = plainFrame (r .frame); count = r .count }
 
 abbrev pub entryOf : PlainEntry → RecentFrame
 entryOf e = record { frame = frameOf (e .frame); «frame_index» = e .«frame_index» }

@@ -3,10 +3,11 @@ ghost use mathlib.Core.Path.{_≡_};
 ghost use Rattle.frame.specs.Frames.{interpolated};
 ghost use Rattle.resampler.specs.Windows.{fresh, push, reading, heardNumber, isEmpty};
 ghost use Rattle.exports.specs.Answers.{bit};
-ghost use Rattle.exports.specs.Windows.{frameOf, entryOf, windowOf, givenFrame, plainFrame, plainEntry, plainWindow};
+ghost use Rattle.exports.specs.Windows.{frameOf, entryOf, windowOf, givenFrame, plainFrame, plainReading, plainEntry, plainWindow};
 use frame::Frame;
 use frame::interpolate_frame;
 use resampler::MaybeFrame;
+use resampler::Reading;
 use resampler::RecentFrame;
 use resampler::Resampler;
 
@@ -14,6 +15,12 @@ use resampler::Resampler;
 pub struct PlainFrame {
     pub left: f32,
     pub right: f32,
+}
+
+#[repr(C)]
+pub struct PlainReading {
+    pub frame: PlainFrame,
+    pub count: u64,
 }
 
 #[repr(C)]
@@ -43,6 +50,16 @@ fn plain_frame(f: Frame) -> PlainFrame
     PlainFrame {
         left: f.left,
         right: f.right,
+    }
+}
+
+fn plain_reading(r: Reading) -> PlainReading
+    ensures { λ s. ⌜ s ≡ plainReading r ⌝ }
+{
+    let frame = r.frame;
+    PlainReading {
+        frame: plain_frame(frame),
+        count: r.count as u64,
     }
 }
 
@@ -123,10 +140,10 @@ pub extern "C" fn cableowl_test_push_frame(
 }
 
 #[no_mangle]
-pub extern "C" fn cableowl_test_get(w: PlainWindow, fractional_position: f32) -> PlainFrame
-    ensures { λ r. ⌜ r ≡ plainFrame (reading (windowOf w) «fractional_position») ⌝ }
+pub extern "C" fn cableowl_test_get(w: PlainWindow, fractional_position: f32) -> PlainReading
+    ensures { λ r. ⌜ r ≡ plainReading (reading (windowOf w) «fractional_position») ⌝ }
 {
-    plain_frame(window_of(w).get(fractional_position))
+    plain_reading(window_of(w).get(fractional_position))
 }
 
 #[no_mangle]

@@ -1,5 +1,6 @@
 -- Laws of playing.
 pub mod Keeps
 pub mod Loops
+pub mod Lowest
 pub mod Plays
 pub mod Turns

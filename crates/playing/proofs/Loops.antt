@@ -29,7 +29,7 @@ use Rattle.voice.proofs.Formed.{span-most, kept-of, moved-formed}
 use Rattle.moving.proofs.Kept.{updates-kept}
 use Rattle.moving.proofs.Updates.{updates-loop}
 use Rattle.playing.specs.declared.Turned.{Turned}
-use Rattle.playing.specs.Plays.{Played, plays, turned, total, frameHeard, Outcome, acceptedAs}
+use Rattle.playing.specs.Plays.{Played, plays, turned, total, lower, readBy, frameHeard, Outcome, acceptedAs}
 use Rattle.playing.specs.Turns.{frameAt, turnOf, Turning}
 use Rattle.playing.proofs.Plays.{plays-next}
 
@@ -51,14 +51,15 @@ abbrev pub laneAt : Lanes → ℕ → Lane
 laneAt b i =
     record { fade = getD (b .fade) i nan; volume = getD (b .volume) i nan; left = getD (b .left) i nan; right = getD (b .right) i nan; rate = getD (b .rate) i nan }
 
--- what is played so far: the voice, the samples written and the steps made
-abbrev pub played : StaticSound → List Float → ℕ → Played
-played v samples steps = record { voice = v; samples = samples; steps = steps }
+-- what is played so far: the voice, the samples written, the steps made and the lowest count read
+abbrev pub played : StaticSound → List Float → ℕ → ℕ → Played
+played v samples steps low = record { voice = v; samples = samples; steps = steps; «lowest_count» = low }
 
 -- one frame after what is played
 abbrev onward : List Float → Float → Lane → Played → Played
 onward snd dt l p =
     played (turned snd dt (p .voice) l) (p .samples ++ (frameHeard (p .voice) l .left ∷ frameHeard (p .voice) l .right ∷ [])) (p .steps + whole (total dt (p .voice) l))
+    (lower (p .«lowest_count») (readBy (p .voice) .count))
 
 -- the frame that the code makes
 abbrev framed : Moving → Float → Lane → Frame
@@ -70,47 +71,50 @@ abbrev turning : List Float → Float → StaticSound → Moving → Float → L
 turning snd dt v m f l = turnOf snd (courseOf v) (v .setup .«sample_rate») (l .rate) dt m f
 
 -- it is the definition's
-onward-is : (snd : List Float) (dt : Float) (v : StaticSound) (m : Moving) (f : Float) (l : Lane) (samples : List Float) (steps : ℕ)
-    → onward snd dt l (played (moved v f m) samples steps)
+onward-is : (snd : List Float) (dt : Float) (v : StaticSound) (m : Moving) (f : Float) (l : Lane) (samples : List Float) (steps low : ℕ)
+    → onward snd dt l (played (moved v f m) samples steps low)
     ≡ played (moved v ((turning snd dt v m f l) .«fractional_position») ((turning snd dt v m f l) .moving)) (samples ++ ((framed m f l) .left ∷ (framed m f l) .right ∷ [])) (steps + (turning snd dt v m f l) .steps)
+    (lower low (m .resampler .«time_until_empty»))
 unfolding turned total frameHeard frameAt turnOf reading
-onward-is snd dt v m f l samples steps = refl
+onward-is snd dt v m f l samples steps low = refl
 
 module _ (snd : List Float) (dt : Float) (b : Lanes) (v : StaticSound) where
-  pub played-more : (i steps : ℕ) (out : List Float) (m : Moving) (f : Float) (x : Frame) (t : Turned) → i < length (b .rate) → 2 * i + 1 < length out
-      → plays snd dt (take i (rows b)) v ≡ played (moved v f m) (take (2 * i) out) steps
-      → x ≡ framed m f (laneAt b i) → t ≡ turning snd dt v m f (laneAt b i)
+  pub played-more : (i steps low : ℕ) (out : List Float) (m : Moving) (f : Float) (x : Frame) (k : ℕ) (t : Turned) → i < length (b .rate) → 2 * i + 1 < length out
+      → plays snd dt (take i (rows b)) v ≡ played (moved v f m) (take (2 * i) out) steps low
+      → x ≡ framed m f (laneAt b i) → k ≡ lower low (m .resampler .«time_until_empty») → t ≡ turning snd dt v m f (laneAt b i)
       → plays snd dt (take (i + 1) (rows b)) v
-      ≡ played (moved v (t .«fractional_position») (t .moving)) (take (2 * (i + 1)) (set (set out (2 * i) (x .left)) (2 * i + 1) (x .right))) (steps + t .steps)
-  played-more i steps out m f x t h k e ex et =
+      ≡ played (moved v (t .«fractional_position») (t .moving)) (take (2 * (i + 1)) (set (set out (2 * i) (x .left)) (2 * i + 1) (x .right))) (steps + t .steps) k
+  played-more i steps low out m f x k t h long e ex ek et =
       let l = laneAt b i in
+      let next = lower low (m .resampler .«time_until_empty») in
       let len : i < length (rows b) = subst (λ (n : ℕ). i < n) (sym (beside-length (b .fade) (b .volume) (b .left) (b .right) (b .rate))) h in
       let d : 2 * (i + 1) ≡ 2 * i + 2 = omega arith in
       ap (λ (n : ℕ). plays snd dt (take n (rows b)) v) (add-one i)
       ∙ plays-next snd dt (rows b) v i (laneAt b i) len
       ∙ ap₂ (λ (l : Lane) (p : Played). onward snd dt l p) (beside-at (b .fade) (b .volume) (b .left) (b .right) (b .rate) i (laneAt b i) h) e
-      ∙ onward-is snd dt v m f l (take (2 * i) out) steps
+      ∙ onward-is snd dt v m f l (take (2 * i) out) steps low
       ∙ sym
-      (ap₂ (λ (x : Frame) (t : Turned). played (moved v (t .«fractional_position») (t .moving)) (take (2 * (i + 1)) (set (set out (2 * i) (x .left)) (2 * i + 1) (x .right))) (steps + t .steps)) ex et
-      ∙ ap (λ (n : ℕ). played (moved v ((turning snd dt v m f l) .«fractional_position») ((turning snd dt v m f l) .moving)) (take n (set (set out (2 * i) ((framed m f l) .left)) (2 * i + 1) ((framed m f l) .right))) (steps + (turning snd dt v m f l) .steps)) d
-      ∙ ap (λ (z : List Float). played (moved v ((turning snd dt v m f l) .«fractional_position») ((turning snd dt v m f l) .moving)) z (steps + (turning snd dt v m f l) .steps)) (two out (2 * i) ((framed m f l) .left) ((framed m f l) .right) k))
+      (ap (played (moved v (t .«fractional_position») (t .moving)) (take (2 * (i + 1)) (set (set out (2 * i) (x .left)) (2 * i + 1) (x .right))) (steps + t .steps)) ek
+      ∙ ap₂ (λ (x : Frame) (t : Turned). played (moved v (t .«fractional_position») (t .moving)) (take (2 * (i + 1)) (set (set out (2 * i) (x .left)) (2 * i + 1) (x .right))) (steps + t .steps) next) ex et
+      ∙ ap (λ (n : ℕ). played (moved v ((turning snd dt v m f l) .«fractional_position») ((turning snd dt v m f l) .moving)) (take n (set (set out (2 * i) ((framed m f l) .left)) (2 * i + 1) ((framed m f l) .right))) (steps + (turning snd dt v m f l) .steps) next) d
+      ∙ ap (λ (z : List Float). played (moved v ((turning snd dt v m f l) .«fractional_position») ((turning snd dt v m f l) .moving)) z (steps + (turning snd dt v m f l) .steps) next) (two out (2 * i) ((framed m f l) .left) ((framed m f l) .right) long))
 
   -- with the same moving parts, put together again
-  pub played-as : (i steps : ℕ) (samples : List Float) (f : Float) (m w : Moving) → plays snd dt (take i (rows b)) v ≡ played (moved v f m) samples steps → w ≡ m
-      → plays snd dt (take i (rows b)) v ≡ played (moved v f w) samples steps
-  played-as i steps samples f m w e h = e ∙ ap (λ (x : Moving). played (moved v f x) samples steps) (sym h)
+  pub played-as : (i steps low : ℕ) (samples : List Float) (f : Float) (m w : Moving) → plays snd dt (take i (rows b)) v ≡ played (moved v f m) samples steps low → w ≡ m
+      → plays snd dt (take i (rows b)) v ≡ played (moved v f w) samples steps low
+  played-as i steps low samples f m w e h = e ∙ ap (λ (x : Moving). played (moved v f x) samples steps low) (sym h)
 
-  pub played-none : (out : List Float) → plays snd dt (take 0 (rows b)) v ≡ played v (take (2 * 0) out) 0
+  pub played-none : (out : List Float) → plays snd dt (take 0 (rows b)) v ≡ played v (take (2 * 0) out) 0 4
   unfolding plays
   played-none out = refl
 
-  pub played-all : (i steps : ℕ) (out : List Float) (u : StaticSound) → length (b .rate) ≤ i → i ≤ length (b .rate) → length out ≡ 2 * length (b .rate)
-      → plays snd dt (take i (rows b)) v ≡ played u (take (2 * i) out) steps
-      → record { answer = record { refusal = 0; sound = u; steps = steps }; samples = out } ≡ acceptedAs (plays snd dt (rows b) v)
-  played-all i steps out u h k g e =
+  pub played-all : (i steps low : ℕ) (out : List Float) (u : StaticSound) → length (b .rate) ≤ i → i ≤ length (b .rate) → length out ≡ 2 * length (b .rate)
+      → plays snd dt (take i (rows b)) v ≡ played u (take (2 * i) out) steps low
+      → record { answer = record { refusal = 0; sound = u; steps = steps; «lowest_count» = low }; samples = out } ≡ acceptedAs (plays snd dt (rows b) v)
+  played-all i steps low out u h k g e =
       let all-rows : take i (rows b) ≡ rows b = take-all i (rows b) (subst (λ (n : ℕ). n ≤ i) (sym (beside-length (b .fade) (b .volume) (b .left) (b .right) (b .rate))) h) in
       let all-out : take (2 * i) out ≡ out = take-all (2 * i) out (omega arith) in
-      ap acceptedAs (sym (ap (λ (z : List Float). played u z steps) all-out) ∙ sym e ∙ ap (λ (r : List Lane). plays snd dt r v) all-rows)
+      ap acceptedAs (sym (ap (λ (z : List Float). played u z steps low) all-out) ∙ sym e ∙ ap (λ (r : List Lane). plays snd dt r v) all-rows)
 
   -- the rate at i makes a small advance
   pub slow-at : (hz i : ℕ) → i < length (b .rate) → T (all (near hz dt) (rows b)) → T (slow hz dt (getD (b .rate) i nan))

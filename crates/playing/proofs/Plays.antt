@@ -1,8 +1,8 @@
--- Playing: one list of lanes and then another, one frame more, two samples a frame, and what a block leaves as it is.
+-- Playing: one list of lanes and then another, one frame more, two samples a frame, a count of at most 4, and what a block leaves as it is.
 -- By induction on the lanes, since a frame is one step of the definition. Assumes nothing.
-use mathlib.Core.Path.{_≡_, refl, sym, ap, _∙_}
-use Prim.Native.Nat.{ℕ, suc, _+_, _*_, _<_}
-use native.Mathlib.Nat.{add-zero, zero-add, add-assoc}
+use mathlib.Core.Path.{_≡_, refl, sym, ap, ap₂, _∙_}
+use Prim.Native.Nat.{ℕ, suc, _+_, _*_, _≤_, _<_}
+use native.Mathlib.Nat.{le-refl, add-zero, zero-add, add-assoc}
 use native.Mathlib.Omega.{arith}
 use mathlib.Core.List.{List, [], _∷_, _++_}
 use lib.ListN.{length, getD, take}
@@ -12,33 +12,50 @@ use Rattle.numbers.specs.Words.{whole}
 use Rattle.frame.specs.declared.Frame.{Frame}
 use Rattle.lanes.specs.Lanes.{Lane}
 use Rattle.voice.specs.declared.StaticSound.{StaticSound}
-use Rattle.playing.specs.Plays.{Played, then, plays, total, turned, frameHeard}
+use Rattle.playing.specs.Plays.{Played, lower, then, plays, total, turned, readBy, frameHeard}
+use Rattle.playing.proofs.Lowest.{lowest, lower-assoc, lower-four, four-lower}
 
 -- ---- one list of lanes and then another
 
 -- what is played first, and what follows it
 abbrev pub joined : Played → Played → Played
-joined p q = record { voice = q .voice; samples = p .samples ++ q .samples; steps = p .steps + q .steps }
+joined p q = record { voice = q .voice; samples = p .samples ++ q .samples; steps = p .steps + q .steps; «lowest_count» = lower (p .«lowest_count») (q .«lowest_count») }
 
-then-joined : (f : Frame) (n : ℕ) (p q : Played) → then f n (joined p q) ≡ joined (then f n p) q
-then-joined f n p q =
-    ap (λ (k : ℕ). record { voice = q .voice; samples = f .left ∷ f .right ∷ (p .samples ++ q .samples); steps = k })
-    (sym (add-assoc n (p .steps) (q .steps)))
+then-joined : (f : Frame) (n t : ℕ) (p q : Played) → then f n t (joined p q) ≡ joined (then f n t p) q
+then-joined f n t p q =
+    ap₂ (λ (k m : ℕ). record { voice = q .voice; samples = f .left ∷ f .right ∷ (p .samples ++ q .samples); steps = k; «lowest_count» = m })
+    (sym (add-assoc n (p .steps) (q .steps))) (lower-assoc t (p .«lowest_count») (q .«lowest_count»))
+
+one-more : (a t : ℕ) → a ≤ 4 → lower a (lower t 4) ≡ lower a t
+one-more a t h =
+    let l = lowest a t .first in
+    lower-assoc a t 4 ∙ four-lower (lower a t) (omega arith)
 
 pub two-more : (a n : ℕ) → a ≡ 2 * n → suc (suc a) ≡ 2 * suc n
 two-more a n e = omega arith
 
 module _ (snd : List Float) (dt : Float) where
+  -- the count is at most 4
+  pub plays-lowest : (ls : List Lane) (v : StaticSound) → (plays snd dt ls v) .«lowest_count» ≤ 4
+  unfolding plays
+  plays-lowest [] v = le-refl 4
+  plays-lowest (l ∷ ls) v =
+      let u = turned snd dt v l in
+      let h = plays-lowest ls u in
+      let k = lowest (readBy v .count) ((plays snd dt ls u) .«lowest_count») .second in
+      omega arith
+
   pub plays-append : (xs ys : List Lane) (v : StaticSound)
       → plays snd dt (xs ++ ys) v ≡ joined (plays snd dt xs v) (plays snd dt ys ((plays snd dt xs v) .voice))
   unfolding plays
   plays-append [] ys v =
-      ap (λ (k : ℕ). record { voice = (plays snd dt ys v) .voice; samples = (plays snd dt ys v) .samples; steps = k })
-      (sym (zero-add ((plays snd dt ys v) .steps)))
+      let q = plays snd dt ys v in
+      ap₂ (λ (k m : ℕ). record { voice = q .voice; samples = q .samples; steps = k; «lowest_count» = m })
+      (sym (zero-add (q .steps))) (sym (lower-four (q .«lowest_count») (plays-lowest ys v)))
   plays-append (l ∷ xs) ys v =
       let u = turned snd dt v l in
-      ap (then (frameHeard v l) (whole (total dt v l))) (plays-append xs ys u)
-      ∙ then-joined (frameHeard v l) (whole (total dt v l)) (plays snd dt xs u) (plays snd dt ys ((plays snd dt xs u) .voice))
+      ap (then (frameHeard v l) (whole (total dt v l)) (readBy v .count)) (plays-append xs ys u)
+      ∙ then-joined (frameHeard v l) (whole (total dt v l)) (readBy v .count) (plays snd dt xs u) (plays snd dt ys ((plays snd dt xs u) .voice))
 
   -- one frame more
   pub plays-next : (ls : List Lane) (v : StaticSound) (i : ℕ) (z : Lane) → i < length ls
@@ -49,6 +66,7 @@ module _ (snd : List Float) (dt : Float) where
         voice = turned snd dt (p .voice) l;
         samples = p .samples ++ (frameHeard (p .voice) l .left ∷ frameHeard (p .voice) l .right ∷ []);
         steps = p .steps + whole (total dt (p .voice) l);
+        «lowest_count» = lower (p .«lowest_count») (readBy (p .voice) .count);
       }
   unfolding plays
   plays-next ls v i z h =
@@ -56,11 +74,12 @@ module _ (snd : List Float) (dt : Float) where
       let l = getD ls i z in
       ap (λ (x : List Lane). plays snd dt x v) (take-suc ls i z h)
       ∙ plays-append (take i ls) (l ∷ []) v
-      ∙ ap (λ (n : ℕ). record {
+      ∙ ap₂ (λ (n m : ℕ). record {
         voice = turned snd dt (p .voice) l;
         samples = p .samples ++ (frameHeard (p .voice) l .left ∷ frameHeard (p .voice) l .right ∷ []);
         steps = p .steps + n;
-      }) (add-zero (whole (total dt (p .voice) l)))
+        «lowest_count» = m;
+      }) (add-zero (whole (total dt (p .voice) l))) (one-more (p .«lowest_count») (readBy (p .voice) .count) (plays-lowest (take i ls) v))
 
   -- each frame has two samples
   pub plays-length : (ls : List Lane) (v : StaticSound) → length ((plays snd dt ls v) .samples) ≡ 2 * length ls

@@ -1,9 +1,12 @@
 -- A started, advancing block, frame after frame (document 01, "Creation, commands, block").
 use Prim.Native.Nat.{ℕ, _+_}
+use mathlib.Core.Bool.{cond}
 use mathlib.Core.List.{List, [], _∷_}
+use lib.Dec.{leb}
 use lib.Ieee.{Float, binary32, binary64, add, mul}
 use Rattle.numbers.specs.Words.{narrowed, whole, part, advance}
 use Rattle.frame.specs.declared.Frame.{Frame}
+use Rattle.resampler.specs.declared.Reading.{Reading}
 use Rattle.resampler.specs.Windows.{reading}
 use Rattle.lanes.specs.Lanes.{Lane}
 use Rattle.voice.specs.declared.StaticSound.{StaticSound}
@@ -29,29 +32,39 @@ turned snd dt v l =
 abbrev pub heard : Lane → Float → Float → Float
 heard l x gain = mul binary32 (mul binary32 (mul binary32 x (l .fade)) (l .volume)) gain
 
--- the frame written: the window is read before the voice moves
+-- the window is read before the voice moves
+abbrev pub readBy : StaticSound → Reading
+readBy v = reading (v .moving .resampler) (narrowed (v .«fractional_position»))
+
+-- the frame written
 unfoldable pub frameHeard : StaticSound → Lane → Frame
 frameHeard v l =
-    let x = reading (v .moving .resampler) (narrowed (v .«fractional_position»)) in
+    let x = readBy v .frame in
     record { left = heard l (x .left) (l .left); right = heard l (x .right) (l .right) }
 
 -- ---- a block
 
--- what a block gives: the voice after it, the samples it wrote, the steps it made
+-- what a block gives: the voice after it, the samples it wrote, the steps it made, the lowest count it read
 pub record Played : Type 0 where
   pub voice : StaticSound
   pub samples : List Float
   pub steps : ℕ
+  pub «lowest_count» : ℕ
 
--- one frame, and what follows it
-abbrev pub then : Frame → ℕ → Played → Played
-then f n p = record { voice = p .voice; samples = f .left ∷ f .right ∷ p .samples; steps = n + p .steps }
+-- the lower of two counts
+unfoldable pub lower : ℕ → ℕ → ℕ
+lower a b = cond (leb a b) a b
 
--- a started, advancing block
+-- one frame, its steps and the count that was read, and what follows it
+abbrev pub then : Frame → ℕ → ℕ → Played → Played
+then f n t p =
+    record { voice = p .voice; samples = f .left ∷ f .right ∷ p .samples; steps = n + p .steps; «lowest_count» = lower t (p .«lowest_count») }
+
+-- a started, advancing block; of no frames, the count is 4
 unfoldable pub plays : List Float → Float → List Lane → StaticSound → Played
-unfolding turned frameHeard total whole
-plays snd dt [] v = record { voice = v; samples = []; steps = 0 }
-plays snd dt (l ∷ ls) v = then (frameHeard v l) (whole (total dt v l)) (plays snd dt ls (turned snd dt v l))
+unfolding turned frameHeard total whole reading
+plays snd dt [] v = record { voice = v; samples = []; steps = 0; «lowest_count» = 4 }
+plays snd dt (l ∷ ls) v = then (frameHeard v l) (whole (total dt v l)) (readBy v .count) (plays snd dt ls (turned snd dt v l))
 
 -- ---- what a call gives
 
@@ -61,7 +74,7 @@ pub record Outcome : Type 0 where
   pub samples : List Float
 
 abbrev pub acceptedWith : Played → List Float → Outcome
-acceptedWith p out = record { answer = record { refusal = 0; sound = p .voice; steps = p .steps }; samples = out }
+acceptedWith p out = record { answer = record { refusal = 0; sound = p .voice; steps = p .steps; «lowest_count» = p .«lowest_count» }; samples = out }
 
 -- an accepted block's outcome: its own samples are the output
 abbrev pub acceptedAs : Played → Outcome

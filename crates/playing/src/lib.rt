@@ -4,7 +4,7 @@ ghost use lib.Dec.{T};
 ghost use lib.ListN.{length};
 ghost use Rattle.numbers.specs.Words.{proper};
 ghost use Rattle.lanes.specs.Lanes.{five, rows};
-ghost use Rattle.playing.specs.Plays.{plays, acceptedAs};
+ghost use Rattle.playing.specs.Plays.{lower, plays, acceptedAs};
 ghost use Rattle.playing.specs.Turns.{frameAt, turnOf, Turning, Playable};
 use frame::Frame;
 use frame::interpolate_frame;
@@ -13,11 +13,12 @@ use moving::Moving;
 use moving::moving_of;
 use voice::StaticSound;
 
-// What a block answers: its refusal, 0 for none, the voice after it, and the steps made.
+// What a block answers: its refusal, 0 for none, the voice after it, the steps made, and the lowest count that it read.
 pub struct Processed {
     pub refusal: u32,
     pub sound: StaticSound,
     pub steps: usize,
+    pub lowest_count: usize,
 }
 
 // What one frame leaves: the moving parts, the fraction, and the steps made.
@@ -25,6 +26,13 @@ pub struct Turned {
     pub moving: Moving,
     pub fractional_position: f64,
     pub steps: usize,
+}
+
+// The lower of two counts.
+fn lower(a: usize, b: usize) -> usize
+    ensures { λ r. ⌜ r ≡ lower a b ⌝ }
+{
+    if a <= b { a } else { b }
 }
 
 // The reading of four frames times fade, times volume, times each channel's gain.
@@ -112,6 +120,7 @@ pub fn play(
     let mut count = window.time_until_empty;
     let mut fractional_position = voice.fractional_position;
     let mut steps: usize = 0;
+    let mut lowest_count: usize = 4;
     let mut i: usize = 0;
     while i < rate.len() {
         let frame = frame_heard(
@@ -125,6 +134,7 @@ pub fn play(
             left[i],
             right[i],
         );
+        lowest_count = lower(lowest_count, count);
         let moving = moving_of(
             loop_region,
             state,
@@ -197,5 +207,6 @@ pub fn play(
             ..voice
         },
         steps,
+        lowest_count,
     }
 }

@@ -47,7 +47,7 @@ at-hush (r ∷ l) zero k h = hushed-frame r (and-l (hushed r) (all hushed l) h)
 at-hush (r ∷ l) (suc i) k h = at-hush l i (le-of-suc-le-suc k) (and-r (hushed r) (all hushed l) h)
 
 -- reading an empty window gives silence
-pub reading-naught : (w : Resampler) (f : Float) → w .«time_until_empty» ≡ 0 → Windowed w → T (level f) → reading w f ≡ hush
+pub reading-naught : (w : Resampler) (f : Float) → w .«time_until_empty» ≡ 0 → Windowed w → T (level f) → (reading w f) .frame ≡ hush
 unfolding reading
 reading-naught w f e h l =
     let n : (i : ℕ) → i < 4 → nth w i ≡ hush = λ i k. at-hush (w .frames) i (subst (λ (m : ℕ). i < m) (sym (h .four)) k) (empty-hushed w e h) in

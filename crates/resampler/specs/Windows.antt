@@ -12,6 +12,7 @@ use Rattle.numbers.specs.Lists.{all}
 use Rattle.frame.specs.declared.Frame.{Frame}
 use Rattle.frame.specs.Frames.{hush, interpolated}
 use Rattle.resampler.specs.declared.RecentFrame.{RecentFrame}
+use Rattle.resampler.specs.declared.Reading.{Reading}
 use Rattle.resampler.specs.declared.Resampler.{Resampler}
 use Rattle.resampler.specs.declared.MaybeFrame.{MaybeFrame}
 use Rattle.resampler.specs.declared.MaybeFrame.the-variants.{Absent, Present}
@@ -46,9 +47,9 @@ push w g n =
 abbrev pub nth : Resampler → ℕ → Frame
 nth w i = (getD (w .frames) i blank) .frame
 
--- reading the window at a fraction
-unfoldable pub reading : Resampler → Float → Frame
-reading w f = interpolated (nth w 0) (nth w 1) (nth w 2) (nth w 3) f
+-- reading the window at a fraction: the frame, and the window's count
+unfoldable pub reading : Resampler → Float → Reading
+reading w f = record { frame = interpolated (nth w 0) (nth w 1) (nth w 2) (nth w 3) f; count = w .«time_until_empty» }
 
 -- the frame number heard is entry 1's
 abbrev pub heardNumber : Resampler → ℕ

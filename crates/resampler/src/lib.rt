@@ -10,6 +10,12 @@ pub struct RecentFrame {
     pub frame_index: usize,
 }
 
+// What a reading gives: the frame, and the count of the window that was read.
+pub struct Reading {
+    pub frame: Frame,
+    pub count: usize,
+}
+
 pub struct Resampler {
     pub frames: [RecentFrame; 4],
     pub time_until_empty: usize,
@@ -63,14 +69,17 @@ impl Resampler {
         }
     }
 
-    pub fn get(self, fractional_position: f32) -> Frame
+    pub fn get(self, fractional_position: f32) -> Reading
         ensures { λ r. ⌜ r ≡ reading self «fractional_position» ⌝ }
     {
         let a = self.frames[0];
         let b = self.frames[1];
         let c = self.frames[2];
         let d = self.frames[3];
-        interpolate_frame(a.frame, b.frame, c.frame, d.frame, fractional_position)
+        Reading {
+            frame: interpolate_frame(a.frame, b.frame, c.frame, d.frame, fractional_position),
+            count: self.time_until_empty,
+        }
     }
 
     pub fn current_frame_index(self) -> usize

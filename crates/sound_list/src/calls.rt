@@ -187,7 +187,10 @@ fn is_output(out: &[f32; 32], count: usize) -> bool {
 
 fn is_processed(made: Processed) -> bool {
     let voice = made.sound;
-    input::is(made.refusal as u64) & input::is(made.steps as u64) & states::are(voice)
+    input::is(made.refusal as u64)
+        & input::is(made.steps as u64)
+        & input::is(made.lowest_count as u64)
+        & states::are(voice)
 }
 
 // ---- the calls

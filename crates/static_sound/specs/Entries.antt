@@ -26,8 +26,9 @@ refusedBlock len v dt b placed =
     (unless (all laned (rows b)) 11
     (unless (all (near (v .setup .«sample_rate») dt) (rows b)) 12 0))))
 
+-- the given state and samples, 0 steps, and 4 for the count
 abbrev pub refusedWith : ℕ → StaticSound → List Float → Outcome
-refusedWith k v out = record { answer = record { refusal = k; sound = v; steps = 0 }; samples = out }
+refusedWith k v out = record { answer = record { refusal = k; sound = v; steps = 0; «lowest_count» = 4 }; samples = out }
 
 -- the output's length is that of the block
 abbrev pub holds : Lanes → List Float → Bool

@@ -95,6 +95,7 @@ pub fn process(
             refusal,
             sound: voice,
             steps: 0,
+            lowest_count: 4,
         };
     }
     block(
@@ -144,6 +145,7 @@ pub fn process_into(
             refusal,
             sound: voice,
             steps: 0,
+            lowest_count: 4,
         };
     }
     let a = 2 * from;

@@ -38,12 +38,17 @@ parts p f r c s h d =
     record {
       accepted = d .accepted;
       same = λ a.
-          let e = d .same (subst (λ (v : StaticSound). T (awake v)) (after-means (f .refusal) (f .sound) c (d .accepted .0)) a) in
+          let e = d .same (below a) in
           (after-is (p .refusal) (p .sound) c h ∙ ap encoded (e .0) ∙ sym (after-is (r .refusal) (r .sound) s (d .accepted .1)), e .1);
+      lowest = λ a. d .lowest (below a);
       alike =
           ap bare (after-means (p .refusal) (p .sound) c h) ∙ d .alike
           ∙ sym (ap bare (after-means (r .refusal) (r .sound) s (d .accepted .1)));
     }
+  where
+    -- what the first part's record means
+    below : T (awake (decoded (after (f .refusal) (f .sound) c))) → T (awake (f .sound))
+    below a = subst (λ (v : StaticSound). T (awake v)) (after-means (f .refusal) (f .sound) c (d .accepted .0)) a
 
 pub archive-cut-blocks : CutBlocksC
 unfolding processedC

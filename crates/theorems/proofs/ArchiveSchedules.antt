@@ -11,7 +11,7 @@ use Rattle.numbers.specs.Lists.{all}
 use Rattle.lanes.specs.Lanes.{Lanes, firstLanes, restLanes}
 use Rattle.voice.specs.declared.StaticSound.{StaticSound}
 use Rattle.block.specs.Blocks.{quiet}
-use Rattle.playing.specs.Plays.{Outcome}
+use Rattle.playing.specs.Plays.{lower, Outcome}
 use Rattle.static_sound.specs.Entries.{processed, processedInto}
 use Rattle.records.specs.declared.CableowlState.{CableowlState}
 use Rattle.inputs.specs.declared.CableowlSignals.{CableowlSignals}
@@ -34,6 +34,7 @@ record AsBelow (m : RunC) (r : Run) : Type 0 where
   state : m .state ≡ encoded (r .sound)
   samples : m .samples ≡ r .samples
   steps : m .steps ≡ r .steps
+  lowest : m .«lowest_count» ≡ r .«lowest_count»
   cuts : T (all awakeC (m .cuts)) → T (all awake (r .cuts))
 
 -- one block alone
@@ -44,6 +45,7 @@ alone-below o c h =
       state = after-is (o .answer .refusal) (o .answer .sound) c (eqb→eq (o .answer .refusal) 0 h);
       samples = refl;
       steps = refl;
+      lowest = refl;
       cuts = λ a. tt;
     }
 
@@ -76,6 +78,7 @@ module _ (snd : List Float) (dt : Float) where
         state = w .state;
         samples = ap (λ (z : List Float). o .samples ++ z) (w .samples);
         steps = ap (λ (n : ℕ). o .answer .steps + n) (w .steps);
+        lowest = ap (lower (o .answer .«lowest_count»)) (w .lowest);
         cuts = cut-below o c (m .cuts) (r .cuts) e (w .cuts);
       }
 
@@ -98,6 +101,7 @@ module _ (snd : List Float) (dt : Float) where
         state = w .state;
         samples = w .samples;
         steps = ap (λ (n : ℕ). o .answer .steps + n) (w .steps);
+        lowest = ap (lower (o .answer .«lowest_count»)) (w .lowest);
         cuts = cut-below o c (m .cuts) (r .cuts) e (w .cuts);
       }
 
@@ -138,6 +142,7 @@ agree m n r s x y a =
       same = λ c d.
           let z = a .same (x .cuts c) (y .cuts d) in
           (x .state ∙ ap encoded (z .0) ∙ sym (y .state), x .steps ∙ z .1 ∙ sym (y .steps));
+      lowest = λ c d. x .lowest ∙ a .lowest (x .cuts c) (y .cuts d) ∙ sym (y .lowest);
       alike = ap bare (means m r x) ∙ a .alike ∙ sym (ap bare (means n s y));
     }
   where

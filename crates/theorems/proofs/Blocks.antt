@@ -1,8 +1,9 @@
 -- A block of the definition, of any length, cut in two. Playing goes on where it stopped, so the parts make the whole while the voice is as it was;
 -- once it has ended, the rest of the uncut block is idle and the second part is silent. Assumes nothing.
-use mathlib.Core.Path.{_≡_, refl, ap, ap₂, _∙_, subst}
+use mathlib.Core.Path.{_≡_, refl, sym, ap, ap₂, _∙_, subst}
 use mathlib.Core.Logic.{inl, inr}
 use Prim.Native.Nat.{_+_}
+use native.Mathlib.Nat.{le-refl}
 use mathlib.Core.Bool.{Bool, true, false, not, _&&_}
 use mathlib.Core.List.{List, _++_}
 use lib.Dec.{T, eqb}
@@ -17,7 +18,8 @@ use Rattle.lanes.specs.Lanes.{Lane, laned, near}
 use Rattle.voice.specs.declared.StaticSound.{StaticSound}
 use Rattle.voice.specs.WellFormed.{Formed}
 use Rattle.block.specs.declared.Signals.{Signals}
-use Rattle.playing.specs.Plays.{Played, plays}
+use Rattle.playing.specs.Plays.{Played, lower, plays}
+use Rattle.playing.proofs.Lowest.{four-lower}
 use Rattle.block.specs.Blocks.{silent, begun, live, block, quiet}
 use Rattle.playing.proofs.Plays.{plays-append, plays-started, plays-setup}
 use Rattle.block.proofs.Blocks.{zeros-append, block-live, block-silent, begun-quiet}
@@ -30,6 +32,7 @@ use Rattle.theorems.proofs.Ends.{plays-ends, plays-idle}
 pub record CutPlayed (uncut first rest : Played) : Type 0 where
   pub samples : uncut .samples ≡ first .samples ++ rest .samples
   pub same : T (awake (first .voice)) → (uncut .voice ≡ rest .voice) × (uncut .steps ≡ first .steps + rest .steps)
+  pub lowest : T (awake (first .voice)) → uncut .«lowest_count» ≡ lower (first .«lowest_count») (rest .«lowest_count»)
   pub alike : bare (uncut .voice) ≡ bare (rest .voice)
 
 -- a voice that is Stopped is not awake
@@ -49,7 +52,7 @@ module _ (snd : List Float) (dt : Float) (xs ys : List Lane) where
   rest-silent v e = block-silent snd dt ys quiet v (ap live (begun-quiet v) ∙ e) ∙ ap (silent ys) (begun-quiet v)
 
   cut-silent : (v : StaticSound) → live v ≡ false → CutPlayed (silent (xs ++ ys) v) (silent xs v) (block snd dt ys quiet v)
-  cut-silent v e = rw (rest-silent v e) (record { samples = zeros-append xs ys; same = λ n. (refl, refl); alike = refl })
+  cut-silent v e = rw (rest-silent v e) (record { samples = zeros-append xs ys; same = λ n. (refl, refl); lowest = λ n. sym (four-lower 4 (le-refl 4)); alike = refl })
 
   module _ (t : T (lt naught dt)) where
     cut-live : (v : StaticSound) → Formed v → live v ≡ true → T (all laned (xs ++ ys)) → T (all (near (v .setup .«sample_rate») dt) (xs ++ ys))
@@ -62,7 +65,7 @@ module _ (snd : List Float) (dt : Float) (xs ys : List Lane) where
         go : EndsOnly (v .moving .state) (u .moving) → CutPlayed (plays snd dt (xs ++ ys) v) (plays snd dt xs v) (block snd dt ys quiet u)
         go (inl f) =
             rw (plays-append snd dt xs ys v, rest-live u (ap₂ (λ (x : Bool) (y : PlaybackState). x && advancing y) (plays-started snd dt xs v) f ∙ e))
-            (record { samples = refl; same = λ n. (refl, refl); alike = refl })
+            (record { samples = refl; same = λ n. (refl, refl); lowest = λ n. refl; alike = refl })
         go (inr s) =
             let n = near (v .setup .«sample_rate») dt in
             let i =
@@ -71,7 +74,7 @@ module _ (snd : List Float) (dt : Float) (xs ys : List Lane) where
             (plays-formed snd dt t xs v (all-front n xs ys k) w) s
             in
             rw (plays-append snd dt xs ys v, rest-silent u (ap (λ (y : PlaybackState). u .started && advancing y) (s .stopped) ∙ and-false (u .started)))
-            (record { samples = ap (λ (z : List Float). (plays snd dt xs v) .samples ++ z) (i .samples); same = λ n. absurd (not-awake u (s .stopped) n); alike = i .alike })
+            (record { samples = ap (λ (z : List Float). (plays snd dt xs v) .samples ++ z) (i .samples); same = λ n. absurd (not-awake u (s .stopped) n); lowest = λ n. absurd (not-awake u (s .stopped) n); alike = i .alike })
 
     pub block-cut : (g : Signals) (v : StaticSound) → Formed v → T (all laned (xs ++ ys)) → T (all (near (v .setup .«sample_rate») dt) (xs ++ ys))
         → CutPlayed (block snd dt (xs ++ ys) g v) (block snd dt xs g v) (block snd dt ys quiet ((block snd dt xs g v) .voice))

@@ -96,7 +96,7 @@ rest-holds k b out h =
 pub cut-blocks : CutBlocks
 cut-blocks snd v dt b g out k h q =
     rw (processed-done snd v dt b g out passed, processed-done snd v dt (firstLanes k b) g (take (2 * k) out) first-ok, processed-done snd u dt (restLanes k b) quiet (drop (2 * k) out) rest-ok)
-    (record { answers = record { accepted = (refl, refl); same = d .same; alike = d .alike }; samples = d .samples })
+    (record { answers = record { accepted = (refl, refl); same = d .same; lowest = d .lowest; alike = d .alike }; samples = d .samples })
   where
     passed : refusedBlock (length snd) v dt b (holds b out) ≡ 0
     passed = processed-passed snd v dt b g out h

@@ -42,7 +42,7 @@ use Rattle.theorems.specs.LawfulEnd.{Ended, EndsOnly}
 
 -- ---- updates
 
-stepped-still : (c : Course) (t : Transport) → t .playing ≡ false → stepped c t ≡ t
+pub stepped-still : (c : Course) (t : Transport) → t .playing ≡ false → stepped c t ≡ t
 unfolding stepped
 stepped-still c t e = go (c .backwards)
   where

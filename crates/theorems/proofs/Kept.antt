@@ -39,7 +39,7 @@ blocks-keep snd v dt b g out = (
   λ e.
       let k = processed-passed snd v dt b g out e in
       rw (processed-done snd v dt b g out k) (block-ours snd v dt b g (holds b out) (accepted-parts (length snd) v dt b (holds b out) k)),
-  λ h. rw (processed-refused snd v dt b g out h) (refl, refl, refl),
+  λ h. rw (processed-refused snd v dt b g out h) (refl, refl, refl, refl),
 )
 
 pub mixes-keep : MixesKeep
@@ -48,5 +48,5 @@ mixes-keep snd v dt b g mix from = (
       let k = into-passed snd v dt b g mix from e in
       let r = room from (length (b .rate)) mix in
       rw (into-done snd v dt b g mix from k) (block-ours snd v dt b g r (accepted-parts (length snd) v dt b r k)),
-  λ h. rw (into-refused snd v dt b g mix from h) (refl, refl, refl),
+  λ h. rw (into-refused snd v dt b g mix from h) (refl, refl, refl, refl),
 )

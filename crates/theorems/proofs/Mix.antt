@@ -84,7 +84,7 @@ room-of from n mix h =
 pub cut-mixes : CutMixes
 cut-mixes snd v dt b g mix from k h q =
     rw (into-done snd v dt b g mix from passed, into-done snd v dt first g mix from first-ok, into-done snd u dt rest quiet after (from + k) rest-ok)
-    (record { answers = record { accepted = (refl, refl); same = d .same; alike = d .alike }; samples = same })
+    (record { answers = record { accepted = (refl, refl); same = d .same; lowest = d .lowest; alike = d .alike }; samples = same })
   where
     first : Lanes
     first = firstLanes k b

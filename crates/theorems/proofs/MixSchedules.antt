@@ -15,7 +15,7 @@ use Rattle.lanes.specs.Lanes.{Lanes, firstLanes, restLanes}
 use Rattle.voice.specs.declared.StaticSound.{StaticSound}
 use Rattle.block.specs.declared.Signals.{Signals}
 use Rattle.block.specs.Blocks.{quiet}
-use Rattle.playing.specs.Plays.{Outcome}
+use Rattle.playing.specs.Plays.{lower, Outcome}
 use Rattle.static_sound.specs.Entries.{holds, room, mixed, processed, processedInto}
 use Rattle.static_sound.proofs.Refusals.{accepted-parts, accepted-of}
 use Rattle.static_sound.proofs.Entries.{processed-passed, into-done}
@@ -33,6 +33,7 @@ record AsPlain (from n : ℕ) (mix : List Float) (m r : Run) : Type 0 where
   sound : m .sound ≡ r .sound
   samples : m .samples ≡ mixed from n mix (r .samples)
   steps : m .steps ≡ r .steps
+  lowest : m .«lowest_count» ≡ r .«lowest_count»
   cuts : m .cuts ≡ r .cuts
 
 -- k samples a channel of an output that is long enough
@@ -63,6 +64,7 @@ module _ (snd : List Float) (dt : Float) where
         sound = ap (λ (o : Outcome). o .answer .sound) i;
         samples = ap (λ (o : Outcome). o .samples) i ∙ ap (λ (n : ℕ). mixed from n mix ((processed snd v dt f g xs) .samples)) c;
         steps = ap (λ (o : Outcome). o .answer .steps) i;
+        lowest = ap (λ (o : Outcome). o .answer .«lowest_count») i;
         cuts = refl;
       }
   as-plain k (j ∷ ks) b g v mix from out e l h =
@@ -92,6 +94,7 @@ module _ (snd : List Float) (dt : Float) where
             ∙ ap (λ (z : List Float). mixed (from + k) (length (drop k (b .rate))) z (r .samples)) (ap (λ (o : Outcome). o .samples) i)
             ∙ cut q (held snd v dt f g mix from a .inside) (plain-length snd v dt f g mix from a xs t) (r .samples);
         steps = ap₂ (λ (x y : ℕ). x + y) (ap (λ (o : Outcome). o .answer .steps) i) (w' .steps);
+        lowest = ap₂ lower (ap (λ (o : Outcome). o .answer .«lowest_count») i) (w' .lowest);
         cuts = ap₂ (λ (x : StaticSound) (y : List StaticSound). x ∷ y) s (w' .cuts);
       }
     where
@@ -124,6 +127,10 @@ any-sizes-mix snd dt b g v k ks j js mix from e f h i =
       same = λ c d.
           let z = a .same (subst (λ (us : List StaticSound). T (all awake us)) (x .cuts) c) (subst (λ (us : List StaticSound). T (all awake us)) (y .cuts) d) in
           (x .sound ∙ z .0 ∙ sym (y .sound), x .steps ∙ z .1 ∙ sym (y .steps));
+      lowest = λ c d.
+          x .lowest
+          ∙ a .lowest (subst (λ (us : List StaticSound). T (all awake us)) (x .cuts) c) (subst (λ (us : List StaticSound). T (all awake us)) (y .cuts) d)
+          ∙ sym (y .lowest);
       alike = ap bare (x .sound) ∙ a .alike ∙ sym (ap bare (y .sound));
     }
 

@@ -18,6 +18,7 @@ use Rattle.theorems.proofs.Streams.{all-accepted}
 use Rattle.theorems.proofs.Kept.{creation-keeps, blank-is-not, commands-keep, blocks-keep, mixes-keep}
 use Rattle.theorems.proofs.LawfulEnd.{update-ends, block-ends}
 use Rattle.theorems.proofs.Steps.{steps-made}
+use Rattle.theorems.proofs.Reports.{creation-feeds, commands-feed, blocks-feed, mixes-feed, blocks-tell, mixes-tell, silence-tells}
 use Rattle.theorems.proofs.AnyOrder.{any-order, there-and-back, permutations}
 use Rattle.theorems.proofs.InTheLoop.{in-the-loop}
 use Rattle.theorems.proofs.Budget.{block-budget, mix-budget, stream-budget, two-steps}
@@ -83,6 +84,13 @@ promises =
       mix-budget = mix-budget;
       stream-budget = stream-budget;
       two-steps = two-steps;
+      creation-feeds = creation-feeds;
+      commands-feed = commands-feed;
+      blocks-feed = blocks-feed;
+      mixes-feed = mixes-feed;
+      blocks-tell = blocks-tell;
+      mixes-tell = mixes-tell;
+      silence-tells = silence-tells;
       seek-starts-nothing = seek-starts-nothing;
       stopped-stays = record { pause = pausing-stopped; resume = resuming-stopped; stop = stopping-stopped; signals = settled-stopped };
       any-order = any-order;

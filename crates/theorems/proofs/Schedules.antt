@@ -17,7 +17,7 @@ use Rattle.voice.specs.declared.Setup.{Setup}
 use Rattle.voice.specs.declared.StaticSound.{StaticSound}
 use Rattle.voice.proofs.Formed.{ours-parts}
 use Rattle.block.specs.declared.Signals.{Signals}
-use Rattle.playing.specs.Plays.{Played, Outcome, acceptedWith}
+use Rattle.playing.specs.Plays.{Played, lower, Outcome, acceptedWith}
 use Rattle.block.specs.Blocks.{block, quiet}
 use Rattle.static_sound.specs.Entries.{holds, processed}
 use Rattle.block.proofs.Blocks.{block-setup}
@@ -34,6 +34,7 @@ pub record Whole (dt : Float) (ls : List Lane) (v : StaticSound) (p : Played) (r
   pub near : T (all (near (v .setup .«sample_rate») dt) ls)
   pub samples : r .samples ≡ p .samples
   pub same : T (all awake (r .cuts)) → (r .sound ≡ p .voice) × (r .steps ≡ p .steps)
+  pub lowest : T (all awake (r .cuts)) → r .«lowest_count» ≡ p .«lowest_count»
   pub alike : bare (r .sound) ≡ bare (p .voice)
 
 -- a block that takes all that is left
@@ -49,7 +50,7 @@ module _ (snd : List Float) (dt : Float) where
   -- a block alone
   once : (b : Lanes) (g : Signals) (v : StaticSound) (out : List Float) → Accepted (length snd) v dt b (holds b out)
       → Whole dt (rows b) v (block snd dt (rows b) g v) (alone (done b g v))
-  once b g v out p = record { laned = p .laned; near = p .near; samples = refl; same = λ a. (refl, refl); alike = refl }
+  once b g v out p = record { laned = p .laned; near = p .near; samples = refl; same = λ a. (refl, refl); lowest = λ a. refl; alike = refl }
 
   -- a block, and the row after it
   next : (b : Lanes) (ys : List Lane) (g : Signals) (v : StaticSound) (out : List Float) (r : Run) → Accepted (length snd) v dt b (holds b out)
@@ -64,6 +65,8 @@ module _ (snd : List Float) (dt : Float) where
             let e = w .same (and-r (awake u) (all awake (r .cuts)) a) in
             let f = d .same (and-l (awake u) (all awake (r .cuts)) a) in
             (e .0 ∙ sym (f .0), ap (λ (n : ℕ). q .steps + n) (e .1) ∙ sym (f .1));
+        lowest = λ a.
+            ap (lower (q .«lowest_count»)) (w .lowest (and-r (awake u) (all awake (r .cuts)) a)) ∙ sym (d .lowest (and-l (awake u) (all awake (r .cuts)) a));
         alike = w .alike ∙ sym (d .alike);
       }
     where
@@ -122,5 +125,6 @@ any-sizes snd dt b g v k ks out j js mix e f h i =
     record {
       samples = x .samples ∙ sym (y .samples);
       same = λ a c. (x .same a .0 ∙ sym (y .same c .0), x .same a .1 ∙ sym (y .same c .1));
+      lowest = λ a c. x .lowest a ∙ sym (y .lowest c);
       alike = x .alike ∙ sym (y .alike);
     }

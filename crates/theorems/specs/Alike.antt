@@ -11,6 +11,7 @@ use Rattle.resampler.specs.declared.Resampler.{Resampler}
 use Rattle.playback_state_manager.specs.States.{number}
 use Rattle.voice.specs.declared.StaticSound.{StaticSound}
 use Rattle.playing.specs.declared.Processed.{Processed}
+use Rattle.playing.specs.Plays.{lower}
 
 -- the entry without its number
 abbrev pub unnumbered : RecentFrame → RecentFrame
@@ -40,5 +41,7 @@ pub record Parts (uncut first rest : Processed) : Type 0 where
   pub accepted : (first .refusal ≡ 0) × (rest .refusal ≡ 0)
   -- unless the voice has stopped by the cut, the state after and the steps are the same
   pub same : T (awake (first .sound)) → (uncut .sound ≡ rest .sound) × (uncut .steps ≡ first .steps + rest .steps)
+  -- and the whole reports the lower of the two counts
+  pub lowest : T (awake (first .sound)) → uncut .«lowest_count» ≡ lower (first .«lowest_count») (rest .«lowest_count»)
   -- in every case the states after agree in all but the fraction and the window's frame numbers
   pub alike : bare (uncut .sound) ≡ bare (rest .sound)

@@ -7,6 +7,7 @@ use lib.Dec.{T}
 use lib.ListN.{length, take, drop}
 use lib.Ieee.{Float}
 use Rattle.lanes.specs.Lanes.{Lanes, firstLanes, restLanes}
+use Rattle.playing.specs.Plays.{lower}
 use Rattle.records.specs.declared.CableowlState.{CableowlState}
 use Rattle.inputs.specs.declared.CableowlSignals.{CableowlSignals}
 use Rattle.cableowl.specs.declared.CableowlProcessed.{CableowlProcessed}
@@ -22,6 +23,7 @@ none = record { finished = 0; start = 0; resume = 0 }
 pub record PartsC (uncut first rest : CableowlProcessed) : Type 0 where
   pub accepted : (first .refusal ≡ 0) × (rest .refusal ≡ 0)
   pub same : T (awake (decoded (first .state))) → (uncut .state ≡ rest .state) × (uncut .steps ≡ first .steps + rest .steps)
+  pub lowest : T (awake (decoded (first .state))) → uncut .«lowest_count» ≡ lower (first .«lowest_count») (rest .«lowest_count»)
   pub alike : bare (decoded (uncut .state)) ≡ bare (decoded (rest .state))
 
 pub record CutInTwoC (uncut first rest : OutcomeC) : Type 0 where

@@ -37,7 +37,7 @@ Good snd c = T (lawful c) × T (ours (length snd) (decoded c))
 -- of a block's outcome, given the record and the samples before
 abbrev pub BlockKeepsC : List Float → CableowlState → List Float → OutcomeC → Type 0
 BlockKeepsC snd c out o =
-    Either (o .answer .refusal) (Good snd (o .answer .state)) ((o .answer .state ≡ c) × (o .answer .steps ≡ 0) × (o .samples ≡ out))
+    Either (o .answer .refusal) (Good snd (o .answer .state)) ((o .answer .state ≡ c) × (o .answer .steps ≡ 0) × (o .answer .«lowest_count» ≡ 4) × (o .samples ≡ out))
 
 pub record ArchiveKeeps : Type 0 where
   pub creation : (snd : List Float) (s : CableowlSettings)

@@ -8,6 +8,7 @@ use lib.ListN.{length, take, drop}
 use lib.Ieee.{Float}
 use Rattle.numbers.specs.Lists.{all}
 use Rattle.lanes.specs.Lanes.{Lanes, firstLanes, restLanes}
+use Rattle.playing.specs.Plays.{lower}
 use Rattle.static_sound.specs.Entries.{room}
 use Rattle.records.specs.declared.CableowlState.{CableowlState}
 use Rattle.inputs.specs.declared.CableowlSignals.{CableowlSignals}
@@ -18,16 +19,25 @@ use Rattle.theorems.specs.Alike.{bare, awake}
 use Rattle.theorems.specs.Schedules.{Stream, short}
 use Rattle.theorems.specs.Archive.{none}
 
--- what a row of blocks gives: whether each was accepted, the record after, all samples, all steps, and the record at each cut between two blocks
+-- what a row of blocks gives: whether each was accepted, the record after, all samples, all steps, the lowest count, and the record at each cut between two blocks
 pub record RunC : Type 0 where
   pub accepted : Bool
   pub state : CableowlState
   pub samples : List Float
   pub steps : ℕ
+  pub «lowest_count» : ℕ
   pub cuts : List CableowlState
 
 abbrev pub aloneC : OutcomeC → RunC
-aloneC o = record { accepted = eqb (o .answer .refusal) 0; state = o .answer .state; samples = o .samples; steps = o .answer .steps; cuts = [] }
+aloneC o =
+    record {
+      accepted = eqb (o .answer .refusal) 0;
+      state = o .answer .state;
+      samples = o .samples;
+      steps = o .answer .steps;
+      «lowest_count» = o .answer .«lowest_count»;
+      cuts = [];
+    }
 
 -- one block and the row that follows it, with the samples that they leave
 abbrev pub thenC : OutcomeC → RunC → List Float → RunC
@@ -37,6 +47,7 @@ thenC o r samples =
       state = r .state;
       samples = samples;
       steps = o .answer .steps + r .steps;
+      «lowest_count» = lower (o .answer .«lowest_count») (r .«lowest_count»);
       cuts = o .answer .state ∷ r .cuts;
     }
 
@@ -63,6 +74,7 @@ awakeC c = awake (decoded c)
 pub record AgreeC (r s : RunC) : Type 0 where
   pub samples : r .samples ≡ s .samples
   pub same : T (all awakeC (r .cuts)) → T (all awakeC (s .cuts)) → (r .state ≡ s .state) × (r .steps ≡ s .steps)
+  pub lowest : T (all awakeC (r .cuts)) → T (all awakeC (s .cuts)) → r .«lowest_count» ≡ s .«lowest_count»
   pub alike : bare (decoded (r .state)) ≡ bare (decoded (s .state))
 
 abbrev pub AnySizesC : Type 0

@@ -104,7 +104,7 @@ table =
     ∷ (place (cutOff (targetTo (created ten (from 0 false) .sound) (halves 5))), place 2)
     ∷ (numbers (created ten (from 0 false)), window 0 (0 ∷ 0 ∷ 1 ∷ 2 ∷ []) 3)
     ∷ (numbers (created ten (from 2 true)), window 0 (7 ∷ 7 ∷ 6 ∷ 5 ∷ []) 4)
-    ∷ (heard (reading rising (halves 1)), heard (both (halves 3)))
+    ∷ (heard ((reading rising (halves 1)) .frame), heard (both (halves 3)))
     ∷ []
 
 abbrev pub ExamplesHold : Type 0

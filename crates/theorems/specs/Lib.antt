@@ -7,6 +7,7 @@ pub mod Mix
 pub mod Kept
 pub mod LawfulEnd
 pub mod Steps
+pub mod Reports
 pub mod AnyOrder
 pub mod InTheLoop
 pub mod Budget

@@ -6,6 +6,7 @@ use Rattle.theorems.specs.Schedules.{AnySizes, AnySizesMix, AllAccepted,
 use Rattle.theorems.specs.Kept.{CreationKeeps, BlankIsNot, CommandsKeep, BlocksKeep, MixesKeep}
 use Rattle.theorems.specs.LawfulEnd.{UpdateEnds, BlockEnds, MixEnds}
 use Rattle.theorems.specs.Steps.{StepsMade, MixStepsMade}
+use Rattle.theorems.specs.Reports.{CreationFeeds, CommandsFeed, BlocksFeed, MixesFeed, BlocksTell, MixesTell, SilenceTells}
 use Rattle.theorems.specs.Stays.{SeekStartsNothing, StoppedStays}
 use Rattle.theorems.specs.AnyOrder.{AnyOrder, ThereAndBack, Permutations}
 use Rattle.theorems.specs.InTheLoop.{InTheLoop}
@@ -57,6 +58,14 @@ pub record Promises : Type 0 where
   pub mix-budget : MixBudget
   pub stream-budget : StreamBudget
   pub two-steps : TwoSteps
+  -- what the lowest count tells a monitor of a voice that creation and its calls have fed
+  pub creation-feeds : CreationFeeds
+  pub commands-feed : CommandsFeed
+  pub blocks-feed : BlocksFeed
+  pub mixes-feed : MixesFeed
+  pub blocks-tell : BlocksTell
+  pub mixes-tell : MixesTell
+  pub silence-tells : SilenceTells
   -- what is over stays over
   pub seek-starts-nothing : SeekStartsNothing
   pub stopped-stays : StoppedStays

@@ -1,6 +1,6 @@
 -- Block sizes do not matter. A stream of lanes between two commands, of any length, is cut into blocks: the first is given the signals, the others none.
 -- Any two ways to cut it whose blocks are all accepted write the same samples; they end in states that agree in all but the fraction and the window's frame numbers;
--- and unless the voice has stopped by one of their cuts, they end in the same state, with the same number of steps.
+-- and unless the voice has stopped by one of their cuts, they end in the same state, with the same number of steps and the same lowest count.
 -- The same holds of blocks into a mix. And every way to cut a lawful stream is such a one, as long as no block has more than 4,096 frames.
 use Prim.Native.Nat.{ℕ, _+_, _*_}
 use mathlib.Core.Path.{_≡_}
@@ -15,22 +15,31 @@ use Rattle.voice.specs.declared.StaticSound.{StaticSound}
 use Rattle.voice.specs.WellFormed.{ours}
 use Rattle.block.specs.declared.Signals.{Signals}
 use Rattle.block.specs.Blocks.{quiet}
-use Rattle.playing.specs.Plays.{Outcome}
+use Rattle.playing.specs.Plays.{lower, Outcome}
 use Rattle.static_sound.specs.Entries.{room, processed, processedInto}
 use Rattle.theorems.specs.Sums.{sum}
 use Rattle.theorems.specs.Alike.{bare, awake}
 
--- what a row of blocks gives: whether each was accepted, the state after, all samples, all steps, and the state at each cut between two blocks
+-- what a row of blocks gives: whether each was accepted, the state after, all samples, all steps, the lowest count, and the state at each cut between two blocks
 pub record Run : Type 0 where
   pub accepted : Bool
   pub sound : StaticSound
   pub samples : List Float
   pub steps : ℕ
+  pub «lowest_count» : ℕ
   pub cuts : List StaticSound
 
 -- one block alone
 abbrev pub alone : Outcome → Run
-alone o = record { accepted = eqb (o .answer .refusal) 0; sound = o .answer .sound; samples = o .samples; steps = o .answer .steps; cuts = [] }
+alone o =
+    record {
+      accepted = eqb (o .answer .refusal) 0;
+      sound = o .answer .sound;
+      samples = o .samples;
+      steps = o .answer .steps;
+      «lowest_count» = o .answer .«lowest_count»;
+      cuts = [];
+    }
 
 -- one block, and the row that follows it
 abbrev pub followed : Outcome → Run → Run
@@ -40,6 +49,7 @@ followed o r =
       sound = r .sound;
       samples = o .samples ++ r .samples;
       steps = o .answer .steps + r .steps;
+      «lowest_count» = lower (o .answer .«lowest_count») (r .«lowest_count»);
       cuts = o .answer .sound ∷ r .cuts;
     }
 
@@ -53,6 +63,7 @@ playedBy snd dt k (j ∷ ks) b g v out =
 pub record Agree (r s : Run) : Type 0 where
   pub samples : r .samples ≡ s .samples
   pub same : T (all awake (r .cuts)) → T (all awake (s .cuts)) → (r .sound ≡ s .sound) × (r .steps ≡ s .steps)
+  pub lowest : T (all awake (r .cuts)) → T (all awake (s .cuts)) → r .«lowest_count» ≡ s .«lowest_count»
   pub alike : bare (r .sound) ≡ bare (s .sound)
 
 abbrev pub AnySizes : Type 0
@@ -73,6 +84,7 @@ onto o r =
       sound = r .sound;
       samples = r .samples;
       steps = o .answer .steps + r .steps;
+      «lowest_count» = lower (o .answer .«lowest_count») (r .«lowest_count»);
       cuts = o .answer .sound ∷ r .cuts;
     }
 

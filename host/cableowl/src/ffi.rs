@@ -116,6 +116,7 @@ pub struct Processed {
     pub state: State,
     pub steps: u64,
     pub refusal: u32,
+    pub lowest_count: u32,
 }
 
 /// A part of the lent samples.

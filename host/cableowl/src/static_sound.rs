@@ -11,6 +11,17 @@ use crate::{
 pub struct Processed {
     /// How many frames of the sound it stepped over.
     pub steps: u64,
+    /// The lowest count of the window of four that was read, 0 to 4; 4 for a block of 0 frames and for
+    /// a silent one (not started, or paused).
+    ///
+    /// A monitor that must tell a sound's own end from a gap goes by it. 4: at every read of this block
+    /// the newest entry was a frame of the sound: no tail had begun. t below 4: at one of its reads 4 - t
+    /// pushes had been made without a frame (0: at least four), since the sound had ended: what is
+    /// silent is its tail.
+    ///
+    /// For a block cut in two it is the smaller of the two, unless the voice had stopped by the cut:
+    /// over a sound of one frame, three frames report 0, but two and then one report 1 and 4.
+    pub lowest_count: u32,
 }
 
 /// A voice: one sound being played.
@@ -271,6 +282,7 @@ impl StaticSound {
         self.state = answer.state;
         Ok(Processed {
             steps: answer.steps,
+            lowest_count: answer.lowest_count,
         })
     }
 }

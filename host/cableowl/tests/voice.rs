@@ -25,8 +25,8 @@ fn play(voice: &mut StaticSound, sound: &[f32], frames: usize) -> Vec<f32> {
 }
 
 #[test]
-fn the_archive_is_version_1() {
-    assert_eq!(cableowl::version(), 1);
+fn the_archive_is_version_2() {
+    assert_eq!(cableowl::version(), 2);
 }
 
 #[test]
@@ -46,6 +46,41 @@ fn three_frames() {
     let mut voice = StaticSound::new(Settings::new(1), &sound).unwrap();
     assert_eq!(play(&mut voice, &sound, 6), heard.concat());
     assert_eq!(voice.playback_state().number(), 6);
+}
+
+/// The lowest counts of blocks of these sizes, one after the other.
+fn lowest_counts(mut voice: StaticSound, sound: &[f32], sizes: &[usize]) -> Vec<u32> {
+    let mut lanes = Lanes::new();
+    let mut lowest = |&frames: &usize| {
+        let (lanes, mut out) = (lanes.frames(frames), vec![9.0; 2 * frames]);
+        let block = voice.process(sound, lanes, 1.0, Signals::default(), &mut out);
+        block.unwrap().lowest_count
+    };
+    sizes.iter().map(&mut lowest).collect()
+}
+
+#[test]
+fn a_block_reports_the_lowest_count_it_read() {
+    let one = [0.5; 2];
+    let voice = StaticSound::new(Settings::new(1), &one).unwrap();
+    assert_eq!(voice.state().time_until_empty, 2);
+    assert_eq!(lowest_counts(voice.clone(), &one, &[1, 1, 1]), [2, 1, 4]);
+    // Stopped by the cut: the smaller of the two is not the uncut answer.
+    assert_eq!(lowest_counts(voice.clone(), &one, &[3]), [0]);
+    assert_eq!(lowest_counts(voice.clone(), &one, &[2, 1]), [1, 4]);
+    assert_eq!(lowest_counts(voice, &one, &[0, 3]), [4, 0]);
+
+    let sound = [1.0, 1.0, 2.0, 2.0, 3.0, 3.0];
+    let voice = StaticSound::new(Settings::new(1), &sound).unwrap();
+    let counts = lowest_counts(voice, &sound, &[1, 1, 1, 1, 1, 1]);
+    assert_eq!(counts, [4, 3, 2, 1, 4, 4]);
+    let looped = StaticSound::new(Settings::new(1).loop_region(0..3), &sound).unwrap();
+    assert_eq!(lowest_counts(looped, &sound, &[100]), [4]);
+
+    // A silent block reads no window.
+    let waiting = StaticSound::new(Settings::new(1).start_waits(true), &one).unwrap();
+    assert_eq!(waiting.state().time_until_empty, 2);
+    assert_eq!(lowest_counts(waiting, &one, &[2]), [4]);
 }
 
 #[test]

@@ -118,6 +118,8 @@ pub struct Outcome {
     pub state: Option<State>,
     /// The steps reported.
     pub steps: u64,
+    /// The lowest count reported.
+    pub lowest_count: u32,
     /// The position reported.
     pub position: f64,
     /// The part of the samples a stretch answers: offset and length.
@@ -178,13 +180,14 @@ impl Call {
 }
 
 impl Outcome {
-    /// Nothing has happened: the given state (for a creation the blank one), no steps, the lent samples.
+    /// Nothing has happened: the given state (for a creation the blank one), no steps, a lowest count of 4, the lent samples.
     #[must_use]
     pub fn untouched(call: &Call) -> Self {
         Self {
             refusal: 0,
             state: Some(call.state().copied().unwrap_or_else(blank)),
             steps: 0,
+            lowest_count: 4,
             position: 0.0,
             part: (0, 0),
             samples: call.lent(),
@@ -214,6 +217,12 @@ impl Outcome {
         }
         if self.steps != other.steps {
             return Some(format!("{} steps against {}", self.steps, other.steps));
+        }
+        if self.lowest_count != other.lowest_count {
+            return Some(format!(
+                "lowest count {} against {}",
+                self.lowest_count, other.lowest_count
+            ));
         }
         if !same_f64(self.position, other.position) {
             return Some(format!(

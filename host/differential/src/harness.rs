@@ -160,8 +160,9 @@ fn some_cut_differs(player: &dyn Player, call: &Call) -> Option<String> {
         .find_map(|k| cut_differs(player, call, &[k, n - k]))
 }
 
-/// In what a block cut into parts differs from the whole one: samples, steps and the state after. Once
-/// the voice has stopped by a cut, steps, fraction and window numbers may differ.
+/// In what a block cut into parts differs from the whole one: samples, steps, the lowest count and the
+/// state after. Once the voice has stopped by a cut, steps, lowest count, fraction and window numbers
+/// may differ.
 fn cut_differs(player: &dyn Player, call: &Call, parts: &[usize]) -> Option<String> {
     let Ask::Block(state, block) = &call.ask else {
         return None;
@@ -174,7 +175,7 @@ fn cut_differs(player: &dyn Player, call: &Call, parts: &[usize]) -> Option<Stri
         samples: Vec::new(),
         ..whole.clone()
     };
-    (cut.state, cut.steps) = (Some(*state), 0);
+    (cut.state, cut.steps, cut.lowest_count) = (Some(*state), 0, 4);
     let mut signals = block.signals;
     let (mut from, mut stopped) = (0, false);
     for (index, &length) in parts.iter().enumerate() {
@@ -193,6 +194,7 @@ fn cut_differs(player: &dyn Player, call: &Call, parts: &[usize]) -> Option<Stri
         }
         cut.state = answer.state;
         cut.steps += answer.steps;
+        cut.lowest_count = cut.lowest_count.min(answer.lowest_count);
         cut.samples.extend(answer.samples);
         // The first part alone is given the signals.
         signals = Signals::default();
@@ -223,7 +225,7 @@ fn part_of(block: &Block, from: usize, length: usize, signals: Signals) -> Block
     }
 }
 
-/// An outcome without its steps, its fraction and its window's numbers.
+/// An outcome without its steps, its lowest count, its fraction and its window's numbers.
 fn bare(outcome: Outcome) -> Outcome {
     let state = outcome.state.map(|state| State {
         fraction: 0.0,
@@ -233,6 +235,7 @@ fn bare(outcome: Outcome) -> Outcome {
     Outcome {
         state,
         steps: 0,
+        lowest_count: 4,
         ..outcome
     }
 }

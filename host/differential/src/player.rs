@@ -44,6 +44,7 @@ impl Player for Ours {
                 outcome.refusal = answer.refusal;
                 outcome.state = convert::state_out(&answer.state);
                 outcome.steps = answer.steps;
+                outcome.lowest_count = answer.lowest_count;
             }
             Ask::Stretch(state) => {
                 let part = raw::stretch(convert::state_in(state), sound);
@@ -122,7 +123,8 @@ impl<R: Rules + Sync> Player for Model<R> {
                 let mut voice = voice(state);
                 let written = block.place.written(block.lanes.rate.len());
                 let out = &mut outcome.samples[written];
-                outcome.steps = voice.block(&block.lanes.lend(), block.dt, block.signals, out);
+                let reported = voice.block(&block.lanes.lend(), block.dt, block.signals, out);
+                (outcome.steps, outcome.lowest_count) = (reported.steps, reported.lowest_count);
                 outcome.state = Some(voice.state);
             }
             Ask::Stretch(state) => {
@@ -180,7 +182,8 @@ impl Player for Kira {
                 let mut voice = found(state);
                 let written = block.place.written(block.lanes.rate.len());
                 let out = &mut outcome.samples[written];
-                outcome.steps = voice.block(&block.lanes.lend(), block.dt, block.signals, out);
+                let reported = voice.block(&block.lanes.lend(), block.dt, block.signals, out);
+                (outcome.steps, outcome.lowest_count) = (reported.steps, reported.lowest_count);
                 voice
             }
             Ask::Stretch(_) => return None,

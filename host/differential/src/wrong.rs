@@ -251,7 +251,7 @@ impl Rules for FinishedResumes {
     }
 }
 
-const BY_HAND: [Slip; 11] = [
+const BY_HAND: [Slip; 12] = [
     Slip {
         name: "the fraction is cleared between blocks",
         answer: |call| {
@@ -272,6 +272,19 @@ const BY_HAND: [Slip; 11] = [
                 && outcome.steps > 0
             {
                 outcome.steps = block.lanes.rate.len() as u64;
+            }
+            outcome
+        },
+    },
+    Slip {
+        name: "a silent block reports the window's count",
+        answer: |call| {
+            let mut outcome = judged(call);
+            if let Ask::Block(state, block) = &call.ask
+                && outcome.refusal == 0
+                && !block.lanes.rate.is_empty()
+            {
+                outcome.lowest_count = outcome.lowest_count.min(state.count as u32);
             }
             outcome
         },

@@ -36,6 +36,7 @@ pub struct Answer {
     pub refusal: u32,
     state: CableowlState,
     steps: u64,
+    lowest_count: u32,
     position: f64,
     part: (usize, usize),
     samples: Vec<f32>,
@@ -79,6 +80,7 @@ impl Case {
             refusal: 0,
             state: CableowlState::default(),
             steps: 0,
+            lowest_count: 4,
             position: 0.0,
             part: (0, 0),
             samples: self.pattern(),
@@ -97,13 +99,13 @@ impl Case {
             Kind::Process(state, signals, dt) => {
                 let raw = raw::process(state, sound, &lanes, dt, signals, &mut answer.samples);
                 (answer.state, answer.refusal) = (raw.state, raw.refusal);
-                answer.steps = raw.steps;
+                (answer.steps, answer.lowest_count) = (raw.steps, raw.lowest_count);
             }
             Kind::Into(state, signals, dt, from) => {
                 let mix = &mut answer.samples;
                 let raw = raw::process_into(state, sound, &lanes, dt, signals, mix, from);
                 (answer.state, answer.refusal) = (raw.state, raw.refusal);
-                answer.steps = raw.steps;
+                (answer.steps, answer.lowest_count) = (raw.steps, raw.lowest_count);
             }
             Kind::Stretch(state) => {
                 let part = raw::stretch(state, sound);
@@ -128,6 +130,7 @@ impl Case {
             refusal: answer.refusal,
             state: convert::state_out(&answer.state),
             steps: answer.steps,
+            lowest_count: answer.lowest_count,
             position: answer.position,
             part: answer.part,
             samples: answer.samples.clone(),
@@ -151,7 +154,9 @@ impl Case {
             Some("a refused call changes the state".into())
         } else if bits(&answer.samples) != bits(&self.pattern()) {
             Some("a refused call writes".into())
-        } else if (answer.steps, answer.position.to_bits(), answer.part) != (0, 0, (0, 0)) {
+        } else if (answer.steps, answer.position.to_bits(), answer.part) != (0, 0, (0, 0))
+            || answer.lowest_count != 4
+        {
             Some("a refused call reports".into())
         } else {
             None

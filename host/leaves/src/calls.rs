@@ -52,6 +52,13 @@ pub struct PlainFrame {
 
 #[repr(C)]
 #[derive(Debug, Clone, Copy)]
+pub struct PlainReading {
+    pub frame: PlainFrame,
+    pub count: u64,
+}
+
+#[repr(C)]
+#[derive(Debug, Clone, Copy)]
 pub struct PlainEntry {
     pub frame: PlainFrame,
     pub frame_index: u64,
@@ -120,7 +127,7 @@ unsafe extern "C" {
         frame: PlainFrame,
         frame_index: u64,
     ) -> PlainWindow;
-    pub safe fn cableowl_test_get(w: PlainWindow, fractional_position: f32) -> PlainFrame;
+    pub safe fn cableowl_test_get(w: PlainWindow, fractional_position: f32) -> PlainReading;
     pub safe fn cableowl_test_current_frame_index(w: PlainWindow) -> u64;
     pub safe fn cableowl_test_empty(w: PlainWindow) -> u32;
     pub safe fn cableowl_test_interpolate_frame(

@@ -21,10 +21,11 @@ pub fn push_frame(given: &Window, frame: Option<Frame>, number: usize) -> Window
     ))
 }
 
-/// `Resampler::get`.
+/// `Resampler::get`: the frame, and the window's count.
 #[must_use]
-pub fn get(given: &Window, fraction: f32) -> Frame {
-    frame_of(calls::cableowl_test_get(plain_window(given), fraction))
+pub fn get(given: &Window, fraction: f32) -> (Frame, usize) {
+    let reading = calls::cableowl_test_get(plain_window(given), fraction);
+    (frame_of(reading.frame), reading.count as usize)
 }
 
 /// `Resampler::current_frame_index`.

@@ -84,9 +84,8 @@ fn readings_agree_with_kira() {
             window::get(&given, fraction),
             original::get(&given, fraction),
         );
-        gets.count(same(ours, theirs), || {
-            format!("{given:?} at {fraction:?}: {ours:?}")
-        });
+        let alike = same(ours.0, theirs.0) && ours.1 == theirs.1;
+        gets.count(alike, || format!("{given:?} at {fraction:?}: {ours:?}"));
         let four = [(); 4].map(|()| any_frame(&mut random));
         let ours = window::interpolate_frame(four, fraction);
         let theirs = original::interpolate_frame(four, fraction);

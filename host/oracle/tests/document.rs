@@ -72,13 +72,14 @@ fn windows_and_readings_agree() {
         assert_eq!(leaves::empty(&next), next.count == 0);
         window = next;
         let fraction = random.unit() as f32;
-        let heard = leaves::get(&window, fraction);
+        let (heard, count) = leaves::get(&window, fraction);
         let [left, right] = [
             window.entries.map(|e| e.left),
             window.entries.map(|e| e.right),
         ]
         .map(|samples| Document.reading(samples, fraction));
         assert!(same_f32(heard.left, left) && same_f32(heard.right, right));
+        assert_eq!(count, window.count);
         let four = window.entries.map(|e| Frame::new(e.left, e.right));
         let alone = leaves::interpolate_frame(four, fraction);
         assert!(same_f32(alone.left, left) && same_f32(alone.right, right));

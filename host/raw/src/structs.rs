@@ -189,6 +189,8 @@ pub struct CableowlProcessed {
     pub steps: u64,
     /// The refusal's number, 0 for none.
     pub refusal: u32,
+    /// The lowest count that was read, 4 for none.
+    pub lowest_count: u32,
 }
 
 /// A part of the lent samples.

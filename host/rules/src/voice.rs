@@ -1,7 +1,8 @@
 // A voice by the rules: a state and the sound it plays. It is given accepted input only.
 
 use oracle::{
-    Commands, Entry, Frame, Lanes, PlaybackState, Settings, Signals, State, leaves::Transport,
+    Commands, Entry, Frame, Lanes, PlaybackState, Reported, Settings, Signals, State,
+    leaves::Transport,
 };
 
 use crate::Rules;
@@ -87,28 +88,33 @@ impl<'a, R: Rules> Voice<'a, R> {
         reported
     }
 
-    /// Plays a block into interleaved samples and returns the steps.
-    pub fn block(&mut self, lanes: &Lanes, dt: f64, told: Signals, out: &mut [f32]) -> u64 {
+    /// Plays a block into interleaved samples and returns what it reports: a block that reads no
+    /// window has a lowest count of 4.
+    pub fn block(&mut self, lanes: &Lanes, dt: f64, told: Signals, out: &mut [f32]) -> Reported {
+        let mut reported = Reported {
+            steps: 0,
+            lowest_count: 4,
+        };
         let settled = self.rules.states(self.state.playback, told);
         (self.state.started, self.state.playback) =
             self.rules.start(self.state.started, settled, told.start);
         if !self.state.started || !self.rules.is_advancing(self.state.playback) {
             out.fill(0.0);
-            return 0;
+            return reported;
         }
-        let mut steps = 0;
         for (i, frame) in out.chunks_mut(2).enumerate() {
             let f = self.rules.narrowed(self.state.fraction);
             let window = self.state.window;
+            reported.lowest_count = reported.lowest_count.min(self.state.count as u32);
             let gained = |value: f32, gain: f32| value * lanes.fade[i] * lanes.volume[i] * gain;
             frame[0] = gained(self.rules.reading(window.map(|e| e.left), f), lanes.left[i]);
             frame[1] = gained(
                 self.rules.reading(window.map(|e| e.right), f),
                 lanes.right[i],
             );
-            steps += self.turn(lanes.rate[i], dt);
+            reported.steps += self.turn(lanes.rate[i], dt);
         }
-        steps
+        reported
     }
 
     fn turn(&mut self, lane: f64, dt: f64) -> u64 {

@@ -19,7 +19,7 @@ use Rattle.moving.specs.Updates.{movingOf}
 use Rattle.voice.specs.WellFormed.{Formed}
 use Rattle.voice.proofs.Formed.{able-of}
 use Rattle.playing.specs.declared.Turned.{Turned}
-use Rattle.playing.specs.Plays.{plays}
+use Rattle.playing.specs.Plays.{lower, plays}
 use Rattle.playing.specs.Turns.{frameAt, turnOf, Turning}
 use Rattle.playing.proofs.Loops.{laneAt, played, played-none, played-more, played-as, played-all, slow-at, turned-few, turned-on, turned-loop}
 use Rattle.moving.proofs.Updates.{apart, together}
@@ -28,23 +28,24 @@ use Rattle.playing.proofs.play.Tie as tie
 use Rattle.playing.proofs.play.Reads as reads
 use Rattle.playing.proofs.play.Lts as lts
 use Rattle.playing.proofs.frame_heard.Reads as frame-heard-reads
+use Rattle.playing.proofs.lower.Reads as lower-reads
 use Rattle.playing.proofs.turn.Reads as turn-reads
 use Rattle.voice.proofs.StaticSound.course.Reads as course-reads
 use Rattle.moving.proofs.moving_of.Reads as moving-of-reads
 
-record Sofar (snd : List Float) (dt : Float) (b : Lanes) (v : StaticSound) (i : ℕ) (out₀ out : List Float) (m : Moving) (f : Float) (steps : ℕ) : Type 0 where
+record Sofar (snd : List Float) (dt : Float) (b : Lanes) (v : StaticSound) (i : ℕ) (out₀ out : List Float) (m : Moving) (f : Float) (steps low : ℕ) : Type 0 where
   within : i ≤ length (b .rate)
   few : steps ≤ 257 * i
   as-long : length out ≡ length out₀
   formed : Formed (moved v f m)
-  so-far : plays snd dt (take i (rows b)) v ≡ played (moved v f m) (take (2 * i) out) steps
+  so-far : plays snd dt (take i (rows b)) v ≡ played (moved v f m) (take (2 * i) out) steps low
 
 abbrev Inv-loop : tie.InvT-loop
-Inv-loop voice sound fade volume left right rate dt out₀ course sample-rate loop-region state₀ position₀ playing₀ a₀ b₀ c₀ d₀ na₀ nb₀ nc₀ nd₀ count₀ fractional-position₀ steps₀ i₀ out state position playing a b c d na nb nc nd count fractional-position steps i =
-    Sofar sound dt (five fade volume left right rate) voice i out₀ out (movingOf loop-region state position playing a b c d na nb nc nd count) fractional-position steps
+Inv-loop voice sound fade volume left right rate dt out₀ course sample-rate loop-region state₀ position₀ playing₀ a₀ b₀ c₀ d₀ na₀ nb₀ nc₀ nd₀ count₀ fractional-position₀ steps₀ lowest-count₀ i₀ out state position playing a b c d na nb nc nd count fractional-position steps lowest-count i =
+    Sofar sound dt (five fade volume left right rate) voice i out₀ out (movingOf loop-region state position playing a b c d na nb nc nd count) fractional-position steps lowest-count
 
 abbrev μ-loop : tie.MeasureT-loop
-μ-loop voice sound fade volume left right rate dt out₀ course sample-rate loop-region state₀ position₀ playing₀ a₀ b₀ c₀ d₀ na₀ nb₀ nc₀ nd₀ count₀ fractional-position₀ steps₀ i₀ out state position playing a b c d na nb nc nd count fractional-position steps i =
+μ-loop voice sound fade volume left right rate dt out₀ course sample-rate loop-region state₀ position₀ playing₀ a₀ b₀ c₀ d₀ na₀ nb₀ nc₀ nd₀ count₀ fractional-position₀ steps₀ lowest-count₀ i₀ out state position playing a b c d na nb nc nd count fractional-position steps lowest-count i =
     length rate - i
 
 -- ---- the places
@@ -63,7 +64,7 @@ moving c =
 
 -- the turn of the loop that a frame and its steps belong to
 abbrev after-turn : tie.After-turn Inv-loop μ-loop → tie.In-loop Inv-loop μ-loop
-after-turn c = c .before .before .before .before .before .before .before .before
+after-turn c = c .before .before .before .before .before .before .before .before .before
 
 -- what a turn knows of its numbers
 record Numbers (n i m fade volume left right steps : ℕ) : Type 0 where
@@ -112,9 +113,14 @@ turning c =
 frame-is : (c : tie.After-turn Inv-loop μ-loop)
     → let at = after-turn c .before in
     let l = laneAt (lent at) (at .loop .i) in
-    c .before .before .before .frame-heard .result
+    c .before .before .before .before .frame-heard .result
     ≡ frameAt (at .loop .a) (at .loop .b) (at .loop .c) (at .loop .d) (at .loop .fractional-position) (l .fade) (l .volume) (l .left) (l .right)
-frame-is c = c .before .before .before .frame-heard .ensures
+frame-is c = c .before .before .before .before .frame-heard .ensures
+
+-- and so is the lowest count
+lower-is : (c : tie.After-turn Inv-loop μ-loop)
+    → let at = after-turn c .before in c .before .before .before .lower .result ≡ lower (at .loop .lowest-count) (at .loop .count)
+lower-is c = c .before .before .before .lower .ensures
 
 turn-is : (c : tie.After-turn Inv-loop μ-loop)
     → let at = after-turn c .before in
@@ -174,7 +180,7 @@ loop-holds c =
       as-long = refl;
       formed = subst (λ (m : Moving). Formed (moved (a .voice) (a .voice .«fractional_position») m)) (sym (begins st)) (st .pre .formed);
       so-far =
-          played-as (now (a .sound)) (a .dt) b (a .voice) 0 0 (take (2 * 0) (now (a .out))) (a .voice .«fractional_position») (a .voice .moving) _
+          played-as (now (a .sound)) (a .dt) b (a .voice) 0 0 4 (take (2 * 0) (now (a .out))) (a .voice .«fractional_position») (a .voice .moving) _
           (played-none (now (a .sound)) (a .dt) b (a .voice) (now (a .out))) (begins st);
     }
 
@@ -205,18 +211,21 @@ shared-slice-read-frame-heard-4 c = omega (arith, numbers (c .before .before .be
 frame-heard-requires : tie.Need-frame-heard-requires Inv-loop μ-loop
 frame-heard-requires c κs = c .before .before .before .before .before .loop .inv .formed .fraction
 
+lower-requires : tie.Need-lower-requires Inv-loop μ-loop
+lower-requires c κs = search needs
+
 moving-of-requires : tie.Need-moving-of-requires Inv-loop μ-loop
 moving-of-requires c κs = search needs
 
 mul-turn : tie.Need-mul-turn Inv-loop μ-loop
-mul-turn c = omega (arith, numbers (c .before .before .before .before .before .before))
+mul-turn c = omega (arith, numbers (c .before .before .before .before .before .before .before))
 
 shared-slice-read-turn : tie.Need-shared-slice-read-turn Inv-loop μ-loop
-shared-slice-read-turn c = omega (arith, numbers (c .before .before .before .before .before .before .before))
+shared-slice-read-turn c = omega (arith, numbers (c .before .before .before .before .before .before .before .before))
 
 turn-requires : tie.Need-turn-requires Inv-loop μ-loop
 turn-requires c κs =
-    let l = c .before .before .before .before .before .before .before in
+    let l = c .before .before .before .before .before .before .before .before in
     rw (l .before .before .before .before .before .before .before .before .before .before .before .before .before .before .course .ensures, c .before .moving-of .ensures) (turning l)
 
 mul-out : tie.Need-mul-out Inv-loop μ-loop
@@ -277,9 +286,9 @@ loop-again c =
       as-long = simp length-set (at .loop .inv .as-long);
       formed = subst (λ (m : Moving). Formed (moved v f m)) (sym (again a)) (on a);
       so-far =
-          played-as (now (st .args .sound)) (st .args .dt) (lent at) v (at .loop .i + 1) _ _ f (a .turn .result .moving) _
-          (played-more (now (st .args .sound)) (st .args .dt) (lent at) v (at .loop .i) (at .loop .steps) (at .loop .out) (moving at) (at .loop .fractional-position)
-          (a .before .before .before .frame-heard .result) (a .turn .result) (t .loop-test .taken) (omega (arith, n)) (at .loop .inv .so-far) (frame-is a) (turn-is a))
+          played-as (now (st .args .sound)) (st .args .dt) (lent at) v (at .loop .i + 1) _ _ _ f (a .turn .result .moving) _
+          (played-more (now (st .args .sound)) (st .args .dt) (lent at) v (at .loop .i) (at .loop .steps) (at .loop .lowest-count) (at .loop .out) (moving at) (at .loop .fractional-position)
+          (a .before .before .before .before .frame-heard .result) (a .before .before .before .lower .result) (a .turn .result) (t .loop-test .taken) (omega (arith, n)) (at .loop .inv .so-far) (frame-is a) (lower-is a) (turn-is a))
           (again a);
     }
 
@@ -294,8 +303,8 @@ returns c =
     let m = c .before in
     let l = m .before in
     let at = l .before in
-    played-all _ _ (lent at) _ (at .loop .i) (at .loop .steps) (at .loop .out) _ (l .loop-test .left) (at .loop .inv .within) (at .loop .inv .as-long ∙ start at .pre .long)
-    (played-as _ _ (lent at) _ (at .loop .i) _ _ _ _ _ (at .loop .inv .so-far) (m .moving-of2 .ensures))
+    played-all _ _ (lent at) _ (at .loop .i) (at .loop .steps) (at .loop .lowest-count) (at .loop .out) _ (l .loop-test .left) (at .loop .inv .within) (at .loop .inv .as-long ∙ start at .pre .long)
+    (played-as _ _ (lent at) _ (at .loop .i) _ _ _ _ _ _ (at .loop .inv .so-far) (m .moving-of2 .ensures))
 
 pub play-spec : {M : Type 1} → statement M
 play-spec =
@@ -318,6 +327,7 @@ play-spec =
     mul-frame-heard-4
     shared-slice-read-frame-heard-4
     frame-heard-requires
+    lower-requires
     moving-of-requires
     mul-turn
     shared-slice-read-turn

@@ -18,7 +18,7 @@ int main(void) {
     const float ones[6] = {1, 1, 1, 1, 1, 1};
     const double rate[6] = {1, 1, 1, 1, 1, 1};
 
-    expect(cableowl_version() == 1, "version");
+    expect(cableowl_version() == CABLEOWL_VERSION && CABLEOWL_VERSION == 2, "version");
 
     CableowlSettings settings;
     memset(&settings, 0, sizeof settings);
@@ -42,6 +42,7 @@ int main(void) {
                                                          rate, 6, 1.0, signals, out, 12);
     const float heard[12] = {1, 1, 2, 2, 3, 3, 0, 0, 0, 0, 0, 0};
     expect(processed.refusal == 0 && processed.steps == 6, "process: steps");
+    expect(processed.lowest_count == 0, "process: lowest count");
     expect(processed.state.state == 6, "process: stopped");
     expect(memcmp(out, heard, sizeof out) == 0, "process: frames");
 
@@ -50,6 +51,10 @@ int main(void) {
                                                           rate, 2, 1.0, signals, mix, 8, 1);
     const float mixture[8] = {9, 9, 1, 1, 2, 2, 9, 9};
     expect(mixed.refusal == 0 && mixed.steps == 2, "process_into: steps");
+    expect(mixed.lowest_count == 3, "process_into: lowest count");
+    const CableowlProcessed refused = cableowl_process(commanded.state, sound, 6, ones, 6, ones, 6, ones, 6, ones, 6,
+                                                       rate, 6, 0.0, signals, out, 12);
+    expect(refused.refusal == 10 && refused.lowest_count == 4, "process: refused");
     expect(memcmp(mix, mixture, sizeof mix) == 0, "process_into: frames");
 
     const CableowlPart all = cableowl_stretch(created.state, sound, 6);

@@ -1,6 +1,8 @@
 // A scenario as it is written: each record beside what the oracle answers, or document 01's refusal.
 
-use oracle::{Commands, Entry, LaneBuffers, Oracle, PlaybackState, Settings, Signals, State};
+use oracle::{
+    Commands, Entry, LaneBuffers, Oracle, PlaybackState, Reported, Settings, Signals, State,
+};
 
 use super::words::Words;
 
@@ -111,35 +113,35 @@ impl<'a> Scene<'a> {
     }
 
     pub fn block(&mut self, block: &Block) {
-        let (steps, out) = self.play(block);
+        let (reported, out) = self.play(block);
         self.write_block(BLOCK, block);
         self.list.index(out.len());
-        self.write_outcome(0, steps, &out);
+        self.write_outcome(0, reported, &out);
     }
 
     /// A block that is refused, into an output of so many samples.
     pub fn block_refused(&mut self, block: &Block, samples: usize, refusal: u64) {
         self.write_block(BLOCK, block);
         self.list.index(samples);
-        self.write_outcome(refusal, 0, &untouched(samples));
+        self.write_outcome(refusal, NOTHING, &untouched(samples));
     }
 
     /// A block into a mix of so many samples, from a frame on.
     pub fn mix(&mut self, block: &Block, samples: usize, from: usize) {
-        let (steps, out) = self.play(block);
+        let (reported, out) = self.play(block);
         let mut mix = untouched(samples);
         mix[2 * from..][..out.len()].copy_from_slice(&out);
         self.write_block(MIX, block);
         self.list.index(samples);
         self.list.index(from);
-        self.write_outcome(0, steps, &mix);
+        self.write_outcome(0, reported, &mix);
     }
 
     pub fn mix_refused(&mut self, block: &Block, samples: usize, from: usize, refusal: u64) {
         self.write_block(MIX, block);
         self.list.index(samples);
         self.list.index(from);
-        self.write_outcome(refusal, 0, &untouched(samples));
+        self.write_outcome(refusal, NOTHING, &untouched(samples));
     }
 
     /// The sound's own stretch; empty where the state is not well formed or does not fit the sound.
@@ -159,12 +161,12 @@ impl<'a> Scene<'a> {
         self.voice.as_mut().expect("a well formed state")
     }
 
-    fn play(&mut self, block: &Block) -> (u64, Vec<f32>) {
+    fn play(&mut self, block: &Block) -> (Reported, Vec<f32>) {
         let mut out = untouched(2 * block.lanes.rate.len());
         let voice = self.voice();
-        let steps = voice.block(&block.lanes.lend(), block.dt, block.signals, &mut out);
+        let reported = voice.block(&block.lanes.lend(), block.dt, block.signals, &mut out);
         self.state = voice.state();
-        (steps, out)
+        (reported, out)
     }
 
     fn write_creation(&mut self, settings: &Settings, refusal: u64) {
@@ -189,13 +191,20 @@ impl<'a> Scene<'a> {
         self.list.signals(block.signals);
     }
 
-    fn write_outcome(&mut self, refusal: u64, steps: u64, out: &[f32]) {
+    fn write_outcome(&mut self, refusal: u64, reported: Reported, out: &[f32]) {
         self.list.number(refusal);
-        self.list.number(steps);
+        self.list.number(reported.steps);
+        self.list.number(reported.lowest_count.into());
         self.list.state(&self.state);
         self.list.samples(out);
     }
 }
+
+/// What a refused block reports.
+const NOTHING: Reported = Reported {
+    steps: 0,
+    lowest_count: 4,
+};
 
 /// What an output holds before a call: -1, -2 and so on.
 fn untouched(samples: usize) -> Vec<f32> {

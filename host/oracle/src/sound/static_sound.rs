@@ -26,7 +26,7 @@ use crate::{
 pub use data::StaticSoundData;
 use data::{frame_at_index, num_frames};
 pub use sound::{current_frame_index, empty, get, new_window, push_frame};
-pub use voice::Oracle;
+pub use voice::{Oracle, Reported};
 
 /// kira's settings of a static sound.
 #[derive(Debug, Clone, Copy, PartialEq)]

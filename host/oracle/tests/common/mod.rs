@@ -22,9 +22,9 @@ pub fn frames(start: usize, end: usize) -> Region {
 pub fn play(voice: &mut Oracle, n: usize, rate: f64, dt: f64) -> (Vec<f32>, u64) {
     let lanes = LaneBuffers::constant(n, 1.0, 1.0, (1.0, 1.0), rate);
     let mut out = vec![f32::NAN; 2 * n];
-    let steps = voice.block(&lanes.lend(), dt, Signals::default(), &mut out);
+    let reported = voice.block(&lanes.lend(), dt, Signals::default(), &mut out);
     let left = out.chunks(2).map(|frame| frame[0]).collect();
-    (left, steps)
+    (left, reported.steps)
 }
 
 /// The window's frame numbers.

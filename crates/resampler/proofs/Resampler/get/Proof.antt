@@ -1,4 +1,4 @@
--- `Resampler::get` meets its contract: the four entries' frames go to `interpolate_frame` in order.
+-- `Resampler::get` meets its contract: the four entries' frames go to `interpolate_frame` in order, and the count goes beside.
 use borrow.Author.Needs.{needs}
 use Rattle.resampler.specs.Windows.{reading}
 use Rattle.resampler.proofs.Resampler.get.Statement.{statement}
@@ -21,7 +21,7 @@ interpolate-frame-requires c κs = search needs
 
 returns : tie.Need-returns
 unfolding reading
-returns c = c .interpolate-frame .ensures
+returns c = rw (c .interpolate-frame .ensures)
 
 pub get-spec : {M : Type 1} → statement M
 get-spec =

@@ -83,6 +83,11 @@ impl StaticSound {
         self.playback_rate.take_asked()
     }
 
+    /// The lowest count of the window's reads since the last call, 4 for none.
+    pub(super) fn take_lowest_count(&self) -> u32 {
+        self.resampler.take_lowest() as u32
+    }
+
     /// Puts the lanes in the parameters' places, or takes them out again.
     pub(super) fn swap_lanes(&mut self, lanes: &mut crate::LaneBuffers) {
         use std::mem::swap;

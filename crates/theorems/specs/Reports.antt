@@ -1,0 +1,107 @@
+-- What a block's lowest count tells a monitor. 4: at every read of the block the newest entry was a frame of the sound, so no tail had begun.
+-- t below 4: at one of its reads 4 - t pushes had been made without a frame (0: at least 4 of them), and the transport had ended.
+-- So it is of every voice that creation made and that calls with its own sound led to: each of them leaves a voice that was fed so.
+-- Not "four real entries": after creation the oldest entry is the zero that creation put there.
+use Prim.Native.Nat.{ℕ, _+_, _-_, _<_}
+use mathlib.Core.Path.{_≡_}
+use mathlib.Core.Bool.{true, false}
+use mathlib.Core.List.{List, [], _∷_}
+use lib.ListN.{length, getD, take}
+use lib.Ieee.{Float}
+use Rattle.frame.specs.Frames.{frameOf}
+use Rattle.resampler.specs.declared.RecentFrame.{RecentFrame}
+use Rattle.resampler.specs.declared.Resampler.{Resampler}
+use Rattle.resampler.specs.declared.MaybeFrame.the-variants.{Absent, Present}
+use Rattle.resampler.specs.Windows.{blank, push}
+use Rattle.lanes.specs.Lanes.{Lane, Lanes, rows}
+use Rattle.moving.specs.declared.Moving.{Moving}
+use Rattle.voice.specs.declared.StaticSound.{StaticSound}
+use Rattle.voice.specs.Voices.{offset}
+use Rattle.creation.specs.declared.Settings.{Settings}
+use Rattle.creation.specs.Creation.{created}
+use Rattle.command_set.specs.declared.Commands.{Commands}
+use Rattle.command_set.specs.Commands.{commanded}
+use Rattle.block.specs.declared.Signals.{Signals}
+use Rattle.block.specs.Blocks.{begun, live}
+use Rattle.playing.specs.Plays.{plays}
+use Rattle.static_sound.specs.Entries.{processed, processedInto}
+
+-- ---- how a window came about
+
+-- pushes without a frame, the last one first
+unfoldable pub nones : List ℕ → Resampler → Resampler
+nones [] w = w
+nones (n ∷ ns) w = push (nones ns w) Absent n
+
+-- the last frame that was pushed is a frame of the sound, and `since` are the numbers pushed after it without one, once the transport had ended
+pub record Fed (snd : List Float) (start : ℕ) (m : Moving) : Type 0 where
+  pub before : Resampler
+  pub number : ℕ
+  pub since : List ℕ
+  pub pushed : m .resampler ≡ nones since (push before (Present (frameOf snd (start + number))) number)
+  pub ended : 0 < length since → m .transport .playing ≡ false
+
+abbrev pub FedVoice : List Float → StaticSound → Type 0
+FedVoice snd v = Fed snd (offset (v .setup)) (v .moving)
+
+-- ---- every call leaves a voice that was fed
+
+abbrev pub CreationFeeds : Type 0
+CreationFeeds = (snd : List Float) (s : Settings) → (created snd s) .refusal ≡ 0 → FedVoice snd ((created snd s) .sound)
+
+abbrev pub CommandsFeed : Type 0
+CommandsFeed = (snd : List Float) (v : StaticSound) (c : Commands) → FedVoice snd v → FedVoice snd ((commanded snd v c) .sound)
+
+abbrev pub BlocksFeed : Type 0
+BlocksFeed =
+    (snd : List Float) (v : StaticSound) (dt : Float) (b : Lanes) (g : Signals) (out : List Float)
+    → FedVoice snd v → FedVoice snd ((processed snd v dt b g out) .answer .sound)
+
+abbrev pub MixesFeed : Type 0
+MixesFeed =
+    (snd : List Float) (v : StaticSound) (dt : Float) (b : Lanes) (g : Signals) (mix : List Float) (from : ℕ)
+    → FedVoice snd v → FedVoice snd ((processedInto snd v dt b g mix from) .answer .sound)
+
+-- ---- what its blocks report
+
+-- the voice at read k of a block that begins with u
+abbrev pub atRead : List Float → Float → List Lane → StaticSound → ℕ → StaticSound
+atRead snd dt ls u k = (plays snd dt (take k ls) u) .voice
+
+abbrev pub newest : StaticSound → RecentFrame
+newest v = getD (v .moving .resampler .frames) 3 blank
+
+-- the newest entry is a frame of the sound, the one with its number
+abbrev pub Sounding : List Float → StaticSound → Type 0
+Sounding snd v = newest v .frame ≡ frameOf snd (offset (v .setup) + newest v .«frame_index»)
+
+-- a read at which t is left: 4 less the pushes without a frame
+pub record Tail (snd : List Float) (dt : Float) (ls : List Lane) (u : StaticSound) (t : ℕ) : Type 0 where
+  pub read : ℕ
+  pub within : read < length ls
+  pub fed : FedVoice snd (atRead snd dt ls u read)
+  pub pushes : t ≡ 4 - length (fed .since)
+  pub ended : (atRead snd dt ls u read) .moving .transport .playing ≡ false
+
+-- what t, the lowest count of a block of the lanes ls that begins with u, tells
+pub record Tells (snd : List Float) (dt : Float) (ls : List Lane) (u : StaticSound) (t : ℕ) : Type 0 where
+  pub full : t ≡ 4 → (k : ℕ) → k < length ls → Sounding snd (atRead snd dt ls u k)
+  pub tail : t < 4 → Tail snd dt ls u t
+
+abbrev pub BlocksTell : Type 0
+BlocksTell =
+    (snd : List Float) (v : StaticSound) (dt : Float) (b : Lanes) (g : Signals) (out : List Float)
+    → let a = (processed snd v dt b g out) .answer in
+    FedVoice snd v → a .refusal ≡ 0 → live (begun g v) ≡ true → Tells snd dt (rows b) (begun g v) (a .«lowest_count»)
+
+abbrev pub MixesTell : Type 0
+MixesTell =
+    (snd : List Float) (v : StaticSound) (dt : Float) (b : Lanes) (g : Signals) (mix : List Float) (from : ℕ)
+    → let a = (processedInto snd v dt b g mix from) .answer in
+    FedVoice snd v → a .refusal ≡ 0 → live (begun g v) ≡ true → Tells snd dt (rows b) (begun g v) (a .«lowest_count»)
+
+-- a block that does not sound, or has no frames, reports 4, and so does a refused one
+abbrev pub SilenceTells : Type 0
+SilenceTells =
+    (snd : List Float) (v : StaticSound) (dt : Float) (b : Lanes) (g : Signals) (out : List Float)
+    → live (begun g v) ≡ false → (processed snd v dt b g out) .answer .«lowest_count» ≡ 4
