@@ -20,6 +20,22 @@
  * 12  an advance, (sample rate * |lane rate|) * time step, above 256
  *
  * The lowest number wins. Creation uses 2 to 7, a command set 1 and 6 to 8, a block 1 and 9 to 12.
+ *
+ * The float mode. What is promised of frames and refusals is promised in the mode that a program
+ * begins with: rounding to nearest, subnormals kept (x86-64: neither FTZ nor DAZ; Arm: no FZ),
+ * exceptions masked. Audio hosts often flush on the callback thread. There, hold the mode round a
+ * call, or round all calls of a callback, which costs less:
+ *
+ *     const CableowlFloatMode given = cableowl_float_mode_hold();
+ *     ... calls ...
+ *     cableowl_float_mode_give_back(given);
+ *
+ * In another mode with exceptions masked a call still returns, and reads and writes what it was lent
+ * alone, but its frames and even a refusal may differ: flushed, subnormal samples are lost, a held
+ * rate of -5e-324 plays forward, and a state with a subnormal where silence is due is accepted.
+ *
+ * The held rate gives the direction alone; the speed is the rate lane's, in each frame. Pause and
+ * stop fade nothing: the host lends a falling fade lane and then says finished.
  */
 #ifndef CABLEOWL_H
 #define CABLEOWL_H
@@ -27,9 +43,60 @@
 #include <stddef.h>
 #include <stdint.h>
 
+#if defined(__x86_64__)
+#include <xmmintrin.h>
+#endif
+
 #ifdef __cplusplus
 extern "C" {
 #endif
+
+/* The version of this interface, which cableowl_version() answers. */
+#define CABLEOWL_VERSION 1
+
+/* The limits. */
+#define CABLEOWL_MAX_SAMPLE_RATE 768000
+#define CABLEOWL_MAX_FRAMES 16777216
+#define CABLEOWL_MAX_BLOCK_FRAMES 4096
+#define CABLEOWL_MAX_ADVANCE 256
+
+/* The refusals. */
+enum {
+    CABLEOWL_ACCEPTED = 0,
+    CABLEOWL_REFUSAL_STATE = 1,
+    CABLEOWL_REFUSAL_SAMPLE_RATE = 2,
+    CABLEOWL_REFUSAL_FRAME_COUNT = 3,
+    CABLEOWL_REFUSAL_SLICE = 4,
+    CABLEOWL_REFUSAL_START_POSITION = 5,
+    CABLEOWL_REFUSAL_LOOP_REGION = 6,
+    CABLEOWL_REFUSAL_PLAYBACK_RATE = 7,
+    CABLEOWL_REFUSAL_SEEK = 8,
+    CABLEOWL_REFUSAL_BLOCK = 9,
+    CABLEOWL_REFUSAL_TIME_STEP = 10,
+    CABLEOWL_REFUSAL_LANE = 11,
+    CABLEOWL_REFUSAL_ADVANCE = 12
+};
+
+/* What a voice is doing: CableowlState's state. */
+enum {
+    CABLEOWL_STATE_PLAYING = 0,
+    CABLEOWL_STATE_PAUSING = 1,
+    CABLEOWL_STATE_PAUSED = 2,
+    CABLEOWL_STATE_WAITING_TO_RESUME = 3,
+    CABLEOWL_STATE_RESUMING = 4,
+    CABLEOWL_STATE_STOPPING = 5,
+    CABLEOWL_STATE_STOPPED = 6
+};
+
+/* CableowlPlace's kind. */
+enum { CABLEOWL_PLACE_SECONDS = 0, CABLEOWL_PLACE_SAMPLES = 1, CABLEOWL_PLACE_END_OF_AUDIO = 2 };
+
+/* CableowlCommands' loop_command and resume. */
+enum { CABLEOWL_LOOP_KEEP = 0, CABLEOWL_LOOP_CLEAR = 1, CABLEOWL_LOOP_SET = 2 };
+enum { CABLEOWL_RESUME_NO = 0, CABLEOWL_RESUME_AT_ONCE = 1, CABLEOWL_RESUME_WAITING = 2 };
+
+/* CableowlSignals' start and resume. */
+enum { CABLEOWL_ANSWER_WAITING = 0, CABLEOWL_ANSWER_NOW = 1, CABLEOWL_ANSWER_NEVER = 2 };
 
 /* An entry of the window of four: a frame and its number. */
 typedef struct CableowlEntry {
@@ -124,13 +191,13 @@ typedef struct CableowlProcessed {
     uint32_t refusal;
 } CableowlProcessed;
 
-/* A part of the lent samples. */
+/* A part of the lent samples; its numbers count samples, two a frame. */
 typedef struct CableowlPart {
     uint64_t offset;
     uint64_t length;
 } CableowlPart;
 
-/* This interface's version: 1. */
+/* This interface's version. */
 uint32_t cableowl_version(void);
 
 /* Creates a voice over a sound of interleaved samples, left then right. Lend the same to each call. */
@@ -146,7 +213,8 @@ CableowlProcessed cableowl_process(CableowlState state, const float *sound, size
                                    size_t left_len, const float *right, size_t right_len, const double *rate,
                                    size_t rate_len, double dt, CableowlSignals signals, float *out, size_t out_len);
 
-/* Plays a block of rate_len frames into a longer buffer from frame `from` on; every other sample stays. */
+/* Plays a block of rate_len frames into a longer buffer from frame `from` on, in place of what stands there (it does
+ * not add); every other sample stays. */
 CableowlProcessed cableowl_process_into(CableowlState state, const float *sound, size_t sound_len, const float *fade,
                                         size_t fade_len, const float *volume, size_t volume_len, const float *left,
                                         size_t left_len, const float *right, size_t right_len, const double *rate,
@@ -155,6 +223,29 @@ CableowlProcessed cableowl_process_into(CableowlState state, const float *sound,
 
 /* The part of the sound that the voice plays; where it would be refused with 1, the empty part at 0. */
 CableowlPart cableowl_stretch(CableowlState state, const float *sound, size_t sound_len);
+
+/* The mode that floats were in, given back after the calls. */
+typedef uint64_t CableowlFloatMode;
+
+#if defined(__x86_64__)
+static inline CableowlFloatMode cableowl_float_mode_hold(void) {
+    const unsigned int given = _mm_getcsr();
+    _mm_setcsr(0x1f80u);
+    return given;
+}
+
+static inline void cableowl_float_mode_give_back(CableowlFloatMode given) { _mm_setcsr((unsigned int)given); }
+#elif defined(__aarch64__)
+static inline CableowlFloatMode cableowl_float_mode_hold(void) {
+    uint64_t given;
+    __asm__ volatile("mrs %0, fpcr\n\tmsr fpcr, xzr" : "=&r"(given) : : "memory");
+    return given;
+}
+
+static inline void cableowl_float_mode_give_back(CableowlFloatMode given) {
+    __asm__ volatile("msr fpcr, %0" : : "r"(given) : "memory");
+}
+#endif
 
 #ifdef __cplusplus
 }

@@ -1,13 +1,13 @@
 // Writes the two files that cannot be included as they stand: the edited sound.rs, and the file
-// its `mod resampler;` looks for.
+// its `mod resampler;` looks for. host/timed is built by it too, as it is to be timed.
 
 use std::{env, error::Error, fs, path::Path};
 
 #[path = "src/edit.rs"]
 mod edit;
 
-const SOUND: &str = "kira/src/sound/static_sound/sound.rs";
-const RESAMPLER: &str = "src/sound/static_sound/resampler.rs";
+const SOUND: &str = "../oracle/kira/src/sound/static_sound/sound.rs";
+const RESAMPLER: &str = "../oracle/src/sound/static_sound/resampler.rs";
 
 fn main() -> Result<(), Box<dyn Error>> {
     let here = env::var("CARGO_MANIFEST_DIR")?;
@@ -17,7 +17,15 @@ fn main() -> Result<(), Box<dyn Error>> {
     fs::write(out.join("sound.rs"), edited)?;
     let resampler = format!("include!({:?});\n", here.join(RESAMPLER));
     fs::write(out.join("resampler.rs"), resampler)?;
-    for file in [SOUND, RESAMPLER, "src/edit.rs", "build.rs"] {
+    if env::var("CARGO_PKG_NAME")? == "timed" {
+        println!("cargo::rustc-cfg=timed");
+    }
+    for file in [
+        SOUND,
+        RESAMPLER,
+        "../oracle/src/edit.rs",
+        "../oracle/build.rs",
+    ] {
         println!("cargo::rerun-if-changed={file}");
     }
     Ok(())

@@ -1,15 +1,11 @@
 -- What each entry answers, from what the entry below it gave and from the translations. Assumes nothing.
 use mathlib.Core.Path.{_≡_, sym, ap, _∙_, subst}
-use Prim.Native.Nat.{ℕ, _*_, _≤_}
-use mathlib.Core.Bool.{Bool, true, false, not}
+use Prim.Native.Nat.{ℕ, _≤_}
 use mathlib.Core.List.{List}
-use lib.Dec.{T}
 use lib.ListN.{length}
 use lib.Ieee.{Float}
 use Rattle.lanes.specs.Lanes.{Lanes}
 use Rattle.voice.specs.declared.StaticSound.{StaticSound}
-use Rattle.voice.specs.Voices.{span, offset}
-use Rattle.voice.specs.WellFormed.{ours}
 use Rattle.creation.specs.declared.Settings.{Settings}
 use Rattle.creation.specs.declared.Created.{Created}
 use Rattle.creation.specs.Creation.{created}
@@ -20,7 +16,6 @@ use Rattle.block.specs.declared.Signals.{Signals}
 use Rattle.playing.specs.declared.Processed.{Processed}
 use Rattle.playing.specs.Plays.{Outcome}
 use Rattle.static_sound.specs.Entries.{processed, processedInto}
-use Rattle.static_sound.proofs.Calls.{fails, passes}
 use Rattle.records.specs.declared.CableowlState.{CableowlState}
 use Rattle.inputs.specs.declared.CableowlSettings.{CableowlSettings}
 use Rattle.inputs.specs.declared.CableowlCommands.{CableowlCommands}
@@ -28,10 +23,9 @@ use Rattle.inputs.specs.declared.CableowlSignals.{CableowlSignals}
 use Rattle.cableowl.specs.declared.CableowlCreated.{CableowlCreated}
 use Rattle.cableowl.specs.declared.CableowlCommanded.{CableowlCommanded}
 use Rattle.cableowl.specs.declared.CableowlProcessed.{CableowlProcessed}
-use Rattle.cableowl.specs.declared.CableowlPart.{CableowlPart}
 use Rattle.records.specs.Records.{decoded, encoded}
 use Rattle.inputs.specs.Inputs.{settingsOf, commandsOf, signalsOf}
-use Rattle.cableowl.specs.Entries.{after, createdC, commandedC, answered, OutcomeC, processedC, processedIntoC, partC}
+use Rattle.cableowl.specs.Entries.{after, createdC, commandedC, answered, OutcomeC, processedC, processedIntoC}
 use Rattle.cableowl.proofs.Few.{countOf, ours-few, created-few, commanded-ours, processed-ours, into-ours}
 
 -- ---- creation
@@ -79,17 +73,3 @@ module _ (snd : List Float) (c : CableowlState) (dt : Float) (b : Lanes) (g : Ca
   pub mix-is : (mix : List Float) (from : ℕ) → given ≡ processedInto snd v dt b w mix from → (a : CableowlProcessed) → a ≡ answered r c → told a ≡ processedIntoC snd c dt b g mix from
   unfolding processedIntoC
   mix-is mix from f a h = ap told h ∙ ap (λ (o : Outcome). record { answer = answered (o .answer) c; samples = o .samples }) f ∙ rw (e, d)
-
--- ---- the stretch
-
-module _ (snd : List Float) (c : CableowlState) (v : StaticSound) (t : Bool) (d : v ≡ decoded c) (f : t ≡ ours (length snd) v) where
-  pub part-none : not t ≡ true → _≡_ {A = CableowlPart} (record { offset = 0; length = 0 }) (partC snd c)
-  unfolding partC
-  part-none h = rw (← d, fails f h)
-
-  pub part-ours : not t ≡ false → T (ours (length snd) v)
-  part-ours h = subst T (sym (passes f h)) tt
-
-  pub part-is : not t ≡ false → (m n : ℕ) → m ≡ offset (v .setup) → n ≡ span (v .setup) → _≡_ {A = CableowlPart} (record { offset = 2 * m; length = 2 * n }) (partC snd c)
-  unfolding partC
-  part-is h m n p q = rw (p, q, ← d, passes f h)

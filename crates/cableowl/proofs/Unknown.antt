@@ -9,7 +9,7 @@ use Rattle.lanes.specs.Lanes.{Lanes}
 use Rattle.voice.specs.WellFormed.{ours}
 use Rattle.creation.proofs.Makes.{blank-not}
 use Rattle.command_set.specs.Commands.{refusedSet, commanded}
-use Rattle.static_sound.specs.Entries.{refusedBlock, processed, processedInto}
+use Rattle.static_sound.specs.Entries.{refusedBlock, processed, processedInto, stretchOf, stretchAt}
 use Rattle.records.specs.declared.CableowlState.{CableowlState}
 use Rattle.inputs.specs.declared.CableowlCommands.{CableowlCommands}
 use Rattle.inputs.specs.declared.CableowlSignals.{CableowlSignals}
@@ -35,5 +35,5 @@ module _ (snd : List Float) (c : CableowlState) (dt : Float) (b : Lanes) (g : Ca
   into-1 mix from = rw (unlawful (length snd) c e)
 
 pub part-1 : (snd : List Float) (c : CableowlState) → lawful c ≡ false → partC snd c ≡ record { offset = 0; length = 0 }
-unfolding partC
+unfolding partC stretchOf stretchAt
 part-1 snd c e = rw (unlawful (length snd) c e)

@@ -1,5 +1,5 @@
 -- The entries of the C ABI, accepted and refused together: each is the entry below it, between records of numbers.
-use Prim.Native.Nat.{ℕ, _*_}
+use Prim.Native.Nat.{ℕ}
 use mathlib.Core.Bool.{cond}
 use mathlib.Core.List.{List}
 use lib.Dec.{eqb}
@@ -7,12 +7,10 @@ use lib.ListN.{length}
 use lib.Ieee.{Float}
 use Rattle.lanes.specs.Lanes.{Lanes}
 use Rattle.voice.specs.declared.StaticSound.{StaticSound}
-use Rattle.voice.specs.Voices.{span, offset}
-use Rattle.voice.specs.WellFormed.{ours}
 use Rattle.creation.specs.Creation.{created}
 use Rattle.command_set.specs.Commands.{commanded}
 use Rattle.playing.specs.declared.Processed.{Processed}
-use Rattle.static_sound.specs.Entries.{processed, processedInto}
+use Rattle.static_sound.specs.Entries.{processed, processedInto, stretchOf, stretchAt}
 use Rattle.records.specs.declared.CableowlState.{CableowlState}
 use Rattle.inputs.specs.declared.CableowlSettings.{CableowlSettings}
 use Rattle.inputs.specs.declared.CableowlCommands.{CableowlCommands}
@@ -59,8 +57,6 @@ processedIntoC snd c dt b g mix from =
     let o = processedInto snd (decoded c) dt b (signalsOf g) mix from in
     record { answer = answered (o .answer) c; samples = o .samples }
 
--- the stretch as a part of the lent sound; refused, nothing
+-- the stretch, by where it begins in the lent sound and how long it is
 unfoldable pub partC : List Float → CableowlState → CableowlPart
-partC snd c =
-    let v = decoded c in
-    cond (ours (length snd) v) (record { offset = 2 * offset (v .setup); length = 2 * span (v .setup) }) (record { offset = 0; length = 0 })
+partC snd c = let v = decoded c in record { offset = stretchAt (length snd) v; length = length (stretchOf snd v) }

@@ -166,13 +166,15 @@ pub extern "C" fn cableowl_process_into(
     answer(processed, state)
 }
 
-// The sound's own part: the slice's, or all of it; nothing where the state is refused.
+// The sound's own part, by its place in what was lent: that of `static_sound::stretch`.
 #[no_mangle]
 pub extern "C" fn cableowl_stretch(state: CableowlState, sound: &[f32]) -> CableowlPart
     ensures { λ r. ⌜ r ≡ partC (now (sound .entry)) state ⌝ }
 {
     let voice = decode(state);
-    if !voice.is_well_formed(sound.len()) {
+    let part = static_sound::stretch(voice, sound);
+    let length = part.len();
+    if length == 0 {
         return CableowlPart {
             offset: 0,
             length: 0,
@@ -181,6 +183,6 @@ pub extern "C" fn cableowl_stretch(state: CableowlState, sound: &[f32]) -> Cable
     let setup = voice.setup;
     CableowlPart {
         offset: (2 * setup.start()) as u64,
-        length: (2 * setup.num_frames()) as u64,
+        length: length as u64,
     }
 }

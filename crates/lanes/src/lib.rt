@@ -48,17 +48,16 @@ fn four_level(fade: &[f32], volume: &[f32], left: &[f32], right: &[f32]) -> bool
     tops < 0x8000_0000
 }
 
-// The sign of a rate passes through both products, so the advance is judged from both sides.
+// The advance is worked out as the block does, so that in no rounding mode a rate passes here and is too fast there.
 fn all_slow(sample_rate: u32, dt: f64, rate: &[f64]) -> bool
-    requires { ⌜ T (timely dt) ⌝ }
     ensures { λ r. ⌜ r ≡ all (slow «sample_rate» dt) (now (rate .entry)) ⌝ }
 {
     let hz = sample_rate as f64;
     let mut ok = true;
     let mut i: usize = 0;
     while i < rate.len() {
-        let a = (hz * rate[i]) * dt;
-        ok = (a <= 256.0) & (a >= -256.0) & ok;
+        let advance = hz * numbers::magnitude(rate[i]) * dt;
+        ok = (advance <= 256.0) & ok;
         i += 1;
     }
     ok

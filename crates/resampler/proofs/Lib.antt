@@ -1,4 +1,3 @@
 -- What is known of the window beyond its definition.
 pub mod Windows
 pub mod Silence
-pub mod Example

@@ -10,6 +10,7 @@ use Rattle.playback_position.specs.declared.FrameRange.the-variants as range
 use Rattle.lanes.specs.Lanes.{Lanes, rows, sized, timely, laned, near}
 use Rattle.numbers.specs.Lists.{all}
 use Rattle.voice.specs.declared.StaticSound.{StaticSound}
+use Rattle.voice.specs.Voices.{offset}
 use Rattle.voice.specs.WellFormed.{ours}
 use Rattle.block.specs.declared.Signals.{Signals}
 use Rattle.voice.specs.Refusals.{unless}
@@ -63,3 +64,11 @@ sliced (range.Frames s e) snd = take (2 * e - 2 * s) (drop (2 * s) snd)
 -- the stretch; refused, the empty part
 unfoldable pub stretchOf : List Float → StaticSound → List Float
 stretchOf snd v = cond (ours (length snd) v) (sliced (v .setup .slice) snd) []
+
+-- where the stretch begins, in samples; refused, at their start
+unfoldable pub stretchAt : ℕ → StaticSound → ℕ
+stretchAt len v = cond (ours len v) (2 * offset (v .setup)) 0
+
+-- the place of sample n of those lent at p: a block of memory, and the bytes into it
+abbrev pub sampleAt : ℕ × ℕ → ℕ → ℕ × ℕ
+sampleAt p n = (p .0, n * 4 + p .1)

@@ -3,8 +3,10 @@ ghost use mathlib.Core.Path.{_≡_};
 ghost use Prim.Native.Nat.{_+_, _*_, _/_, _%_};
 ghost use mathlib.Core.Bool.{_&&_};
 ghost use lib.Dec.{leb, eqb};
+ghost use lib.ListN.{length};
+ghost use denote.Ref.{ptr};
 ghost use Rattle.lanes.specs.Lanes.{five};
-ghost use Rattle.static_sound.specs.Entries.{refusedBlock, processed, processedInto, stretchOf};
+ghost use Rattle.static_sound.specs.Entries.{refusedBlock, processed, processedInto, stretchOf, stretchAt, sampleAt};
 use block::Signals;
 use block::block;
 use playback_position::FrameRange;
@@ -160,9 +162,10 @@ pub fn process_into(
     )
 }
 
-// The sound's own part, as it is lent: that of the slice, or all of it.
+// The sound's own part, as it is lent and where it lies: that of the slice, or all of it; refused, the empty part at their start.
 pub fn stretch(voice: StaticSound, sound: &[f32]) -> &[f32]
     ensures { λ r. ⌜ now r ≡ stretchOf (now (sound .entry)) voice ⌝ }
+    ensures { λ r. ⌜ ptr r ≡ sampleAt (ptr (sound .entry)) (stretchAt (length (now (sound .entry))) voice) ⌝ }
 {
     if !voice.is_well_formed(sound.len()) {
         return &sound[..0];

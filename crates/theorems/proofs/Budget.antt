@@ -6,10 +6,9 @@ use native.Mathlib.Omega.{arith}
 use mathlib.Core.Bool.{Bool, true, false, true≢false, cond}
 use mathlib.Core.List.{List, [], _∷_}
 use lib.Dec.{T, leb, eqb, le→leb, eqb→eq}
-use lib.IntN.{negsuc}
 use lib.ListN.{length, take, drop, length-drop}
 use lib.Seq.{length-take-le}
-use lib.Ieee.{Float, fin, binary64, lt, add, le}
+use lib.Ieee.{Float, binary64, lt, add, le}
 use lib.Ieee.Fits.{and-i, and-l, and-r}
 use Rattle.numbers.specs.Words.{naught, one, whole, advance}
 use Rattle.numbers.specs.Lists.{all}
@@ -32,7 +31,7 @@ use Rattle.static_sound.proofs.Entries.{timely-above, processed-passed, process
 use Rattle.theorems.specs.Sums.{sum}
 use Rattle.theorems.specs.Steps.{stepsOf}
 use Rattle.theorems.specs.Schedules.{playedBy}
-use Rattle.theorems.specs.Budget.{atMost, Slow, Within, BlockBudget, MixBudget, StreamBudget}
+use Rattle.theorems.specs.Budget.{atMost, Slow, Within, BlockBudget, MixBudget, StreamBudget, TwoSteps}
 use Rattle.theorems.proofs.Cut.{first-all, rest-all}
 use Rattle.theorems.proofs.Steps.{plays-sum}
 
@@ -167,6 +166,6 @@ stream-budget k snd dt b g v j js out e h small s = stream-few k small snd dt b 
 
 -- ---- the bound is reached: 1 - 2 ^ -53 and an advance of 1 make two steps
 
-pub two-steps : whole (add binary64 (fin false 9007199254740991 (negsuc 52)) one) ≡ 2
+pub two-steps : TwoSteps
 unfolding whole add
 two-steps = refl

@@ -1,34 +1,85 @@
--- Any two outcomes that a promise allows coincide: each promise names its outcome, so both are the named one. Assumes nothing.
-use mathlib.Core.Path.{_≡_, sym, _∙_}
-use Prim.Native.Nat.{ℕ}
-use mathlib.Core.List.{List}
-use lib.Ieee.{Float}
-use Rattle.lanes.specs.Lanes.{Lanes}
-use Rattle.voice.specs.declared.StaticSound.{StaticSound}
-use Rattle.creation.specs.declared.Settings.{Settings}
-use Rattle.command_set.specs.declared.Commands.{Commands}
-use Rattle.block.specs.declared.Signals.{Signals}
-use Rattle.creation.specs.Creation.{created}
-use Rattle.command_set.specs.Commands.{commanded}
-use Rattle.static_sound.specs.Entries.{processed, processedInto, stretchOf}
-use Rattle.theorems.specs.Coincide.{Decides, NewDecides, CommandsDecide, ProcessDecides, MixDecides, StretchDecides}
+-- Any two outcomes that a contract allows coincide: each contract names its outcome, so both are the named one. Assumes nothing.
+use mathlib.Core.Path.{_≡_, sym, ap, _∙_}
+use Rattle.playing.specs.Plays.{Outcome}
+use Rattle.cableowl.specs.Entries.{OutcomeC}
+use Rattle.theorems.specs.Coincide.{Coincide}
 
--- a promise that names its outcome decides it
-pub named {ℓ κ} : {I : Type ℓ} {O : Type κ} (f : I → O) → Decides (λ (i : I) (o : O). o ≡ f i)
-named f i x y p q = p ∙ sym q
+same : {A : Type 0} {x y z : A} → x ≡ z → y ≡ z → x ≡ y
+same p q = p ∙ sym q
 
-pub creation-new : NewDecides
-creation-new = named (λ (i : List Float × Settings). created (i .0) (i .1))
+-- the answers and the samples of one outcome
+parts : {o p : Outcome} → o ≡ p → (o .answer ≡ p .answer) × (o .samples ≡ p .samples)
+parts e = (ap (λ (o : Outcome). o .answer) e, ap (λ (o : Outcome). o .samples) e)
 
-pub command-set-on-start-processing : CommandsDecide
-command-set-on-start-processing = named (λ (i : List Float × StaticSound × Commands). commanded (i .0) (i .1) (i .2))
+partsC : {o p : OutcomeC} → o ≡ p → (o .answer ≡ p .answer) × (o .samples ≡ p .samples)
+partsC e = (ap (λ (o : OutcomeC). o .answer) e, ap (λ (o : OutcomeC). o .samples) e)
 
-pub static-sound-process : ProcessDecides
-static-sound-process = named (λ (i : List Float × StaticSound × Float × Lanes × Signals × List Float). processed (i .0) (i .1) (i .2) (i .3) (i .4) (i .5))
-
-pub static-sound-process-into : MixDecides
-static-sound-process-into =
-    named (λ (i : List Float × StaticSound × Float × Lanes × Signals × List Float × ℕ). processedInto (i .0) (i .1) (i .2) (i .3) (i .4) (i .5) (i .6))
-
-pub static-sound-stretch : StretchDecides
-static-sound-stretch = named (λ (i : List Float × StaticSound). stretchOf (i .0) (i .1))
+pub coincide : Coincide
+coincide =
+    record {
+      numbers-narrow = λ k a x y s t p q. same p q;
+      numbers-advance-by = λ k a x y s t p q. same p q;
+      numbers-round-half-away = λ k a x y s t p q. same p q;
+      numbers-cut = λ k a x y s t p q. same p q;
+      numbers-magnitude = λ k a x y s t p q. same p q;
+      numbers-is-finite = λ k a x y s t p q. same p q;
+      numbers-is-negative = λ k a x y s t p q. same p q;
+      numbers-is-proper = λ k a x y s t p q. same p q;
+      numbers-is-level = λ k a x y s t p q. same p q;
+      numbers-is-naught = λ k a x y s t p q. same p q;
+      frame-interpolate-frame = λ k a x y s t p q. same p q;
+      playback-position-playbackposition-into-samples = λ k a x y s t p q. same p q;
+      playback-position-playbackposition-is-placeable = λ k a x y s t p q. same p q;
+      playback-position-endposition-into-samples = λ k a x y s t p q. same p q;
+      playback-position-endposition-is-endable = λ k a x y s t p q. same p q;
+      playback-position-framerange-is-within = λ k a x y s t p q. same p q;
+      playback-position-region-into-frames = λ k a x y s t p q. same p q;
+      playback-position-region-is-lawful = λ k a x y s t p q. same p q;
+      transport-transport-new = λ k a x y s t p q. same p q;
+      transport-transport-set-loop-region = λ k a x y s t p q. same p q;
+      transport-transport-increment-position = λ k a x y s t p q. same p q;
+      transport-transport-decrement-position = λ k a x y s t p q. same p q;
+      transport-transport-seek-to = λ k a x y s t p q. same p q;
+      resampler-resampler-new = λ k a x y s t p q. same p q;
+      resampler-resampler-push-frame = λ k a x y s t p q. same p q;
+      resampler-resampler-get = λ k a x y s t p q. same p q;
+      resampler-resampler-current-frame-index = λ k a x y s t p q. same p q;
+      resampler-resampler-empty = λ k a x y s t p q. same p q;
+      playback-state-manager-playbackstate-number = λ k a x y s t p q. same p q;
+      playback-state-manager-playbackstate-is-advancing = λ k a x y s t p q. same p q;
+      playback-state-manager-playbackstate-pause = λ k a x y s t p q. same p q;
+      playback-state-manager-playbackstate-resume = λ k a x y s t p q. same p q;
+      playback-state-manager-playbackstate-stop = λ k a x y s t p q. same p q;
+      playback-state-manager-playbackstate-mark-as-stopped = λ k a x y s t p q. same p q;
+      playback-state-manager-playbackstate-update = λ k a x y s t p q. same p q;
+      lanes-are-sized = λ k a x y s t p q. same p q;
+      lanes-is-timely = λ k a x y s t p q. same p q;
+      lanes-judge = λ k a x y s t p q. same p q;
+      voice-setup-num-frames = λ k a x y s t p q. same p q;
+      voice-setup-start = λ k a x y s t p q. same p q;
+      voice-staticsound-course = λ k a x y s t p q. same p q;
+      voice-staticsound-is-well-formed = λ k a x y s t p q. same p q;
+      moving-moving-push-frame-to-resampler = λ k a x y s t p q. same p q;
+      moving-moving-update-position = λ k a x y s t p q. same p q;
+      moving-moving-update-positions = λ k a x y s t p q. same p q;
+      moving-moving-of = λ k a x y s t p q. same p q;
+      creation-blank = λ k a x y s t p q. same p q;
+      creation-new = λ k a x y s t p q. same p q;
+      command-set-on-start-processing = λ k a x y s t p q. same p q;
+      playing-play = λ k a x y s t p q. parts (same p q);
+      block-block = λ k a x y s t p q. parts (same p q);
+      static-sound-process = λ k a x y s t p q. parts (same p q);
+      static-sound-process-into = λ k a x y s t p q. parts (same p q);
+      static-sound-stretch = λ k a x y s t p q. (same (p .0) (q .0), same (p .1) (q .1));
+      records-decode = λ k a x y s t p q. same p q;
+      records-encode = λ k a x y s t p q. same p q;
+      inputs-settings-of = λ k a x y s t p q. same p q;
+      inputs-commands-of = λ k a x y s t p q. same p q;
+      inputs-signals-of = λ k a x y s t p q. same p q;
+      cableowl-cableowl-version = λ k a x y s t p q. same p q;
+      cableowl-cableowl-new = λ k a x y s t p q. same p q;
+      cableowl-cableowl-on-start-processing = λ k a x y s t p q. same p q;
+      cableowl-cableowl-process = λ k a x y s t p q. partsC (same p q);
+      cableowl-cableowl-process-into = λ k a x y s t p q. partsC (same p q);
+      cableowl-cableowl-stretch = λ k a x y s t p q. same p q;
+    }

@@ -11,6 +11,11 @@ pub mod Steps
 pub mod AnyOrder
 pub mod InTheLoop
 pub mod Budget
-pub mod Coincide
+pub mod Plain
+pub mod MixSchedules
+pub mod AtZero
 pub mod Examples
-pub mod Leaves
+pub mod Archive
+pub mod ArchiveSchedules
+pub mod Coincide
+pub mod Promises

@@ -23,7 +23,7 @@ use Rattle.theorems.proofs.Cut.{first-accepted, rest-accepted, accepted
 -- ---- the samples of a mix
 
 -- a place in a mix leaves its length
-mixed-length : (from n : ℕ) (mix xs : List Float) → length xs ≡ 2 * n → 2 * (from + n) ≤ length mix → length (mixed from n mix xs) ≡ length mix
+pub mixed-length : (from n : ℕ) (mix xs : List Float) → length xs ≡ 2 * n → 2 * (from + n) ≤ length mix → length (mixed from n mix xs) ≡ length mix
 mixed-length from n mix xs e h =
     let a = length-append (take (2 * from) mix) (xs ++ drop (2 * (from + n)) mix) in
     let b = length-append xs (drop (2 * (from + n)) mix) in
@@ -32,7 +32,7 @@ mixed-length from n mix xs e h =
     omega arith
 
 -- k frames, and m frames after them
-mixed-cut : (from k m : ℕ) (mix xs ys : List Float) → length xs ≡ 2 * k → 2 * (from + k) ≤ length mix
+pub mixed-cut : (from k m : ℕ) (mix xs ys : List Float) → length xs ≡ 2 * k → 2 * (from + k) ≤ length mix
     → mixed (from + k) m (mixed from k mix xs) ys ≡ mixed from (k + m) mix (xs ++ ys)
 mixed-cut from k m mix xs ys e h =
     ap (λ (z : List Float). take (2 * (from + k)) z ++ (ys ++ drop (2 * (from + k + m)) z)) (sym (append-assoc front xs after))
@@ -67,17 +67,17 @@ mixed-cut from k m mix xs ys e h =
 
 -- ---- the room for each part
 
-record Room (from n : ℕ) (mix : List Float) : Type 0 where
-  even : length mix % 2 ≡ 0
-  inside : from + n ≤ length mix / 2
+pub record Room (from n : ℕ) (mix : List Float) : Type 0 where
+  pub even : length mix % 2 ≡ 0
+  pub inside : from + n ≤ length mix / 2
 
-room-parts : (from n : ℕ) (mix : List Float) → T (room from n mix) → Room from n mix
+pub room-parts : (from n : ℕ) (mix : List Float) → T (room from n mix) → Room from n mix
 room-parts from n mix h =
     let a = eqb (length mix % 2) 0 in
     let b = leb (from + n) (length mix / 2) in
     record { even = eqb→eq (length mix % 2) 0 (and-l a b h); inside = leb→le (from + n) (length mix / 2) (and-r a b h) }
 
-room-of : (from n : ℕ) (mix : List Float) → Room from n mix → T (room from n mix)
+pub room-of : (from n : ℕ) (mix : List Float) → Room from n mix → T (room from n mix)
 room-of from n mix h =
     and-i (eqb (length mix % 2) 0) (leb (from + n) (length mix / 2)) (eq→eqb (h .even)) (le→leb (from + n) (length mix / 2) (h .inside))
 

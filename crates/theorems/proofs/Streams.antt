@@ -31,7 +31,7 @@ first-alike k l m e = length-take k l ∙ ap (min k) e ∙ sym (length-take k m)
 rest-alike : (k : ℕ) (l m : List Float) → length l ≡ length m → length (drop k l) ≡ length (drop k m)
 rest-alike k l m e = length-drop k l ∙ ap (λ (n : ℕ). n - k) e ∙ sym (length-drop k m)
 
-module _ (snd : List Float) (dt : Float) (b : Lanes) (g : Signals) (v : StaticSound) (k : ℕ) (out : List Float) (s : Stream snd dt b v out) (q : k ≤ length (b .rate)) where
+module _ (snd : List Float) (dt : Float) (b : Lanes) (g : Signals) (v : StaticSound) (k : ℕ) (out : List Float) (s : Stream snd dt b v) (l : length out ≡ 2 * length (b .rate)) (q : k ≤ length (b .rate)) where
   short : length (take k (b .rate)) ≡ k
   short = length-take-le k (b .rate) q
 
@@ -48,7 +48,7 @@ module _ (snd : List Float) (dt : Float) (b : Lanes) (g : Signals) (v : StaticSo
               left = first-alike k (b .left) (b .rate) (s .left);
               right = first-alike k (b .right) (b .rate) (s .right);
             });
-        placed = eq→eqb (length-take-le (2 * k) out (omega (arith, s .output)) ∙ ap (λ (n : ℕ). 2 * n) (sym short));
+        placed = eq→eqb (length-take-le (2 * k) out (omega (arith, l)) ∙ ap (λ (n : ℕ). 2 * n) (sym short));
         timely = s .timely;
         laned = first-all laned k b (s .laned);
         near = first-all (near (v .setup .«sample_rate») dt) k b (s .near);
@@ -59,7 +59,7 @@ module _ (snd : List Float) (dt : Float) (b : Lanes) (g : Signals) (v : StaticSo
       processed-done snd v dt (firstLanes k b) g (take (2 * k) out)
       (accepted-of (length snd) v dt (firstLanes k b) (holds (firstLanes k b) (take (2 * k) out)) (first-passes few))
 
-  rest-streams : k ≤ 4096 → Stream snd dt (restLanes k b) ((block snd dt (rows (firstLanes k b)) g v) .voice) (drop (2 * k) out)
+  rest-streams : k ≤ 4096 → Stream snd dt (restLanes k b) ((block snd dt (rows (firstLanes k b)) g v) .voice)
   rest-streams few =
       record {
         ours = block-ours snd v dt (firstLanes k b) g (holds (firstLanes k b) (take (2 * k) out)) (first-passes few);
@@ -67,11 +67,13 @@ module _ (snd : List Float) (dt : Float) (b : Lanes) (g : Signals) (v : StaticSo
         volume = rest-alike k (b .volume) (b .rate) (s .volume);
         left = rest-alike k (b .left) (b .rate) (s .left);
         right = rest-alike k (b .right) (b .rate) (s .right);
-        output = length-drop (2 * k) out ∙ twice (length out) (length (b .rate)) (s .output) ∙ ap (λ (n : ℕ). 2 * n) (sym (length-drop k (b .rate)));
         timely = s .timely;
         laned = rest-all laned k b (s .laned);
         near = rest-near snd dt k b g v (s .near);
       }
+
+  rest-out : length (drop (2 * k) out) ≡ 2 * length (drop k (b .rate))
+  rest-out = length-drop (2 * k) out ∙ twice (length out) (length (b .rate)) l ∙ ap (λ (n : ℕ). 2 * n) (sym (length-drop k (b .rate)))
     where
       twice : (m n : ℕ) → m ≡ 2 * n → m - 2 * k ≡ 2 * (n - k)
       twice m n e = omega arith
@@ -82,12 +84,12 @@ small n = leb n 4096
 
 pub all-accepted : AllAccepted
 unfolding playedBy
-all-accepted snd dt b g v k [] out s e few = rw (first-done snd dt b g v k out s (omega arith) (leb→le k 4096 (and-l (small k) true few))) tt
-all-accepted snd dt b g v k (j ∷ ks) out s e few =
+all-accepted snd dt b g v k [] out s l e few = rw (first-done snd dt b g v k out s l (omega arith) (leb→le k 4096 (and-l (small k) true few))) tt
+all-accepted snd dt b g v k (j ∷ ks) out s l e few =
     let q : k ≤ length (b .rate) = omega arith in
-    let l = leb→le k 4096 (and-l (small k) (all small (j ∷ ks)) few) in
-    rw (first-done snd dt b g v k out s q l)
-    (all-accepted snd dt (restLanes k b) quiet ((block snd dt (rows (firstLanes k b)) g v) .voice) j ks (drop (2 * k) out) (rest-streams snd dt b g v k out s q l)
+    let m = leb→le k 4096 (and-l (small k) (all small (j ∷ ks)) few) in
+    rw (first-done snd dt b g v k out s l q m)
+    (all-accepted snd dt (restLanes k b) quiet ((block snd dt (rows (firstLanes k b)) g v) .voice) j ks (drop (2 * k) out) (rest-streams snd dt b g v k out s l q m) (rest-out snd dt b g v k out s l q)
     (left (length (b .rate)) (sum ks) e ∙ sym (length-drop k (b .rate))) (and-r (small k) (all small (j ∷ ks)) few))
   where
     left : (n m : ℕ) → k + (j + m) ≡ n → j + m ≡ n - k

@@ -6,10 +6,10 @@ use mathlib.Core.Path.{_≡_}
 use mathlib.Core.Bool.{Bool, false, cond}
 use mathlib.Core.List.{List}
 use lib.Dec.{T, leb}
-use lib.IntN.{pos}
+use lib.IntN.{pos, negsuc}
 use lib.ListN.{length}
-use lib.Ieee.{Float, binary64, le, ofInt}
-use Rattle.numbers.specs.Words.{advance}
+use lib.Ieee.{Float, fin, binary64, add, le, ofInt}
+use Rattle.numbers.specs.Words.{one, whole, advance}
 use Rattle.numbers.specs.Lists.{all}
 use Rattle.lanes.specs.Lanes.{Lane, Lanes, rows}
 use Rattle.voice.specs.declared.StaticSound.{StaticSound}
@@ -55,3 +55,7 @@ StreamBudget =
     (k : ℕ) (snd : List Float) (dt : Float) (b : Lanes) (g : Signals) (v : StaticSound) (j : ℕ) (js : List ℕ) (out : List Float)
     → let r = playedBy snd dt j js b g v out in
     j + sum js ≡ length (b .rate) → T (r .accepted) → k ≤ 256 → Slow k v dt b → r .steps ≤ length (b .rate) * (k + 1)
+
+-- the bound is reached: 1 - 2 ^ -53 and an advance of 1
+abbrev pub TwoSteps : Type 0
+TwoSteps = whole (add binary64 (fin false 9007199254740991 (negsuc 52)) one) ≡ 2

@@ -1,38 +1,123 @@
--- Whether a promise says enough: it decides its outcome if any two outcomes that it allows for one input coincide.
--- Below, the promise of each entry, over all that it is given and all that it gives: its answer, and every sample of the buffer lent to it.
-use Prim.Native.Nat.{ℕ}
+-- Whether a promise says enough (document 01): any two outcomes that one contract allows for one input coincide. A line for each public function,
+-- over its contract itself: `Post` is all that the function ensures, of what it is given, what it answers and what the lent buffers hold at its end.
 use mathlib.Core.Path.{_≡_}
 use mathlib.Core.List.{List}
+use denote.Ref.{RefT, now, ptr}
 use lib.Ieee.{Float}
-use Rattle.lanes.specs.Lanes.{Lanes}
-use Rattle.voice.specs.declared.StaticSound.{StaticSound}
-use Rattle.creation.specs.declared.Settings.{Settings}
-use Rattle.creation.specs.declared.Created.{Created}
-use Rattle.command_set.specs.declared.Commands.{Commands}
-use Rattle.command_set.specs.declared.Commanded.{Commanded}
-use Rattle.block.specs.declared.Signals.{Signals}
-use Rattle.creation.specs.Creation.{created}
-use Rattle.command_set.specs.Commands.{commanded}
-use Rattle.playing.specs.Plays.{Outcome}
-use Rattle.static_sound.specs.Entries.{processed, processedInto, stretchOf}
+use Rattle.numbers.proofs as numbers
+use Rattle.frame.proofs as frame
+use Rattle.playback_position.proofs as playback_position
+use Rattle.transport.proofs as transport
+use Rattle.resampler.proofs as resampler
+use Rattle.playback_state_manager.proofs as playback_state_manager
+use Rattle.lanes.proofs as lanes
+use Rattle.moving.proofs as moving
+use Rattle.voice.proofs as voice
+use Rattle.creation.proofs as creation
+use Rattle.command_set.proofs as command_set
+use Rattle.playing.proofs as playing
+use Rattle.block.proofs as block
+use Rattle.static_sound.proofs as static_sound
+use Rattle.records.proofs as records
+use Rattle.inputs.proofs as inputs
+use Rattle.cableowl.proofs as cableowl
 
--- a promise over inputs I and outcomes O
-abbrev pub Decides {ℓ κ} : {I : Type ℓ} {O : Type κ} → (I → O → Type κ) → Type (ℓ ⊔ κ)
-Decides {I = I} {O = O} P = (i : I) (x y : O) → P i x → P i y → x ≡ y
+-- what a contract allows: for lifetimes k and all that is given, of an answer and of what was lent, at the end
+abbrev pub Allows : (K : Type 0) (A R S : K → Type 0) → Type 1
+Allows K A R S = (k : K) → A k → R k → S k → Type 0
 
-abbrev pub NewDecides : Type 0
-NewDecides = Decides (λ (i : List Float × Settings) (o : Created). o ≡ created (i .0) (i .1))
+module _ {K : Type 0} {A R S : K → Type 0} where
+  -- its answers coincide
+  abbrev pub Decides : Allows K A R S → Type 0
+  Decides P = (k : K) (a : A k) (x y : R k) (s t : S k) → P k a x s → P k a y t → x ≡ y
 
-abbrev pub CommandsDecide : Type 0
-CommandsDecide = Decides (λ (i : List Float × StaticSound × Commands) (o : Commanded). o ≡ commanded (i .0) (i .1) (i .2))
+  -- and so do the samples of a buffer that it writes
+  abbrev pub DecidesWith : (samples : (k : K) → S k → List Float) → Allows K A R S → Type 0
+  DecidesWith samples P = (k : K) (a : A k) (x y : R k) (s t : S k) → P k a x s → P k a y t → (x ≡ y) × (samples k s ≡ samples k t)
 
-abbrev pub ProcessDecides : Type 0
-ProcessDecides =
-    Decides (λ (i : List Float × StaticSound × Float × Lanes × Signals × List Float) (o : Outcome). o ≡ processed (i .0) (i .1) (i .2) (i .3) (i .4) (i .5))
+-- a part of what was lent: its samples and its place coincide
+abbrev pub DecidesPart : {K : Type 0} {A S : K → Type 0} → Allows K A (λ (k : K). RefT (List Float)) S → Type 0
+DecidesPart {K} {A} {S} P =
+    (k : K) (a : A k) (x y : RefT (List Float)) (s t : S k) → P k a x s → P k a y t → (now x ≡ now y) × (ptr x ≡ ptr y)
 
-abbrev pub MixDecides : Type 0
-MixDecides =
-    Decides (λ (i : List Float × StaticSound × Float × Lanes × Signals × List Float × ℕ) (o : Outcome). o ≡ processedInto (i .0) (i .1) (i .2) (i .3) (i .4) (i .5) (i .6))
-
-abbrev pub StretchDecides : Type 0
-StretchDecides = Decides (λ (i : List Float × StaticSound) (o : List Float). o ≡ stretchOf (i .0) (i .1))
+pub record Coincide : Type 0 where
+  -- numbers
+  pub numbers-narrow : Decides numbers.narrow.Reads.Post
+  pub numbers-advance-by : Decides numbers.advance_by.Reads.Post
+  pub numbers-round-half-away : Decides numbers.round_half_away.Reads.Post
+  pub numbers-cut : Decides numbers.cut.Reads.Post
+  pub numbers-magnitude : Decides numbers.magnitude.Reads.Post
+  pub numbers-is-finite : Decides numbers.is_finite.Reads.Post
+  pub numbers-is-negative : Decides numbers.is_negative.Reads.Post
+  pub numbers-is-proper : Decides numbers.is_proper.Reads.Post
+  pub numbers-is-level : Decides numbers.is_level.Reads.Post
+  pub numbers-is-naught : Decides numbers.is_naught.Reads.Post
+  -- frame
+  pub frame-interpolate-frame : Decides frame.interpolate_frame.Reads.Post
+  -- playback_position
+  pub playback-position-playbackposition-into-samples : Decides playback_position.PlaybackPosition.into_samples.Reads.Post
+  pub playback-position-playbackposition-is-placeable : Decides playback_position.PlaybackPosition.is_placeable.Reads.Post
+  pub playback-position-endposition-into-samples : Decides playback_position.EndPosition.into_samples.Reads.Post
+  pub playback-position-endposition-is-endable : Decides playback_position.EndPosition.is_endable.Reads.Post
+  pub playback-position-framerange-is-within : Decides playback_position.FrameRange.is_within.Reads.Post
+  pub playback-position-region-into-frames : Decides playback_position.Region.into_frames.Reads.Post
+  pub playback-position-region-is-lawful : Decides playback_position.Region.is_lawful.Reads.Post
+  -- transport
+  pub transport-transport-new : Decides transport.Transport.new.Reads.Post
+  pub transport-transport-set-loop-region : Decides transport.Transport.set_loop_region.Reads.Post
+  pub transport-transport-increment-position : Decides transport.Transport.increment_position.Reads.Post
+  pub transport-transport-decrement-position : Decides transport.Transport.decrement_position.Reads.Post
+  pub transport-transport-seek-to : Decides transport.Transport.seek_to.Reads.Post
+  -- resampler
+  pub resampler-resampler-new : Decides resampler.Resampler.new.Reads.Post
+  pub resampler-resampler-push-frame : Decides resampler.Resampler.push_frame.Reads.Post
+  pub resampler-resampler-get : Decides resampler.Resampler.get.Reads.Post
+  pub resampler-resampler-current-frame-index : Decides resampler.Resampler.current_frame_index.Reads.Post
+  pub resampler-resampler-empty : Decides resampler.Resampler.empty.Reads.Post
+  -- playback_state_manager
+  pub playback-state-manager-playbackstate-number : Decides playback_state_manager.PlaybackState.number.Reads.Post
+  pub playback-state-manager-playbackstate-is-advancing : Decides playback_state_manager.PlaybackState.is_advancing.Reads.Post
+  pub playback-state-manager-playbackstate-pause : Decides playback_state_manager.PlaybackState.pause.Reads.Post
+  pub playback-state-manager-playbackstate-resume : Decides playback_state_manager.PlaybackState.resume.Reads.Post
+  pub playback-state-manager-playbackstate-stop : Decides playback_state_manager.PlaybackState.stop.Reads.Post
+  pub playback-state-manager-playbackstate-mark-as-stopped : Decides playback_state_manager.PlaybackState.mark_as_stopped.Reads.Post
+  pub playback-state-manager-playbackstate-update : Decides playback_state_manager.PlaybackState.update.Reads.Post
+  -- lanes
+  pub lanes-are-sized : Decides lanes.are_sized.Reads.Post
+  pub lanes-is-timely : Decides lanes.is_timely.Reads.Post
+  pub lanes-judge : Decides lanes.judge.Reads.Post
+  -- voice
+  pub voice-setup-num-frames : Decides voice.Setup.num_frames.Reads.Post
+  pub voice-setup-start : Decides voice.Setup.start.Reads.Post
+  pub voice-staticsound-course : Decides voice.StaticSound.course.Reads.Post
+  pub voice-staticsound-is-well-formed : Decides voice.StaticSound.is_well_formed.Reads.Post
+  -- moving
+  pub moving-moving-push-frame-to-resampler : Decides moving.Moving.push_frame_to_resampler.Reads.Post
+  pub moving-moving-update-position : Decides moving.Moving.update_position.Reads.Post
+  pub moving-moving-update-positions : Decides moving.Moving.update_positions.Reads.Post
+  pub moving-moving-of : Decides moving.moving_of.Reads.Post
+  -- creation
+  pub creation-blank : Decides creation.blank.Reads.Post
+  pub creation-new : Decides creation.new.Reads.Post
+  -- command_set
+  pub command-set-on-start-processing : Decides command_set.on_start_processing.Reads.Post
+  -- playing and block
+  pub playing-play : DecidesWith (λ k s. s .1 .1 .1 .1 .1 .1 .1 .1 .0 .now) playing.play.Reads.Post
+  pub block-block : DecidesWith (λ k s. s .1 .1 .1 .1 .1 .1 .1 .1 .1 .0 .now) block.block.Reads.Post
+  -- static_sound
+  pub static-sound-process : DecidesWith (λ k s. s .1 .1 .1 .1 .1 .1 .1 .1 .1 .0 .now) static_sound.process.Reads.Post
+  pub static-sound-process-into : DecidesWith (λ k s. s .1 .1 .1 .1 .1 .1 .1 .1 .1 .0 .now) static_sound.process_into.Reads.Post
+  pub static-sound-stretch : DecidesPart static_sound.stretch.Reads.Post
+  -- records and inputs
+  pub records-decode : Decides records.decode.Reads.Post
+  pub records-encode : Decides records.encode.Reads.Post
+  pub inputs-settings-of : Decides inputs.settings_of.Reads.Post
+  pub inputs-commands-of : Decides inputs.commands_of.Reads.Post
+  pub inputs-signals-of : Decides inputs.signals_of.Reads.Post
+  -- cableowl
+  pub cableowl-cableowl-version : Decides cableowl.cableowl_version.Reads.Post
+  pub cableowl-cableowl-new : Decides cableowl.cableowl_new.Reads.Post
+  pub cableowl-cableowl-on-start-processing : Decides cableowl.cableowl_on_start_processing.Reads.Post
+  pub cableowl-cableowl-process : DecidesWith (λ k s. s .1 .1 .1 .1 .1 .1 .1 .1 .1 .0 .now) cableowl.cableowl_process.Reads.Post
+  pub cableowl-cableowl-process-into : DecidesWith (λ k s. s .1 .1 .1 .1 .1 .1 .1 .1 .1 .0 .now) cableowl.cableowl_process_into.Reads.Post
+  pub cableowl-cableowl-stretch : Decides cableowl.cableowl_stretch.Reads.Post

@@ -1,6 +1,6 @@
 -- Only a lawful end: an update leaves the state as it is, or the transport has ended and the window is empty, and then it is Stopped.
 -- So after k frames of an accepted, sounding block the voice is in the state in which the block began, or it has ended so, and every sample from there on is +0.
-use Prim.Native.Nat.{ℕ, _*_, _≤_}
+use Prim.Native.Nat.{ℕ, _+_, _-_, _*_, _≤_}
 use mathlib.Core.Path.{_≡_}
 use mathlib.Core.Logic.{_⊎_}
 use mathlib.Core.Bool.{true, false}
@@ -17,7 +17,7 @@ use Rattle.moving.specs.Updates.{updated}
 use Rattle.block.specs.declared.Signals.{Signals}
 use Rattle.block.specs.Blocks.{begun, live, zeros}
 use Rattle.playing.specs.Plays.{plays}
-use Rattle.static_sound.specs.Entries.{processed}
+use Rattle.static_sound.specs.Entries.{processed, processedInto}
 
 -- Stopped, the transport not playing, nothing left to hear
 pub record Ended (m : Moving) : Type 0 where
@@ -39,3 +39,12 @@ BlockEnds =
     let m = (plays snd dt (take k (rows b)) (begun g v)) .voice .moving in
     o .answer .refusal ≡ 0 → live (begun g v) ≡ true → k ≤ length (b .rate)
     → (m .state ≡ (begun g v) .moving .state) ⊎ (Ended m × (drop (2 * k) (o .samples) ≡ zeros (drop k (rows b))))
+
+-- of a block into a mix: the samples from there on are those of its own place
+abbrev pub MixEnds : Type 0
+MixEnds =
+    (snd : List Float) (v : StaticSound) (dt : Float) (b : Lanes) (g : Signals) (mix : List Float) (from k : ℕ)
+    → let o = processedInto snd v dt b g mix from in
+    let m = (plays snd dt (take k (rows b)) (begun g v)) .voice .moving in
+    o .answer .refusal ≡ 0 → live (begun g v) ≡ true → k ≤ length (b .rate)
+    → (m .state ≡ (begun g v) .moving .state) ⊎ (Ended m × (take (2 * (length (b .rate) - k)) (drop (2 * (from + k)) (o .samples)) ≡ zeros (drop k (rows b))))

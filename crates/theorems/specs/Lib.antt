@@ -1,4 +1,4 @@
--- What is shown of the entries beyond each one's own promise: a file a theorem.
+-- What is shown of the entries beyond each one's own promise: a file a theorem, and their list in Promises.
 pub mod Sums
 pub mod Alike
 pub mod Cut
@@ -10,4 +10,12 @@ pub mod Steps
 pub mod AnyOrder
 pub mod InTheLoop
 pub mod Budget
+pub mod Stays
+pub mod AtZero
+pub mod Wraps
+pub mod Examples
+pub mod Archive
+pub mod ArchiveSchedules
+pub mod ArchiveKept
 pub mod Coincide
+pub mod Promises

@@ -1,7 +1,7 @@
 -- Block sizes do not matter. A stream of lanes between two commands, of any length, is cut into blocks: the first is given the signals, the others none.
 -- Any two ways to cut it whose blocks are all accepted write the same samples; they end in states that agree in all but the fraction and the window's frame numbers;
 -- and unless the voice has stopped by one of their cuts, they end in the same state, with the same number of steps.
--- And every way to cut a lawful stream is such a one, as long as no block has more than 4,096 frames.
+-- The same holds of blocks into a mix. And every way to cut a lawful stream is such a one, as long as no block has more than 4,096 frames.
 use Prim.Native.Nat.{ℕ, _+_, _*_}
 use mathlib.Core.Path.{_≡_}
 use mathlib.Core.Bool.{Bool, _&&_}
@@ -16,7 +16,7 @@ use Rattle.voice.specs.WellFormed.{ours}
 use Rattle.block.specs.declared.Signals.{Signals}
 use Rattle.block.specs.Blocks.{quiet}
 use Rattle.playing.specs.Plays.{Outcome}
-use Rattle.static_sound.specs.Entries.{processed}
+use Rattle.static_sound.specs.Entries.{room, processed, processedInto}
 use Rattle.theorems.specs.Sums.{sum}
 use Rattle.theorems.specs.Alike.{bare, awake}
 
@@ -63,19 +63,57 @@ AnySizes =
     let s = playedBy snd dt j js b g v mix in
     T (r .accepted) → T (s .accepted) → Agree r s
 
--- a lawful stream: the state is well formed over the sound, the other lanes and the output are as long as the rate lane, and nothing in it is refused by 10 to 12
-pub record Stream (snd : List Float) (dt : Float) (b : Lanes) (v : StaticSound) (out : List Float) : Type 0 where
+-- ---- into a mix: the blocks follow each other from a frame on, each into what the one before left of the mix
+
+-- one block, and the row that follows it: the samples are those of the mix at the end
+abbrev pub onto : Outcome → Run → Run
+onto o r =
+    record {
+      accepted = eqb (o .answer .refusal) 0 && r .accepted;
+      sound = r .sound;
+      samples = r .samples;
+      steps = o .answer .steps + r .steps;
+      cuts = o .answer .sound ∷ r .cuts;
+    }
+
+unfoldable pub mixedBy : List Float → Float → ℕ → List ℕ → Lanes → Signals → StaticSound → List Float → ℕ → Run
+mixedBy snd dt k [] b g v mix from = alone (processedInto snd v dt (firstLanes k b) g mix from)
+mixedBy snd dt k (j ∷ ks) b g v mix from =
+    let o = processedInto snd v dt (firstLanes k b) g mix from in
+    onto o (mixedBy snd dt j ks (restLanes k b) quiet (o .answer .sound) (o .samples) (from + k))
+
+abbrev pub AnySizesMix : Type 0
+AnySizesMix =
+    (snd : List Float) (dt : Float) (b : Lanes) (g : Signals) (v : StaticSound) (k : ℕ) (ks : List ℕ) (j : ℕ) (js : List ℕ) (mix : List Float) (from : ℕ)
+    → k + sum ks ≡ length (b .rate)
+    → j + sum js ≡ length (b .rate)
+    → let r = mixedBy snd dt k ks b g v mix from in
+    let s = mixedBy snd dt j js b g v mix from in
+    T (r .accepted) → T (s .accepted) → Agree r s
+
+-- ---- a row of blocks is accepted
+
+-- a lawful stream: the state is well formed over the sound, the other lanes are as long as the rate lane, and nothing in it is refused by 10 to 12
+pub record Stream (snd : List Float) (dt : Float) (b : Lanes) (v : StaticSound) : Type 0 where
   pub ours : T (ours (length snd) v)
   pub fade : length (b .fade) ≡ length (b .rate)
   pub volume : length (b .volume) ≡ length (b .rate)
   pub left : length (b .left) ≡ length (b .rate)
   pub right : length (b .right) ≡ length (b .rate)
-  pub output : length out ≡ 2 * length (b .rate)
   pub timely : T (timely dt)
   pub laned : T (all laned (rows b))
   pub near : T (all (near (v .setup .«sample_rate») dt) (rows b))
 
+-- no block has more than 4,096 frames
+abbrev pub short : List ℕ → Bool
+short ks = all (λ (n : ℕ). leb n 4096) ks
+
 abbrev pub AllAccepted : Type 0
 AllAccepted =
     (snd : List Float) (dt : Float) (b : Lanes) (g : Signals) (v : StaticSound) (k : ℕ) (ks : List ℕ) (out : List Float)
-    → Stream snd dt b v out → k + sum ks ≡ length (b .rate) → T (all (λ (n : ℕ). leb n 4096) (k ∷ ks)) → T ((playedBy snd dt k ks b g v out) .accepted)
+    → Stream snd dt b v → length out ≡ 2 * length (b .rate) → k + sum ks ≡ length (b .rate) → T (short (k ∷ ks)) → T ((playedBy snd dt k ks b g v out) .accepted)
+
+abbrev pub AllAcceptedMix : Type 0
+AllAcceptedMix =
+    (snd : List Float) (dt : Float) (b : Lanes) (g : Signals) (v : StaticSound) (k : ℕ) (ks : List ℕ) (mix : List Float) (from : ℕ)
+    → Stream snd dt b v → T (room from (length (b .rate)) mix) → k + sum ks ≡ length (b .rate) → T (short (k ∷ ks)) → T ((mixedBy snd dt k ks b g v mix from) .accepted)

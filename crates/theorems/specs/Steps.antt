@@ -14,7 +14,7 @@ use Rattle.moving.specs.Updates.{updates}
 use Rattle.block.specs.declared.Signals.{Signals}
 use Rattle.playing.specs.Plays.{total, turned, Outcome}
 use Rattle.block.specs.Blocks.{begun, live}
-use Rattle.static_sound.specs.Entries.{processed}
+use Rattle.static_sound.specs.Entries.{processed, processedInto}
 use Rattle.theorems.specs.Sums.{sum}
 
 -- the steps of each frame
@@ -32,3 +32,8 @@ abbrev pub StepsMade : Type 0
 StepsMade =
     (snd : List Float) (v : StaticSound) (dt : Float) (b : Lanes) (g : Signals) (out : List Float)
     → let o = processed snd v dt b g out in o .answer .refusal ≡ 0 → Stepped snd v dt b g o
+
+abbrev pub MixStepsMade : Type 0
+MixStepsMade =
+    (snd : List Float) (v : StaticSound) (dt : Float) (b : Lanes) (g : Signals) (mix : List Float) (from : ℕ)
+    → let o = processedInto snd v dt b g mix from in o .answer .refusal ≡ 0 → Stepped snd v dt b g o

@@ -3,4 +3,3 @@ pub mod Wraps
 pub mod Steps
 pub mod Seats
 pub mod Rust
-pub mod Examples

@@ -3,7 +3,7 @@
 use Prim.Native.Nat.{ℕ, suc, _+_, _-_, _%_, _≤_, _<_}
 use mathlib.Core.Path.{_≡_, refl, ap, _∙_}
 use mathlib.Core.Bool.{Bool, true, false, cond}
-use native.Mathlib.Nat.{mod-lt, mod-self, add-zero}
+use native.Mathlib.Nat.{mod-lt, mod-self, mod-eq-of-lt, add-zero}
 use native.Mathlib.Omega.{arith}
 use lib.Dec.{leb}
 use borrow.Author.Tests.{lt-ltb, le-ltb, le-leb, lt-leb}
@@ -73,3 +73,10 @@ module _ (s e : ℕ) where
     where
       same : (s p : ℕ) → p ≤ s → suc s - p - 1 ≡ s - p
       same s p h = omega arith
+
+  -- a step meets the loop's start itself
+  pub back-start : (p : ℕ) → s < e → p ≡ s → back (Frames s e) p ≡ e - 1
+  back-start p l h = back-wrap p l (omega arith) ∙ ap (λ (r : ℕ). e - 1 - r) (mod-eq-of-lt (omega arith)) ∙ none s e p h
+    where
+      none : (s e p : ℕ) → p ≡ s → e - 1 - (s - p) ≡ e - 1
+      none s e p h = omega arith

@@ -112,6 +112,11 @@ impl Transport {
             let loop_region = self.loop_region;
             if let FrameRange::Frames(start, end) = loop_region {
                 if self.position <= start {
+                    // A step meets the start itself, and needs no division.
+                    if self.position == start {
+                        self.position = end - 1;
+                        return self;
+                    }
                     self.position = end - 1 - (start - self.position) % (end - start);
                     return self;
                 }

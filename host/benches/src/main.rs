@@ -1,14 +1,17 @@
 // Times ours against kira's text:
 //   benches [--write DIR]
-//   benches --play ours|kira|none --rate R --block N --looped N --frames N   (one workload, to be counted)
+//   benches --modes                                                         (what the float mode costs a call)
+//   benches --play ours|safe|kira|none --rate R --block N --looped long|3|subnormal --start N --frames N
+//                                                                          (one workload, to be counted)
 
 mod measure;
+mod modes;
 mod report;
 mod workload;
 
 use std::{env, error::Error, fs, path::Path, process::ExitCode};
 
-use workload::{Kira, LONG_LOOP, Ours, Voice, Workload};
+use workload::{Kira, Looped, Ours, Safe, Voice, Workload};
 
 fn main() -> ExitCode {
     match run(&env::args().skip(1).collect::<Vec<_>>()) {
@@ -23,6 +26,11 @@ fn main() -> ExitCode {
 fn run(words: &[String]) -> Result<(), Box<dyn Error>> {
     if let Some(who) = option(words, "--play") {
         return play(who, words);
+    }
+    if words.iter().any(|word| word == "--modes") {
+        let [plain, flushing] = modes::cost();
+        println!("a call of 64 frames: {plain:.1} ns; from a host that flushes: {flushing:.1} ns");
+        return Ok(());
     }
     let rows = measure::all();
     let table = report::table(&rows);
@@ -47,22 +55,32 @@ fn number<T: std::str::FromStr>(words: &[String], name: &str, otherwise: T) -> R
     })
 }
 
-/// Plays one workload and nothing else; `none` makes both voices and plays neither.
+/// Plays one workload and nothing else; `none` makes all voices and plays none.
 fn play(who: &str, words: &[String]) -> Result<(), Box<dyn Error>> {
     let workload = Workload {
         rate: number(words, "--rate", 0.93)?,
         block: number(words, "--block", 512)?,
-        looped: number(words, "--looped", LONG_LOOP)?,
+        looped: match option(words, "--looped") {
+            None | Some("long") => Looped::Long,
+            Some("3") => Looped::Three,
+            Some("subnormal") => Looped::Tail,
+            Some(word) => {
+                return Err(format!("--looped takes long, 3 or subnormal, not {word}").into());
+            }
+        },
+        start: option(words, "--start").map(str::parse).transpose()?,
     };
     let frames: usize = number(words, "--frames", 512_000)?;
-    let sound = workload::sound();
+    let sound = workload.looped.sound();
     let mut ours = Ours::new(&workload, &sound);
+    let mut safe = Safe::new(&workload, &sound);
     let mut kira = Kira::new(&workload, &sound);
     let voice: Option<&mut dyn Voice> = match who {
         "ours" => Some(&mut ours),
+        "safe" => Some(&mut safe),
         "kira" => Some(&mut kira),
         "none" => None,
-        _ => return Err(format!("--play takes ours, kira or none, not {who}").into()),
+        _ => return Err(format!("--play takes ours, safe, kira or none, not {who}").into()),
     };
     if let Some(voice) = voice {
         (0..frames / workload.block).for_each(|_| voice.block());

@@ -1,15 +1,15 @@
-// Times ours and kira's text in turns, so that what disturbs one disturbs the other.
+// Times ours, the safe crate and kira's text in turns, so that what disturbs one disturbs the others.
 
 use std::time::Instant;
 
-use crate::workload::{Kira, LONG_LOOP, Ours, SHORT_LOOP, Voice, Workload, sound};
+use crate::workload::{Kira, Looped, Ours, Safe, Voice, Workload};
 
-/// The rates played.
-pub const RATES: [f64; 5] = [0.5, 0.93, 1.0, 2.0, 16.0];
+/// The rates played forward.
+pub const FORWARD: [f64; 5] = [0.5, 0.93, 1.0, 2.0, 16.0];
+/// The rates played backward.
+const BACKWARD: [f64; 3] = [-1.0, -2.0, -16.0];
 /// The blocks played, in frames.
 pub const BLOCKS: [usize; 3] = [64, 512, 4_096];
-/// The loops played, in frames.
-pub const LOOPS: [usize; 2] = [LONG_LOOP, SHORT_LOOP];
 
 const REPETITIONS: usize = 200;
 /// Frames of one repetition: whole blocks of each size.
@@ -29,52 +29,51 @@ pub struct Time {
 pub struct Row {
     /// What was played.
     pub workload: Workload,
-    /// Ours.
+    /// Ours, through the C entry.
     pub ours: Time,
+    /// Ours, through the safe crate.
+    pub safe: Time,
     /// kira's text.
     pub kira: Time,
-}
-
-impl Row {
-    /// Our least time over kira's.
-    #[must_use]
-    pub fn ratio(&self) -> f64 {
-        self.ours.least / self.kira.least
-    }
 }
 
 /// Every workload.
 #[must_use]
 pub fn all() -> Vec<Row> {
-    let sound = sound();
-    let with_blocks = LOOPS
-        .into_iter()
-        .flat_map(|looped| BLOCKS.map(|block| (looped, block)));
-    with_blocks
-        .flat_map(|(looped, block)| {
-            RATES.map(|rate| Workload {
-                rate,
-                block,
-                looped,
-            })
+    Looped::ALL.into_iter().flat_map(rows).collect()
+}
+
+fn rows(looped: Looped) -> Vec<Row> {
+    let sound = looped.sound();
+    let with_rate = BLOCKS.into_iter().flat_map(|block| {
+        let rates = FORWARD.into_iter().chain(BACKWARD);
+        rates.map(move |rate| Workload {
+            rate,
+            block,
+            looped,
+            start: None,
         })
-        .map(|workload| row(workload, &sound))
-        .collect()
+    });
+    with_rate.map(|workload| row(workload, &sound)).collect()
 }
 
 fn row(workload: Workload, sound: &[f32]) -> Row {
     let mut ours = Ours::new(&workload, sound);
+    let mut safe = Safe::new(&workload, sound);
     let mut kira = Kira::new(&workload, sound);
-    let mut times = [Vec::new(), Vec::new()];
+    let mut times = [Vec::new(), Vec::new(), Vec::new()];
     for _ in 0..REPETITIONS {
         times[0].push(timed(&mut ours, workload.block));
-        times[1].push(timed(&mut kira, workload.block));
+        times[1].push(timed(&mut safe, workload.block));
+        times[2].push(timed(&mut kira, workload.block));
     }
     assert_eq!(ours.heard(), kira.heard(), "both play the same");
-    let [ours, kira] = times.map(summed_up);
+    assert_eq!(ours.heard(), safe.heard(), "both play the same");
+    let [ours, safe, kira] = times.map(summed_up);
     Row {
         workload,
         ours,
+        safe,
         kira,
     }
 }

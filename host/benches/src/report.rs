@@ -1,35 +1,33 @@
 // The times as a table, a page and a plot.
 
-use std::fmt::Write;
+use std::{fmt::Write, fs, process::Command};
 
 use crate::{
-    measure::{BLOCKS, RATES, Row},
-    workload::{HZ, LONG_LOOP},
+    measure::{BLOCKS, FORWARD, Row},
+    workload::{HZ, Looped},
 };
 
 /// The table, one line a workload.
 #[must_use]
 pub fn table(rows: &[Row]) -> String {
     let mut text = String::from(
-        "| loop | block | rate | ours: least | median | kira: least | median | ours / kira | our voices a core |\n|---|---|---|---|---|---|---|---|---|\n",
+        "| loop | block | rate | ours: least | median | safe crate: least | kira: least | median | ours / kira | safe / kira | our voices a core |\n|---|---|---|---|---|---|---|---|---|---|---|\n",
     );
     for row in rows {
-        let looped = if row.workload.looped == LONG_LOOP {
-            "long"
-        } else {
-            "3 frames"
-        };
+        let looped = row.workload.looped.name();
         let voices = 1e9 / (row.ours.least * f64::from(HZ));
         writeln!(
             text,
-            "| {looped} | {} | {} | {:.2} | {:.2} | {:.2} | {:.2} | {:.2} | {voices:.0} |",
+            "| {looped} | {} | {} | {:.2} | {:.2} | {:.2} | {:.2} | {:.2} | {:.2} | {:.2} | {voices:.0} |",
             row.workload.block,
             row.workload.rate,
             row.ours.least,
             row.ours.median,
+            row.safe.least,
             row.kira.least,
             row.kira.median,
-            row.ratio(),
+            row.ours.least / row.kira.least,
+            row.safe.least / row.kira.least,
         )
         .expect("a string takes all");
     }
@@ -42,26 +40,53 @@ pub fn document(rows: &[Row]) -> String {
     format!(
         "# Benchmark
 
-Nanoseconds a stereo frame at 48 kHz, ours through the C entry with every check against kira's own text (`host/oracle`, no checks, no copies), in turns in one process; 200 repetitions of 8,192 frames. The last column is how many of our voices one core plays at 48 kHz. Machines differ: use the ratios.
+Nanoseconds a stereo frame at 48 kHz: ours with every check, through the C entry and through the safe crate (which sets the float mode of each call), against kira's own text (`host/timed`: no checks, no counts, no copies), in turns in one process; 200 repetitions of 8,192 frames. A negative rate plays backward. \"Subnormal\" is the long loop over samples of about 2^-130, the tail of a decay. Such a frame costs x86-64 some forty times as much, kira's text as ours, and a host's flush-to-zero does not help, since each call of the safe crate runs in the plain mode: clear subnormal samples when a sound is loaded, if it has any. The last column is how many of our voices one core plays at 48 kHz. Machines differ: use the ratios.
+
+Measured on {}.
 
 ```
 cd host && cargo run --release --offline -p benches -- --write ../docs    # writes this page and the plot
+cd host && cargo run --release --offline -p benches -- --modes            # what the float mode costs a call
 tools/instructions                                                        # instructions a frame, by callgrind
+tools/divisions                                                           # divisions in a loop of 3 frames, by callgrind
 ```
 
 ![Nanoseconds a frame, ours and kira's text](benchmark.svg)
 
 {}",
+        machine(),
         table(rows)
     )
 }
 
-/// The long loop as bars: a panel a block size, a pair of bars a rate.
+/// Processor, system, compiler and day of the run, as far as they can be told.
+fn machine() -> String {
+    let said = |program: &str, words: &[&str]| {
+        let output = Command::new(program).args(words).output().ok()?;
+        let text = String::from_utf8(output.stdout).ok()?;
+        Some(text.trim().to_string()).filter(|text| !text.is_empty())
+    };
+    let processor = || {
+        let text = fs::read_to_string("/proc/cpuinfo").ok()?;
+        let line = text.lines().find(|line| line.starts_with("model name"))?;
+        Some(line.split_once(':')?.1.trim().to_string())
+    };
+    [
+        processor(),
+        said("uname", &["-sm"]),
+        said("rustc", &["--version"]),
+        said("date", &["-u", "+%Y-%m-%d"]),
+    ]
+    .map(|word| word.unwrap_or_else(|| "unknown".into()))
+    .join(", ")
+}
+
+/// The long loop, forward, as bars: a panel a block size, a pair of bars a rate.
 #[must_use]
 pub fn plot(rows: &[Row]) -> String {
     let long: Vec<&Row> = rows
         .iter()
-        .filter(|row| row.workload.looped == LONG_LOOP)
+        .filter(|row| row.workload.looped == Looped::Long)
         .collect();
     let most = long
         .iter()
@@ -78,7 +103,7 @@ pub fn plot(rows: &[Row]) -> String {
             left + 140
         )
         .expect("a string takes all");
-        for (place, rate) in RATES.into_iter().enumerate() {
+        for (place, rate) in FORWARD.into_iter().enumerate() {
             let found = long
                 .iter()
                 .find(|row| row.workload.block == block && row.workload.rate == rate);

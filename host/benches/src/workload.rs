@@ -1,10 +1,8 @@
-// One workload, played by ours or by kira's text: the same sound, loop, lanes and blocks.
+// One workload, played by ours through the C entry, by ours through the safe crate, or by kira's text: the same sound, loop,
+// lanes and blocks.
 
-use oracle::{
-    EndPosition, Frame, LaneBuffers, Oracle, PlaybackPosition, Region, Settings, Signals,
-};
 use random::Random;
-use raw::{CableowlSignals, CableowlState, convert};
+use raw::{CableowlPlace, CableowlRegion, CableowlSettings, CableowlSignals, CableowlState, Lanes};
 
 /// Frames a second, of the sound and of the output.
 pub const HZ: u32 = 48_000;
@@ -18,49 +16,80 @@ pub struct Workload {
     pub rate: f64,
     /// Frames of a block.
     pub block: usize,
-    /// Frames of the loop.
-    pub looped: usize,
+    /// What is looped.
+    pub looped: Looped,
+    /// The frame it starts at; none is the loop's first.
+    pub start: Option<usize>,
 }
 
-/// The loop of the whole sound.
-pub const LONG_LOOP: usize = FRAMES;
-/// The loop of three frames.
-pub const SHORT_LOOP: usize = 3;
+/// What is looped, and what it sounds like.
+#[derive(Debug, Clone, Copy, PartialEq, Eq)]
+pub enum Looped {
+    /// All of the sound.
+    Long,
+    /// Three frames of it.
+    Three,
+    /// All of a sound whose samples are subnormal, as in the tail of a decay.
+    Tail,
+}
+
+impl Looped {
+    /// All of them.
+    pub const ALL: [Self; 3] = [Self::Long, Self::Three, Self::Tail];
+
+    /// The word for it in tables and options.
+    #[must_use]
+    pub fn name(self) -> &'static str {
+        match self {
+            Self::Long => "long",
+            Self::Three => "3 frames",
+            Self::Tail => "subnormal",
+        }
+    }
+
+    fn frames(self) -> usize {
+        match self {
+            Self::Long | Self::Tail => FRAMES,
+            Self::Three => 3,
+        }
+    }
+
+    /// The sound played: samples from -1 to 1, in the tail times 2^-130.
+    #[must_use]
+    pub fn sound(self) -> Vec<f32> {
+        let level = match self {
+            Self::Long | Self::Three => 1.0,
+            Self::Tail => 2.0_f64.powi(-130),
+        };
+        let mut random = Random::new(2);
+        let sample = |_| ((random.unit() * 2.0 - 1.0) * level) as f32;
+        (0..2 * FRAMES).map(sample).collect()
+    }
+}
+
+/// The lanes of every block.
+struct Numbers {
+    amplitudes: [Vec<f32>; 4],
+    rate: Vec<f64>,
+}
 
 impl Workload {
-    fn settings(&self) -> Settings {
-        let start = (FRAMES - self.looped) / 2;
-        Settings {
-            start: PlaybackPosition::Samples(start),
-            loop_region: Some(Region {
-                start: PlaybackPosition::Samples(start),
-                end: EndPosition::Custom(PlaybackPosition::Samples(start + self.looped)),
-            }),
-            rate: self.rate,
-            ..Settings::new(HZ)
-        }
+    fn loop_start(&self) -> usize {
+        (FRAMES - self.looped.frames()) / 2
     }
 
-    fn lanes(&self) -> LaneBuffers {
+    fn loop_end(&self) -> usize {
+        self.loop_start() + self.looped.frames()
+    }
+
+    fn numbers(&self) -> Numbers {
         let mut random = Random::new(3);
-        let n = self.block;
-        let mut lane = || (0..n).map(|_| random.unit() as f32).collect();
-        LaneBuffers {
-            fade: lane(),
-            volume: lane(),
-            left: lane(),
-            right: lane(),
-            rate: vec![self.rate; n],
+        let mut lane = || (0..self.block).map(|_| random.unit() as f32).collect();
+        Numbers {
+            amplitudes: [lane(), lane(), lane(), lane()],
+            rate: vec![self.rate; self.block],
         }
     }
-}
-
-/// The sound every workload plays.
-#[must_use]
-pub fn sound() -> Vec<f32> {
-    let mut random = Random::new(2);
-    let sample = |_| (random.unit() * 2.0 - 1.0) as f32;
-    (0..2 * FRAMES).map(sample).collect()
 }
 
 /// The seconds of an output frame.
@@ -73,85 +102,178 @@ pub trait Voice {
     /// Plays one block.
     fn block(&mut self);
 
-    /// The samples of the last block, and all steps.
-    fn heard(&self) -> (Vec<f32>, u64);
+    /// The samples of the last block, by bits.
+    fn heard(&self) -> Vec<u32>;
+}
+
+fn bits(samples: &[f32]) -> Vec<u32> {
+    samples.iter().map(|sample| sample.to_bits()).collect()
 }
 
 /// Ours, with all its checks: every call judges the state and the lanes.
 pub struct Ours<'a> {
     state: CableowlState,
     sound: &'a [f32],
-    lanes: LaneBuffers,
+    numbers: Numbers,
     out: Vec<f32>,
-    steps: u64,
 }
 
 impl<'a> Ours<'a> {
     /// A voice at the workload's beginning.
     #[must_use]
     pub fn new(workload: &Workload, sound: &'a [f32]) -> Self {
-        let created = raw::new(convert::settings_in(&workload.settings()), sound);
+        let place = |frame| CableowlPlace {
+            seconds: 0.0,
+            samples: frame as u64,
+            kind: 1,
+        };
+        let settings = CableowlSettings {
+            sample_rate: HZ,
+            has_loop: 1,
+            playback_rate: workload.rate,
+            start: place(workload.loop_start()),
+            loop_region: CableowlRegion {
+                start: place(workload.loop_start()),
+                end: place(workload.loop_end()),
+            },
+            ..CableowlSettings::default()
+        };
+        let created = raw::new(settings, sound);
         assert_eq!(created.refusal, 0, "accepted settings");
         Self {
             state: created.state,
             sound,
-            lanes: workload.lanes(),
+            numbers: workload.numbers(),
             out: vec![0.0; 2 * workload.block],
-            steps: 0,
         }
     }
 }
 
 impl Voice for Ours<'_> {
     fn block(&mut self) {
+        let [fade, volume, left, right] = &self.numbers.amplitudes;
+        let lanes = Lanes {
+            fade,
+            volume,
+            left,
+            right,
+            rate: &self.numbers.rate,
+        };
+        let signals = CableowlSignals::default();
         let answer = raw::process(
             self.state,
             self.sound,
-            &self.lanes.lend(),
+            &lanes,
             step(),
-            CableowlSignals::default(),
+            signals,
             &mut self.out,
         );
         debug_assert_eq!(answer.refusal, 0);
         self.state = answer.state;
-        self.steps += answer.steps;
     }
 
-    fn heard(&self) -> (Vec<f32>, u64) {
-        (self.out.clone(), self.steps)
+    fn heard(&self) -> Vec<u32> {
+        bits(&self.out)
     }
 }
 
-/// kira's text, without checks and without a copy of lanes or output.
+/// Ours through the safe crate, which sets the float mode of each call.
+pub struct Safe<'a> {
+    voice: cableowl::StaticSound,
+    sound: &'a [f32],
+    lanes: cableowl::Lanes,
+    numbers: Numbers,
+    out: Vec<f32>,
+}
+
+impl<'a> Safe<'a> {
+    /// A voice at the workload's beginning.
+    ///
+    /// # Panics
+    /// If the settings are refused, which they are not.
+    #[must_use]
+    pub fn new(workload: &Workload, sound: &'a [f32]) -> Self {
+        let settings = cableowl::Settings::new(HZ)
+            .start_position(workload.loop_start())
+            .loop_region(workload.loop_start()..workload.loop_end())
+            .playback_rate(workload.rate);
+        Self {
+            voice: cableowl::StaticSound::new(settings, sound).expect("accepted settings"),
+            sound,
+            lanes: cableowl::Lanes::new(),
+            numbers: workload.numbers(),
+            out: vec![0.0; 2 * workload.block],
+        }
+    }
+}
+
+impl Voice for Safe<'_> {
+    fn block(&mut self) {
+        let [fade, volume, left, right] = &self.numbers.amplitudes;
+        let rate = &self.numbers.rate;
+        let lanes = self.lanes.frames(rate.len()).fade(fade).volume(volume);
+        let lanes = lanes.left(left).right(right).rate(rate);
+        let signals = cableowl::Signals::new();
+        let answer = self
+            .voice
+            .process(self.sound, lanes, step(), signals, &mut self.out);
+        debug_assert!(answer.is_ok());
+    }
+
+    fn heard(&self) -> Vec<u32> {
+        bits(&self.out)
+    }
+}
+
+/// kira's text, without checks, without counts and without a copy of lanes or output.
 pub struct Kira {
-    voice: Oracle,
-    lanes: LaneBuffers,
-    out: Vec<Frame>,
-    steps: u64,
+    voice: timed::Oracle,
+    lanes: timed::LaneBuffers,
+    out: Vec<timed::Frame>,
 }
 
 impl Kira {
     /// A voice at the workload's beginning.
     #[must_use]
     pub fn new(workload: &Workload, sound: &[f32]) -> Self {
+        let start = timed::PlaybackPosition::Samples(workload.loop_start());
+        let end = timed::PlaybackPosition::Samples(workload.loop_end());
+        let settings = timed::Settings {
+            start,
+            loop_region: Some(timed::Region {
+                start,
+                end: timed::EndPosition::Custom(end),
+            }),
+            rate: workload.rate,
+            ..timed::Settings::new(HZ)
+        };
+        let numbers = workload.numbers();
+        let [fade, volume, left, right] = numbers.amplitudes;
         Self {
-            voice: Oracle::create(&workload.settings(), sound),
-            lanes: workload.lanes(),
-            out: vec![Frame::ZERO; workload.block],
-            steps: 0,
+            voice: timed::Oracle::create(&settings, sound),
+            lanes: timed::LaneBuffers {
+                fade,
+                volume,
+                left,
+                right,
+                rate: numbers.rate,
+            },
+            out: vec![timed::Frame::ZERO; workload.block],
         }
     }
 }
 
 impl Voice for Kira {
     fn block(&mut self) {
-        let signals = Signals::default();
+        let signals = timed::Signals::default();
         let (lanes, out) = (&mut self.lanes, &mut self.out);
-        self.steps += self.voice.block_frames(lanes, step(), signals, out);
+        self.voice.block_frames(lanes, step(), signals, out);
     }
 
-    fn heard(&self) -> (Vec<f32>, u64) {
-        let samples = self.out.iter().flat_map(|frame| [frame.left, frame.right]);
-        (samples.collect(), self.steps)
+    fn heard(&self) -> Vec<u32> {
+        let frames = self.out.iter();
+        frames
+            .flat_map(|frame| [frame.left, frame.right].map(f32::to_bits))
+            .collect()
     }
 }

@@ -1,8 +1,9 @@
 //! A small host: a student's evening on the listening box, played with several block sizes.
 //!
 //! The host has a parameter and a tween of its own, read by the evening's clock, so a frame's lanes
-//! do not depend on the block it falls into; blocks are cut where a command falls. Beside
-//! Cableowl's voice the same evening is played by one whose fraction is cleared at block edges.
+//! do not depend on the block it falls into; blocks are cut where a command falls. The first evening's
+//! samples are kept whole (115 MB), and the others are compared with them. Beside Cableowl's voice the
+//! same evening is played by one whose fraction is cleared at block edges.
 
 use std::{
     fmt,
@@ -228,10 +229,7 @@ impl<'a> ListeningBox<'a> {
             .rate(rate)
             .volume(0.8)
             .left(0.9);
-        let signals = Signals {
-            finished: self.clock == fade_ends,
-            ..Signals::default()
-        };
+        let signals = Signals::new().finished(self.clock == fade_ends);
         let dt = 1.0 / f64::from(DEVICE_RATE);
         let block = self
             .voice
@@ -241,12 +239,11 @@ impl<'a> ListeningBox<'a> {
     }
 
     /// The plausible slip: what lies between two frames is forgotten.
-    fn clear_fraction(&mut self) {
-        let state = self.voice.state();
-        self.voice = StaticSound::from_state(State {
-            fractional_position: 0.0,
-            ..state
-        });
+    fn clear_fraction(&mut self) -> Result<(), Refusal> {
+        let mut state = self.voice.state();
+        state.fractional_position = 0.0;
+        self.voice = StaticSound::from_state(state, self.sound)?;
+        Ok(())
     }
 }
 
@@ -273,8 +270,64 @@ struct Outcome {
     state: State,
 }
 
+/// Who hears an evening, block by block.
+trait Listener {
+    fn hear(&mut self, samples: &[f32]);
+}
+
+/// Does not listen.
+impl Listener for () {
+    fn hear(&mut self, _: &[f32]) {}
+}
+
+/// Every sample of the first evening that is heard, and how many of a later one differ from it.
+struct Heard {
+    first: Vec<f32>,
+    is_first: bool,
+    place: usize,
+    differ: usize,
+}
+
+impl Heard {
+    fn new() -> Self {
+        Self {
+            first: Vec::with_capacity(2 * clock_at(f64::from(EVENING)) as usize),
+            is_first: true,
+            place: 0,
+            differ: 0,
+        }
+    }
+
+    /// Ends an evening: how many samples differ from the first one's, by their bits or by being
+    /// too many or too few.
+    fn end(&mut self) -> usize {
+        let missing = self.first.len().abs_diff(self.place);
+        let differ = self.differ + if self.is_first { 0 } else { missing };
+        (self.is_first, self.place, self.differ) = (false, 0, 0);
+        differ
+    }
+}
+
+impl Listener for Heard {
+    fn hear(&mut self, samples: &[f32]) {
+        if self.is_first {
+            self.first.extend_from_slice(samples);
+        }
+        let first = self.first.iter().skip(self.place);
+        let pairs = first.zip(samples);
+        self.differ += pairs.filter(|(a, b)| a.to_bits() != b.to_bits()).count();
+        self.place += samples.len();
+    }
+}
+
 /// Plays the whole evening. A slip clears the fraction after each block.
-fn evening(sound: &[f32], mut blocks: Blocks, slip: bool, name: &str) -> Result<Outcome, Refusal> {
+fn evening(
+    sound: &[f32],
+    mut blocks: Blocks,
+    slip: bool,
+    name: &str,
+    listener: &mut dyn Listener,
+) -> Result<Outcome, Refusal> {
     let mut progress = Progress::new(name);
     let mut player = ListeningBox::new(sound)?;
     let mut out = vec![0.0; 2 * MAX_BLOCK_FRAMES];
@@ -291,9 +344,11 @@ fn evening(sound: &[f32], mut blocks: Blocks, slip: bool, name: &str) -> Result<
         while player.clock < end {
             let (frames, stepped) = player.play(blocks.next(), end, &mut out)?;
             steps += stepped;
-            digest = out[..2 * frames].iter().fold(digest, digested);
+            let heard = &out[..2 * frames];
+            listener.hear(heard);
+            digest = heard.iter().fold(digest, digested);
             if slip {
-                player.clear_fraction();
+                player.clear_fraction()?;
             }
             progress.at(player.clock as f64 / clock_at(f64::from(EVENING)) as f64);
         }
@@ -368,7 +423,7 @@ fn at(seconds: u32) -> String {
 fn print_script() {
     let rates = [LESSON_RATE, DEVICE_RATE].map(|rate| grouped(rate.into()));
     println!(
-        "A student's evening on the listening box, {} long",
+        "A student's evening on the listening box, {} minutes long",
         at(EVENING)
     );
     println!(
@@ -381,24 +436,46 @@ fn print_script() {
 }
 
 const HEADING: &str = "
-           Cableowl                                  A player that clears its
-                                                     fraction at block edges
-blocks of      steps   position  digest of frames    falls behind in an hour by";
-
-const VERDICT: &str =
-    "The operator is right: in Cableowl the block size changes nothing that is heard.
-The tutor is right: in the other player the sentence creeps, and the block size
-says how fast.";
+           Cableowl                                  A player that clears its fraction
+                                                     at block edges is after an hour
+blocks of      steps   position  digest of frames";
 
 /// A way to cut time, by its name.
 type Cut = (&'static str, fn() -> Blocks);
+
+/// The seed of the random cuts, which their line names.
+const SEED: u64 = 1;
 
 const CUTS: [Cut; 4] = [
     ("64", || Blocks::Of(64)),
     ("512", || Blocks::Of(512)),
     ("4,096", || Blocks::Of(4_096)),
-    ("random", || Blocks::Random(Random::new(1))),
+    ("random", || Blocks::Random(Random::new(SEED))),
 ];
+
+/// How many frames of the lesson a player is behind another after an hour; below 0 it is ahead.
+fn drift(ours: &Outcome, other: &Outcome) -> f64 {
+    (ours.steps as f64 - other.steps as f64) * 3_600.0 / f64::from(EVENING)
+}
+
+fn drift_told(drift: f64) -> String {
+    let way = if drift < 0.0 { "ahead" } else { "behind" };
+    let seconds = drift.abs() / f64::from(LESSON_RATE);
+    let frames = grouped(drift.abs().round() as u64);
+    format!("{frames:>9} frames, {seconds:>6.1} s {way}")
+}
+
+/// What the other player's figures say.
+fn verdict(drifts: &[f64]) -> &'static str {
+    let same = drifts.iter().all(|drift| *drift == drifts[0]);
+    match (same, drifts.iter().all(|drift| *drift == 0.0)) {
+        (_, true) => "The other player keeps up with it: this evening shows no creeping.",
+        (true, _) => "In the other player the sentence creeps, as fast with each block size.",
+        (false, _) => {
+            "The tutor is right: in the other player the sentence creeps, and the block size\nsays how fast."
+        }
+    }
+}
 
 fn main() -> ExitCode {
     run().unwrap_or_else(|refusal| {
@@ -411,28 +488,43 @@ fn run() -> Result<ExitCode, Refusal> {
     let sound = lesson();
     print_script();
     println!("{HEADING}");
-    let mut outcomes = Vec::new();
+    let mut heard = Heard::new();
+    let (mut outcomes, mut drifts, mut differ) = (Vec::new(), Vec::new(), 0);
     for (name, blocks) in CUTS {
-        let ours = evening(&sound, blocks(), false, name)?;
-        let slip = evening(&sound, blocks(), true, name)?;
-        let behind = ours.steps.saturating_sub(slip.steps) as f64 * 3_600.0 / f64::from(EVENING);
+        let said = format!("blocks of {name}, Cableowl");
+        let ours = evening(&sound, blocks(), false, &said, &mut heard)?;
+        differ += heard.end();
+        let said = format!("blocks of {name}, the other player");
+        let other = evening(&sound, blocks(), true, &said, &mut ())?;
+        let drift = drift(&ours, &other);
         println!(
-            "{name:>9} {:>10} {:>10}  {:016x}  {:>9} frames {:>7.1} s",
+            "{name:>9} {:>10} {:>10}  {:016x}  {}",
             grouped(ours.steps),
             grouped(ours.state.position as u64),
             ours.digest,
-            grouped(behind.round() as u64),
-            behind / f64::from(LESSON_RATE),
+            drift_told(drift),
         );
         outcomes.push(ours);
+        drifts.push(drift);
     }
-    println!();
-    if outcomes.iter().any(|outcome| *outcome != outcomes[0]) {
+    println!(
+        "(random: 1 to {} frames, seed {SEED})\n",
+        grouped(MAX_BLOCK_FRAMES as u64)
+    );
+    let samples = grouped(heard.first.len() as u64);
+    if differ > 0 || outcomes.iter().any(|outcome| *outcome != outcomes[0]) {
         println!("THEY DIFFER, and must not: a fault in Cableowl or in this host.");
+        println!(
+            "{} of {samples} samples are not those of the first.",
+            grouped(differ as u64)
+        );
         return Ok(ExitCode::FAILURE);
     }
-    let frames = grouped(clock_at(f64::from(EVENING)));
-    println!("All four agree: steps, position, state and {frames} frames, bit for bit.");
-    println!("{VERDICT}");
+    println!(
+        "All {} agree: steps, position, state, and each of {samples} samples by its bits.",
+        CUTS.len()
+    );
+    println!("The operator is right: in Cableowl the block size changes nothing that is heard.");
+    println!("{}", verdict(&drifts));
     Ok(ExitCode::SUCCESS)
 }

@@ -39,16 +39,17 @@ pub enum ResumeCommand {
 /// # Ok::<(), cableowl::Refusal>(())
 /// ```
 #[derive(Debug, Clone, Copy, PartialEq, Default)]
+#[non_exhaustive]
 pub struct Commands {
-    /// A new held rate, whose sign gives the direction.
+    /// A new held rate: its sign gives the direction, and it does not change the speed.
     pub playback_rate: Option<f64>,
     /// A new loop, or none.
     pub loop_region: LoopCommand,
-    /// Pauses.
+    /// Pauses, once a block says that the fade has finished.
     pub pause: bool,
     /// Resumes.
     pub resume: ResumeCommand,
-    /// Stops.
+    /// Stops, once a block says that the fade has finished.
     pub stop: bool,
     /// Moves by so many seconds.
     pub seek_by: Option<f64>,
@@ -63,7 +64,9 @@ impl Commands {
         Self::default()
     }
 
-    /// Sets the held rate.
+    /// Sets the held rate, of which the voice takes the direction alone: below 0 it plays backward.
+    /// **It does not change the speed**, which is the rate lane's
+    /// ([`BlockLanes::rate`](crate::BlockLanes::rate)).
     #[must_use]
     pub fn set_playback_rate(mut self, playback_rate: f64) -> Self {
         self.playback_rate = Some(playback_rate);
@@ -84,28 +87,52 @@ impl Commands {
         self
     }
 
-    /// Fades out, then pauses.
+    /// Asks for a pause: the voice is `Pausing` and **plays on as loud as the host's fade lane says**
+    /// until a block brings [`Signals::finished`](crate::Signals::finished); then it is `Paused`.
+    ///
+    /// The fade is the host's: it lends a falling fade, block by block, and says when it has
+    /// finished. A host that lends fades of 1 hears no fade, and one that never says finished hears
+    /// no pause.
+    ///
+    /// ```
+    /// use cableowl::{Commands, Lanes, PlaybackState, Settings, Signals, StaticSound};
+    ///
+    /// let sound = [1.0; 200];
+    /// let mut voice = StaticSound::new(Settings::new(1), &sound)?;
+    /// voice.on_start_processing(&sound, Commands::new().pause())?;
+    /// let (mut lanes, mut out) = (Lanes::new(), [0.0; 8]);
+    /// let falling = lanes.frames(4).fade(&[0.75, 0.5, 0.25, 0.0]);
+    /// voice.process(&sound, falling, 1.0, Signals::new(), &mut out)?;
+    /// assert_eq!(out, [0.75, 0.75, 0.5, 0.5, 0.25, 0.25, 0.0, 0.0]);
+    /// assert_eq!(voice.playback_state(), PlaybackState::Pausing);
+    /// let finished = Signals::new().finished(true);
+    /// voice.process(&sound, lanes.frames(4), 1.0, finished, &mut out)?;
+    /// assert_eq!((out, voice.playback_state()), ([0.0; 8], PlaybackState::Paused));
+    /// # Ok::<(), cableowl::Refusal>(())
+    /// ```
     #[must_use]
     pub fn pause(mut self) -> Self {
         self.pause = true;
         self
     }
 
-    /// Resumes and fades in.
+    /// Resumes: the voice is `Resuming` and plays at once, as loud as the host's fade lane says (a
+    /// host that fades in lends a rising one), and `Playing` once a block says finished.
     #[must_use]
     pub fn resume(mut self) -> Self {
         self.resume = ResumeCommand::AtOnce;
         self
     }
 
-    /// Resumes and fades in, once a block brings the answer.
+    /// The same, once a block brings the answer ([`Signals::resume`](crate::Signals::resume)).
     #[must_use]
     pub fn resume_waiting(mut self) -> Self {
         self.resume = ResumeCommand::Waiting;
         self
     }
 
-    /// Fades out, then stops for ever.
+    /// Asks for the end: as [`Commands::pause`](Commands::pause()), the voice plays on under the host's
+    /// falling fade until a block says finished; then it is stopped for ever.
     #[must_use]
     pub fn stop(mut self) -> Self {
         self.stop = true;

@@ -1,5 +1,5 @@
 //! The C ABI of the proved archive, as `host/include/cableowl.h` has it: records of numbers by
-//! value, slices as a pointer and a length. All `unsafe` of this crate is here.
+//! value, slices as a pointer and a length. All `unsafe` of this crate is here and in `float_mode`.
 #![allow(unsafe_code)]
 
 /// A window entry.

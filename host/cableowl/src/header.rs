@@ -1,58 +1,149 @@
-//! Holds `host/include/cableowl.h` to the Rust declarations, and calls the archive from C.
+//! Holds the declarations of the C interface to each other (the archive's own source, `cableowl.h`,
+//! `ffi.rs` and the test side's `raw`), and calls the archive from C.
 
 use std::{
+    collections::BTreeMap,
     fs,
     io::{self, Write},
-    mem::{offset_of, size_of},
+    mem::size_of,
     path::{Path, PathBuf},
     process::Command,
 };
 
-use crate::ffi::{
-    Commanded, Commands, Created, Entry, Part, Place, Processed, Region, Settings, Signals, State,
-};
+use crate::{MAX_BLOCK_FRAMES, PlaybackState, Refusal, ffi};
 
-/// C assertions that a struct has Rust's size, and each field Rust's place.
-macro_rules! layout {
-    ($c:literal, $rust:ty, $($field:ident)+) => {{
-        let mut lines = format!("_Static_assert(sizeof({}) == {}, \"size\");\n", $c, size_of::<$rust>());
-        $(lines += &format!(
-            "_Static_assert(offsetof({}, {field}) == {}, \"{field}\");\n",
-            $c,
-            offset_of!($rust, $field),
-            field = stringify!($field),
-        );)+
-        lines
-    }};
+/// A field: its name and its type, in Rust's words.
+type Field = (String, String);
+/// The structs in their order, each with its fields in theirs.
+type Structs = Vec<(String, Vec<Field>)>;
+
+fn here() -> &'static Path {
+    Path::new(env!("CARGO_MANIFEST_DIR"))
 }
 
-fn layouts() -> String {
-    [
-        layout!("CableowlEntry", Entry, left right number),
-        layout!("CableowlState", State, sample_rate state reverse started playing has_slice has_loop
-            count num_frames slice_start slice_end position loop_start loop_end playback_rate
-            fraction window),
-        layout!("CableowlPlace", Place, seconds samples kind),
-        layout!("CableowlRegion", Region, start end),
-        layout!("CableowlSettings", Settings, sample_rate has_slice has_loop reverse start_waits
-            playback_rate start slice loop_region),
-        layout!("CableowlCommands", Commands, has_rate loop_command pause resume stop has_seek_by
-            has_seek_to rate seek_by seek_to loop_region),
-        layout!("CableowlSignals", Signals, finished start resume),
-        layout!("CableowlCreated", Created, state refusal),
-        layout!("CableowlCommanded", Commanded, state position refusal),
-        layout!("CableowlProcessed", Processed, state steps refusal),
-        layout!("CableowlPart", Part, offset length),
-    ]
-    .concat()
+fn read(path: &str) -> String {
+    let path = here().join(path);
+    fs::read_to_string(&path).unwrap_or_else(|error| panic!("{}: {error}", path.display()))
 }
 
-/// A folder of this run's own, removed at the end.
+/// A struct's name as `ffi.rs` has it.
+fn short(name: &str) -> String {
+    name.replace("Cableowl", "")
+}
+
+/// The `#[repr(C)]` structs of Rust or Rattle text.
+fn rust_structs(text: &str) -> Structs {
+    let in_c_order = text.split("#[repr(C)]").skip(1);
+    in_c_order
+        .map(|text| {
+            let (_, text) = text.split_once("pub struct ").expect("a struct");
+            let (name, rest) = text.split_once('{').expect("its fields");
+            let (fields, _) = rest.split_once('}').expect("its end");
+            let fields = fields.lines().filter_map(|line| {
+                let (name, kind) = line.trim().strip_prefix("pub ")?.split_once(": ")?;
+                Some((name.into(), short(kind.trim_end_matches(','))))
+            });
+            (short(name.trim()), fields.collect())
+        })
+        .collect()
+}
+
+/// The structs of the header.
+fn c_structs(text: &str) -> Structs {
+    let structs = text.split("typedef struct ").skip(1);
+    structs
+        .map(|text| {
+            let (name, rest) = text.split_once('{').expect("its fields");
+            let (fields, _) = rest.split_once('}').expect("its end");
+            let fields = fields.lines().filter_map(|line| {
+                let (kind, name) = line.trim().split_once(';')?.0.split_once(' ')?;
+                let kind = match kind {
+                    "float" => "f32".into(),
+                    "double" => "f64".into(),
+                    "uint32_t" => "u32".into(),
+                    "uint64_t" => "u64".into(),
+                    other => short(other),
+                };
+                Some(match name.split_once('[') {
+                    Some((name, many)) => {
+                        let many = many.trim_end_matches(']');
+                        (name.into(), format!("[{kind}; {many}]"))
+                    }
+                    None => (name.into(), kind),
+                })
+            });
+            (short(name.trim()), fields.collect())
+        })
+        .collect()
+}
+
+fn header_text() -> String {
+    read("../include/cableowl.h")
+}
+
+/// The header's constants: its enums' and its plain numbers.
+fn constants(header: &str) -> BTreeMap<&str, u64> {
+    let words = header.split(|c: char| !c.is_ascii_alphanumeric() && c != '_');
+    let words: Vec<&str> = words.filter(|word| !word.is_empty()).collect();
+    let pairs = words.windows(2);
+    pairs
+        .filter(|pair| pair[0].starts_with("CABLEOWL_"))
+        .filter_map(|pair| Some((pair[0], pair[1].parse().ok()?)))
+        .collect()
+}
+
+/// Size and alignment of a type, by C's rule; a struct's offsets by the way.
+fn layout(structs: &Structs, kind: &str, offsets: &mut Vec<usize>) -> (usize, usize) {
+    match kind {
+        "u32" | "f32" => return (4, 4),
+        "u64" | "f64" => return (8, 8),
+        _ => {}
+    }
+    if let Some(array) = kind.strip_prefix('[') {
+        let (kind, many) = array
+            .trim_end_matches(']')
+            .split_once("; ")
+            .expect("a length");
+        let (size, align) = layout(structs, kind, &mut Vec::new());
+        return (many.parse::<usize>().expect("a number") * size, align);
+    }
+    let (_, fields) = structs
+        .iter()
+        .find(|(name, _)| name == kind)
+        .unwrap_or_else(|| panic!("no struct {kind}"));
+    let (mut end, mut most) = (0_usize, 1);
+    for (_, kind) in fields {
+        let (size, align) = layout(structs, kind, &mut Vec::new());
+        let start = end.next_multiple_of(align);
+        offsets.push(start);
+        (end, most) = (start + size, most.max(align));
+    }
+    (end.next_multiple_of(most), most)
+}
+
+/// C assertions that each struct has this size, and each field this place.
+fn assertions(structs: &Structs) -> String {
+    let mut lines = String::new();
+    for (name, fields) in structs {
+        let mut offsets = Vec::new();
+        let (size, _) = layout(structs, name, &mut offsets);
+        lines += &format!("_Static_assert(sizeof(Cableowl{name}) == {size}, \"size\");\n");
+        for ((field, _), offset) in fields.iter().zip(offsets) {
+            lines += &format!(
+                "_Static_assert(offsetof(Cableowl{name}, {field}) == {offset}, \"{field}\");\n"
+            );
+        }
+    }
+    lines
+}
+
+/// A folder of one test's own, removed at the end.
 struct Folder(PathBuf);
 
 impl Folder {
-    fn new() -> Self {
-        let path = std::env::temp_dir().join(format!("cableowl-header-{}", std::process::id()));
+    fn new(name: &str) -> Self {
+        let name = format!("cableowl-{name}-{}", std::process::id());
+        let path = std::env::temp_dir().join(name);
         fs::create_dir_all(&path).unwrap();
         Self(path)
     }
@@ -65,46 +156,38 @@ impl Drop for Folder {
     }
 }
 
-#[test]
-fn sizes_are_the_abi_s() {
-    assert_eq!(size_of::<Entry>(), 16);
-    assert_eq!(size_of::<State>(), 160);
-}
-
-#[test]
-fn header_agrees_and_c_can_call_each_entry() {
+/// Compiles a C program of tests/c together with more C text, links the archive and runs it: it must
+/// find that nothing differs.
+fn run_c(name: &str, more: &str) {
     if Command::new("cc").arg("--version").output().is_err() {
         // Written past the test's capture: it is to be seen.
         let _ = writeln!(
             io::stderr(),
-            "skipped: no C compiler 'cc' on PATH, so cableowl.h was not tried"
+            "skipped: no C compiler 'cc' on PATH, so {name}.c was not tried"
         );
         return;
     }
     let Some(archive) = option_env!("LINKED_ARCHIVE") else {
         panic!("built without the archive");
     };
-    let here = Path::new(env!("CARGO_MANIFEST_DIR"));
-    let folder = Folder::new();
-    let layout = folder.0.join("layout.c");
-    let program = folder.0.join("calls");
-    let text = format!(
-        "#include <stddef.h>\n#include \"cableowl.h\"\n{}",
-        layouts()
-    );
-    fs::write(&layout, text).unwrap();
+    let folder = Folder::new(name);
+    let (beside, program) = (folder.0.join("beside.c"), folder.0.join(name));
+    let text = format!("#include <stddef.h>\n#include \"cableowl.h\"\n{more}");
+    fs::write(&beside, text).unwrap();
     let compiled = Command::new("cc")
         .args([
             "-std=c11",
+            "-O1",
             "-Wall",
             "-Wextra",
             "-Wpedantic",
             "-Werror",
+            "-pthread",
             "-I",
         ])
-        .arg(here.join("../include"))
-        .arg(here.join("tests/c/calls.c"))
-        .arg(&layout)
+        .arg(here().join("../include"))
+        .arg(here().join(format!("tests/c/{name}.c")))
+        .arg(&beside)
         .arg(archive)
         .arg("-o")
         .arg(&program)
@@ -115,4 +198,119 @@ fn header_agrees_and_c_can_call_each_entry() {
     let run = Command::new(&program).output().unwrap();
     assert_eq!(String::from_utf8_lossy(&run.stdout), "0 differ\n");
     assert!(run.status.success());
+}
+
+#[test]
+fn four_declarations_are_one() {
+    let ours = rust_structs(&read("../../crates/cableowl/src/lib.rt"));
+    let fields: usize = ours.iter().map(|(_, fields)| fields.len()).sum();
+    assert!(ours.len() >= 11 && fields >= 58, "they are read: {ours:?}");
+    assert_eq!(c_structs(&header_text()), ours, "cableowl.h");
+    assert_eq!(rust_structs(&read("src/ffi.rs")), ours, "ffi.rs");
+    assert_eq!(rust_structs(&read("../raw/src/structs.rs")), ours, "raw");
+    for (name, size) in [
+        ("Entry", size_of::<ffi::Entry>()),
+        ("State", size_of::<ffi::State>()),
+        ("Place", size_of::<ffi::Place>()),
+        ("Region", size_of::<ffi::Region>()),
+        ("Settings", size_of::<ffi::Settings>()),
+        ("Commands", size_of::<ffi::Commands>()),
+        ("Signals", size_of::<ffi::Signals>()),
+        ("Created", size_of::<ffi::Created>()),
+        ("Commanded", size_of::<ffi::Commanded>()),
+        ("Processed", size_of::<ffi::Processed>()),
+        ("Part", size_of::<ffi::Part>()),
+    ] {
+        let (by_rule, _) = layout(&ours, name, &mut Vec::new());
+        assert_eq!(size, by_rule, "{name}");
+    }
+}
+
+#[test]
+fn a_slip_in_a_declaration_is_seen() {
+    let header = header_text();
+    let ours = c_structs(&header);
+    for (from, to) in [
+        ("uint32_t reverse;", "uint64_t reverse;"),
+        ("double position;", "float position;"),
+        (
+            "    uint32_t started;\n    uint32_t playing;",
+            "    uint32_t playing;\n    uint32_t started;",
+        ),
+        ("    uint64_t length;\n", ""),
+    ] {
+        let slipped = header.replacen(from, to, 1);
+        assert_ne!(slipped, header, "{from} is there");
+        assert_ne!(c_structs(&slipped), ours, "{from}");
+    }
+}
+
+#[test]
+fn constants_are_rust_s() {
+    let header = header_text();
+    let constants = constants(&header);
+    let value = |name: &str| {
+        let found = constants.get(name).copied();
+        found.unwrap_or_else(|| panic!("cableowl.h has no {name}"))
+    };
+    assert_eq!(value("CABLEOWL_VERSION"), crate::version().into());
+    assert_eq!(value("CABLEOWL_MAX_BLOCK_FRAMES"), MAX_BLOCK_FRAMES as u64);
+    let named = |prefix: &str| {
+        let of_this_kind = constants
+            .iter()
+            .filter(|(name, _)| name.starts_with(prefix));
+        let mut numbers: Vec<u64> = of_this_kind.map(|(_, number)| *number).collect();
+        numbers.sort_unstable();
+        numbers
+    };
+    assert_eq!(named("CABLEOWL_STATE_"), Vec::from_iter(0..7));
+    let refusals = named("CABLEOWL_REFUSAL_");
+    assert!(
+        refusals.is_sorted_by(|one, next| one < next),
+        "{refusals:?}"
+    );
+    for prefix in ["PLACE", "LOOP", "RESUME", "ANSWER"] {
+        assert_eq!(named(&format!("CABLEOWL_{prefix}_")), [0, 1, 2], "{prefix}");
+    }
+    let in_c = |name: String| {
+        let mut spelt = String::new();
+        for letter in name.chars() {
+            if letter.is_uppercase() {
+                spelt.push('_');
+            }
+            spelt.push(letter.to_ascii_uppercase());
+        }
+        spelt
+    };
+    for state in PlaybackState::ALL {
+        let name = format!("CABLEOWL_STATE{}", in_c(format!("{state:?}")));
+        assert_eq!(value(&name), state.number().into());
+    }
+    for refusal in Refusal::PLAIN {
+        let name = format!("CABLEOWL_REFUSAL{}", in_c(format!("{refusal:?}")));
+        assert_eq!(value(&name), refusal.number().into());
+    }
+    assert_eq!(refusals.len(), Refusal::PLAIN.len() + 2, "lane and advance");
+    assert_eq!(value("CABLEOWL_REFUSAL_LANE"), 11);
+    assert_eq!(value("CABLEOWL_REFUSAL_ADVANCE"), 12);
+}
+
+#[test]
+fn header_agrees_and_c_can_call_each_entry() {
+    let header = header_text();
+    let mut more = assertions(&c_structs(&header));
+    for (name, number) in constants(&header) {
+        more += &format!("_Static_assert({name} == {number}, \"{name}\");\n");
+    }
+    run_c("calls", &more);
+}
+
+#[test]
+fn a_call_needs_4_kilobytes_of_stack_at_most() {
+    run_c("stack", "");
+}
+
+#[test]
+fn c_in_any_float_mode() {
+    run_c("float_mode", "");
 }

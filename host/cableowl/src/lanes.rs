@@ -137,7 +137,7 @@ impl<'a> BlockLanes<'a> {
         self
     }
 
-    /// The rates. Their sign does not count: the direction is the held rate's.
+    /// The rates, which are the speed. Their sign does not count: the direction is the held rate's.
     pub fn rate(mut self, rate: impl Into<Lane<'a, f64>>) -> Self {
         self.rate = rate.into();
         self
@@ -156,7 +156,7 @@ impl<'a> BlockLanes<'a> {
 }
 
 /// Room for a constant, spread over a block's frames.
-#[derive(Debug, Clone)]
+#[derive(Debug)]
 struct Spread<T> {
     /// All the same number, from an earlier block.
     held: Vec<T>,
@@ -191,6 +191,15 @@ impl<T: Number> Spread<T> {
             self.held.resize(frames, number);
         }
         &self.held[..frames]
+    }
+}
+
+/// A clone has the same room: a cloned `Vec` would have room for what it holds alone.
+impl<T: Number> Clone for Spread<T> {
+    fn clone(&self) -> Self {
+        let mut room = Self::new();
+        room.held.extend_from_slice(&self.held);
+        room
     }
 }
 
@@ -229,7 +238,13 @@ mod test {
 
     #[test]
     fn room_is_made_once() {
-        let mut lanes = Lanes::new();
+        room_of(Lanes::new());
+        let mut used = Lanes::new();
+        let _ = used.frames(5).fade(0.5).lend();
+        room_of(used.clone());
+    }
+
+    fn room_of(mut lanes: Lanes) {
         let room = lanes.rate.held.as_ptr();
         for frames in [0, 1, 4_096, usize::MAX] {
             let lent = lanes.frames(frames).rate(frames as f64).lend();

@@ -3,7 +3,8 @@
 //! A voice plays a lent sound in blocks. What is heard does not depend on how the host cuts time
 //! into blocks: **block size may change when a command is heard, and nothing else.** Every call
 //! takes any input and refuses bad input by number ([`Refusal`]); a refused call changes nothing.
-//! No call of a voice panics, allocates, waits or keeps what it was lent.
+//! No call of a voice panics, allocates, waits or keeps what it was lent, and none depends on the
+//! thread's float mode: a host may flush subnormals to zero on its audio thread.
 //!
 //! Tweens, parameters and the audio device are the host's: it brings each block the numbers of
 //! every output frame in [`Lanes`], and learns what it needs from the answers.
@@ -35,12 +36,14 @@
 
 mod commands;
 mod ffi;
+mod float_mode;
 #[cfg(test)]
 mod header;
 mod lanes;
 mod playback_position;
 mod playback_state;
 mod refusal;
+mod saved;
 mod settings;
 mod state;
 mod static_sound;
@@ -49,7 +52,8 @@ pub use commands::{Commands, LoopCommand, ResumeCommand};
 pub use lanes::{BlockLanes, Lane, Lanes};
 pub use playback_position::{EndPosition, PlaybackPosition, Region};
 pub use playback_state::{PlaybackState, Signals, StartAnswer};
-pub use refusal::Refusal;
+pub use refusal::{LaneName, Refusal};
+pub use saved::Unreadable;
 pub use settings::Settings;
 pub use state::{Frame, RecentFrame, State};
 pub use static_sound::{Processed, StaticSound};

@@ -7,15 +7,15 @@ use crate::ffi;
 pub enum PlaybackState {
     /// 0: it plays.
     Playing,
-    /// 1: it plays while it fades out, and will be paused.
+    /// 1: it plays while the host fades it out, and is paused once a block says finished.
     Pausing,
     /// 2: it is silent and stands still.
     Paused,
     /// 3: it is silent until a block brings the answer to its resume.
     WaitingToResume,
-    /// 4: it plays while it fades in.
+    /// 4: it plays while the host fades it in.
     Resuming,
-    /// 5: it plays while it fades out, and will be stopped.
+    /// 5: it plays while the host fades it out, and is stopped once a block says finished.
     Stopping,
     /// 6: it is silent for ever.
     Stopped,
@@ -72,10 +72,11 @@ pub enum StartAnswer {
 /// ```
 /// use cableowl::{Signals, StartAnswer};
 ///
-/// let fade_has_ended = Signals { finished: true, ..Signals::default() };
+/// let fade_has_ended = Signals::new().finished(true);
 /// assert_eq!(fade_has_ended.start, StartAnswer::Waiting);
 /// ```
 #[derive(Debug, Clone, Copy, PartialEq, Eq, Hash, Default)]
+#[non_exhaustive]
 pub struct Signals {
     /// The fade of a pause, resume or stop has ended.
     pub finished: bool,
@@ -83,6 +84,35 @@ pub struct Signals {
     pub start: StartAnswer,
     /// The answer for a waiting resume; ignored where none waits.
     pub resume: StartAnswer,
+}
+
+impl Signals {
+    /// No signals: not finished, and both starts still waiting.
+    #[must_use]
+    pub fn new() -> Self {
+        Self::default()
+    }
+
+    /// Says whether the fade of a pause, resume or stop has ended.
+    #[must_use]
+    pub fn finished(mut self, finished: bool) -> Self {
+        self.finished = finished;
+        self
+    }
+
+    /// Answers the sound's own start.
+    #[must_use]
+    pub fn start(mut self, start: StartAnswer) -> Self {
+        self.start = start;
+        self
+    }
+
+    /// Answers a waiting resume.
+    #[must_use]
+    pub fn resume(mut self, resume: StartAnswer) -> Self {
+        self.resume = resume;
+        self
+    }
 }
 
 impl From<Signals> for ffi::Signals {

@@ -1,6 +1,35 @@
 //! The refusals: document 01, "Numbers and their refusals".
 
-use std::{error::Error, fmt};
+use std::{error::Error, fmt, hint::black_box};
+
+use crate::{ffi, float_mode};
+
+/// Which of a block's five lanes.
+#[derive(Debug, Clone, Copy, PartialEq, Eq, Hash)]
+pub enum LaneName {
+    /// The fade's amplitudes.
+    Fade,
+    /// The volume's amplitudes.
+    Volume,
+    /// The left channel's gains.
+    Left,
+    /// The right channel's gains.
+    Right,
+    /// The rates.
+    Rate,
+}
+
+impl fmt::Display for LaneName {
+    fn fmt(&self, f: &mut fmt::Formatter<'_>) -> fmt::Result {
+        f.write_str(match self {
+            Self::Fade => "fade",
+            Self::Volume => "volume",
+            Self::Left => "left",
+            Self::Right => "right",
+            Self::Rate => "rate",
+        })
+    }
+}
 
 /// Why a call was refused: its number, and a sentence to act on.
 ///
@@ -16,10 +45,9 @@ use std::{error::Error, fmt};
 /// ```
 #[derive(Debug, Clone, Copy, PartialEq, Eq, Hash)]
 #[non_exhaustive]
-#[repr(u32)]
 pub enum Refusal {
     /// 1: the state is not well formed, or the lent sound's length is not the recorded one.
-    State = 1,
+    State,
     /// 2: the sample rate.
     SampleRate,
     /// 3: the sound's sample or frame count.
@@ -39,14 +67,41 @@ pub enum Refusal {
     /// 10: the time step.
     TimeStep,
     /// 11: a number in a lane.
-    Lane,
+    Lane {
+        /// The lane of the first such number; of several in one frame, the first lane.
+        lane: LaneName,
+        /// Its frame in the block, from 0.
+        frame: usize,
+    },
     /// 12: an advance.
-    Advance,
+    Advance {
+        /// The first frame of the block, from 0, that goes too far.
+        frame: usize,
+    },
 }
 
 impl Refusal {
-    /// All twelve, from number 1 on.
-    pub const ALL: [Self; 12] = [
+    /// Document 01's number, from 1.
+    #[must_use]
+    pub fn number(self) -> u32 {
+        match self {
+            Self::State => 1,
+            Self::SampleRate => 2,
+            Self::FrameCount => 3,
+            Self::Slice => 4,
+            Self::StartPosition => 5,
+            Self::LoopRegion => 6,
+            Self::PlaybackRate => 7,
+            Self::Seek => 8,
+            Self::Block => 9,
+            Self::TimeStep => 10,
+            Self::Lane { .. } => 11,
+            Self::Advance { .. } => 12,
+        }
+    }
+
+    /// All that name no place, by number.
+    pub(crate) const PLAIN: &[Self] = &[
         Self::State,
         Self::SampleRate,
         Self::FrameCount,
@@ -57,29 +112,31 @@ impl Refusal {
         Self::Seek,
         Self::Block,
         Self::TimeStep,
-        Self::Lane,
-        Self::Advance,
     ];
 
-    /// Document 01's number, 1 to 12.
-    #[must_use]
-    pub fn number(self) -> u32 {
-        self as u32
-    }
-
-    /// The refusal with this number, if one has it.
-    #[must_use]
-    pub fn from_number(number: u32) -> Option<Self> {
-        let index = usize::try_from(number).ok()?.checked_sub(1)?;
-        Self::ALL.get(index).copied()
-    }
-
-    /// What the library's answer says: 0 is no refusal.
+    /// What the library's answer to a creation or a command set says: 0 is no refusal.
     pub(crate) fn check(number: u32) -> Result<(), Self> {
+        if number == 0 {
+            return Ok(());
+        }
+        let named = |refusal: &&Self| refusal.number() == number;
+        // The library has no other number.
+        Err(*Self::PLAIN.iter().find(named).unwrap_or(&Self::State))
+    }
+
+    /// The same of a block: refusals 11 and 12 are told their place, which is looked for only then.
+    pub(crate) fn check_block(
+        number: u32,
+        sample_rate: u32,
+        dt: f64,
+        lanes: ffi::Lanes,
+    ) -> Result<(), Self> {
         match number {
-            0 => Ok(()),
-            // The library has no number past 12.
-            _ => Err(Self::from_number(number).unwrap_or(Self::State)),
+            11 => Err(first_unlawful(lanes)),
+            12 => Err(Self::Advance {
+                frame: first_too_far(sample_rate, dt, lanes.rate),
+            }),
+            _ => Self::check(number),
         }
     }
 
@@ -111,10 +168,14 @@ impl Refusal {
             Self::TimeStep => {
                 "the time step, the seconds of one output frame, must be finite and above 0"
             }
-            Self::Lane => {
-                "fade, volume and gains must be finite with no minus sign (minus zero has one), and rates finite"
+            Self::Lane {
+                lane: LaneName::Rate,
+                ..
+            } => "rates must be finite",
+            Self::Lane { .. } => {
+                "fade, volume and gains must be finite with no minus sign (minus zero has one)"
             }
-            Self::Advance => {
+            Self::Advance { .. } => {
                 "sample rate times lane rate times time step must be at most 256 in every frame: lower the rate"
             }
         }
@@ -123,8 +184,51 @@ impl Refusal {
 
 impl fmt::Display for Refusal {
     fn fmt(&self, f: &mut fmt::Formatter<'_>) -> fmt::Result {
-        write!(f, "refusal {}: {}", self.number(), self.sentence())
+        write!(f, "refusal {}: ", self.number())?;
+        match self {
+            Self::Lane { lane, frame } => write!(f, "frame {frame} of lane {lane}: ")?,
+            Self::Advance { frame } => write!(f, "frame {frame}: ")?,
+            _ => {}
+        }
+        f.write_str(self.sentence())
     }
 }
 
 impl Error for Refusal {}
+
+/// The first number that refusal 11 is given for.
+fn first_unlawful(lanes: ffi::Lanes) -> Refusal {
+    let amplitudes = [
+        (LaneName::Fade, lanes.fade),
+        (LaneName::Volume, lanes.volume),
+        (LaneName::Left, lanes.left),
+        (LaneName::Right, lanes.right),
+    ];
+    let unlawful = |frame: usize| {
+        let amplitude = |(_, lane): &&(LaneName, &[f32])| {
+            let at = lane.get(frame);
+            at.is_some_and(|x| !x.is_finite() || x.is_sign_negative())
+        };
+        match amplitudes.iter().find(amplitude) {
+            Some(&(lane, _)) => Some(lane),
+            None => {
+                let rate = lanes.rate.get(frame);
+                rate.is_some_and(|x| !x.is_finite())
+                    .then_some(LaneName::Rate)
+            }
+        }
+    };
+    let places = (0..lanes.rate.len()).find_map(|frame| Some((unlawful(frame)?, frame)));
+    // There is one: the library gives 11 exactly then.
+    let (lane, frame) = places.unwrap_or((LaneName::Rate, 0));
+    Refusal::Lane { lane, frame }
+}
+
+/// The first frame that refusal 12 is given for.
+fn first_too_far(sample_rate: u32, dt: f64, rate: &[f64]) -> usize {
+    let too_far = |rate: &f64| f64::from(sample_rate) * rate.abs() * dt > 256.0;
+    // Hidden from the optimizer, so that no product is made before the mode is set.
+    let first = || black_box(black_box(rate).iter().position(too_far));
+    // There is one: the library gives 12 exactly then, by the same products in the same mode.
+    float_mode::plain(first).unwrap_or_default()
+}

@@ -2,19 +2,20 @@
 
 use crate::{PlaybackPosition, Region, ffi};
 
-/// How a voice is created. Whatever is not said: all of the sound from its first frame, forward at
-/// rate 1, no loop, at once.
+/// How a voice is created. Whatever is not said: all of the sound from its first frame, forward, no
+/// loop, at once.
 ///
 /// ```
 /// use cableowl::{Settings, StaticSound};
 ///
 /// let sound = [0.0; 20];
-/// let settings = Settings::new(48_000).start_position(3).loop_region(2..6).playback_rate(0.75);
+/// let settings = Settings::new(48_000).start_position(3).loop_region(2..6).reverse(true);
 /// let voice = StaticSound::new(settings, &sound)?;
 /// assert_eq!(voice.state().loop_region, Some((2, 6)));
 /// # Ok::<(), cableowl::Refusal>(())
 /// ```
 #[derive(Debug, Clone, Copy, PartialEq)]
+#[non_exhaustive]
 pub struct Settings {
     /// The sample rate of the sound, in frames a second.
     pub sample_rate: u32,
@@ -26,14 +27,15 @@ pub struct Settings {
     pub loop_region: Option<Region>,
     /// Whether to play in reverse.
     pub reverse: bool,
-    /// The held rate, whose sign gives the direction.
+    /// The held rate: its sign gives the direction, and **it does not change the speed** (see
+    /// [`Settings::playback_rate`](Settings::playback_rate())).
     pub playback_rate: f64,
     /// Whether the start waits for an answer (see [`Signals::start`](crate::Signals::start)).
     pub start_waits: bool,
 }
 
 impl Settings {
-    /// All of a sound of this sample rate, from its first frame, forward at rate 1, at once.
+    /// All of a sound of this sample rate, from its first frame, forward, at once.
     #[must_use]
     pub fn new(sample_rate: u32) -> Self {
         Self {
@@ -75,7 +77,26 @@ impl Settings {
         self
     }
 
-    /// Sets the held rate.
+    /// Sets the held rate, of which the voice takes the direction alone: below 0 it plays backward.
+    ///
+    /// **The speed is not this number but the rate lane's**, block by block
+    /// ([`BlockLanes::rate`](crate::BlockLanes::rate)). In kira one parameter is both; here its tween
+    /// stays with the host, which gives the lane the magnitude and the voice the sign.
+    ///
+    /// ```
+    /// use cableowl::{Lanes, Settings, Signals, StaticSound};
+    ///
+    /// let sound = [0.0; 200];
+    /// let mut voice = StaticSound::new(Settings::new(1).playback_rate(0.5), &sound)?;
+    /// let (mut lanes, mut out) = (Lanes::new(), [0.0; 16]);
+    /// let at_speed_1 = lanes.frames(8);
+    /// let block = voice.process(&sound, at_speed_1, 1.0, Signals::new(), &mut out)?;
+    /// assert_eq!(block.steps, 8);
+    /// let at_half_speed = lanes.frames(8).rate(0.5);
+    /// let block = voice.process(&sound, at_half_speed, 1.0, Signals::new(), &mut out)?;
+    /// assert_eq!(block.steps, 4);
+    /// # Ok::<(), cableowl::Refusal>(())
+    /// ```
     #[must_use]
     pub fn playback_rate(mut self, playback_rate: f64) -> Self {
         self.playback_rate = playback_rate;

@@ -21,8 +21,11 @@ pub struct RecentFrame {
 }
 
 /// Everything a voice is between two calls. [`StaticSound::state`](crate::StaticSound::state) reads
-/// it out, [`StaticSound::from_state`](crate::StaticSound::from_state) takes any back.
+/// it out, [`StaticSound::from_state`](crate::StaticSound::from_state) judges it and takes it back;
+/// [`State::to_bytes`] and [`State::from_bytes`] save it. The default is the blank state, which no
+/// voice has.
 #[derive(Debug, Clone, Copy, PartialEq)]
+#[non_exhaustive]
 pub struct State {
     /// The sample rate of the sound.
     pub sample_rate: u32,
@@ -50,6 +53,27 @@ pub struct State {
     pub window: [RecentFrame; 4],
     /// The window's count: how many frames may still be heard once the position has run off.
     pub time_until_empty: u32,
+}
+
+impl Default for State {
+    /// The blank state: stopped, not playing, every number 0. It is not well formed.
+    fn default() -> Self {
+        Self {
+            sample_rate: 0,
+            num_frames: 0,
+            slice: None,
+            reverse: false,
+            playback_rate: 0.0,
+            started: false,
+            playback_state: PlaybackState::Stopped,
+            fractional_position: 0.0,
+            position: 0,
+            loop_region: None,
+            playing: false,
+            window: [RecentFrame::default(); 4],
+            time_until_empty: 0,
+        }
+    }
 }
 
 /// An ABI's region: whether it is there, its start, its end.

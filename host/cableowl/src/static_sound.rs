@@ -1,9 +1,12 @@
 //! The voice: document 01, "Creation, commands, block".
 
-use crate::{BlockLanes, Commands, PlaybackState, Refusal, Settings, Signals, State, ffi};
+use crate::{
+    BlockLanes, Commands, PlaybackState, Refusal, Settings, Signals, State, ffi, float_mode,
+};
 
 /// What an accepted block reports.
 #[derive(Debug, Clone, Copy, PartialEq, Eq, Hash)]
+#[non_exhaustive]
 pub struct Processed {
     /// How many frames of the sound it stepped over.
     pub steps: u64,
@@ -34,7 +37,8 @@ impl StaticSound {
     ///
     /// Refusals 2 to 7.
     pub fn new(settings: Settings, sound: &[f32]) -> Result<Self, Refusal> {
-        let created = ffi::new(settings.into(), sound);
+        let settings = settings.into();
+        let created = float_mode::plain(|| ffi::new(settings, sound));
         Refusal::check(created.refusal)?;
         Ok(Self {
             state: created.state,
@@ -63,13 +67,17 @@ impl StaticSound {
         sound: &[f32],
         commands: Commands,
     ) -> Result<f64, Refusal> {
-        let commanded = ffi::on_start_processing(self.state, sound, commands.into());
+        let commands = commands.into();
+        let commanded = float_mode::plain(|| ffi::on_start_processing(self.state, sound, commands));
         Refusal::check(commanded.refusal)?;
         self.state = commanded.state;
         Ok(commanded.position)
     }
 
     /// Plays a block into `out`, two samples a frame. `dt` is the seconds of one output frame.
+    ///
+    /// Subnormal samples are played as they are, whatever the thread's float mode, and are slow on
+    /// some processors (docs/BENCHMARK.md): clear them when a sound is loaded, if it has any.
     ///
     /// ```
     /// use cableowl::{Lanes, PlaybackState, Settings, Signals, StaticSound};
@@ -96,12 +104,15 @@ impl StaticSound {
         signals: Signals,
         out: &mut [f32],
     ) -> Result<Processed, Refusal> {
-        let answer = ffi::process(self.state, sound, lanes.lend(), dt, signals.into(), out);
-        self.take(answer)
+        let (lanes, signals) = (lanes.lend(), signals.into());
+        let answer = float_mode::plain(|| ffi::process(self.state, sound, lanes, dt, signals, out));
+        self.take(answer, dt, lanes)
     }
 
-    /// Plays a block into a longer buffer, in place of what stands there from frame `from` on;
-    /// every other sample stays.
+    /// Plays a block into a longer buffer from frame `from` on; every other sample stays.
+    ///
+    /// It replaces what stands there and does not add to it: a host that mixes voices plays each
+    /// into a buffer of its own and adds.
     ///
     /// ```
     /// use cableowl::{Lanes, Settings, Signals, StaticSound};
@@ -127,9 +138,11 @@ impl StaticSound {
         mix: &mut [f32],
         from: usize,
     ) -> Result<Processed, Refusal> {
-        let (lanes, from) = (lanes.lend(), from as u64);
-        let answer = ffi::process_into(self.state, sound, lanes, dt, signals.into(), mix, from);
-        self.take(answer)
+        let (lanes, signals, from) = (lanes.lend(), signals.into(), from as u64);
+        let answer = float_mode::plain(|| {
+            ffi::process_into(self.state, sound, lanes, dt, signals, mix, from)
+        });
+        self.take(answer, dt, lanes)
     }
 
     /// The part of the lent samples that the voice plays: its slice's, or all. Empty only where
@@ -140,17 +153,21 @@ impl StaticSound {
     ///
     /// let sound = [0.0, 0.5, 1.0, 1.5, 2.0, 2.5];
     /// let voice = StaticSound::new(Settings::new(1).slice(1..3), &sound)?;
-    /// assert_eq!(voice.stretch(&sound), [1.0, 1.5, 2.0, 2.5]);
-    /// assert!(voice.stretch(&sound[2..]).is_empty());
+    /// let part = voice.stretch(&sound);
+    /// assert_eq!(part, [1.0, 1.5, 2.0, 2.5]);
+    /// assert_eq!(part.as_ptr(), sound[2..].as_ptr(), "the lent samples themselves");
+    /// let none = voice.stretch(&sound[2..]);
+    /// assert!(none.is_empty());
+    /// assert_eq!(none.as_ptr(), sound[2..].as_ptr(), "the empty part at their start");
     /// # Ok::<(), cableowl::Refusal>(())
     /// ```
     #[must_use]
     pub fn stretch<'a>(&self, sound: &'a [f32]) -> &'a [f32] {
-        let part = ffi::stretch(self.state, sound);
+        let part = float_mode::plain(|| ffi::stretch(self.state, sound));
         let (start, length) = (part.offset as usize, part.length as usize);
         sound
             .get(start..start.saturating_add(length))
-            .unwrap_or_default()
+            .unwrap_or(&sound[..0])
     }
 
     /// What the voice is doing.
@@ -174,7 +191,7 @@ impl StaticSound {
     /// let voice = StaticSound::new(Settings::new(48_000), &sound)?;
     /// let saved = voice.state();
     /// assert_eq!(saved.position, 3);
-    /// assert_eq!(StaticSound::from_state(saved).state(), saved);
+    /// assert_eq!(StaticSound::from_state(saved, &sound)?.state(), saved);
     /// # Ok::<(), cableowl::Refusal>(())
     /// ```
     #[must_use]
@@ -182,27 +199,41 @@ impl StaticSound {
         self.state.into()
     }
 
-    /// A voice in this state, whatever it is: one that is not well formed is refused by each call
-    /// with 1.
+    /// A voice in this state, over the sound it was created with.
     ///
     /// ```
-    /// use cableowl::{Commands, Refusal, Settings, State, StaticSound};
+    /// use cableowl::{Refusal, Settings, StaticSound};
     ///
     /// let sound = [0.5; 20];
-    /// let state = StaticSound::new(Settings::new(48_000), &sound)?.state();
-    /// let mut broken = StaticSound::from_state(State { fractional_position: 1.0, ..state });
-    /// assert_eq!(broken.on_start_processing(&sound, Commands::new()), Err(Refusal::State));
+    /// let mut state = StaticSound::new(Settings::new(48_000), &sound)?.state();
+    /// assert!(StaticSound::from_state(state, &sound).is_ok());
+    /// assert_eq!(StaticSound::from_state(state, &sound[2..]).unwrap_err(), Refusal::State);
+    /// state.fractional_position = 1.0;
+    /// assert_eq!(StaticSound::from_state(state, &sound).unwrap_err(), Refusal::State);
     /// # Ok::<(), cableowl::Refusal>(())
     /// ```
-    #[must_use]
-    pub fn from_state(state: State) -> Self {
-        Self {
+    ///
+    /// # Errors
+    ///
+    /// Refusal 1: the state is not well formed, or the sound's length is not the one it records.
+    pub fn from_state(state: State, sound: &[f32]) -> Result<Self, Refusal> {
+        let voice = Self {
             state: state.into(),
+        };
+        // A stretch is empty only where it is refused, since every sound has a frame.
+        match voice.stretch(sound).is_empty() {
+            true => Err(Refusal::State),
+            false => Ok(voice),
         }
     }
 
-    fn take(&mut self, answer: ffi::Processed) -> Result<Processed, Refusal> {
-        Refusal::check(answer.refusal)?;
+    fn take(
+        &mut self,
+        answer: ffi::Processed,
+        dt: f64,
+        lanes: ffi::Lanes,
+    ) -> Result<Processed, Refusal> {
+        Refusal::check_block(answer.refusal, self.state.sample_rate, dt, lanes)?;
         self.state = answer.state;
         Ok(Processed {
             steps: answer.steps,

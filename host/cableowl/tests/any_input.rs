@@ -49,38 +49,36 @@ fn region(random: &mut Random) -> Region {
 }
 
 fn settings(random: &mut Random) -> Settings {
-    Settings {
-        sample_rate: whole(random) as u32,
-        slice: maybe(random, region),
-        start_position: position(random),
-        loop_region: maybe(random, region),
-        reverse: random.coin(),
-        playback_rate: float(random),
-        start_waits: random.coin(),
-    }
+    let mut settings = Settings::new(whole(random) as u32)
+        .start_position(position(random))
+        .reverse(random.coin())
+        .playback_rate(float(random))
+        .start_waits(random.coin());
+    settings.slice = maybe(random, region);
+    settings.loop_region = maybe(random, region);
+    settings
 }
 
 fn commands(random: &mut Random) -> Commands {
     use ResumeCommand::{AtOnce, No, Waiting};
-    Commands {
-        playback_rate: maybe(random, float),
-        loop_region: maybe(random, region).map_or(LoopCommand::Keep, LoopCommand::Set),
-        pause: random.coin(),
-        resume: [No, AtOnce, Waiting][random.below(3)],
-        stop: random.one_in(8),
-        seek_by: maybe(random, float),
-        seek_to: maybe(random, float),
-    }
+    let mut commands = Commands::new();
+    commands.playback_rate = maybe(random, float);
+    commands.loop_region = maybe(random, region).map_or(LoopCommand::Keep, LoopCommand::Set);
+    commands.pause = random.coin();
+    commands.resume = [No, AtOnce, Waiting][random.below(3)];
+    commands.stop = random.one_in(8);
+    commands.seek_by = maybe(random, float);
+    commands.seek_to = maybe(random, float);
+    commands
 }
 
 fn signals(random: &mut Random) -> Signals {
     use StartAnswer::{Never, Now, Waiting};
     let answers = [Waiting, Now, Now, Never];
-    Signals {
-        finished: random.coin(),
-        start: answers[random.below(4)],
-        resume: answers[random.below(4)],
-    }
+    Signals::new()
+        .finished(random.coin())
+        .start(answers[random.below(4)])
+        .resume(answers[random.below(4)])
 }
 
 fn state(random: &mut Random) -> State {
@@ -91,21 +89,21 @@ fn state(random: &mut Random) -> State {
         },
         frame_index: whole(random),
     };
-    State {
-        sample_rate: whole(random) as u32,
-        num_frames: [12, 12, 12, whole(random)][random.below(4)],
-        slice: maybe(random, range),
-        reverse: random.coin(),
-        playback_rate: float(random),
-        started: random.coin(),
-        playback_state: PlaybackState::ALL[random.below(7)],
-        fractional_position: float(random) / 4.0,
-        position: whole(random),
-        loop_region: maybe(random, range),
-        playing: random.coin(),
-        window: [(); 4].map(|()| recent(random)),
-        time_until_empty: [4, 4, 3, whole(random) as u32][random.below(4)],
-    }
+    let mut state = State::default();
+    state.sample_rate = whole(random) as u32;
+    state.num_frames = [12, 12, 12, whole(random)][random.below(4)];
+    state.slice = maybe(random, range);
+    state.reverse = random.coin();
+    state.playback_rate = float(random);
+    state.started = random.coin();
+    state.playback_state = PlaybackState::ALL[random.below(7)];
+    state.fractional_position = float(random) / 4.0;
+    state.position = whole(random);
+    state.loop_region = maybe(random, range);
+    state.playing = random.coin();
+    state.window = [(); 4].map(|()| recent(random));
+    state.time_until_empty = [4, 4, 3, whole(random) as u32][random.below(4)];
+    state
 }
 
 /// A state by its bits: any two NaNs that differ in their bits differ here.
@@ -194,8 +192,14 @@ fn any_state() {
     let lanes = &mut Lanes::new();
     let mut accepted = 0;
     for _ in 0..50_000 {
-        let mut voice = StaticSound::from_state(state(random));
-        accepted += u32::from(call(&mut voice, random, lanes).is_ok());
+        let state = state(random);
+        let bytes = state.to_bytes();
+        let read = State::from_bytes(&bytes).unwrap();
+        assert_eq!(read.to_bytes(), bytes);
+        match StaticSound::from_state(state, sound(random)) {
+            Ok(mut voice) => accepted += u32::from(call(&mut voice, random, lanes).is_ok()),
+            Err(refusal) => assert_eq!(refusal, Refusal::State),
+        }
     }
     assert!(accepted > 100, "only {accepted} accepted");
 }

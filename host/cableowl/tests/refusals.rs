@@ -1,7 +1,8 @@
 // Each of the twelve refusals through the API, and that a refused call changes nothing.
 
 use cableowl::{
-    BlockLanes, Commands, Lanes, PlaybackPosition, Refusal, Settings, Signals, State, StaticSound,
+    BlockLanes, Commands, LaneName, Lanes, PlaybackPosition, Refusal, Settings, Signals, State,
+    StaticSound,
 };
 
 /// Ten frames.
@@ -13,6 +14,10 @@ fn created(settings: Settings, sound: &[f32]) -> Result<(), Refusal> {
 
 fn voice() -> StaticSound {
     StaticSound::new(Settings::new(1), &SOUND).unwrap()
+}
+
+fn voice_in(state: State) -> StaticSound {
+    StaticSound::from_state(state, &SOUND).unwrap()
 }
 
 /// Gives a command set to a voice: a refused one must leave it as it was.
@@ -33,9 +38,9 @@ fn played(
     dt: f64,
 ) -> Result<u64, Refusal> {
     let mut room = Lanes::new();
-    let (mut voice, mut out) = (StaticSound::from_state(state), [9.0; 4]);
+    let (mut voice, mut out) = (voice_in(state), [9.0; 4]);
     let answer = voice.process(&SOUND, lanes(&mut room), dt, Signals::default(), &mut out);
-    let (mut other, mut mix) = (StaticSound::from_state(state), [9.0; 8]);
+    let (mut other, mut mix) = (voice_in(state), [9.0; 8]);
     let into = other.process_into(
         &SOUND,
         lanes(&mut room),
@@ -52,59 +57,79 @@ fn played(
     answer.map(|processed| processed.steps)
 }
 
+/// The refusals, from number 1 on.
+const ALL: [Refusal; 12] = [
+    Refusal::State,
+    Refusal::SampleRate,
+    Refusal::FrameCount,
+    Refusal::Slice,
+    Refusal::StartPosition,
+    Refusal::LoopRegion,
+    Refusal::PlaybackRate,
+    Refusal::Seek,
+    Refusal::Block,
+    Refusal::TimeStep,
+    at(LaneName::Fade, 0),
+    Refusal::Advance { frame: 0 },
+];
+
+const fn at(lane: LaneName, frame: usize) -> Refusal {
+    Refusal::Lane { lane, frame }
+}
+
 #[test]
 fn numbers_and_sentences() {
-    for (index, refusal) in Refusal::ALL.into_iter().enumerate() {
-        let number = index as u32 + 1;
+    for (number, refusal) in (1..).zip(ALL) {
         assert_eq!(refusal.number(), number);
-        assert_eq!(Refusal::from_number(number), Some(refusal));
-        assert!(
-            refusal
-                .to_string()
-                .starts_with(&format!("refusal {number}: "))
-        );
+        let said = refusal.to_string();
+        assert!(said.starts_with(&format!("refusal {number}: ")), "{said}");
     }
-    assert_eq!(Refusal::from_number(0), None);
-    assert_eq!(Refusal::from_number(13), None);
+    let said = at(LaneName::Right, 17).to_string();
+    assert!(said.starts_with("refusal 11: frame 17 of lane right: fade, volume and gains"));
+    let said = at(LaneName::Rate, 0).to_string();
+    assert_eq!(
+        said,
+        "refusal 11: frame 0 of lane rate: rates must be finite"
+    );
+    let said = Refusal::Advance { frame: 4_095 }.to_string();
+    assert!(said.starts_with("refusal 12: frame 4095: sample rate times"));
 }
 
 #[test]
 fn state_1() {
     let state = voice().state();
-    let broken = [
-        State {
-            sample_rate: 0,
-            ..state
-        },
-        State {
-            position: 10,
-            ..state
-        },
-        State {
-            fractional_position: -0.0,
-            ..state
-        },
-        State {
-            loop_region: Some((4, 11)),
-            ..state
-        },
-        State {
-            time_until_empty: 5,
-            ..state
-        },
+    let changes: [fn(&mut State); 5] = [
+        |state| state.sample_rate = 0,
+        |state| state.position = 10,
+        |state| state.fractional_position = -0.0,
+        |state| state.loop_region = Some((4, 11)),
+        |state| state.time_until_empty = 5,
     ];
-    for state in broken {
-        assert_eq!(
-            played(state, |room| room.frames(2), 1.0),
-            Err(Refusal::State)
-        );
-        let mut voice = StaticSound::from_state(state);
-        let answer = voice.on_start_processing(&SOUND, Commands::new());
-        assert_eq!(answer, Err(Refusal::State));
-        assert!(voice.stretch(&SOUND).is_empty());
+    for change in changes {
+        let mut broken = state;
+        change(&mut broken);
+        let refused = StaticSound::from_state(broken, &SOUND);
+        assert_eq!(refused.unwrap_err(), Refusal::State);
     }
-    let other_sound = voice().on_start_processing(&SOUND[2..], Commands::new());
-    assert_eq!(other_sound, Err(Refusal::State));
+    let blank = StaticSound::from_state(State::default(), &SOUND);
+    assert_eq!(blank.unwrap_err(), Refusal::State);
+
+    let (mut voice, mut lanes, signals) = (voice(), Lanes::new(), Signals::new());
+    for other in [&SOUND[2..], &[0.5; 22], &[]] {
+        assert_eq!(
+            StaticSound::from_state(state, other).unwrap_err(),
+            Refusal::State
+        );
+        let answer = voice.on_start_processing(other, Commands::new());
+        assert_eq!(answer, Err(Refusal::State));
+        let mut out = [9.0; 4];
+        let answer = voice.process(other, lanes.frames(2), 1.0, signals, &mut out);
+        assert_eq!((answer, out), (Err(Refusal::State), [9.0; 4]));
+        let answer = voice.process_into(other, lanes.frames(1), 1.0, signals, &mut out, 1);
+        assert_eq!((answer, out), (Err(Refusal::State), [9.0; 4]));
+        assert!(voice.stretch(other).is_empty());
+        assert_eq!(voice.state(), state);
+    }
 }
 
 #[test]
@@ -215,6 +240,9 @@ fn block_9() {
     assert_eq!(voice.state(), state);
 }
 
+/// Lanes with one that is wrong.
+type Wrong<'a> = &'a dyn Fn(&mut Lanes) -> BlockLanes<'_>;
+
 #[test]
 fn block_10_to_12() {
     let state = voice().state();
@@ -225,29 +253,48 @@ fn block_10_to_12() {
         );
     }
     for amplitude in [-0.0, -1.0, f32::NAN, f32::INFINITY] {
-        let wrong: [&dyn Fn(&mut Lanes) -> BlockLanes<'_>; 4] = [
-            &|room| room.frames(2).fade(amplitude),
-            &|room| room.frames(2).volume(amplitude),
-            &|room| room.frames(2).left(amplitude),
-            &|room| room.frames(2).right(amplitude),
+        let wrong: [(LaneName, Wrong); 4] = [
+            (LaneName::Fade, &|room| room.frames(2).fade(amplitude)),
+            (LaneName::Volume, &|room| room.frames(2).volume(amplitude)),
+            (LaneName::Left, &|room| room.frames(2).left(amplitude)),
+            (LaneName::Right, &|room| room.frames(2).right(amplitude)),
         ];
-        for lanes in wrong {
-            assert_eq!(played(state, lanes, 1.0), Err(Refusal::Lane));
+        for (lane, lanes) in wrong {
+            assert_eq!(played(state, lanes, 1.0), Err(at(lane, 0)));
         }
     }
     assert_eq!(
-        played(state, |room| room.frames(2).fade(&[1.0, -0.0]), 1.0),
-        Err(Refusal::Lane)
-    );
-    assert_eq!(
         played(state, |room| room.frames(2).rate(f64::NAN), 1.0),
-        Err(Refusal::Lane)
+        Err(at(LaneName::Rate, 0))
     );
     assert_eq!(
         played(state, |room| room.frames(2).rate(-256.0), 1.0),
         Ok(512)
     );
-    let next_above = f64::from_bits(256_f64.to_bits() + 1);
-    let refused = played(state, |room| room.frames(2).rate(next_above), 1.0);
-    assert_eq!(refused, Err(Refusal::Advance));
+    const NEXT_ABOVE: f64 = 256_f64.next_up();
+    const TOO_FAST: [&[f64; 2]; 3] = [&[1.0, NEXT_ABOVE], &[1.0, -NEXT_ABOVE], &[256.0, 1.0e308]];
+    for rates in TOO_FAST {
+        let refused = played(state, |room| room.frames(2).rate(rates), 1.0);
+        assert_eq!(refused, Err(Refusal::Advance { frame: 1 }));
+    }
+}
+
+#[test]
+fn the_first_place_is_named() {
+    let state = voice().state();
+    let refused = played(
+        state,
+        |room| {
+            let room = room.frames(2).fade(&[1.0, -0.0]).left(&[1.0, -1.0]);
+            room.rate(&[1.0e300, f64::NAN])
+        },
+        1.0,
+    );
+    assert_eq!(refused, Err(at(LaneName::Fade, 1)));
+    let rate_in_an_earlier_frame = played(
+        state,
+        |room| room.frames(2).fade(&[1.0, -0.0]).rate(f64::INFINITY),
+        1.0,
+    );
+    assert_eq!(rate_in_an_earlier_frame, Err(at(LaneName::Rate, 0)));
 }

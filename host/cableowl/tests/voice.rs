@@ -1,7 +1,7 @@
 // What a voice does when its calls are accepted: document 01's examples through the API.
 
 use cableowl::{
-    Commands, Lanes, PlaybackState, Processed, Refusal, Settings, Signals, StartAnswer, StaticSound,
+    Commands, Lanes, PlaybackState, Refusal, Settings, Signals, StartAnswer, StaticSound,
 };
 
 /// Frames 0, 1, 2 and so on, the right channel negated.
@@ -87,13 +87,10 @@ fn states_go_their_way() {
         let block = voice.process(&sound, lanes.frames(1), 1.0, signals, &mut [0.0; 2]);
         (block.unwrap().steps, voice.playback_state())
     };
-    let (none, all) = (Signals::default(), Commands::new());
-    let finished = Signals {
-        finished: true,
-        ..none
-    };
-    let start = |start| Signals { start, ..none };
-    let resume = |resume| Signals { resume, ..none };
+    let (none, all) = (Signals::new(), Commands::new());
+    let finished = none.finished(true);
+    let start = |answer| none.start(answer);
+    let resume = |answer| none.resume(answer);
     assert_eq!(turn(all, none), (0, Playing));
     assert_eq!(turn(all, start(StartAnswer::Now)), (1, Playing));
     assert_eq!(turn(all.pause(), none), (1, Pausing));
@@ -130,7 +127,7 @@ fn cut_blocks_are_the_same_block() {
         let mut out = vec![9.0; 600];
         let all = lanes.frames(300).rate(&rates).volume(0.5);
         let block = whole.process(&sound, all, 0.7, Signals::default(), &mut out);
-        assert_eq!(block, Ok(Processed { steps }));
+        assert_eq!(block.map(|block| block.steps), Ok(steps));
         assert_eq!(whole.state(), voice.state());
         assert!(out.iter().map(|sample| sample.to_bits()).eq(heard));
     }
@@ -147,7 +144,7 @@ fn a_saved_voice_plays_on() {
     let mut voice = StaticSound::new(settings, &sound).unwrap();
     for _ in 0..40 {
         let saved = voice.state();
-        let mut copy = StaticSound::from_state(saved);
+        let mut copy = StaticSound::from_state(saved, &sound).unwrap();
         assert_eq!(copy.state(), saved);
         assert_eq!(play(&mut copy, &sound, 3), play(&mut voice, &sound, 3));
         assert_eq!(copy.state(), voice.state());
@@ -164,7 +161,7 @@ fn a_mix_is_touched_in_its_part_alone() {
         let signals = Signals::default();
         let lanes = lanes.frames(2).left(0.5).right(0.25);
         let block = voice.process_into(&sound, lanes, 1.0, signals, &mut mix, from);
-        assert_eq!(block, Ok(Processed { steps: 2 }));
+        assert_eq!(block.map(|block| block.steps), Ok(2));
         let mut expected = [9.0; 16];
         expected[2 * from..2 * from + 4].copy_from_slice(&[2.0, -1.0, 2.5, -1.25]);
         assert_eq!(mix, expected);
@@ -179,7 +176,8 @@ fn a_mix_is_touched_in_its_part_alone() {
         &mut mix,
         8,
     );
-    assert_eq!((nothing, mix), (Ok(Processed { steps: 0 }), [9.0; 16]));
+    assert_eq!(nothing.map(|block| block.steps), Ok(0));
+    assert_eq!(mix, [9.0; 16]);
 }
 
 #[test]

@@ -1,9 +1,11 @@
 // Compares ours and kira's text with document 01's rules:
-// `differential [--seed N] [--seconds N | --long] [--without-ours] [--wrong]`.
+// `differential [--seed N] [--rounds N] [--long] [--without-ours] [--wrong]`.
+// The same seed and rounds give the same table on every machine; progress and time go to standard error.
 
 use std::{
     env,
     process::ExitCode,
+    sync::Mutex,
     thread,
     time::{Duration, Instant},
 };
@@ -15,9 +17,17 @@ use differential::{
 };
 use random::Random;
 
+const USAGE: &str =
+    "usage: differential [--seed N] [--rounds N] [--long] [--without-ours] [--wrong]";
+
+/// Random rounds, unless others are asked for.
+const ROUNDS: u64 = 10_000;
+const LONG_ROUNDS: u64 = 50_000;
+
 struct Options {
     seed: u64,
-    seconds: u64,
+    rounds: Option<u64>,
+    /// Every tiny sound in full, and more rounds unless so many are asked for.
     long: bool,
     without_ours: bool,
     wrong: bool,
@@ -27,10 +37,7 @@ fn main() -> ExitCode {
     let options = match options() {
         Ok(options) => options,
         Err(message) => {
-            eprintln!("{message}");
-            eprintln!(
-                "usage: differential [--seed N] [--seconds N | --long] [--without-ours] [--wrong]"
-            );
+            eprintln!("{message}\n{USAGE}");
             return ExitCode::FAILURE;
         }
     };
@@ -39,11 +46,8 @@ fn main() -> ExitCode {
     }
     let begun = Instant::now();
     let tally = whole_run(&options);
-    println!(
-        "seed {}, {:.1} s",
-        options.seed,
-        begun.elapsed().as_secs_f64()
-    );
+    eprintln!("{:.1} s", begun.elapsed().as_secs_f64());
+    println!("seed {}, rounds {}", options.seed, options.rounds());
     print!("{tally}");
     if tally.differences() == 0 {
         ExitCode::SUCCESS
@@ -52,10 +56,17 @@ fn main() -> ExitCode {
     }
 }
 
+impl Options {
+    fn rounds(&self) -> u64 {
+        let otherwise = if self.long { LONG_ROUNDS } else { ROUNDS };
+        self.rounds.unwrap_or(otherwise)
+    }
+}
+
 fn options() -> Result<Options, String> {
     let mut options = Options {
         seed: 1,
-        seconds: 20,
+        rounds: None,
         long: false,
         without_ours: false,
         wrong: false,
@@ -69,8 +80,8 @@ fn options() -> Result<Options, String> {
         };
         match word.as_str() {
             "--seed" => options.seed = number()?,
-            "--seconds" => options.seconds = number()?,
-            "--long" => (options.long, options.seconds) = (true, 600),
+            "--rounds" => options.rounds = Some(number()?),
+            "--long" => options.long = true,
             "--without-ours" => options.without_ours = true,
             "--wrong" => options.wrong = true,
             _ => return Err(format!("{word} is not known")),
@@ -79,15 +90,67 @@ fn options() -> Result<Options, String> {
     Ok(options)
 }
 
-/// The tiny sounds, then random rounds until the time is over, on all cores.
+/// What is left to do: the tiny sounds and the longest ones, then round after round.
+struct Work {
+    next: Mutex<u64>,
+    rounds: u64,
+    said: Mutex<Instant>,
+}
+
+/// One thing to do, alone.
+enum Task {
+    TinyCreations,
+    TinySeeks,
+    Longest,
+    Zeros,
+    TinyBlocks,
+    Round(u64),
+}
+
+impl Work {
+    fn next(&self) -> Option<Task> {
+        let place = {
+            let mut next = self.next.lock().expect("no thread fails while it takes");
+            *next += 1;
+            *next - 1
+        };
+        Some(match place {
+            // The longest one first.
+            0 => Task::TinyBlocks,
+            1 => Task::TinySeeks,
+            2 => Task::TinyCreations,
+            3 => Task::Longest,
+            4 => Task::Zeros,
+            _ => {
+                let round = place - 5;
+                self.say(round);
+                (round < self.rounds).then_some(Task::Round(round))?
+            }
+        })
+    }
+
+    /// Says how far it is, every two seconds.
+    fn say(&self, round: u64) {
+        let mut said = self.said.lock().expect("no thread fails while it speaks");
+        if said.elapsed() > Duration::from_secs(2) {
+            *said = Instant::now();
+            eprintln!("  ... round {round} of {}", self.rounds);
+        }
+    }
+}
+
+/// All of it, on all cores: who does what changes nothing that is counted.
 fn whole_run(options: &Options) -> Tally {
-    let threads = thread::available_parallelism().map_or(1, usize::from) as u64;
+    let threads = thread::available_parallelism().map_or(1, usize::from);
+    let work = Work {
+        next: Mutex::new(0),
+        rounds: options.rounds(),
+        said: Mutex::new(Instant::now()),
+    };
     let mut sum = Tally::default();
     thread::scope(|scope| {
-        let one = |thread| move || one_thread(options, thread, threads);
-        let all: Vec<_> = (0..threads)
-            .map(|thread| scope.spawn(one(thread)))
-            .collect();
+        let one = || one_thread(options, &work);
+        let all: Vec<_> = (0..threads).map(|_| scope.spawn(one)).collect();
         for thread in all {
             sum.add(&thread.join().expect("a thread that ends"));
         }
@@ -95,7 +158,7 @@ fn whole_run(options: &Options) -> Tally {
     sum
 }
 
-fn one_thread(options: &Options, thread: u64, threads: u64) -> Tally {
+fn one_thread(options: &Options, work: &Work) -> Tally {
     let players: Vec<&dyn Player> = if options.without_ours {
         vec![&Kira]
     } else {
@@ -107,25 +170,22 @@ fn one_thread(options: &Options, thread: u64, threads: u64) -> Tally {
     } else {
         Extent::Short
     };
-    let first = thread == 0;
-    if first {
-        runs::tiny_creations(&mut harness, 8);
-        runs::zeros(&mut harness, 6);
-        runs::tiny_seeks(&mut harness, 8, extent);
-        Big::new().run(&mut harness);
-    }
-    if first == (threads == 1) {
-        runs::tiny_blocks(&mut harness, 8, extent);
-    }
-    // Each round has a seed of its own, so that a round can be run again by itself.
-    let end = Instant::now() + Duration::from_secs(options.seconds);
-    let mut round = thread;
-    while Instant::now() < end {
-        let mut random = Random::new(options.seed.wrapping_mul(1 << 32).wrapping_add(round));
-        runs::large(&mut harness, &mut random);
-        runs::refusals(&mut harness, &mut random);
-        runs::cuts(&mut harness, &mut random);
-        round += threads;
+    while let Some(task) = work.next() {
+        match task {
+            Task::TinyCreations => runs::tiny_creations(&mut harness, 8),
+            Task::Zeros => runs::zeros(&mut harness, 6),
+            Task::TinySeeks => runs::tiny_seeks(&mut harness, 8, extent),
+            Task::TinyBlocks => runs::tiny_blocks(&mut harness, 8, extent),
+            Task::Longest => Big::new().run(&mut harness),
+            Task::Round(round) => {
+                // Each round has a seed of its own, so that a round can be run again by itself.
+                let seed = options.seed.wrapping_mul(1 << 32).wrapping_add(round);
+                let random = &mut Random::new(seed);
+                runs::large(&mut harness, random);
+                runs::refusals(&mut harness, random);
+                runs::cuts(&mut harness, random);
+            }
+        }
     }
     harness.tally
 }

@@ -23,12 +23,14 @@ pub struct Report {
     pub answers: [u64; 13],
     /// The longest call.
     pub longest: Duration,
+    /// How many calls went wrong.
+    pub faults: u64,
     /// What was wrong, the first few.
-    pub faults: Vec<String>,
+    pub shown: Vec<String>,
 }
 
-/// How many faults are kept.
-const KEPT: usize = 5;
+/// How many faults are shown.
+const SHOWN: usize = 5;
 
 /// So many calls from a seed.
 #[must_use]
@@ -43,13 +45,22 @@ pub fn run(seed: u64, calls: u64) -> Report {
         if let Some(count) = report.answers.get_mut(answer.refusal as usize) {
             *count += 1;
         }
-        if let Some(fault) = case.fault(&answer)
-            && report.faults.len() < KEPT
-        {
-            report.faults.push(format!("{fault}\n{case:?}"));
+        if let Some(fault) = case.fault(&answer) {
+            report.faults += 1;
+            if report.shown.len() < SHOWN {
+                report.shown.push(format!("{fault}\n{case:?}"));
+            }
         }
     }
     report
+}
+
+/// So many calls from a seed, of which only their return is told.
+#[must_use]
+pub fn unjudged(seed: u64, calls: u64) -> u64 {
+    let mut random = Random::new(seed);
+    let answered = |_: &u64| Case::any(&mut random).answer().refusal <= 12;
+    (0..calls).filter(answered).count() as u64
 }
 
 impl fmt::Display for Report {
@@ -60,8 +71,8 @@ impl fmt::Display for Report {
             writeln!(f, "refusal {number:<2}{count:>12}")?;
         }
         writeln!(f, "longest call {:?}", self.longest)?;
-        writeln!(f, "faults    {:>12}", self.faults.len())?;
-        self.faults
+        writeln!(f, "faults    {:>12}", self.faults)?;
+        self.shown
             .iter()
             .try_for_each(|fault| writeln!(f, "\n{fault}"))
     }

@@ -16,7 +16,7 @@ fn main() -> ExitCode {
     let report = hostile::run(seed, count);
     println!("seed {seed}");
     print!("{report}");
-    if report.faults.is_empty() {
+    if report.faults == 0 {
         ExitCode::SUCCESS
     } else {
         ExitCode::FAILURE

@@ -1,4 +1,5 @@
-// Stand-in for kira's Parameter: a lane in place of a tween, and a held value beside it.
+// Stand-in for kira's Parameter: a lane in place of a tween, and a held value beside it. For the
+// benchmark (host/timed, cfg `timed`) it counts nothing and reads its lane without a bounds check.
 
 use std::cell::Cell;
 
@@ -13,12 +14,29 @@ pub trait Laned: Copy {
     fn at(store: &Self::Store, frame: usize) -> Self;
 }
 
+/// A lane's number.
+#[cfg(not(timed))]
+#[inline]
+fn entry<T: Copy>(lane: &[T], frame: usize) -> T {
+    lane[frame]
+}
+
+/// The same, for the benchmark.
+#[cfg(timed)]
+#[inline]
+fn entry<T: Copy>(lane: &[T], frame: usize) -> T {
+    debug_assert!(frame < lane.len());
+    // SAFETY: kira asks once an output frame, and `Oracle::block_frames` has held every lane to at
+    // least as many.
+    unsafe { *lane.get_unchecked(frame) }
+}
+
 impl Laned for Decibels {
     type Store = Vec<f32>;
 
     #[inline]
     fn at(store: &Vec<f32>, frame: usize) -> Self {
-        Self(store[frame])
+        Self(entry(store, frame))
     }
 }
 
@@ -27,7 +45,7 @@ impl Laned for Panning {
 
     #[inline]
     fn at((left, right): &(Vec<f32>, Vec<f32>), frame: usize) -> Self {
-        Self(left[frame], right[frame])
+        Self(entry(left, frame), entry(right, frame))
     }
 }
 
@@ -36,7 +54,7 @@ impl Laned for PlaybackRate {
 
     #[inline]
     fn at(store: &Vec<f64>, frame: usize) -> Self {
-        Self(store[frame])
+        Self(entry(store, frame))
     }
 }
 
@@ -72,7 +90,9 @@ impl<T: Laned> Parameter<T> {
     /// The held value; each question is counted.
     #[inline]
     pub fn value(&self) -> T {
-        self.asked.set(self.asked.get() + 1);
+        if cfg!(not(timed)) {
+            self.asked.set(self.asked.get() + 1);
+        }
         self.held
     }
 

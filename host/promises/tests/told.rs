@@ -1,6 +1,9 @@
 //! Every public function's promise is told, and a function whose promise is not told is found.
 
-use promises::{Told, all_public_functions, public_functions};
+use promises::{
+    Told, all_functions, all_public_functions, callers_told, files_named, functions,
+    public_functions,
+};
 use std::fs;
 use std::path::{Path, PathBuf};
 
@@ -16,8 +19,7 @@ fn told() -> Told {
     Told {
         promises: read("docs/PROMISES.md"),
         exceptions: read("docs/EXCEPTIONS.md"),
-        laws: read("crates/theorems/proofs/Coincide.antt")
-            + &read("crates/theorems/proofs/Leaves.antt"),
+        laws: read("crates/theorems/specs/Coincide.antt"),
     }
 }
 
@@ -62,6 +64,9 @@ fn each_wrong_answer_named_is_an_edit_that_must_be_refused() {
             continue;
         };
         let (function, rest) = rest.split_once('`').expect("a function's name ends");
+        if !function.contains("::") {
+            continue;
+        }
         let krate = function.split("::").next().expect("a crate's name");
         let wrong = rest.trim_end_matches(" |").rsplit(" | ").next();
         for edit in wrong.expect("a last column").split(", ") {
@@ -71,4 +76,101 @@ fn each_wrong_answer_named_is_an_edit_that_must_be_refused() {
         }
     }
     assert!(named > 100, "only {named} found");
+}
+
+#[test]
+fn the_first_page_is_the_record_of_promises() {
+    let record = read("crates/theorems/specs/Promises.antt");
+    let mut fields: Vec<&str> = record
+        .lines()
+        .filter_map(|line| line.strip_prefix("  pub "))
+        .filter_map(|line| line.split_whitespace().next())
+        .collect();
+    let page = read("docs/PROMISES.md");
+    let mut rows: Vec<&str> = page
+        .lines()
+        .skip_while(|line| *line != "| field | file | says |")
+        .skip(2)
+        .take_while(|line| line.starts_with("| `"))
+        .filter_map(|line| line.strip_prefix("| "))
+        .filter_map(|line| line.split(" | ").next())
+        .flat_map(|names| names.split(", "))
+        .map(|name| name.trim_matches('`'))
+        .collect();
+    fields.sort_unstable();
+    rows.sort_unstable();
+    assert_eq!(fields, rows);
+}
+
+#[test]
+fn each_function_that_asks_has_a_row_with_its_callers() {
+    let all = all_functions(&root().join("crates"));
+    let told = callers_told(&read("docs/EXCEPTIONS.md"));
+    let mut wrong = Vec::new();
+    for asking in all.iter().filter(|f| f.asks) {
+        let Some((_, named)) = told.iter().find(|(path, _)| *path == asking.path) else {
+            wrong.push(format!("{}: no row", asking.path));
+            continue;
+        };
+        let mut named = named.clone();
+        let mut calling: Vec<String> = all
+            .iter()
+            .filter(|f| f.calls(&asking.path))
+            .map(|f| f.path.clone())
+            .collect();
+        named.sort_unstable();
+        calling.sort_unstable();
+        if named != calling {
+            wrong.push(format!("{}: {named:?} against {calling:?}", asking.path));
+        }
+    }
+    for (path, _) in &told {
+        if !all.iter().any(|f| f.asks && f.path == *path) {
+            wrong.push(format!("{path}: asks nothing"));
+        }
+    }
+    assert!(told.len() > 20, "only {} found", told.len());
+    assert!(wrong.is_empty(), "{}", wrong.join("\n"));
+}
+
+#[test]
+fn a_call_is_found_by_its_path() {
+    let source = "fn held(x: u32) -> u32\n    requires { ⌜ x ⌝ }\n{\n    x\n}\nfn one() -> u32 {\n    // held(2)\n    upheld(1) + k::other(held(1))\n}\n";
+    let found = functions("k", source);
+    assert!(found[0].asks && !found[1].asks);
+    assert!(found[1].calls("k::held") && found[1].calls("k::other"));
+    assert!(!found[0].calls("k::held") && !found[1].calls("j::held"));
+}
+
+#[test]
+fn each_file_that_a_comment_names_is_there() {
+    let mut missing = Vec::new();
+    let mut folders = vec![root().join("crates")];
+    let mut named = 0;
+    while let Some(folder) = folders.pop() {
+        for entry in fs::read_dir(&folder).expect("a folder") {
+            let path = entry.expect("an entry").path();
+            if path.is_dir() {
+                folders.push(path);
+                continue;
+            }
+            let end = path.extension().unwrap_or_default();
+            if end != "rt" && end != "antt" {
+                continue;
+            }
+            let below = path.strip_prefix(root().join("crates")).expect("below");
+            let krate = root()
+                .join("crates")
+                .join(below.iter().next().expect("a crate"));
+            let text = fs::read_to_string(&path).expect("a source is text");
+            for file in files_named(&text) {
+                named += 1;
+                if !krate.join(&file).is_file() && !root().join(&file).is_file() {
+                    missing.push(format!("{}: {file}", below.display()));
+                }
+            }
+        }
+    }
+    assert!(named > 0, "no comment names a file");
+    assert!(missing.is_empty(), "{}", missing.join("\n"));
 }

@@ -9,44 +9,36 @@ use Rattle.block.proofs.begin.Lts as lts
 use Rattle.playback_state_manager.proofs.PlaybackState.update.Reads as update-reads
 use Rattle.start_time.proofs.StartSignal.answer.Reads as answer-reads
 
--- src/block.rt:66:9
 update-requires : tie.Need-update-requires
 update-requires c κs = search needs
 
--- src/block.rt:69:9
 returns : tie.Need-returns
 returns c = begun-started _ _ _ (c .before .before .before .before .update .ensures) (c .before .if1 .taken)
 
 answer-requires : tie.Need-answer-requires
 answer-requires c κs = search needs
 
--- src/block.rt:77:15
 enum-told : tie.Need-enum-told
 enum-told c = search needs
 
--- src/block.rt:82:15
 enum-told-2 : tie.Need-enum-told-2
 enum-told-2 c = search needs
 
--- src/block.rt:86:24
 enum-told-3 : tie.Need-enum-told-3
 enum-told-3 c = search needs
 
--- src/block.rt:59:1
 returns-2 : tie.Need-returns-2
 returns-2 c =
     let a = c .before .before .before in
     let e = a .before in
     begun-waiting _ _ _ (e .before .before .before .update .ensures) (e .if1 .left) (sym (a .answer .ensures) ∙ c .before .enum-told .given .1)
 
--- src/block.rt:59:1
 returns-3 : tie.Need-returns-3
 returns-3 c =
     let a = c .before .before .before in
     let e = a .before in
     begun-now _ _ _ (e .before .before .before .update .ensures) (e .if1 .left) (sym (a .answer .ensures) ∙ c .before .enum-told2 .given .1)
 
--- src/block.rt:59:1
 returns-4 : tie.Need-returns-4
 returns-4 c =
     let a = c .before .before .before .before .before in

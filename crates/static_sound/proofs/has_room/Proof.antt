@@ -6,19 +6,15 @@ use Rattle.static_sound.proofs.has_room.Tie as tie
 use Rattle.static_sound.proofs.has_room.Reads as reads
 use Rattle.static_sound.proofs.has_room.Lts as lts
 
--- src/block.rt:109:9
 returns : tie.Need-returns
 returns c = room-odd _ _ _ (c .if1 .taken)
 
--- src/block.rt:112:9
 returns-2 : tie.Need-returns-2
 returns-2 c = room-beyond _ _ _ (c .if2 .taken)
 
--- src/block.rt:114:15
 sub-result : tie.Need-sub-result
 sub-result c = search needs
 
--- src/block.rt:105:1
 returns-3 : tie.Need-returns-3
 returns-3 c = room-left _ _ _ (c .before .if1 .left) (c .if2 .left)
 

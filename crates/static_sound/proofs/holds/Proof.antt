@@ -5,11 +5,9 @@ use Rattle.static_sound.proofs.holds.Tie as tie
 use Rattle.static_sound.proofs.holds.Reads as reads
 use Rattle.static_sound.proofs.holds.Lts as lts
 
--- src/block.rt:98:1
 returns : tie.Need-returns
 returns c = holds-even _ _ (c .if1 .taken)
 
--- src/block.rt:98:1
 returns-2 : tie.Need-returns-2
 returns-2 c = holds-odd _ _ (c .if1 .left)
 

@@ -31,39 +31,30 @@ lanes-sized c = passes (c .before .are-sized .ensures) (c .if2 .left)
 timely-step : (c : tie.Else4) → timely (start (c .before .before .before .before .before) .args .dt) ≡ true
 timely-step c = passes (c .before .is-timely .ensures) (c .if4 .left)
 
--- src/block.rt:253:9
 is-well-formed-requires : tie.Need-is-well-formed-requires
 is-well-formed-requires c κs = search needs
 
--- src/block.rt:254:9
 returns : tie.Need-returns
 returns c = number-1 _ _ _ _ _ (fails (c .before .is-well-formed .ensures) (c .if1 .taken))
 
--- src/block.rt:256:9
 are-sized-requires : tie.Need-are-sized-requires
 are-sized-requires c κs = search needs
 
--- src/block.rt:257:9
 returns-2 : tie.Need-returns-2
 returns-2 c = number-9 _ _ _ _ _ (formed (c .before .before)) (fails (c .before .are-sized .ensures) (c .if2 .taken))
 
--- src/block.rt:260:9
 returns-3 : tie.Need-returns-3
 returns-3 c = number-9-place _ _ _ _ _ (formed (c .before .before .before)) (lanes-sized (c .before)) (not-true _ (c .if3 .taken))
 
--- src/block.rt:262:9
 is-timely-requires : tie.Need-is-timely-requires
 is-timely-requires c κs = search needs
 
--- src/block.rt:263:9
 returns-4 : tie.Need-returns-4
 returns-4 c = let p = c .before .before in number-10 _ _ _ _ _ (formed (p .before .before .before)) (lanes-sized (p .before)) (not-false _ (p .if3 .left)) (fails (c .before .is-timely .ensures) (c .if4 .taken))
 
--- src/block.rt:266:5
 judge-requires : tie.Need-judge-requires
 judge-requires c κs = let q = c .before in (subst T (sym (lanes-sized (q .before .before .before))) tt, subst T (sym (timely-step q)) tt)
 
--- src/block.rt:240:1
 returns-5 : tie.Need-returns-5
 returns-5 c =
     let q = c .before .before in

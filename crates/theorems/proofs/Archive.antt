@@ -1,0 +1,70 @@
+-- The archive's entries cut in two, from the entries below: an accepted call's record means the state that it encodes. Assumes nothing.
+use mathlib.Core.Path.{_≡_, sym, ap, _∙_, subst}
+use Prim.Native.Nat.{ℕ, _+_, _*_}
+use mathlib.Core.List.{List}
+use lib.Dec.{T}
+use lib.ListN.{take, drop}
+use Rattle.lanes.specs.Lanes.{firstLanes, restLanes}
+use Rattle.voice.specs.declared.StaticSound.{StaticSound}
+use Rattle.playing.specs.declared.Processed.{Processed}
+use Rattle.block.specs.Blocks.{quiet}
+use Rattle.playing.specs.Plays.{Outcome}
+use Rattle.static_sound.specs.Entries.{processed, processedInto}
+use Rattle.records.specs.declared.CableowlState.{CableowlState}
+use Rattle.records.specs.Records.{decoded, encoded}
+use Rattle.inputs.specs.Inputs.{signalsOf}
+use Rattle.cableowl.specs.Entries.{after, answered, OutcomeC, processedC, processedIntoC}
+use Rattle.records.proofs.Inverse.{decoded-encoded}
+use Rattle.theorems.specs.Alike.{bare, awake, Parts}
+use Rattle.theorems.specs.Archive.{PartsC, CutInTwoC, CutInMixC, CutBlocksC, CutMixesC}
+use Rattle.theorems.proofs.Cut.{cut-blocks}
+use Rattle.theorems.proofs.Mix.{cut-mixes}
+
+-- ---- an accepted call's record, and what it means
+
+pub after-is : (k : ℕ) (v : StaticSound) (c : CableowlState) → k ≡ 0 → after k v c ≡ encoded v
+unfolding after
+after-is k v c e = rw e
+
+pub after-means : (k : ℕ) (v : StaticSound) (c : CableowlState) → k ≡ 0 → decoded (after k v c) ≡ v
+after-means k v c e = ap decoded (after-is k v c e) ∙ decoded-encoded v
+
+-- what the archive's entry makes of an outcome below
+abbrev pub raw : Outcome → CableowlState → OutcomeC
+raw o c = record { answer = answered (o .answer) c; samples = o .samples }
+
+parts : (p f r : Processed) (c s : CableowlState) → p .refusal ≡ 0 → Parts p f r → PartsC (answered p c) (answered f c) (answered r s)
+parts p f r c s h d =
+    record {
+      accepted = d .accepted;
+      same = λ a.
+          let e = d .same (subst (λ (v : StaticSound). T (awake v)) (after-means (f .refusal) (f .sound) c (d .accepted .0)) a) in
+          (after-is (p .refusal) (p .sound) c h ∙ ap encoded (e .0) ∙ sym (after-is (r .refusal) (r .sound) s (d .accepted .1)), e .1);
+      alike =
+          ap bare (after-means (p .refusal) (p .sound) c h) ∙ d .alike
+          ∙ sym (ap bare (after-means (r .refusal) (r .sound) s (d .accepted .1)));
+    }
+
+pub archive-cut-blocks : CutBlocksC
+unfolding processedC
+archive-cut-blocks snd c dt b g out k h q =
+    let p = processed snd (decoded c) dt b (signalsOf g) out in
+    let f = processed snd (decoded c) dt (firstLanes k b) (signalsOf g) (take (2 * k) out) in
+    let r : StaticSound → Outcome = λ v. processed snd v dt (restLanes k b) quiet (drop (2 * k) out) in
+    let d = cut-blocks snd (decoded c) dt b (signalsOf g) out k h q in
+    let s = after (f .answer .refusal) (f .answer .sound) c in
+    subst (λ (v : StaticSound). CutInTwoC (raw p c) (raw f c) (raw (r v) s))
+    (sym (after-means (f .answer .refusal) (f .answer .sound) c (d .answers .accepted .0)))
+    (record { answers = parts (p .answer) (f .answer) (r (f .answer .sound) .answer) c s h (d .answers); samples = d .samples })
+
+pub archive-cut-mixes : CutMixesC
+unfolding processedIntoC
+archive-cut-mixes snd c dt b g mix from k h q =
+    let p = processedInto snd (decoded c) dt b (signalsOf g) mix from in
+    let f = processedInto snd (decoded c) dt (firstLanes k b) (signalsOf g) mix from in
+    let r : StaticSound → Outcome = λ v. processedInto snd v dt (restLanes k b) quiet (f .samples) (from + k) in
+    let d = cut-mixes snd (decoded c) dt b (signalsOf g) mix from k h q in
+    let s = after (f .answer .refusal) (f .answer .sound) c in
+    subst (λ (v : StaticSound). CutInMixC (raw p c) (raw f c) (raw (r v) s))
+    (sym (after-means (f .answer .refusal) (f .answer .sound) c (d .answers .accepted .0)))
+    (record { answers = parts (p .answer) (f .answer) (r (f .answer .sound) .answer) c s h (d .answers); samples = d .samples })

@@ -1,0 +1,51 @@
+-- The archive's own entries, on records of numbers: a block cut in two, and the same into a mix, as Cut and Mix say of the entries below.
+-- The second part is given the state that the first part answered, as a host hands it back, and signals of 0.
+use Prim.Native.Nat.{ℕ, _+_, _*_, _≤_}
+use mathlib.Core.Path.{_≡_}
+use mathlib.Core.List.{List, _++_}
+use lib.Dec.{T}
+use lib.ListN.{length, take, drop}
+use lib.Ieee.{Float}
+use Rattle.lanes.specs.Lanes.{Lanes, firstLanes, restLanes}
+use Rattle.records.specs.declared.CableowlState.{CableowlState}
+use Rattle.inputs.specs.declared.CableowlSignals.{CableowlSignals}
+use Rattle.cableowl.specs.declared.CableowlProcessed.{CableowlProcessed}
+use Rattle.records.specs.Records.{decoded}
+use Rattle.cableowl.specs.Entries.{OutcomeC, processedC, processedIntoC}
+use Rattle.theorems.specs.Alike.{bare, awake}
+
+-- no signals
+abbrev pub none : CableowlSignals
+none = record { finished = 0; start = 0; resume = 0 }
+
+-- the answers of two parts against the answer of the whole
+pub record PartsC (uncut first rest : CableowlProcessed) : Type 0 where
+  pub accepted : (first .refusal ≡ 0) × (rest .refusal ≡ 0)
+  pub same : T (awake (decoded (first .state))) → (uncut .state ≡ rest .state) × (uncut .steps ≡ first .steps + rest .steps)
+  pub alike : bare (decoded (uncut .state)) ≡ bare (decoded (rest .state))
+
+pub record CutInTwoC (uncut first rest : OutcomeC) : Type 0 where
+  pub answers : PartsC (uncut .answer) (first .answer) (rest .answer)
+  pub samples : uncut .samples ≡ first .samples ++ rest .samples
+
+pub record CutInMixC (uncut first rest : OutcomeC) : Type 0 where
+  pub answers : PartsC (uncut .answer) (first .answer) (rest .answer)
+  pub samples : uncut .samples ≡ rest .samples
+
+-- cableowl_process
+abbrev pub CutBlocksC : Type 0
+CutBlocksC =
+    (snd : List Float) (c : CableowlState) (dt : Float) (b : Lanes) (g : CableowlSignals) (out : List Float) (k : ℕ)
+    → (processedC snd c dt b g out) .answer .refusal ≡ 0 → k ≤ length (b .rate)
+    → let first = processedC snd c dt (firstLanes k b) g (take (2 * k) out) in
+    let rest = processedC snd (first .answer .state) dt (restLanes k b) none (drop (2 * k) out) in
+    CutInTwoC (processedC snd c dt b g out) first rest
+
+-- cableowl_process_into
+abbrev pub CutMixesC : Type 0
+CutMixesC =
+    (snd : List Float) (c : CableowlState) (dt : Float) (b : Lanes) (g : CableowlSignals) (mix : List Float) (from k : ℕ)
+    → (processedIntoC snd c dt b g mix from) .answer .refusal ≡ 0 → k ≤ length (b .rate)
+    → let first = processedIntoC snd c dt (firstLanes k b) g mix from in
+    let rest = processedIntoC snd (first .answer .state) dt (restLanes k b) none (first .samples) (from + k) in
+    CutInMixC (processedIntoC snd c dt b g mix from) first rest

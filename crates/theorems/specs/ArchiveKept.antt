@@ -1,0 +1,86 @@
+-- What every call of the archive leaves, as Kept says of the entries below: accepted, a record that the next call takes over the same sound; refused, the given record and samples.
+-- A record may be read out, saved and given back; one whose bytes mean nothing is refused, and so is every tag that means nothing, by the number of its field.
+-- And the part that the stretch answers is the stretch.
+use Prim.Native.Nat.{ℕ, _<_}
+use mathlib.Core.Path.{_≡_}
+use mathlib.Core.Bool.{true, false}
+use mathlib.Core.List.{List}
+use lib.Dec.{T}
+use lib.ListN.{length, take, drop}
+use lib.Ieee.{Float}
+use Rattle.numbers.specs.Words.{naught}
+use Rattle.playback_position.specs.Positions.{placeable, endable, lawfulRegion}
+use Rattle.lanes.specs.Lanes.{Lanes}
+use Rattle.voice.specs.declared.StaticSound.{StaticSound}
+use Rattle.voice.specs.WellFormed.{ours}
+use Rattle.creation.specs.Creation.{blankSound, allowed}
+use Rattle.command_set.specs.Commands.{loopable, rateable, seekable}
+use Rattle.static_sound.specs.Entries.{stretchOf}
+use Rattle.records.specs.declared.CableowlState.{CableowlState}
+use Rattle.inputs.specs.declared.CableowlSettings.{CableowlSettings}
+use Rattle.inputs.specs.declared.CableowlCommands.{CableowlCommands}
+use Rattle.inputs.specs.declared.CableowlSignals.{CableowlSignals}
+use Rattle.inputs.specs.declared.CableowlPlace.{CableowlPlace}
+use Rattle.inputs.specs.declared.CableowlRegion.{CableowlRegion}
+use Rattle.cableowl.specs.declared.CableowlPart.{CableowlPart}
+use Rattle.records.specs.Records.{lawful, decoded, encoded}
+use Rattle.inputs.specs.Inputs.{placeOf, endOf, regionIf, optionalOf, loopOf, amountOf}
+use Rattle.cableowl.specs.Entries.{OutcomeC, createdC, commandedC, processedC, processedIntoC, partC}
+use Rattle.theorems.specs.Kept.{Either}
+
+-- ---- what a call leaves
+
+-- a record that the next call takes over this sound
+abbrev pub Good : List Float → CableowlState → Type 0
+Good snd c = T (lawful c) × T (ours (length snd) (decoded c))
+
+-- of a block's outcome, given the record and the samples before
+abbrev pub BlockKeepsC : List Float → CableowlState → List Float → OutcomeC → Type 0
+BlockKeepsC snd c out o =
+    Either (o .answer .refusal) (Good snd (o .answer .state)) ((o .answer .state ≡ c) × (o .answer .steps ≡ 0) × (o .samples ≡ out))
+
+pub record ArchiveKeeps : Type 0 where
+  pub creation : (snd : List Float) (s : CableowlSettings)
+      → let a = createdC snd s in Either (a .refusal) (Good snd (a .state)) (a .state ≡ encoded blankSound)
+  pub commands : (snd : List Float) (c : CableowlState) (k : CableowlCommands)
+      → let a = commandedC snd c k in Either (a .refusal) (Good snd (a .state)) ((a .state ≡ c) × (a .position ≡ naught))
+  pub block : (snd : List Float) (c : CableowlState) (dt : Float) (b : Lanes) (g : CableowlSignals) (out : List Float)
+      → BlockKeepsC snd c out (processedC snd c dt b g out)
+  pub mix : (snd : List Float) (c : CableowlState) (dt : Float) (b : Lanes) (g : CableowlSignals) (mix : List Float) (from : ℕ)
+      → BlockKeepsC snd c mix (processedIntoC snd c dt b g mix from)
+
+-- ---- read out and given back
+
+pub record ReadBack : Type 0 where
+  pub voice : (v : StaticSound) → decoded (encoded v) ≡ v
+  pub numbers : (c : CableowlState) → T (lawful c) → encoded (decoded c) ≡ c
+
+-- ---- bytes that mean nothing
+
+pub record UnlawfulRefused : Type 0 where
+  pub commands : (snd : List Float) (c : CableowlState) (k : CableowlCommands) → lawful c ≡ false → (commandedC snd c k) .refusal ≡ 1
+  pub block : (snd : List Float) (c : CableowlState) (dt : Float) (b : Lanes) (g : CableowlSignals) → lawful c ≡ false
+      → (out : List Float) → (processedC snd c dt b g out) .answer .refusal ≡ 1
+  pub mix : (snd : List Float) (c : CableowlState) (dt : Float) (b : Lanes) (g : CableowlSignals) → lawful c ≡ false
+      → (mix : List Float) (from : ℕ) → (processedIntoC snd c dt b g mix from) .answer .refusal ≡ 1
+  pub stretch : (snd : List Float) (c : CableowlState) → lawful c ≡ false → partC snd c ≡ record { offset = 0; length = 0 }
+
+-- an unknown tag fails the test of its field's number
+pub record TagsRefused : Type 0 where
+  pub place : (p : CableowlPlace) → 1 < p .kind → placeable (placeOf p) ≡ false
+  pub end : (p : CableowlPlace) → 2 < p .kind → endable (endOf p) ≡ false
+  pub start : (hz n : ℕ) (r : CableowlRegion) → 1 < r .start .kind → lawfulRegion hz n (regionIf true r) ≡ false
+  pub ending : (hz n : ℕ) (r : CableowlRegion) → 2 < r .end .kind → lawfulRegion hz n (regionIf true r) ≡ false
+  pub optional : (hz n has : ℕ) (r : CableowlRegion) → 1 < has → allowed hz n (optionalOf has r) ≡ false
+  pub loop : (v : StaticSound) (k : ℕ) (r : CableowlRegion) → 2 < k → loopable v (loopOf k r) ≡ false
+  pub rate : (has : ℕ) (x : Float) → 1 < has → rateable (amountOf has x) ≡ false
+  pub seek : (f : Float → Float) (has : ℕ) (x : Float) → 1 < has → seekable f (amountOf has x) ≡ false
+
+-- ---- the stretch
+
+-- the samples of a part
+abbrev pub cutFrom : List Float → CableowlPart → List Float
+cutFrom snd p = take (p .length) (drop (p .offset) snd)
+
+abbrev pub PartIsStretch : Type 0
+PartIsStretch = (snd : List Float) (c : CableowlState) → stretchOf snd (decoded c) ≡ cutFrom snd (partC snd c)

@@ -1,0 +1,93 @@
+-- Block sizes do not matter to the archive's own entries either, as Schedules says of the entries below: each block is given the state that the one before answered.
+use Prim.Native.Nat.{ℕ, _+_, _*_}
+use mathlib.Core.Path.{_≡_}
+use mathlib.Core.Bool.{Bool, _&&_}
+use mathlib.Core.List.{List, [], _∷_, _++_}
+use lib.Dec.{T, eqb}
+use lib.ListN.{length, take, drop}
+use lib.Ieee.{Float}
+use Rattle.numbers.specs.Lists.{all}
+use Rattle.lanes.specs.Lanes.{Lanes, firstLanes, restLanes}
+use Rattle.static_sound.specs.Entries.{room}
+use Rattle.records.specs.declared.CableowlState.{CableowlState}
+use Rattle.inputs.specs.declared.CableowlSignals.{CableowlSignals}
+use Rattle.records.specs.Records.{decoded}
+use Rattle.cableowl.specs.Entries.{OutcomeC, processedC, processedIntoC}
+use Rattle.theorems.specs.Sums.{sum}
+use Rattle.theorems.specs.Alike.{bare, awake}
+use Rattle.theorems.specs.Schedules.{Stream, short}
+use Rattle.theorems.specs.Archive.{none}
+
+-- what a row of blocks gives: whether each was accepted, the record after, all samples, all steps, and the record at each cut between two blocks
+pub record RunC : Type 0 where
+  pub accepted : Bool
+  pub state : CableowlState
+  pub samples : List Float
+  pub steps : ℕ
+  pub cuts : List CableowlState
+
+abbrev pub aloneC : OutcomeC → RunC
+aloneC o = record { accepted = eqb (o .answer .refusal) 0; state = o .answer .state; samples = o .samples; steps = o .answer .steps; cuts = [] }
+
+-- one block and the row that follows it, with the samples that they leave
+abbrev pub thenC : OutcomeC → RunC → List Float → RunC
+thenC o r samples =
+    record {
+      accepted = eqb (o .answer .refusal) 0 && r .accepted;
+      state = r .state;
+      samples = samples;
+      steps = o .answer .steps + r .steps;
+      cuts = o .answer .state ∷ r .cuts;
+    }
+
+-- blocks of cableowl_process, of k frames and then of the sizes that follow
+unfoldable pub playedByC : List Float → Float → ℕ → List ℕ → Lanes → CableowlSignals → CableowlState → List Float → RunC
+playedByC snd dt k [] b g c out = aloneC (processedC snd c dt (firstLanes k b) g (take (2 * k) out))
+playedByC snd dt k (j ∷ ks) b g c out =
+    let o = processedC snd c dt (firstLanes k b) g (take (2 * k) out) in
+    let r = playedByC snd dt j ks (restLanes k b) none (o .answer .state) (drop (2 * k) out) in
+    thenC o r (o .samples ++ r .samples)
+
+-- blocks of cableowl_process_into, one after the other from a frame on
+unfoldable pub mixedByC : List Float → Float → ℕ → List ℕ → Lanes → CableowlSignals → CableowlState → List Float → ℕ → RunC
+mixedByC snd dt k [] b g c mix from = aloneC (processedIntoC snd c dt (firstLanes k b) g mix from)
+mixedByC snd dt k (j ∷ ks) b g c mix from =
+    let o = processedIntoC snd c dt (firstLanes k b) g mix from in
+    let r = mixedByC snd dt j ks (restLanes k b) none (o .answer .state) (o .samples) (from + k) in
+    thenC o r (r .samples)
+
+-- not Stopped
+abbrev pub awakeC : CableowlState → Bool
+awakeC c = awake (decoded c)
+
+pub record AgreeC (r s : RunC) : Type 0 where
+  pub samples : r .samples ≡ s .samples
+  pub same : T (all awakeC (r .cuts)) → T (all awakeC (s .cuts)) → (r .state ≡ s .state) × (r .steps ≡ s .steps)
+  pub alike : bare (decoded (r .state)) ≡ bare (decoded (s .state))
+
+abbrev pub AnySizesC : Type 0
+AnySizesC =
+    (snd : List Float) (dt : Float) (b : Lanes) (g : CableowlSignals) (c : CableowlState) (k : ℕ) (ks : List ℕ) (out : List Float) (j : ℕ) (js : List ℕ) (other : List Float)
+    → k + sum ks ≡ length (b .rate) → j + sum js ≡ length (b .rate)
+    → let r = playedByC snd dt k ks b g c out in
+    let s = playedByC snd dt j js b g c other in
+    T (r .accepted) → T (s .accepted) → AgreeC r s
+
+abbrev pub AnySizesMixC : Type 0
+AnySizesMixC =
+    (snd : List Float) (dt : Float) (b : Lanes) (g : CableowlSignals) (c : CableowlState) (k : ℕ) (ks : List ℕ) (j : ℕ) (js : List ℕ) (mix : List Float) (from : ℕ)
+    → k + sum ks ≡ length (b .rate) → j + sum js ≡ length (b .rate)
+    → let r = mixedByC snd dt k ks b g c mix from in
+    let s = mixedByC snd dt j js b g c mix from in
+    T (r .accepted) → T (s .accepted) → AgreeC r s
+
+-- every way to cut a lawful stream into blocks of at most 4,096 frames is accepted
+abbrev pub AllAcceptedC : Type 0
+AllAcceptedC =
+    (snd : List Float) (dt : Float) (b : Lanes) (g : CableowlSignals) (c : CableowlState) (k : ℕ) (ks : List ℕ) (out : List Float)
+    → Stream snd dt b (decoded c) → length out ≡ 2 * length (b .rate) → k + sum ks ≡ length (b .rate) → T (short (k ∷ ks)) → T ((playedByC snd dt k ks b g c out) .accepted)
+
+abbrev pub AllAcceptedMixC : Type 0
+AllAcceptedMixC =
+    (snd : List Float) (dt : Float) (b : Lanes) (g : CableowlSignals) (c : CableowlState) (k : ℕ) (ks : List ℕ) (mix : List Float) (from : ℕ)
+    → Stream snd dt b (decoded c) → T (room from (length (b .rate)) mix) → k + sum ks ≡ length (b .rate) → T (short (k ∷ ks)) → T ((mixedByC snd dt k ks b g c mix from) .accepted)

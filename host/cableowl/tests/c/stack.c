@@ -1,0 +1,114 @@
+/* How much stack each entry uses, at most: a thread's stack is painted before a call and looked at after it. The figures go
+ * to standard error; one above LIMIT is a difference. cc -pthread -I host/include stack.c libcableowl.a */
+#define _GNU_SOURCE
+#include <pthread.h>
+#include <stdio.h>
+#include <stdlib.h>
+#include <string.h>
+
+#include "cableowl.h"
+
+enum { STACK = 1 << 18, PAINT = 0xa5, LIMIT = 4096, SOUND = 2 * 4800, FRAMES = CABLEOWL_MAX_BLOCK_FRAMES };
+
+static float sound[SOUND], ones[FRAMES], out[2 * FRAMES], mix[2 * FRAMES + 6];
+static double slow[FRAMES], fast[FRAMES];
+static CableowlSettings settings;
+static CableowlCommands commands;
+static CableowlState voice, broken;
+static const CableowlSignals none = {0, 0, 0};
+static uint32_t refusal;
+
+static void nothing(void) {}
+static void create(void) { refusal = cableowl_new(settings, sound, SOUND).refusal; }
+static void command(void) { refusal = cableowl_on_start_processing(voice, sound, SOUND, commands).refusal; }
+
+static void process_at(CableowlState state, const double *rate) {
+    refusal = cableowl_process(state, sound, SOUND, ones, FRAMES, ones, FRAMES, ones, FRAMES, ones, FRAMES, rate, FRAMES,
+                               1.0, none, out, 2 * FRAMES)
+                  .refusal;
+}
+static void process_slow(void) { process_at(voice, slow); }
+static void process_fast(void) { process_at(voice, fast); }
+static void process_refused(void) { process_at(broken, slow); }
+
+static void process_into(void) {
+    refusal = cableowl_process_into(voice, sound, SOUND, ones, FRAMES, ones, FRAMES, ones, FRAMES, ones, FRAMES, fast,
+                                    FRAMES, 1.0, none, mix, 2 * FRAMES + 6, 2)
+                  .refusal;
+}
+static void stretch(void) { refusal = cableowl_stretch(voice, sound, SOUND).length == SOUND ? 0 : 1; }
+
+static void *run(void *call) {
+    void (*entry)(void);
+    memcpy(&entry, call, sizeof entry);
+    entry();
+    return NULL;
+}
+
+/* The bytes that a thread which makes this call leaves painted over. */
+static size_t used(void (*entry)(void)) {
+    unsigned char *stack = aligned_alloc(4096, STACK);
+    pthread_attr_t attributes;
+    pthread_t thread;
+    memset(stack, PAINT, STACK);
+    pthread_attr_init(&attributes);
+    if (pthread_attr_setstack(&attributes, stack, STACK) != 0 || pthread_create(&thread, &attributes, run, &entry) != 0) {
+        printf("no thread\n");
+        exit(1);
+    }
+    pthread_join(thread, NULL);
+    pthread_attr_destroy(&attributes);
+    size_t untouched = 0;
+    while (untouched < STACK && stack[untouched] == PAINT) untouched += 1;
+    free(stack);
+    return STACK - untouched;
+}
+
+int main(void) {
+    const struct {
+        const char *name;
+        void (*entry)(void);
+        uint32_t refusal;
+    } calls[] = {
+        {"new", create, 0},
+        {"on_start_processing", command, 0},
+        {"process, advance 0.7", process_slow, 0},
+        {"process, advance 256", process_fast, 0},
+        {"process, refused", process_refused, 1},
+        {"process_into, advance 256", process_into, 0},
+        {"stretch", stretch, 0},
+    };
+    for (int i = 0; i < FRAMES; i += 1) {
+        ones[i] = 1;
+        slow[i] = 0.7;
+        fast[i] = 256;
+    }
+    for (int i = 0; i < SOUND; i += 1) sound[i] = (float)(i % 17) / 17;
+    settings.sample_rate = 1;
+    settings.playback_rate = 1;
+    settings.has_loop = 1;
+    settings.loop_region.start.kind = CABLEOWL_PLACE_SAMPLES;
+    settings.loop_region.end.kind = CABLEOWL_PLACE_END_OF_AUDIO;
+    commands.has_seek_by = 1;
+    commands.seek_by = 7.5;
+    commands.pause = 1;
+    commands.loop_command = CABLEOWL_LOOP_SET;
+    commands.loop_region = settings.loop_region;
+    voice = cableowl_new(settings, sound, SOUND).state;
+    broken = voice;
+    broken.count = 5;
+
+    int faults = 0;
+    const size_t thread = used(nothing);
+    for (size_t i = 0; i < sizeof calls / sizeof calls[0]; i += 1) {
+        used(calls[i].entry); /* once before, so that what the linker does at a first call is not counted */
+        const size_t bytes = used(calls[i].entry) - thread;
+        fprintf(stderr, "%-26s %6zu bytes of stack\n", calls[i].name, bytes);
+        if (bytes > LIMIT || refusal != calls[i].refusal) {
+            printf("differs: %s\n", calls[i].name);
+            faults += 1;
+        }
+    }
+    printf("%d differ\n", faults);
+    return faults == 0 ? 0 : 1;
+}
