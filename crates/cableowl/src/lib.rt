@@ -69,9 +69,9 @@ fn answer(processed: Processed, state: CableowlState) -> CableowlProcessed
 // The version of this ABI.
 #[no_mangle]
 pub extern "C" fn cableowl_version() -> u32
-    ensures { λ r. ⌜ r ≡ 1 ⌝ }
+    ensures { λ r. ⌜ r ≡ 2 ⌝ }
 {
-    1
+    2
 }
 
 #[no_mangle]

@@ -11,7 +11,7 @@ pub enum StartSignal {
 }
 
 // Whether a due tick is reached: now minus due, wrapped to 32 bits, is below half a turn.
-pub fn is_reached(due: u32, now: u32) -> bool
+fn is_reached(due: u32, now: u32) -> bool
     ensures { λ r. ⌜ r ≡ reached due now ⌝ }
 {
     std::num::wrapping_sub_u32(now, due) < 2147483648

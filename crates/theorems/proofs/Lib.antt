@@ -11,6 +11,7 @@ pub mod Steps
 pub mod AnyOrder
 pub mod InTheLoop
 pub mod Budget
+pub mod StartTicks
 pub mod Plain
 pub mod MixSchedules
 pub mod AtZero

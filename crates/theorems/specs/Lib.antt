@@ -10,6 +10,7 @@ pub mod Steps
 pub mod AnyOrder
 pub mod InTheLoop
 pub mod Budget
+pub mod StartTicks
 pub mod Stays
 pub mod AtZero
 pub mod Wraps

@@ -51,7 +51,7 @@ mod static_sound;
 pub use commands::{Commands, LoopCommand, ResumeCommand};
 pub use lanes::{BlockLanes, Lane, Lanes};
 pub use playback_position::{EndPosition, PlaybackPosition, Region};
-pub use playback_state::{PlaybackState, Signals, StartAnswer};
+pub use playback_state::{PlaybackState, Signals, StartAnswer, StartSignal};
 pub use refusal::{LaneName, Refusal};
 pub use saved::Unreadable;
 pub use settings::Settings;

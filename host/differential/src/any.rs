@@ -257,6 +257,21 @@ pub fn signals(random: &mut Random) -> Signals {
     }
 }
 
+/// A due tick and the tick now, near it, near half a turn off, or anywhere; seldom, and else none.
+pub fn tick(random: &mut Random) -> Option<(u32, u32)> {
+    if !random.one_in(3) {
+        return None;
+    }
+    let (due, any) = (random.word() as u32, random.word() as u32);
+    let half = 1u32 << 31;
+    let after = one_of(
+        random,
+        &[0, 1, u32::MAX, half - 1, half, half, half + 1, any],
+    );
+    let due = one_of(random, &[0, 1, half, u32::MAX, due]);
+    Some((due, due.wrapping_add(after)))
+}
+
 /// A block's length: none, few, the usual ones, or the most.
 pub fn length(random: &mut Random) -> usize {
     let few = random.below(10);
@@ -301,6 +316,7 @@ pub fn block(random: &mut Random, n: usize, state: &State) -> Block {
         },
         dt,
         signals: signals(random),
+        tick: tick(random),
         place: Place::Whole(2 * n),
     }
 }

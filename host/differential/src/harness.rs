@@ -194,7 +194,7 @@ fn cut_differs(player: &dyn Player, call: &Call, parts: &[usize]) -> Option<Stri
         cut.state = answer.state;
         cut.steps += answer.steps;
         cut.samples.extend(answer.samples);
-        // The first part alone is given the signals.
+        // The first part alone is given the signals; the tick goes with each.
         signals = Signals::default();
         from += length;
     }

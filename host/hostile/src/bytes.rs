@@ -2,7 +2,7 @@
 
 use std::sync::Arc;
 
-use differential::{Ask, Block, Call, Outcome, Place, Sound, judged, refusal};
+use differential::{Ask, Block, Call, Outcome, Place, Sound, judged, refusal, tick};
 use oracle::LaneBuffers;
 use random::Random;
 use raw::{
@@ -171,11 +171,15 @@ impl Case {
     /// What the bytes mean; none where the state is not lawful.
     fn meaning(&self) -> Option<Call> {
         let held = |state| convert::state_out(state);
-        let block = |signals, dt, place| Block {
-            lanes: self.lanes.clone(),
-            dt,
-            signals: convert::signals_out(signals),
-            place,
+        let block = |signals, dt, place| {
+            let (signals, tick) = convert::signals_out(signals);
+            Block {
+                lanes: self.lanes.clone(),
+                dt,
+                signals,
+                tick,
+                place,
+            }
         };
         let ask = match &self.kind {
             Kind::New(settings) => Ask::Create(convert::settings_out(settings)),
@@ -350,10 +354,13 @@ fn commands(random: &mut Random, frames: u64) -> CableowlCommands {
 }
 
 fn signals(random: &mut Random) -> CableowlSignals {
+    let (due, now) = tick(random).unwrap_or_default();
     CableowlSignals {
         finished: any_tag(random, 2),
-        start: any_tag(random, 3),
+        start: any_tag(random, 4),
         resume: any_tag(random, 3),
+        due,
+        now,
     }
 }
 
