@@ -20,6 +20,7 @@ pub fn cost() -> [f64; 2] {
         rate: 0.93,
         block: BLOCK,
         looped: Looped::Long,
+        start: None,
     };
     let sound = workload.looped.sound();
     let mut voice = Safe::new(&workload, &sound);

@@ -78,6 +78,10 @@ impl Workload {
         (FRAMES - self.looped.frames()) / 2
     }
 
+    fn first(&self) -> usize {
+        self.start.unwrap_or_else(|| self.loop_start())
+    }
+
     fn loop_end(&self) -> usize {
         self.loop_start() + self.looped.frames()
     }
@@ -131,7 +135,7 @@ impl<'a> Ours<'a> {
             sample_rate: HZ,
             has_loop: 1,
             playback_rate: workload.rate,
-            start: place(workload.loop_start()),
+            start: place(workload.first()),
             loop_region: CableowlRegion {
                 start: place(workload.loop_start()),
                 end: place(workload.loop_end()),
@@ -194,7 +198,7 @@ impl<'a> Safe<'a> {
     #[must_use]
     pub fn new(workload: &Workload, sound: &'a [f32]) -> Self {
         let settings = cableowl::Settings::new(HZ)
-            .start_position(workload.loop_start())
+            .start_position(workload.first())
             .loop_region(workload.loop_start()..workload.loop_end())
             .playback_rate(workload.rate);
         Self {
@@ -239,7 +243,7 @@ impl Kira {
         let start = timed::PlaybackPosition::Samples(workload.loop_start());
         let end = timed::PlaybackPosition::Samples(workload.loop_end());
         let settings = timed::Settings {
-            start,
+            start: timed::PlaybackPosition::Samples(workload.first()),
             loop_region: Some(timed::Region {
                 start,
                 end: timed::EndPosition::Custom(end),

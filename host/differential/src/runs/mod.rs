@@ -1,12 +1,14 @@
-//! The runs: tiny sounds exhaustively, held zeros, random calls, refusals by construction, cuts.
+//! The runs: tiny sounds exhaustively, held zeros, random calls, refusals by construction, cuts, rows of calls inside a loop.
 
 mod cuts;
+mod in_the_loop;
 mod large;
 mod refusals;
 mod tiny;
 mod zeros;
 
 pub use cuts::cuts;
+pub use in_the_loop::{Seen, in_the_loop};
 pub use large::large;
 pub use refusals::{Big, refusals};
 pub use tiny::{Extent, tiny_blocks, tiny_creations, tiny_seeks, transports};
