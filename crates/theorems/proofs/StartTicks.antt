@@ -30,18 +30,27 @@ unfolding howMany
 count-same p q zero h = refl
 count-same p q (suc n) h = ap₂ (λ (b : Bool) (k : ℕ). cond b 1 0 + k) (h n (omega arith)) (count-same p q n (λ i l. h i (omega (arith, l))))
 
+none-more : (a : ℕ) → a + 0 ≡ a
+none-more a = omega arith
+
+one-more : (a b : ℕ) → a + suc b ≡ suc (a + b)
+one-more a b = omega arith
+
 count-add : (p : ℕ → Bool) (a b : ℕ) → howMany p (a + b) ≡ howMany (λ (i : ℕ). p (a + i)) b + howMany p a
 unfolding howMany
-count-add p a zero = sym (zero-add (howMany p a))
+count-add p a zero = ap (λ (n : ℕ). howMany p n) (none-more a) ∙ sym (zero-add (howMany p a))
 count-add p a (suc b) =
-    ap (λ (k : ℕ). cond (p (a + b)) 1 0 + k) (count-add p a b)
+    ap (λ (n : ℕ). howMany p n) (one-more a b) ∙ ap (λ (k : ℕ). cond (p (a + b)) 1 0 + k) (count-add p a b)
     ∙ sym (add-assoc (cond (p (a + b)) 1 0) (howMany (λ (i : ℕ). p (a + i)) b) (howMany p a))
 
 count-all : (p : ℕ → Bool) (n : ℕ) → ((i : ℕ) → i < n → p i ≡ true) → howMany p n ≡ n
 unfolding howMany
 count-all p zero h = refl
 count-all p (suc n) h =
-    ap₂ (λ (b : Bool) (k : ℕ). cond b 1 0 + k) (h n (omega arith)) (count-all p n (λ i l. h i (omega (arith, l)))) ∙ add-comm 1 n
+    ap₂ (λ (b : Bool) (k : ℕ). cond b 1 0 + k) (h n (omega arith)) (count-all p n (λ i l. h i (omega (arith, l)))) ∙ first n
+  where
+    first : (k : ℕ) → 1 + k ≡ suc k
+    first k = omega arith
 
 count-none : (p : ℕ → Bool) (n : ℕ) → ((i : ℕ) → i < n → p i ≡ false) → howMany p n ≡ 0
 unfolding howMany

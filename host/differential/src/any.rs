@@ -257,19 +257,16 @@ pub fn signals(random: &mut Random) -> Signals {
     }
 }
 
-/// A due tick and the tick now, near it, near half a turn off, or anywhere; seldom, and else none.
-pub fn tick(random: &mut Random) -> Option<(u32, u32)> {
-    if !random.one_in(3) {
-        return None;
-    }
+/// A due tick and the tick now: on it, beside it, half a turn off, or anywhere.
+pub fn tick(random: &mut Random) -> (u32, u32) {
     let (due, any) = (random.word() as u32, random.word() as u32);
     let half = 1u32 << 31;
-    let after = one_of(
+    let due = one_of(random, &[0, 1, half, u32::MAX, due]);
+    let since = one_of(
         random,
         &[0, 1, u32::MAX, half - 1, half, half, half + 1, any],
     );
-    let due = one_of(random, &[0, 1, half, u32::MAX, due]);
-    Some((due, due.wrapping_add(after)))
+    (due, due.wrapping_add(since))
 }
 
 /// A block's length: none, few, the usual ones, or the most.
@@ -316,7 +313,7 @@ pub fn block(random: &mut Random, n: usize, state: &State) -> Block {
         },
         dt,
         signals: signals(random),
-        tick: tick(random),
+        tick: None,
         place: Place::Whole(2 * n),
     }
 }

@@ -1,7 +1,9 @@
 // A start that is due at a tick: the compiled library against the rule, around every power of two and
-// on both sides of the wrap. kira has no ticks; its start is fed the answer in the other runs.
+// on both sides of the wrap; then whole blocks against kira's text too, which has no ticks and is fed the answer.
 
+use differential::{Harness, Kira, Ours, runs};
 use oracle::{Answer, LaneBuffers, Oracle, Settings};
+use random::Random;
 use raw::{CableowlSignals, CableowlState, convert};
 use rules::{Document, Rules};
 
@@ -94,4 +96,14 @@ fn a_start_that_has_come_stays_wherever_the_tick_goes() {
             "due {due}"
         );
     }
+}
+
+#[test]
+fn blocks_that_bring_a_tick_agree_and_may_be_cut() {
+    let mut harness = Harness::new(vec![&Kira, &Ours]);
+    for seed in 0..20_000 {
+        runs::ticks(&mut harness, &mut Random::new(seed));
+    }
+    println!("{}", harness.tally);
+    assert_eq!(harness.tally.differences(), 0, "\n{}", harness.tally);
 }

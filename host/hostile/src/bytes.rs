@@ -354,7 +354,8 @@ fn commands(random: &mut Random, frames: u64) -> CableowlCommands {
 }
 
 fn signals(random: &mut Random) -> CableowlSignals {
-    let (due, now) = tick(random).unwrap_or_default();
+    // Drawn aside: a seed's other numbers stay as they are.
+    let (due, now) = tick(&mut random.clone());
     CableowlSignals {
         finished: any_tag(random, 2),
         start: any_tag(random, 4),
