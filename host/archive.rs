@@ -78,8 +78,11 @@ fn prove_and_link(name: &str) -> Result<()> {
             fs::copy(proved.archive, &archive)?;
         }
         Way::Module => {
-            let src = root.join("crates").join(name).join("src");
-            module::compile(&kit, &proved.module, &src, &target.arch, &archive)?;
+            let src = |name: &str| root.join("crates").join(name).join("src");
+            let below = crates.iter().filter(|below| *below != name);
+            let below: Vec<_> = below.map(|below| src(below)).collect();
+            let exports = convention::exports(&src(name), &below)?;
+            module::compile(&kit, &proved.module, &exports, &target.arch, &archive)?;
         }
     }
     // A copy: `rt ci` begins by removing target/.

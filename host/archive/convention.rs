@@ -1,7 +1,13 @@
 // The exported functions of a crate, read from its own text, and the C convention over the functions of its module: C
 // that clang compiles for the processor at hand.
 
-use std::{collections::BTreeMap, error::Error, fmt::Write as _, fs, path::Path};
+use std::{
+    collections::BTreeMap,
+    error::Error,
+    fmt::Write as _,
+    fs,
+    path::{Path, PathBuf},
+};
 
 type Result<T> = std::result::Result<T, Box<dyn Error>>;
 
@@ -28,26 +34,41 @@ pub fn inner(exported: &str) -> String {
     format!("module_{exported}")
 }
 
-/// What the files of `src/` export.
-pub fn exports(src: &Path) -> Result<Exports> {
+/// What the files of `src/` export; their records may stand in the crates below it.
+pub fn exports(src: &Path, below: &[PathBuf]) -> Result<Exports> {
     let mut found = Exports::default();
-    let mut files: Vec<_> = fs::read_dir(src)?.collect::<std::result::Result<_, _>>()?;
-    files.sort_by_key(fs::DirEntry::file_name);
-    for file in files {
-        found.read(&fs::read_to_string(file.path())?)?;
+    for src in below {
+        for text in texts(src)? {
+            found.read_records(&text)?;
+        }
+    }
+    for text in texts(src)? {
+        found.read(&text)?;
     }
     Ok(found)
 }
 
+/// The texts of a folder, in the order of their names.
+fn texts(src: &Path) -> Result<Vec<String>> {
+    let mut files: Vec<_> = fs::read_dir(src)?.collect::<std::result::Result<_, _>>()?;
+    files.sort_by_key(fs::DirEntry::file_name);
+    let read = |file: &fs::DirEntry| Ok(fs::read_to_string(file.path())?);
+    files.iter().map(read).collect()
+}
+
+/// A text without its comments.
+fn plain(text: &str) -> String {
+    let lines = text.lines();
+    let lines: Vec<&str> = lines
+        .map(|line| line.split("//").next().unwrap_or(""))
+        .collect();
+    lines.join("\n")
+}
+
 impl Exports {
-    /// The exports of one text.
-    pub fn read(&mut self, text: &str) -> Result<()> {
-        let text: Vec<&str> = text
-            .lines()
-            .map(|line| line.split("//").next().unwrap_or(""))
-            .collect();
-        let text = text.join("\n");
-        for rest in text.split("#[repr(C)]").skip(1) {
+    /// The records of one text.
+    fn read_records(&mut self, text: &str) -> Result<()> {
+        for rest in plain(text).split("#[repr(C)]").skip(1) {
             let (name, rest) = after(rest, "pub struct ", " {")?;
             let fields = rest
                 .split_once('}')
@@ -56,7 +77,13 @@ impl Exports {
                 .replace("pub ", "");
             self.records.push((name.to_owned(), named(&fields)?));
         }
-        for rest in text.split("#[no_mangle]").skip(1) {
+        Ok(())
+    }
+
+    /// The exports of one text.
+    pub fn read(&mut self, text: &str) -> Result<()> {
+        self.read_records(text)?;
+        for rest in plain(text).split("#[no_mangle]").skip(1) {
             let (name, rest) = after(rest, "pub extern \"C\" fn ", "(")?;
             let (takes, rest) = rest
                 .split_once(')')
@@ -134,6 +161,11 @@ impl Exports {
                     "{constant}{element} *{name}, unsigned long {name}_len"
                 ));
                 handed.push(format!("&(struct slice){{{name}, {name}_len}}"));
+            } else if let Some(written) = kind.strip_prefix("&mut ") {
+                let written = self.by_value(written)?;
+                below.push(format!("{written} *"));
+                above.push(format!("{written} *{name}"));
+                handed.push(name.clone());
             } else if number(kind).is_some() {
                 below.push(self.by_value(kind)?);
                 above.push(format!("{} {name}", self.by_value(kind)?));

@@ -154,8 +154,14 @@ fn not_this_kit(why: &str) -> Box<dyn std::error::Error> {
     .into()
 }
 
-/// Compiles a module for a processor, with that processor's C convention for what `src` exports, into an archive.
-pub fn compile(kit: &Kit, module: &Path, src: &Path, arch: &str, archive: &Path) -> Result<()> {
+/// Compiles a module for a processor, with that processor's C convention for what is exported, into an archive.
+pub fn compile(
+    kit: &Kit,
+    module: &Path,
+    exports: &convention::Exports,
+    arch: &str,
+    archive: &Path,
+) -> Result<()> {
     let beside = |extension: &str| archive.with_extension(extension);
     let (text, shim) = (beside("ll"), beside("c"));
     run(kit
@@ -170,11 +176,7 @@ pub fn compile(kit: &Kit, module: &Path, src: &Path, arch: &str, archive: &Path)
         .arg(module)
         .arg("-o")
         .arg(&text))?;
-    let exports = convention::exports(src)?;
-    fs::write(
-        &text,
-        retarget(&fs::read_to_string(&text)?, &exports, arch)?,
-    )?;
+    fs::write(&text, retarget(&fs::read_to_string(&text)?, exports, arch)?)?;
     fs::write(&shim, exports.in_c()?)?;
     let (code, entries) = (beside("o"), beside("entries.o"));
     run(kit

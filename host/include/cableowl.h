@@ -18,8 +18,14 @@
  * 10  time step not finite or not above 0
  * 11  an amplitude or gain not finite or with its sign bit set, or a lane rate not finite
  * 12  an advance, (sample rate * |lane rate|) * time step, above 256
+ * 13  a level above 601
+ * 14  a ramp's count 0 or above 65,536, or not its lane's length
+ * 20  loop table: slot above 15
+ * 21  loop table: a write or a clear by the other hall
+ * 22  loop table: a read of an empty slot
  *
- * The lowest number wins. Creation uses 2 to 7, a command set 1 and 6 to 8, a block 1 and 9 to 12.
+ * The lowest number wins. Creation uses 2 to 7, a command set 1 and 6 to 8, a block 1 and 9 to 12,
+ * a fade ramp 13 and 14; of a loop table a write 1, 6, 20, 21, a clear 1, 20, 21, a read 1, 20, 22.
  *
  * The float mode. What is promised of frames and refusals is promised in the mode that a program
  * begins with: rounding to nearest, subnormals kept (x86-64: neither FTZ nor DAZ; Arm: no FZ),
@@ -59,6 +65,7 @@ extern "C" {
 #define CABLEOWL_MAX_FRAMES 16777216
 #define CABLEOWL_MAX_BLOCK_FRAMES 4096
 #define CABLEOWL_MAX_ADVANCE 256
+#define CABLEOWL_MAX_RAMP_FRAMES 65536
 
 /* The refusals. */
 enum {
@@ -74,7 +81,12 @@ enum {
     CABLEOWL_REFUSAL_BLOCK = 9,
     CABLEOWL_REFUSAL_TIME_STEP = 10,
     CABLEOWL_REFUSAL_LANE = 11,
-    CABLEOWL_REFUSAL_ADVANCE = 12
+    CABLEOWL_REFUSAL_ADVANCE = 12,
+    CABLEOWL_REFUSAL_LEVEL = 13,
+    CABLEOWL_REFUSAL_RAMP = 14,
+    CABLEOWL_REFUSAL_LOOP_SLOT = 20,
+    CABLEOWL_REFUSAL_OTHER_HALL = 21,
+    CABLEOWL_REFUSAL_EMPTY_SLOT = 22
 };
 
 /* What a voice is doing: CableowlState's state. */
@@ -207,6 +219,29 @@ typedef struct CableowlPart {
     uint64_t length;
 } CableowlPart;
 
+/* A loop of the table, in frames, its end exclusive; in an empty slot both are 0. */
+typedef struct CableowlLoopSlot {
+    uint64_t start;
+    uint64_t end;
+} CableowlLoopSlot;
+
+/* Sixteen loops over one sound. A slot's name is its number: hall A writes 0 to 7, hall B 8 to 15, both read all.
+ * The numbers may be any: a slot that is neither empty nor start < end <= num_frames gets 1, whichever is asked. */
+typedef struct CableowlLoopTable {
+    uint64_t num_frames; /* of the whole sound, by which each loop is judged */
+    CableowlLoopSlot slots[16];
+} CableowlLoopTable;
+
+typedef struct CableowlLoopChanged {
+    CableowlLoopTable table; /* refused: the given one */
+    uint32_t refusal;
+} CableowlLoopChanged;
+
+typedef struct CableowlLoopFound {
+    CableowlLoopSlot slot; /* refused: both 0 */
+    uint32_t refusal;
+} CableowlLoopFound;
+
 /* This interface's version. */
 uint32_t cableowl_version(void);
 
@@ -233,6 +268,28 @@ CableowlProcessed cableowl_process_into(CableowlState state, const float *sound,
 
 /* The part of the sound that the voice plays; where it would be refused with 1, the empty part at 0. */
 CableowlPart cableowl_stretch(CableowlState state, const float *sound, size_t sound_len);
+
+/* A table of empty slots over a sound of so many frames. */
+CableowlLoopTable cableowl_loop_table(uint64_t num_frames);
+
+/* Hall 0 is A, 1 is B, any other gets 1. A write replaces what the slot holds; a clear empties it, or leaves it empty. */
+CableowlLoopChanged cableowl_write_loop(CableowlLoopTable table, uint32_t hall, uint64_t slot, uint64_t start,
+                                        uint64_t end);
+CableowlLoopChanged cableowl_clear_loop(CableowlLoopTable table, uint32_t hall, uint64_t slot);
+CableowlLoopFound cableowl_read_loop(CableowlLoopTable table, uint64_t slot);
+
+/* Reads a slot and sets its loop by a command set: the table's refusal, or the command set's answer. */
+CableowlCommanded cableowl_take_loop(CableowlLoopTable table, uint64_t slot, CableowlState state, const float *sound,
+                                     size_t sound_len);
+
+/* A level is 0 to 600 tenths of a decibel below full level, or 601 for silence. Its amplitude is e / 2^24 exactly, for
+ * the largest whole e with (e / 2^24)^200 * 10^level at most 1; silence is +0. Answers 0, or 13 and writes nothing. */
+uint32_t cableowl_amplitude(uint32_t level, float *to);
+
+/* Fills a fade lane with amplitudes whose levels run straight from start on the first frame to end on the last, rounded
+ * down: (start * (count - 1 - i) + end * i) / (count - 1) on frame i; one frame takes the end level. A block is lent the
+ * part of the lane that it plays. Answers 0, or 13, then 14, and writes nothing. */
+uint32_t cableowl_fade_ramp(uint32_t start, uint32_t end, uint32_t count, float *lane, size_t lane_len);
 
 /* The mode that floats were in, given back after the calls. */
 typedef uint64_t CableowlFloatMode;

@@ -1,6 +1,7 @@
 -- Laws of the C ABI's definitions.
 pub mod Few
 pub mod Answers
+pub mod Takes
 pub mod Kept
 pub mod Unknown
 pub mod Parts

@@ -1,2 +1,3 @@
 -- What the contracts of the C ABI cite.
 pub mod Entries
+pub mod Loops

@@ -4,6 +4,10 @@ ghost use mathlib.Core.Path.{_≡_};
 ghost use Prim.Native.Nat.{_≤_};
 ghost use Rattle.lanes.specs.Lanes.{five};
 ghost use Rattle.cableowl.specs.Entries.{after, createdC, commandedC, answered, processedC, processedIntoC, partC};
+
+mod fades;
+mod loops;
+
 use inputs::CableowlCommands;
 use inputs::CableowlSettings;
 use inputs::CableowlSignals;

@@ -1,9 +1,10 @@
 //! A small host: a student's evening on the listening box, played with several block sizes.
 //!
-//! The host has a parameter and a tween of its own, read by the evening's clock, so a frame's lanes
-//! do not depend on the block it falls into; blocks are cut where a command falls. The first evening's
-//! samples are kept whole (115 MB), and the others are compared with them. Beside Cableowl's voice the
-//! same evening is played by one whose fraction is cleared at block edges.
+//! The host has a parameter and a tween of its own, read by the evening's clock, and fades by ramps
+//! of decibels, so a frame's lanes do not depend on the block it falls into; blocks are cut where a
+//! command falls. The first evening's samples are kept whole (115 MB), and the others are compared
+//! with them. Beside Cableowl's voice the same evening is played by one whose fraction is cleared at
+//! block edges.
 
 use std::{
     fmt,
@@ -12,7 +13,8 @@ use std::{
 };
 
 use cableowl::{
-    Commands, Lane, Lanes, MAX_BLOCK_FRAMES, Refusal, Settings, Signals, State, StaticSound,
+    Commands, Lane, Lanes, Level, MAX_BLOCK_FRAMES, Refusal, Settings, Signals, State, StaticSound,
+    fade_ramp,
 };
 use random::Random;
 
@@ -137,19 +139,47 @@ impl Parameter {
     }
 
     /// The lane of a block: one number where it rests, else one for each frame.
-    fn lane<'a, T>(
-        &self,
-        clock: u64,
-        frames: usize,
-        room: &'a mut Vec<T>,
-        number: fn(f64) -> T,
-    ) -> Lane<'a, T> {
+    fn lane<'a>(&self, clock: u64, frames: usize, room: &'a mut Vec<f64>) -> Lane<'a, f64> {
         if self.tween.has_ended(clock) {
-            return Lane::Constant(number(self.to));
+            return Lane::Constant(self.to);
         }
         room.clear();
-        room.extend((clock..).take(frames).map(|clock| number(self.at(clock))));
+        room.extend((clock..).take(frames).map(|clock| self.at(clock)));
         Lane::PerFrame(room)
+    }
+}
+
+/// A fade: one ramp, of which each block is lent its part.
+struct Fade {
+    ramp: Vec<f32>,
+    tween: Tween,
+    rests_at: Level,
+}
+
+impl Fade {
+    fn new(level: Level) -> Self {
+        Self {
+            ramp: vec![0.0; clock_at(FADE) as usize],
+            tween: Tween::new(0, 0.0),
+            rests_at: level,
+        }
+    }
+
+    /// Fades from the level at which it rests: the evening gives each fade its time.
+    fn set(&mut self, to: Level, now: u64) -> Result<(), Refusal> {
+        fade_ramp(self.rests_at, to, &mut self.ramp)?;
+        self.tween = Tween::new(now, FADE);
+        self.rests_at = to;
+        Ok(())
+    }
+
+    /// The lane of a block that ends no later than the ramp.
+    fn lane(&self, clock: u64, frames: usize) -> Lane<'_, f32> {
+        if self.tween.has_ended(clock) {
+            return Lane::Constant(self.rests_at.amplitude());
+        }
+        let from = (clock - self.tween.starts) as usize;
+        Lane::PerFrame(&self.ramp[from..from + frames])
     }
 }
 
@@ -158,11 +188,10 @@ struct ListeningBox<'a> {
     sound: &'a [f32],
     voice: StaticSound,
     rate: Parameter,
-    fade: Parameter,
+    fade: Fade,
     clock: u64,
     lanes: Lanes,
     rates: Vec<f64>,
-    fades: Vec<f32>,
 }
 
 impl<'a> ListeningBox<'a> {
@@ -171,11 +200,10 @@ impl<'a> ListeningBox<'a> {
             sound,
             voice: StaticSound::new(Settings::new(LESSON_RATE), sound)?,
             rate: Parameter::new(1.0),
-            fade: Parameter::new(1.0),
+            fade: Fade::new(Level::FULL),
             clock: 0,
             lanes: Lanes::new(),
             rates: Vec::new(),
-            fades: Vec::new(),
         })
     }
 
@@ -190,15 +218,15 @@ impl<'a> ListeningBox<'a> {
             Act::StepBack(seconds) => commands.seek_by(-seconds),
             Act::LeaveLoop => commands.clear_loop_region(),
             Act::Pause => {
-                self.fade.set(0.0, self.clock, FADE);
+                self.fade.set(Level::SILENCE, self.clock)?;
                 commands.pause()
             }
             Act::Resume => {
-                self.fade.set(1.0, self.clock, FADE);
+                self.fade.set(Level::FULL, self.clock)?;
                 commands.resume()
             }
             Act::Stop => {
-                self.fade.set(0.0, self.clock, FADE);
+                self.fade.set(Level::SILENCE, self.clock)?;
                 commands.stop()
             }
         };
@@ -219,9 +247,8 @@ impl<'a> ListeningBox<'a> {
             false => until,
         };
         let frames = frames.min((until - self.clock) as usize);
-        let (clock, fades, rates) = (self.clock, &mut self.fades, &mut self.rates);
-        let fade = self.fade.lane(clock, frames, fades, |x| x as f32);
-        let rate = self.rate.lane(clock, frames, rates, |x| x);
+        let fade = self.fade.lane(self.clock, frames);
+        let rate = self.rate.lane(self.clock, frames, &mut self.rates);
         let lanes = self
             .lanes
             .frames(frames)

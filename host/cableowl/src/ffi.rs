@@ -128,6 +128,38 @@ pub struct Part {
     pub length: u64,
 }
 
+/// A loop of the table in frames; both 0 in an empty slot.
+#[repr(C)]
+#[derive(Debug, Clone, Copy, PartialEq, Eq)]
+pub struct LoopSlot {
+    pub start: u64,
+    pub end: u64,
+}
+
+/// The table of loops.
+#[repr(C)]
+#[derive(Debug, Clone, Copy, PartialEq, Eq)]
+pub struct LoopTable {
+    pub num_frames: u64,
+    pub slots: [LoopSlot; 16],
+}
+
+/// What a write or a clear answers.
+#[repr(C)]
+#[derive(Debug, Clone, Copy)]
+pub struct LoopChanged {
+    pub table: LoopTable,
+    pub refusal: u32,
+}
+
+/// What a read answers.
+#[repr(C)]
+#[derive(Debug, Clone, Copy)]
+pub struct LoopFound {
+    pub slot: LoopSlot,
+    pub refusal: u32,
+}
+
 /// The lanes of one block, lent.
 #[derive(Debug, Clone, Copy)]
 pub struct Lanes<'a> {
@@ -192,11 +224,33 @@ unsafe extern "C" {
     ) -> Processed;
 
     fn cableowl_stretch(state: State, sound: *const f32, sound_len: usize) -> Part;
+
+    safe fn cableowl_loop_table(num_frames: u64) -> LoopTable;
+
+    safe fn cableowl_write_loop(
+        table: LoopTable,
+        hall: u32,
+        slot: u64,
+        start: u64,
+        end: u64,
+    ) -> LoopChanged;
+
+    safe fn cableowl_clear_loop(table: LoopTable, hall: u32, slot: u64) -> LoopChanged;
+
+    safe fn cableowl_read_loop(table: LoopTable, slot: u64) -> LoopFound;
+
+    fn cableowl_take_loop(
+        table: LoopTable,
+        slot: u64,
+        state: State,
+        sound: *const f32,
+        sound_len: usize,
+    ) -> Commanded;
 }
 
 // SAFETY, for every call below: each pointer goes with the length of the same slice, lent for the
-// call; the archive keeps no pointer, reads within those lengths and writes within `out` or `mix`
-// alone, which nothing else borrows. Every number is accepted as input.
+// call; the archive keeps no pointer, reads within those lengths and writes within what it is lent
+// as `&mut` alone, which nothing else borrows. Every number is accepted as input.
 
 pub fn version() -> u32 {
     cableowl_version()
@@ -276,4 +330,40 @@ pub fn process_into(
 
 pub fn stretch(state: State, sound: &[f32]) -> Part {
     unsafe { cableowl_stretch(state, sound.as_ptr(), sound.len()) }
+}
+
+pub fn loop_table(num_frames: u64) -> LoopTable {
+    cableowl_loop_table(num_frames)
+}
+
+pub fn write_loop(table: LoopTable, hall: u32, slot: u64, start: u64, end: u64) -> LoopChanged {
+    cableowl_write_loop(table, hall, slot, start, end)
+}
+
+pub fn clear_loop(table: LoopTable, hall: u32, slot: u64) -> LoopChanged {
+    cableowl_clear_loop(table, hall, slot)
+}
+
+pub fn read_loop(table: LoopTable, slot: u64) -> LoopFound {
+    cableowl_read_loop(table, slot)
+}
+
+pub fn take_loop(table: LoopTable, slot: u64, state: State, sound: &[f32]) -> Commanded {
+    unsafe { cableowl_take_loop(table, slot, state, sound.as_ptr(), sound.len()) }
+}
+
+// Levels and fades: plain numbers and one lent lane.
+unsafe extern "C" {
+    fn cableowl_amplitude(level: u32, to: *mut f32) -> u32;
+
+    fn cableowl_fade_ramp(start: u32, end: u32, count: u32, lane: *mut f32, lane_len: usize)
+    -> u32;
+}
+
+pub fn amplitude(level: u32, to: &mut f32) -> u32 {
+    unsafe { cableowl_amplitude(level, to) }
+}
+
+pub fn fade_ramp(start: u32, end: u32, count: u32, lane: &mut [f32]) -> u32 {
+    unsafe { cableowl_fade_ramp(start, end, count, lane.as_mut_ptr(), lane.len()) }
 }

@@ -202,7 +202,14 @@ fn run_c(name: &str, more: &str) {
 
 #[test]
 fn four_declarations_are_one() {
-    let ours = rust_structs(&read("../../crates/cableowl/src/lib.rt"));
+    let sources = ["records", "inputs", "cableowl"];
+    let sources = sources.map(|name| read(&format!("../../crates/{name}/src/lib.rt")));
+    let ours = rust_structs(&sources.concat());
+    // The table's own records go by longer names in C.
+    let table = read("../../crates/loop_table/src/lib.rt")
+        .replace("pub struct Changed", "pub struct LoopChanged")
+        .replace("pub struct Found", "pub struct LoopFound");
+    let ours: Structs = ours.into_iter().chain(rust_structs(&table)).collect();
     let fields: usize = ours.iter().map(|(_, fields)| fields.len()).sum();
     assert!(ours.len() >= 11 && fields >= 58, "they are read: {ours:?}");
     assert_eq!(c_structs(&header_text()), ours, "cableowl.h");
@@ -220,6 +227,10 @@ fn four_declarations_are_one() {
         ("Commanded", size_of::<ffi::Commanded>()),
         ("Processed", size_of::<ffi::Processed>()),
         ("Part", size_of::<ffi::Part>()),
+        ("LoopSlot", size_of::<ffi::LoopSlot>()),
+        ("LoopTable", size_of::<ffi::LoopTable>()),
+        ("LoopChanged", size_of::<ffi::LoopChanged>()),
+        ("LoopFound", size_of::<ffi::LoopFound>()),
     ] {
         let (by_rule, _) = layout(&ours, name, &mut Vec::new());
         assert_eq!(size, by_rule, "{name}");

@@ -35,11 +35,13 @@
 #![deny(unsafe_code)]
 
 mod commands;
+mod fades;
 mod ffi;
 mod float_mode;
 #[cfg(test)]
 mod header;
 mod lanes;
+mod loop_table;
 mod playback_position;
 mod playback_state;
 mod refusal;
@@ -49,7 +51,9 @@ mod state;
 mod static_sound;
 
 pub use commands::{Commands, LoopCommand, ResumeCommand};
+pub use fades::{Level, MAX_RAMP_FRAMES, fade_ramp};
 pub use lanes::{BlockLanes, Lane, Lanes};
+pub use loop_table::{Hall, LoopTable};
 pub use playback_position::{EndPosition, PlaybackPosition, Region};
 pub use playback_state::{PlaybackState, Signals, StartAnswer, StartSignal};
 pub use refusal::{LaneName, Refusal};

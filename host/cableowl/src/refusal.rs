@@ -33,7 +33,8 @@ impl fmt::Display for LaneName {
 
 /// Why a call was refused: its number, and a sentence to act on.
 ///
-/// The lowest number wins over the whole input. A refused call changes nothing.
+/// Of 1 to 12 the lowest number wins over the whole input; 13 comes before 14. A refused call
+/// changes nothing.
 ///
 /// ```
 /// use cableowl::{Refusal, Settings, StaticSound};
@@ -78,6 +79,16 @@ pub enum Refusal {
         /// The first frame of the block, from 0, that goes too far.
         frame: usize,
     },
+    /// 13: a level.
+    Level,
+    /// 14: a ramp's frame count, or its lane's length.
+    Ramp,
+    /// 20: a slot of a loop table.
+    LoopSlot,
+    /// 21: a write or a clear of the other hall's slot.
+    OtherHall,
+    /// 22: a read of an empty slot.
+    EmptySlot,
 }
 
 impl Refusal {
@@ -97,6 +108,11 @@ impl Refusal {
             Self::TimeStep => 10,
             Self::Lane { .. } => 11,
             Self::Advance { .. } => 12,
+            Self::Level => 13,
+            Self::Ramp => 14,
+            Self::LoopSlot => 20,
+            Self::OtherHall => 21,
+            Self::EmptySlot => 22,
         }
     }
 
@@ -112,6 +128,11 @@ impl Refusal {
         Self::Seek,
         Self::Block,
         Self::TimeStep,
+        Self::Level,
+        Self::Ramp,
+        Self::LoopSlot,
+        Self::OtherHall,
+        Self::EmptySlot,
     ];
 
     /// What the library's answer to a creation or a command set says: 0 is no refusal.
@@ -178,6 +199,17 @@ impl Refusal {
             Self::Advance { .. } => {
                 "sample rate times lane rate times time step must be at most 256 in every frame: lower the rate"
             }
+            Self::Level => {
+                "a level is 0 to 600 tenths of a decibel below full level, or 601 for silence"
+            }
+            Self::Ramp => {
+                "a ramp has 1 to 65,536 frames, and its lane as many: cut a longer fade into several ramps"
+            }
+            Self::LoopSlot => "a loop table has the slots 0 to 15",
+            Self::OtherHall => {
+                "hall A writes and clears slots 0 to 7, hall B slots 8 to 15: ask the other hall"
+            }
+            Self::EmptySlot => "the slot holds no loop: its hall must write one first",
         }
     }
 }

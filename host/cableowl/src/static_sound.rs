@@ -1,7 +1,8 @@
 //! The voice: document 01, "Creation, commands, block".
 
 use crate::{
-    BlockLanes, Commands, PlaybackState, Refusal, Settings, Signals, State, ffi, float_mode,
+    BlockLanes, Commands, LoopTable, PlaybackState, Refusal, Settings, Signals, State, ffi,
+    float_mode,
 };
 
 /// What an accepted block reports.
@@ -69,6 +70,39 @@ impl StaticSound {
     ) -> Result<f64, Refusal> {
         let commands = commands.into();
         let commanded = float_mode::plain(|| ffi::on_start_processing(self.state, sound, commands));
+        Refusal::check(commanded.refusal)?;
+        self.state = commanded.state;
+        Ok(commanded.position)
+    }
+
+    /// Reads a slot of a loop table and sets that loop by a command set of its own; reports the
+    /// position as every command set does. What the table becomes afterwards changes nothing here.
+    ///
+    /// ```
+    /// use cableowl::{Hall, LoopTable, Settings, StaticSound};
+    ///
+    /// let sound = [0.5; 20];
+    /// let mut table = LoopTable::new(10);
+    /// table.write(Hall::B, 8, 3..6)?;
+    /// let mut voice = StaticSound::new(Settings::new(1), &sound)?;
+    /// voice.take_loop(&sound, &table, 8)?;
+    /// table.clear(Hall::B, 8)?;
+    /// assert_eq!(voice.state().loop_region, Some((3, 6)));
+    /// # Ok::<(), cableowl::Refusal>(())
+    /// ```
+    ///
+    /// # Errors
+    ///
+    /// The table's, refusals 1, 20 and 22; then the command set's, 1 and 6: a table is judged over
+    /// all frames of the sound, a voice's loop over its slice.
+    pub fn take_loop(
+        &mut self,
+        sound: &[f32],
+        table: &LoopTable,
+        slot: usize,
+    ) -> Result<f64, Refusal> {
+        let commanded =
+            float_mode::plain(|| ffi::take_loop(table.table, slot as u64, self.state, sound));
         Refusal::check(commanded.refusal)?;
         self.state = commanded.state;
         Ok(commanded.position)

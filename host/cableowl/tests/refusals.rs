@@ -58,7 +58,7 @@ fn played(
 }
 
 /// The refusals, from number 1 on.
-const ALL: [Refusal; 12] = [
+const ALL: [Refusal; 17] = [
     Refusal::State,
     Refusal::SampleRate,
     Refusal::FrameCount,
@@ -71,6 +71,11 @@ const ALL: [Refusal; 12] = [
     Refusal::TimeStep,
     at(LaneName::Fade, 0),
     Refusal::Advance { frame: 0 },
+    Refusal::Level,
+    Refusal::Ramp,
+    Refusal::LoopSlot,
+    Refusal::OtherHall,
+    Refusal::EmptySlot,
 ];
 
 const fn at(lane: LaneName, frame: usize) -> Refusal {
@@ -79,7 +84,7 @@ const fn at(lane: LaneName, frame: usize) -> Refusal {
 
 #[test]
 fn numbers_and_sentences() {
-    for (number, refusal) in (1..).zip(ALL) {
+    for (number, refusal) in (1..=14).chain(20..=22).zip(ALL) {
         assert_eq!(refusal.number(), number);
         let said = refusal.to_string();
         assert!(said.starts_with(&format!("refusal {number}: ")), "{said}");

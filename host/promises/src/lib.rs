@@ -119,12 +119,19 @@ pub struct Function {
     pub asks: bool,
     /// its code, without comments and contracts
     pub code: String,
+    /// the paths that its file uses by their last name
+    pub used: Vec<String>,
 }
 
 /// Every function of one file of Rattle.
 pub fn functions(krate: &str, source: &str) -> Vec<Function> {
     let mut owner = String::new();
     let mut found: Vec<Function> = Vec::new();
+    let used = source.lines().filter_map(|line| {
+        let path = line.strip_prefix("use ")?.strip_suffix(';')?;
+        Some(path.to_string())
+    });
+    let used: Vec<String> = used.collect();
     for line in source.lines() {
         if let Some(rest) = line.strip_prefix("impl ") {
             owner = rest.trim_end_matches(" {").to_string();
@@ -145,6 +152,7 @@ pub fn functions(krate: &str, source: &str) -> Vec<Function> {
                 path,
                 asks: false,
                 code: String::new(),
+                used: used.clone(),
             });
         } else if let Some(function) = found.last_mut() {
             if text.starts_with("requires {") {
@@ -175,19 +183,20 @@ pub fn all_functions(crates: &Path) -> Vec<Function> {
 
 impl Function {
     /// Whether its code calls the function of this path: a method by `.name(` or `Type::name(`, another by its name
-    /// inside its crate, and by `crate::name(` outside.
+    /// inside its crate or where a `use` brings it in, and by `crate::name(` elsewhere.
     pub fn calls(&self, path: &str) -> bool {
         let parts: Vec<&str> = path.split("::").collect();
         let name = parts[parts.len() - 1];
         let call = format!("{name}(");
         let same_crate = self.path.split("::").next() == Some(parts[0]);
+        let by_name = same_crate || self.used.iter().any(|used| used == path);
         self.code.match_indices(&call).any(|(at, _)| {
             let before = &self.code[..at];
             if parts.len() == 3 {
                 return before.ends_with('.') || before.ends_with(&format!("{}::", parts[1]));
             }
             let alone = !before.ends_with(|c: char| c.is_alphanumeric() || "_.:".contains(c));
-            before.ends_with(&format!("{}::", parts[0])) || (same_crate && alone)
+            before.ends_with(&format!("{}::", parts[0])) || (by_name && alone)
         })
     }
 }

@@ -80,8 +80,39 @@ pub mod entries {
             sound: *const f32,
             sound_length: usize,
         ) -> CableowlPart;
+        /// A table of empty slots.
+        pub safe fn cableowl_loop_table(num_frames: u64) -> CableowlLoopTable;
+        /// A write of a slot by a hall.
+        pub safe fn cableowl_write_loop(
+            table: CableowlLoopTable,
+            hall: u32,
+            slot: u64,
+            start: u64,
+            end: u64,
+        ) -> CableowlLoopChanged;
+        /// A clear of a slot by a hall.
+        pub safe fn cableowl_clear_loop(
+            table: CableowlLoopTable,
+            hall: u32,
+            slot: u64,
+        ) -> CableowlLoopChanged;
+        /// A read of a slot.
+        pub safe fn cableowl_read_loop(table: CableowlLoopTable, slot: u64) -> CableowlLoopFound;
+        /// A slot's loop, taken by a voice.
+        pub fn cableowl_take_loop(
+            table: CableowlLoopTable,
+            slot: u64,
+            state: CableowlState,
+            sound: *const f32,
+            sound_length: usize,
+        ) -> CableowlCommanded;
     }
 }
+
+pub use entries::{
+    cableowl_clear_loop as clear_loop, cableowl_loop_table as loop_table,
+    cableowl_read_loop as read_loop, cableowl_write_loop as write_loop,
+};
 
 /// The version of the entries.
 #[must_use]
@@ -183,4 +214,16 @@ pub fn process_into(
 pub fn stretch(state: CableowlState, sound: &[f32]) -> CableowlPart {
     // SAFETY: pointer and length are those of a lent slice.
     unsafe { entries::cableowl_stretch(state, sound.as_ptr(), sound.len()) }
+}
+
+/// A slot's loop, taken by a voice.
+#[must_use]
+pub fn take_loop(
+    table: CableowlLoopTable,
+    slot: u64,
+    state: CableowlState,
+    sound: &[f32],
+) -> CableowlCommanded {
+    // SAFETY: pointer and length are those of a lent slice.
+    unsafe { entries::cableowl_take_loop(table, slot, state, sound.as_ptr(), sound.len()) }
 }

@@ -204,3 +204,43 @@ pub struct CableowlPart {
     /// The samples.
     pub length: u64,
 }
+
+/// A slot of a loop table; both numbers are 0 where it is empty.
+#[repr(C)]
+#[derive(Debug, Clone, Copy, Default, PartialEq, Eq)]
+pub struct CableowlLoopSlot {
+    /// The loop's first frame.
+    pub start: u64,
+    /// The loop's end, exclusive.
+    pub end: u64,
+}
+
+/// Sixteen loops over one sound.
+#[repr(C)]
+#[derive(Debug, Clone, Copy, Default, PartialEq, Eq)]
+pub struct CableowlLoopTable {
+    /// All frames of the sound.
+    pub num_frames: u64,
+    /// The slots.
+    pub slots: [CableowlLoopSlot; 16],
+}
+
+/// The answer of a write or a clear.
+#[repr(C)]
+#[derive(Debug, Clone, Copy)]
+pub struct CableowlLoopChanged {
+    /// The table afterwards.
+    pub table: CableowlLoopTable,
+    /// The refusal's number, or 0.
+    pub refusal: u32,
+}
+
+/// The answer of a read.
+#[repr(C)]
+#[derive(Debug, Clone, Copy)]
+pub struct CableowlLoopFound {
+    /// The loop, or an empty slot.
+    pub slot: CableowlLoopSlot,
+    /// The refusal's number, or 0.
+    pub refusal: u32,
+}

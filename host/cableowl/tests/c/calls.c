@@ -71,6 +71,29 @@ int main(void) {
     const CableowlPart none = cableowl_stretch(unknown, sound, 6);
     expect(none.offset == 0 && none.length == 0, "stretch: a state that means nothing");
 
+    float amplitude = 9;
+    expect(cableowl_amplitude(600, &amplitude) == 0 && amplitude * 16777216 == 16777, "amplitude");
+    expect(cableowl_amplitude(602, &amplitude) == 13 && amplitude * 16777216 == 16777, "amplitude: a level too high");
+    float lane[3] = {9, 9, 9};
+    expect(cableowl_fade_ramp(602, 0, 0, lane, 3) == 13, "fade_ramp: the level first");
+    expect(cableowl_fade_ramp(0, 601, 2, lane, 3) == 14 && cableowl_fade_ramp(0, 0, 0, lane, 0) == 14, "fade_ramp: count");
+    expect(lane[0] == 9 && lane[1] == 9 && lane[2] == 9, "fade_ramp: refused");
+    expect(cableowl_fade_ramp(0, 601, 3, lane, 3) == 0, "fade_ramp: refusal");
+    expect(lane[0] == 1 && lane[1] * 16777216 == 530542 && lane[2] == 0, "fade_ramp: amplitudes");
+    const CableowlLoopTable empty = cableowl_loop_table(3);
+    expect(empty.num_frames == 3 && empty.slots[15].start == 0 && empty.slots[15].end == 0, "loop_table");
+    const CableowlLoopChanged kept = cableowl_write_loop(empty, 1, 8, 1, 3);
+    expect(kept.refusal == 0 && kept.table.slots[8].start == 1 && kept.table.slots[8].end == 3, "write_loop");
+    expect(cableowl_write_loop(empty, 1, 7, 1, 3).refusal == 21, "write_loop: the other hall's slot");
+    expect(cableowl_write_loop(empty, 2, 8, 1, 3).refusal == 1, "write_loop: a hall that means nothing");
+    const CableowlLoopFound read = cableowl_read_loop(kept.table, 8);
+    expect(read.refusal == 0 && read.slot.start == 1 && read.slot.end == 3, "read_loop");
+    const CableowlCommanded taken = cableowl_take_loop(kept.table, 8, created.state, sound, 6);
+    expect(taken.refusal == 0 && taken.state.has_loop == 1 && taken.state.loop_start == 1, "take_loop");
+    const CableowlLoopChanged gone = cableowl_clear_loop(kept.table, 1, 8);
+    expect(gone.refusal == 0 && memcmp(&gone.table, &empty, sizeof empty) == 0, "clear_loop");
+    expect(cableowl_take_loop(gone.table, 8, created.state, sound, 6).refusal == 22, "take_loop: an empty slot");
+
     printf("%d differ\n", faults);
     return faults == 0 ? 0 : 1;
 }

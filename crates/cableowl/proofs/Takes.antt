@@ -1,0 +1,46 @@
+-- A voice that took a slot's loop: accepted, it is well formed over its sound, so its count fits; and what the entry answers. Assumes nothing.
+use mathlib.Core.Path.{_≡_, refl}
+use Prim.Native.Nat.{ℕ, _≤_}
+use mathlib.Core.Bool.{Bool, true, false, cond}
+use mathlib.Core.List.{List}
+use lib.Dec.{T, eqb}
+use lib.ListN.{length}
+use lib.Ieee.{Float}
+use borrow.Author.Tests.{eqb-false}
+use Rattle.numbers.specs.Words.{naught}
+use Rattle.voice.specs.declared.StaticSound.{StaticSound}
+use Rattle.voice.specs.WellFormed.{ours}
+use Rattle.command_set.specs.declared.Commanded.{Commanded}
+use Rattle.command_set.specs.Commands.{commanded}
+use Rattle.loop_table.specs.declared.LoopTable.{LoopTable}
+use Rattle.loop_table.specs.Tables.{found}
+use Rattle.take_loop.specs.Taking.{loopCommand, taken}
+use Rattle.records.specs.declared.CableowlState.{CableowlState}
+use Rattle.cableowl.specs.declared.CableowlCommanded.{CableowlCommanded}
+use Rattle.records.specs.Records.{decoded}
+use Rattle.cableowl.specs.Entries.{after}
+use Rattle.cableowl.specs.Loops.{takenC}
+use Rattle.cableowl.proofs.Few.{countOf, ours-few, commanded-ours}
+
+module _ (snd : List Float) (t : LoopTable) (k : ℕ) where
+  taken-ours : (v : StaticSound) → (taken snd t k v) .refusal ≡ 0 → T (ours (length snd) ((taken snd t k v) .sound))
+  unfolding taken
+  taken-ours v = go (eqb n 0) refl
+    where
+      n : ℕ
+      n = (found t k) .refusal
+
+      go : (b : Bool) → eqb n 0 ≡ b
+          → let r = cond {A = Commanded} b (commanded snd v (loopCommand ((found t k) .slot))) (record { refusal = n; sound = v; position = naught }) in
+          r .refusal ≡ 0 → T (ours (length snd) (r .sound))
+      go true e z = commanded-ours snd v (loopCommand ((found t k) .slot)) z
+      go false e z = absurd (eqb-false n 0 e z)
+
+  module _ (c : CableowlState) (v : StaticSound) (r : Commanded) (d : v ≡ decoded c) (f : r ≡ taken snd t k v) where
+    pub take-few : r .refusal ≡ 0 → countOf (r .sound) ≤ 4
+    take-few = rw f (λ z. ours-few (length snd) _ (taken-ours v z))
+
+    pub take-is : (b : CableowlState) → b ≡ after (r .refusal) (r .sound) c
+        → _≡_ {A = CableowlCommanded} (record { state = b; position = r .position; refusal = r .refusal }) (takenC snd t k c)
+    unfolding takenC
+    take-is b g = rw (g, f, d)

@@ -1,0 +1,32 @@
+-- The C ABI of the table of loops (request #109): each entry is the one below it, between numbers. A hall that is neither 0 nor 1 means nothing: 1.
+use Prim.Native.Nat.{ℕ}
+use mathlib.Core.Bool.{cond}
+use mathlib.Core.List.{List}
+use lib.Dec.{eqb, leb}
+use lib.Ieee.{Float}
+use Rattle.loop_table.specs.declared.Hall.{Hall}
+use Rattle.loop_table.specs.declared.Hall.the-variants as hall
+use Rattle.loop_table.specs.declared.LoopTable.{LoopTable}
+use Rattle.loop_table.specs.declared.Changed.{Changed}
+use Rattle.loop_table.specs.Tables.{written, cleared}
+use Rattle.take_loop.specs.Taking.{taken}
+use Rattle.records.specs.declared.CableowlState.{CableowlState}
+use Rattle.cableowl.specs.declared.CableowlCommanded.{CableowlCommanded}
+use Rattle.records.specs.Records.{decoded}
+use Rattle.cableowl.specs.Entries.{after}
+
+abbrev pub hallOf : ℕ → Hall
+hallOf n = cond (eqb n 0) hall.A hall.B
+
+-- a write, and a clear
+abbrev pub writtenC : LoopTable → ℕ → ℕ → ℕ → ℕ → Changed
+writtenC t h k s e = cond (leb h 1) (written t (hallOf h) k s e) (record { table = t; refusal = 1 })
+
+abbrev pub clearedC : LoopTable → ℕ → ℕ → Changed
+clearedC t h k = cond (leb h 1) (cleared t (hallOf h) k) (record { table = t; refusal = 1 })
+
+-- a voice takes a slot's loop
+unfoldable pub takenC : List Float → LoopTable → ℕ → CableowlState → CableowlCommanded
+takenC snd t k c =
+    let r = taken snd t k (decoded c) in
+    record { state = after (r .refusal) (r .sound) c; position = r .position; refusal = r .refusal }

@@ -1,0 +1,5 @@
+-- Laws of levels and ramps.
+pub mod Levels
+pub mod Amplitudes
+pub mod Ramps
+pub mod Promises

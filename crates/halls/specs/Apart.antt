@@ -1,0 +1,94 @@
+-- Two halls do not disturb each other (request #109). Stated of hall h: with h = B it says that whatever A calls, nothing of B's moves; with h = A the mirror.
+-- Two rows of calls begin at the same table and voices. They hold the same writes and clears by h, the same reads of h's slots by either hall, and the same calls of one voice,
+-- in the same order; everything else, and how it lies between these, is free. If that voice takes loops from h's slots alone, then
+-- every answer to these calls is the same, with the frames, the state, the steps and all else that a voice reports; so are h's eight slots and the voice afterwards.
+use Prim.Native.Nat.{ℕ}
+use mathlib.Core.Path.{_≡_}
+use mathlib.Core.Bool.{Bool, true, false, not, _&&_}
+use mathlib.Core.List.{List, _∷_}
+use lib.Dec.{T, eqb}
+use lib.ListN.{length, take, drop}
+use lib.Ieee.{Float}
+use Rattle.numbers.specs.Lists.{all}
+use Rattle.loop_table.specs.declared.Hall.{Hall}
+use Rattle.loop_table.specs.declared.Hall.the-variants as hall
+use Rattle.loop_table.specs.declared.LoopSlot.{LoopSlot}
+use Rattle.loop_table.specs.declared.LoopTable.{LoopTable}
+use Rattle.loop_table.specs.Tables.{owns, slotOf, empty, found, written, cleared}
+use Rattle.halls.specs.Calls.{Write, Clear, Read, New, Take, Command, Block, Mix, Event, ByHall, ByVoice, World, after, answers, only}
+
+abbrev pub same : Hall → Hall → Bool
+same hall.A hall.A = true
+same hall.A hall.B = false
+same hall.B hall.A = false
+same hall.B hall.B = true
+
+-- the eight slots that a hall writes
+abbrev pub half : Hall → LoopTable → List LoopSlot
+half hall.A t = take 8 (t .slots)
+half hall.B t = drop 8 (t .slots)
+
+-- writes and clears by h, reads of h's slots by either hall, calls of voice i
+abbrev pub concerns : Hall → ℕ → Event → Bool
+concerns h i (ByHall g (Write k s e)) = same h g
+concerns h i (ByHall g (Clear k)) = same h g
+concerns h i (ByHall g (Read k)) = owns h k
+concerns h i (ByVoice j p) = eqb i j
+
+-- a loop is taken from h's slots alone
+abbrev pub takesFrom : Hall → Event → Bool
+takesFrom h (ByHall g c) = true
+takesFrom h (ByVoice j (New s)) = true
+takesFrom h (ByVoice j (Take k)) = owns h k
+takesFrom h (ByVoice j (Command c)) = true
+takesFrom h (ByVoice j (Block dt b g out)) = true
+takesFrom h (ByVoice j (Mix dt b g mix from)) = true
+
+pub record Undisturbed (snd : List Float) (h : Hall) (i : ℕ) (w : World) (es fs : List Event) : Type 0 where
+  pub told : answers snd (concerns h i) w es ≡ answers snd (concerns h i) w fs
+  pub slots : half h ((after snd w es) .table) ≡ half h ((after snd w fs) .table)
+  pub voice : (after snd w es) .voices i ≡ (after snd w fs) .voices i
+
+abbrev pub HallsApart : Type 0
+HallsApart =
+    (snd : List Float) (h : Hall) (i : ℕ) (w : World) (es fs : List Event)
+    → only (concerns h i) es ≡ only (concerns h i) fs → T (all (takesFrom h) (only (concerns h i) es)) → Undisturbed snd h i w es fs
+
+-- ---- a loop taken earlier does not change with the table
+
+abbrev pub ofVoice : ℕ → Event → Bool
+ofVoice i (ByHall g c) = false
+ofVoice i (ByVoice j p) = eqb i j
+
+abbrev pub takesNone : Event → Bool
+takesNone (ByHall g c) = true
+takesNone (ByVoice j (New s)) = true
+takesNone (ByVoice j (Take k)) = false
+takesNone (ByVoice j (Command c)) = true
+takesNone (ByVoice j (Block dt b g out)) = true
+takesNone (ByVoice j (Mix dt b g mix from)) = true
+
+-- a voice that takes no loop answers the same over any two tables, whatever becomes of them
+abbrev pub TakenStays : Type 0
+TakenStays =
+    (snd : List Float) (i : ℕ) (w u : World) (es fs : List Event)
+    → w .voices i ≡ u .voices i → only (ofVoice i) es ≡ only (ofVoice i) fs → T (all takesNone (only (ofVoice i) es))
+    → (answers snd (ofVoice i) w es ≡ answers snd (ofVoice i) u fs) × ((after snd w es) .voices i ≡ (after snd u fs) .voices i)
+
+-- ---- a read follows the hall that writes the slot
+
+-- the call is no write and no clear of slot k by h
+abbrev pub spares : Hall → ℕ → Event → Bool
+spares h k (ByHall g (Write j s e)) = not (same h g && eqb j k)
+spares h k (ByHall g (Clear j)) = not (same h g && eqb j k)
+spares h k (ByHall g (Read j)) = true
+spares h k (ByVoice j p) = true
+
+-- once h's write of slot k is accepted, every read gives that loop, and once its clear is, 22, until h writes or clears that slot again: whatever the other hall calls
+abbrev pub ReadsFollow : Type 0
+ReadsFollow =
+    (snd : List Float) (h : Hall) (k : ℕ) (w : World) (es : List Event)
+    → length (w .table .slots) ≡ 16 → T (all (spares h k) es)
+    → ((s e : ℕ) → (written (w .table) h k s e) .refusal ≡ 0
+    → found ((after snd w (ByHall h (Write k s e) ∷ es)) .table) k ≡ record { slot = slotOf s e; refusal = 0 })
+    × ((cleared (w .table) h k) .refusal ≡ 0 → found ((after snd w (ByHall h (Clear k) ∷ es)) .table) k ≡ record { slot = empty; refusal = 22 })

@@ -1,0 +1,2 @@
+-- The table of loops that two halls share.
+pub mod Tables

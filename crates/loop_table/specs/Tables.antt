@@ -1,0 +1,85 @@
+-- The table of loops (request #109), refusals 1, 6 and 20 to 22: sixteen slots over one sound, slots 0 to 7 written by hall A, 8 to 15 by hall B.
+-- Every loop is in frames and judged over all frames of the sound, which the table records.
+use Prim.Native.Nat.{ℕ}
+use mathlib.Core.Bool.{Bool, _&&_, _||_, cond}
+use lib.Dec.{eqb, leb, ltb}
+use lib.ListN.{getD, set, replicate}
+use Rattle.numbers.specs.Lists.{all}
+use Rattle.playback_position.specs.declared.FrameRange.the-variants.{Frames}
+use Rattle.playback_position.specs.Positions.{within}
+use Rattle.loop_table.specs.declared.Hall.{Hall}
+use Rattle.loop_table.specs.declared.Hall.the-variants as hall
+use Rattle.loop_table.specs.declared.LoopSlot.{LoopSlot}
+use Rattle.loop_table.specs.declared.LoopTable.{LoopTable}
+use Rattle.loop_table.specs.declared.Changed.{Changed}
+use Rattle.loop_table.specs.declared.Found.{Found}
+
+-- a number where its test fails, else what the rest gives
+abbrev pub unless : Bool → ℕ → ℕ → ℕ
+unless ok n rest = cond ok rest n
+
+-- 6: start < end <= n, as for every loop
+abbrev pub looping : ℕ → ℕ → ℕ → Bool
+looping n s e = within n (Frames s e)
+
+abbrev pub slotOf : ℕ → ℕ → LoopSlot
+slotOf s e = record { start = s; end = e }
+
+-- an empty slot: every number 0
+abbrev pub empty : LoopSlot
+empty = slotOf 0 0
+
+abbrev pub isEmpty : LoopSlot → Bool
+isEmpty s = eqb (s .start) 0 && eqb (s .end) 0
+
+-- a slot is empty or holds a loop
+abbrev pub lawfulSlot : ℕ → LoopSlot → Bool
+lawfulSlot n s = isEmpty s || looping n (s .start) (s .end)
+
+-- 1: no slot holds a loop that would get 6
+unfoldable pub lawfulTable : LoopTable → Bool
+lawfulTable t = all (lawfulSlot (t .«num_frames»)) (t .slots)
+
+-- which slots a hall writes
+abbrev pub owns : Hall → ℕ → Bool
+owns hall.A k = ltb k 8
+owns hall.B k = leb 8 k
+
+-- 20 and 21
+abbrev pub refusedSlot : Hall → ℕ → ℕ
+refusedSlot h k = unless (leb k 15) 20 (unless (owns h k) 21 0)
+
+abbrev pub emptyTable : ℕ → LoopTable
+emptyTable n = record { «num_frames» = n; slots = replicate 16 empty }
+
+-- the table with one slot replaced
+abbrev pub stored : LoopTable → ℕ → LoopSlot → LoopTable
+stored t k s = record { «num_frames» = t .«num_frames»; slots = set (t .slots) k s }
+
+abbrev pub heldIn : LoopTable → ℕ → LoopSlot
+heldIn t k = getD (t .slots) k empty
+
+-- accepted, the table with the slot replaced; refused, the given table
+abbrev pub changed : ℕ → LoopTable → ℕ → LoopSlot → Changed
+changed refusal t k s = cond (eqb refusal 0) (record { table = stored t k s; refusal = 0 }) (record { table = t; refusal = refusal })
+
+-- a write
+unfoldable pub refusedWrite : LoopTable → Hall → ℕ → ℕ → ℕ → ℕ
+refusedWrite t h k s e = unless (lawfulTable t) 1 (unless (looping (t .«num_frames») s e) 6 (refusedSlot h k))
+
+unfoldable pub written : LoopTable → Hall → ℕ → ℕ → ℕ → Changed
+written t h k s e = changed (refusedWrite t h k s e) t k (slotOf s e)
+
+-- a clear, of an empty slot too
+unfoldable pub refusedClear : LoopTable → Hall → ℕ → ℕ
+refusedClear t h k = unless (lawfulTable t) 1 (refusedSlot h k)
+
+unfoldable pub cleared : LoopTable → Hall → ℕ → Changed
+cleared t h k = changed (refusedClear t h k) t k empty
+
+-- a read by either hall; refused, no loop
+unfoldable pub refusedRead : LoopTable → ℕ → ℕ
+refusedRead t k = unless (lawfulTable t) 1 (unless (leb k 15) 20 (cond (isEmpty (heldIn t k)) 22 0))
+
+unfoldable pub found : LoopTable → ℕ → Found
+found t k = let n = refusedRead t k in record { slot = cond (eqb n 0) (heldIn t k) empty; refusal = n }

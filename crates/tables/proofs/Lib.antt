@@ -1,0 +1,3 @@
+-- Laws that the crates with a table cite.
+pub mod Every
+pub mod Largest

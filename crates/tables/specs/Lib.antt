@@ -1,0 +1,2 @@
+-- What the contracts of a table cite.
+pub mod Largest

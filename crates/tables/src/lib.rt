@@ -1,0 +1,1 @@
+// Tables whose entries are the largest numbers that fit: definitions and laws, no code.

@@ -1,0 +1,2 @@
+-- A voice takes a slot's loop.
+pub mod Taking

@@ -1,0 +1,97 @@
+//! Levels in decibels and fades: the table and the ramp of `crates/decibels`.
+
+use crate::{Refusal, ffi, float_mode};
+
+/// The most frames a ramp may have.
+pub const MAX_RAMP_FRAMES: usize = 65_536;
+
+/// A level in tenths of a decibel below full level: 0 to 600, or [`Level::SILENCE`].
+///
+/// Its amplitude comes from a proved table, so no power is computed, and it is the same on every
+/// machine.
+///
+/// ```
+/// use cableowl::{Level, Refusal};
+///
+/// let six_decibels_down = Level::new(60)?;
+/// assert_eq!(six_decibels_down.amplitude(), 8_408_526.0 / 16_777_216.0);
+/// assert_eq!(Level::FULL.amplitude(), 1.0);
+/// assert_eq!(Level::SILENCE.amplitude(), 0.0);
+/// assert_eq!(Level::new(602), Err(Refusal::Level));
+/// # Ok::<(), Refusal>(())
+/// ```
+#[derive(Debug, Clone, Copy, PartialEq, Eq, PartialOrd, Ord, Hash)]
+pub struct Level(u32);
+
+impl Level {
+    /// Full level, amplitude 1.
+    pub const FULL: Self = Self(0);
+
+    /// Silence, amplitude 0. The level before it, 600, is 60 decibels down and no silence.
+    pub const SILENCE: Self = Self(601);
+
+    /// The level so many tenths of a decibel below full level; 601 is silence.
+    ///
+    /// # Errors
+    ///
+    /// [`Refusal::Level`] above 601.
+    pub const fn new(tenths: u32) -> Result<Self, Refusal> {
+        match tenths {
+            0..=601 => Ok(Self(tenths)),
+            _ => Err(Refusal::Level),
+        }
+    }
+
+    /// Tenths of a decibel below full level, 601 for silence.
+    #[must_use]
+    pub const fn tenths(self) -> u32 {
+        self.0
+    }
+
+    /// What a sample is multiplied by: e / 2^24 exactly, for the largest whole number e with
+    /// (e / 2^24)^200 * 10^tenths at most 1, and 0 for silence.
+    #[must_use]
+    pub fn amplitude(self) -> f32 {
+        let mut amplitude = 0.0;
+        // Never refused: a level is at most 601.
+        float_mode::plain(|| ffi::amplitude(self.0, &mut amplitude));
+        amplitude
+    }
+}
+
+/// Fills a fade lane: levels run straight from `start` on the first frame to `end` on the last,
+/// rounded down to tenths of a decibel; one frame takes the end level.
+///
+/// The frames are the lane's length. A block lends the part of the lane that it plays as its fade
+/// lane, so a fade may be longer than a block, and how it is cut changes nothing.
+///
+/// ```
+/// use cableowl::{Lanes, Level, Settings, Signals, StaticSound, fade_ramp};
+///
+/// let sound = [1.0; 2_000];
+/// let mut voice = StaticSound::new(Settings::new(48_000), &sound)?;
+/// let mut fade = [0.0; 600];
+/// fade_ramp(Level::FULL, Level::SILENCE, &mut fade)?;
+///
+/// let mut lanes = Lanes::new();
+/// let mut out = [0.0; 2 * 256];
+/// for part in fade.chunks(256) {
+///     let of_this_block = lanes.frames(part.len()).fade(part);
+///     let out = &mut out[..2 * part.len()];
+///     voice.process(&sound, of_this_block, 1.0 / 48_000.0, Signals::default(), out)?;
+/// }
+/// assert_eq!(fade[0], 1.0);
+/// assert_eq!(fade[599], 0.0);
+/// # Ok::<(), cableowl::Refusal>(())
+/// ```
+///
+/// # Errors
+///
+/// [`Refusal::Ramp`] for an empty lane, or one above [`MAX_RAMP_FRAMES`]; nothing is written.
+pub fn fade_ramp(start: Level, end: Level, lane: &mut [f32]) -> Result<(), Refusal> {
+    // A length past 32 bits is past the largest count too.
+    let count = u32::try_from(lane.len()).unwrap_or(u32::MAX);
+    Refusal::check(float_mode::plain(|| {
+        ffi::fade_ramp(start.0, end.0, count, lane)
+    }))
+}
