@@ -58,7 +58,7 @@ extern "C" {
 #endif
 
 /* The version of this interface, which cableowl_version() answers. Since 1: CableowlProcessed has
- * lowest_count. */
+ * lowest_count; CableowlSignals has due and now, and a start of 3 is due at a tick. */
 #define CABLEOWL_VERSION 2
 
 /* The limits. */
@@ -108,8 +108,9 @@ enum { CABLEOWL_PLACE_SECONDS = 0, CABLEOWL_PLACE_SAMPLES = 1, CABLEOWL_PLACE_EN
 enum { CABLEOWL_LOOP_KEEP = 0, CABLEOWL_LOOP_CLEAR = 1, CABLEOWL_LOOP_SET = 2 };
 enum { CABLEOWL_RESUME_NO = 0, CABLEOWL_RESUME_AT_ONCE = 1, CABLEOWL_RESUME_WAITING = 2 };
 
-/* CableowlSignals' start and resume. */
+/* CableowlSignals' start and resume; its start alone may also be due at a tick. */
 enum { CABLEOWL_ANSWER_WAITING = 0, CABLEOWL_ANSWER_NOW = 1, CABLEOWL_ANSWER_NEVER = 2 };
+enum { CABLEOWL_START_TICK = 3 };
 
 /* An entry of the window of four: a frame and its number. */
 typedef struct CableowlEntry {
@@ -180,11 +181,20 @@ typedef struct CableowlCommands {
     CableowlRegion loop_region;
 } CableowlCommands;
 
-/* A block's signals; all zeros is no signals. */
+/* A block's signals; all zeros is no signals.
+ *
+ * A start of 3 is due at a tick of 32 bits, which may wrap: it says now where now - due, in uint32_t, is
+ * below 2147483648, and is still waiting elsewhere. So a tick that is due less than half a turn ahead, or
+ * exactly half a turn, is waited for, and one that is due further ahead counts as reached already: at 1,000
+ * ticks a second half a turn is 24 days, 20 hours, 31 minutes and 23.648 seconds. A start that has come
+ * stays so, though the tick goes on or back. Where a block is cut in two, bring both parts the same tick.
+ */
 typedef struct CableowlSignals {
     uint32_t finished; /* the fade has finished: 0 no, any other yes */
-    uint32_t start;    /* 1 now, 2 never, any other still waiting */
+    uint32_t start;    /* 1 now, 2 never, 3 by the tick, any other still waiting */
     uint32_t resume;   /* 1 now, 2 never, any other still waiting */
+    uint32_t due;      /* where start is 3: the tick at which it is due */
+    uint32_t now;      /* where start is 3: the tick now */
 } CableowlSignals;
 
 typedef struct CableowlCreated {

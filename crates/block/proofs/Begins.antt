@@ -6,6 +6,7 @@ use Rattle.playback_state_manager.specs.declared.PlaybackState.the-variants.{St
 use Rattle.playback_state_manager.specs.declared.StartAnswer.{StartAnswer}
 use Rattle.playback_state_manager.specs.declared.StartAnswer.the-variants.{Waiting, Now, Never}
 use Rattle.playback_state_manager.specs.States.{settled}
+use Rattle.start_time.specs.Ticks.{answering}
 use Rattle.voice.specs.declared.StaticSound.{StaticSound}
 use Rattle.block.specs.declared.Signals.{Signals}
 use Rattle.block.specs.Blocks.{come, givenUp, begun}
@@ -22,7 +23,7 @@ restated v b s =
     }
 
 -- what the start answer leaves, once both are in hand
-answered : (g : Signals) (v : StaticSound) (a : StartAnswer) (p b : Bool) (s t : PlaybackState) → g .start ≡ a → v .started ≡ p → s ≡ settled (g .finished) (g .resume) (v .moving .state)
+answered : (g : Signals) (v : StaticSound) (a : StartAnswer) (p b : Bool) (s t : PlaybackState) → answering (g .start) ≡ a → v .started ≡ p → s ≡ settled (g .finished) (g .resume) (v .moving .state)
     → b ≡ come a p → t ≡ givenUp a p s → restated v b t ≡ begun g v
 unfolding begun
 answered g v a p b s t e f h i j =
@@ -41,13 +42,13 @@ kept-started Never s = refl
 
 module _ (g : Signals) (v : StaticSound) (s : PlaybackState) (h : s ≡ settled (g .finished) (g .resume) (v .moving .state)) where
   pub begun-started : v .started ≡ true → restated v (v .started) s ≡ begun g v
-  begun-started f = answered g v (g .start) true (v .started) s s refl f h (f ∙ come-started (g .start)) (kept-started (g .start) s)
+  begun-started f = let a = answering (g .start) in answered g v a true (v .started) s s refl f h (f ∙ come-started a) (kept-started a s)
 
-  pub begun-waiting : v .started ≡ false → g .start ≡ Waiting → restated v (v .started) s ≡ begun g v
+  pub begun-waiting : v .started ≡ false → answering (g .start) ≡ Waiting → restated v (v .started) s ≡ begun g v
   begun-waiting f e = answered g v Waiting false (v .started) s s e f h f refl
 
-  pub begun-now : v .started ≡ false → g .start ≡ Now → restated v true s ≡ begun g v
+  pub begun-now : v .started ≡ false → answering (g .start) ≡ Now → restated v true s ≡ begun g v
   begun-now f e = answered g v Now false true s s e f h refl refl
 
-  pub begun-never : v .started ≡ false → g .start ≡ Never → restated v (v .started) Stopped ≡ begun g v
+  pub begun-never : v .started ≡ false → answering (g .start) ≡ Never → restated v (v .started) Stopped ≡ begun g v
   begun-never f e = answered g v Never false (v .started) s Stopped e f h f refl

@@ -1,4 +1,4 @@
--- A block, by whether it is silent: what it gives, a count of at most 4, and what it leaves as it is; and no signals change nothing.
+-- A block, by whether it is silent: what it gives, a count of at most 4, and what it leaves as it is; and the signals of a later part change nothing.
 -- By cases. Assumes nothing.
 use mathlib.Core.Path.{_≡_, refl, ap, ap₂, _∙_}
 use Prim.Native.Nat.{_+_, _*_, _≤_}
@@ -9,9 +9,13 @@ use lib.ListN.{length}
 use lib.Ieee.{Float}
 use Rattle.numbers.specs.Words.{naught}
 use Rattle.playback_state_manager.specs.declared.PlaybackState.{PlaybackState}
-use Rattle.playback_state_manager.specs.declared.StartAnswer.the-variants.{Waiting}
+use Rattle.playback_state_manager.specs.declared.StartAnswer.{StartAnswer}
+use Rattle.playback_state_manager.specs.declared.StartAnswer.the-variants.{Waiting, Now}
 use Rattle.playback_state_manager.specs.States.{settled}
 use Rattle.playback_state_manager.proofs.Stays.{settled-quiet}
+use Rattle.start_time.specs.declared.StartSignal.{StartSignal}
+use Rattle.start_time.specs.declared.StartSignal.the-variants.{Answer, Tick}
+use Rattle.start_time.specs.Ticks.{reached, answering, again}
 use Rattle.lanes.specs.Lanes.{Lane}
 use Rattle.voice.specs.declared.StaticSound.{StaticSound}
 use Rattle.playing.proofs.Plays.{two-more, plays-lowest, plays-length, plays-setup}
@@ -64,19 +68,47 @@ module _ (snd : List Float) (dt : Float) where
       go true = plays-setup snd dt ls (begun g v)
       go false = refl
 
--- ---- no signals change nothing
+-- ---- the signals of a later part change nothing
+
+-- a due tick, reached or not, as an answer
+abbrev byTick : Bool → StartAnswer
+byTick r = cond r Now Waiting
 
 come-quiet : (b : Bool) → come Waiting b ≡ b
 come-quiet true = refl
 come-quiet false = refl
 
-given-quiet : (b : Bool) (s : PlaybackState) → givenUp Waiting b s ≡ s
-given-quiet true s = refl
-given-quiet false s = refl
+come-twice : (r b : Bool) → come (byTick r) (come (byTick r) b) ≡ come (byTick r) b
+come-twice true true = refl
+come-twice true false = refl
+come-twice false true = refl
+come-twice false false = refl
 
-pub begun-quiet : (v : StaticSound) → begun quiet v ≡ v
+given-tick : (r b : Bool) (s : PlaybackState) → givenUp (byTick r) b s ≡ s
+given-tick true true s = refl
+given-tick true false s = refl
+given-tick false true s = refl
+given-tick false false s = refl
+
+-- a start that has taken a signal: the same signal in a later part leaves it
+abbrev pub Taken : Signals → Bool → Type 0
+Taken g b = come (answering (again (g .start))) b ≡ b
+
+come-again : (s : StartSignal) (b : Bool) → come (answering (again s)) (come (answering s) b) ≡ come (answering s) b
+come-again (Answer a) b = come-quiet (come a b)
+come-again (Tick due now) b = come-twice (reached due now) b
+
+given-again : (s : StartSignal) (b : Bool) (t : PlaybackState) → givenUp (answering (again s)) b t ≡ t
+given-again (Answer a) b t = given-tick false b t
+given-again (Tick due now) b t = given-tick (reached due now) b t
+
+pub begun-taken : (g : Signals) (v : StaticSound) → Taken g ((begun g v) .started)
 unfolding begun
-begun-quiet v =
+begun-taken g v = come-again (g .start) (v .started)
+
+pub begun-quiet : (g : Signals) (v : StaticSound) → Taken g (v .started) → begun (quiet g) v ≡ v
+unfolding begun
+begun-quiet g v h =
     ap₂ (λ (b : Bool) (s : PlaybackState). record {
       setup = v .setup;
       «playback_rate» = v .«playback_rate»;
@@ -84,5 +116,5 @@ begun-quiet v =
       «fractional_position» = v .«fractional_position»;
       moving = record { state = s; transport = v .moving .transport; resampler = v .moving .resampler };
     })
-    (come-quiet (v .started))
-    (given-quiet (v .started) (settled false Waiting (v .moving .state)) ∙ settled-quiet (v .moving .state))
+    h
+    (given-again (g .start) (v .started) (settled false Waiting (v .moving .state)) ∙ settled-quiet (v .moving .state))

@@ -8,6 +8,7 @@ use Rattle.playback_state_manager.specs.declared.PlaybackState.the-variants as 
 use Rattle.playback_state_manager.specs.declared.StartAnswer.{StartAnswer}
 use Rattle.playback_state_manager.specs.declared.StartAnswer.the-variants as answer
 use Rattle.playback_state_manager.specs.States.{settled, advancing}
+use Rattle.start_time.specs.Ticks.{answering, again}
 use Rattle.lanes.specs.Lanes.{Lane}
 use Rattle.voice.specs.declared.StaticSound.{StaticSound}
 use Rattle.playing.specs.Plays.{Played, plays}
@@ -36,16 +37,16 @@ givenUp answer.Waiting false s = s
 givenUp answer.Now false s = s
 givenUp answer.Never false s = state.Stopped
 
--- the voice once it has taken its signals: states, then the start answer
+-- the voice once it has taken its signals: states, then the answer that the start signal gives
 unfoldable pub begun : Signals → StaticSound → StaticSound
 begun g v =
     record {
       setup = v .setup;
       «playback_rate» = v .«playback_rate»;
-      started = come (g .start) (v .started);
+      started = come (answering (g .start)) (v .started);
       «fractional_position» = v .«fractional_position»;
       moving = record {
-        state = givenUp (g .start) (v .started) (settled (g .finished) (g .resume) (v .moving .state));
+        state = givenUp (answering (g .start)) (v .started) (settled (g .finished) (g .resume) (v .moving .state));
         transport = v .moving .transport;
         resampler = v .moving .resampler;
       };
@@ -60,6 +61,6 @@ unfoldable pub block : List Float → Float → List Lane → Signals → Static
 unfolding begun plays zeros
 block snd dt ls g v = cond (live (begun g v)) (plays snd dt ls (begun g v)) (silent ls (begun g v))
 
--- no signals: not finished, still waiting, still waiting
-abbrev pub quiet : Signals
-quiet = record { finished = false; start = answer.Waiting; resume = answer.Waiting }
+-- the signals of a block's later part: not finished; for the start still waiting, or the same tick; still waiting
+abbrev pub quiet : Signals → Signals
+quiet g = record { finished = false; start = again (g .start); resume = answer.Waiting }

@@ -11,16 +11,17 @@ use playback_state_manager::PlaybackState;
 use playback_state_manager::StartAnswer;
 use playing::Processed;
 use playing::play;
+use start_time::StartSignal;
 use voice::StaticSound;
 
-// What a block is told: whether the fade has finished, and the answers for the sound's start and a waiting resume.
+// What a block is told: whether the fade has finished, an answer or a tick for the sound's start, and an answer for a waiting resume.
 pub struct Signals {
     pub finished: bool,
-    pub start: StartAnswer,
+    pub start: StartSignal,
     pub resume: StartAnswer,
 }
 
-// A voice takes its signals: states, then the start answer.
+// A voice takes its signals: states, then the answer that the start signal gives.
 fn begin(voice: StaticSound, signals: Signals) -> StaticSound
     ensures { λ r. ⌜ r ≡ begun signals voice ⌝ }
 {
@@ -36,7 +37,8 @@ fn begin(voice: StaticSound, signals: Signals) -> StaticSound
             ..voice
         };
     }
-    match start {
+    let answer = start.answer();
+    match answer {
         StartAnswer::Waiting => StaticSound {
             moving: settled,
             ..voice

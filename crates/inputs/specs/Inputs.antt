@@ -10,6 +10,8 @@ use Rattle.playback_position.specs.declared.EndPosition.the-variants.{EndOfAudi
 use Rattle.playback_position.specs.declared.Region.{Region}
 use Rattle.playback_state_manager.specs.declared.StartAnswer.{StartAnswer}
 use Rattle.playback_state_manager.specs.declared.StartAnswer.the-variants as answer
+use Rattle.start_time.specs.declared.StartSignal.{StartSignal}
+use Rattle.start_time.specs.declared.StartSignal.the-variants as start
 use Rattle.creation.specs.declared.OptionalRegion.{OptionalRegion}
 use Rattle.creation.specs.declared.OptionalRegion.the-variants as optional
 use Rattle.creation.specs.declared.Settings.{Settings}
@@ -92,5 +94,9 @@ commandsOf c =
 abbrev pub answerOf : ℕ → StartAnswer
 answerOf n = cond (eqb n 1) answer.Now (cond (eqb n 2) answer.Never answer.Waiting)
 
+-- 3 is a due tick with the tick now, any other an answer
+abbrev pub startOf : ℕ → ℕ → ℕ → StartSignal
+startOf kind due now = cond (eqb kind 3) (start.Tick due now) (start.Answer (answerOf kind))
+
 abbrev pub signalsOf : CableowlSignals → Signals
-signalsOf g = record { finished = yes (g .finished); start = answerOf (g .start); resume = answerOf (g .resume) }
+signalsOf g = record { finished = yes (g .finished); start = startOf (g .start) (g .due) (g .now); resume = answerOf (g .resume) }

@@ -1,7 +1,7 @@
 // What creation, commands and blocks are given, from records of numbers, for the C ABI: a tag that means nothing is refused by the number of what it stands for.
 ghost use mathlib.Core.Path.{_≡_};
 ghost use lib.Ieee.{nan};
-ghost use Rattle.inputs.specs.Inputs.{placeOf, endOf, regionIf, optionalOf, settingsOf, amountOf, loopOf, resumeOf, commandsOf, answerOf, signalsOf};
+ghost use Rattle.inputs.specs.Inputs.{placeOf, endOf, regionIf, optionalOf, settingsOf, amountOf, loopOf, resumeOf, commandsOf, answerOf, startOf, signalsOf};
 use block::Signals;
 use command_set::Amount;
 use command_set::Commands;
@@ -13,6 +13,7 @@ use playback_position::EndPosition;
 use playback_position::PlaybackPosition;
 use playback_position::Region;
 use playback_state_manager::StartAnswer;
+use start_time::StartSignal;
 
 // A place in a sound: kind 0 is seconds, 1 samples, and for an end 2 the end of audio.
 #[repr(C)]
@@ -58,12 +59,14 @@ pub struct CableowlCommands {
     pub loop_region: CableowlRegion,
 }
 
-// What a block is told. An answer is 0 still waiting, 1 now, 2 never.
+// What a block is told. An answer is 0 still waiting, 1 now, 2 never; the start may be 3, due at one tick and now at another.
 #[repr(C)]
 pub struct CableowlSignals {
     pub finished: u32,
     pub start: u32,
     pub resume: u32,
+    pub due: u32,
+    pub now: u32,
 }
 
 // What no tag means: no number accepts it.
@@ -201,12 +204,21 @@ fn answer_of(n: u32) -> StartAnswer
     StartAnswer::Waiting
 }
 
+fn start_of(kind: u32, due: u32, now: u32) -> StartSignal
+    ensures { λ r. ⌜ r ≡ startOf kind due now ⌝ }
+{
+    if kind == 3 {
+        return StartSignal::Tick(due, now);
+    }
+    StartSignal::Answer(answer_of(kind))
+}
+
 pub fn signals_of(signals: CableowlSignals) -> Signals
     ensures { λ r. ⌜ r ≡ signalsOf signals ⌝ }
 {
     Signals {
         finished: signals.finished != 0,
-        start: answer_of(signals.start),
+        start: start_of(signals.start, signals.due, signals.now),
         resume: answer_of(signals.resume),
     }
 }

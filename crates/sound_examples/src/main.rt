@@ -12,6 +12,7 @@ use playback_position::PlaybackPosition;
 use playback_position::Region;
 use playback_state_manager::StartAnswer;
 use playing::Processed;
+use start_time::StartSignal;
 use voice::StaticSound;
 
 struct Tally {
@@ -86,7 +87,7 @@ fn play(
 ) -> Processed {
     let signals = Signals {
         finished: false,
-        start: StartAnswer::Waiting,
+        start: StartSignal::Answer(StartAnswer::Waiting),
         resume: StartAnswer::Waiting,
     };
     static_sound::process(voice, sound, unit, unit, unit, unit, rate, dt, signals, out)

@@ -14,6 +14,7 @@ use playback_position::PlaybackPosition;
 use playback_position::Region;
 use playback_state_manager::StartAnswer;
 use playing::Processed;
+use start_time::StartSignal;
 use voice::StaticSound;
 
 // What a call leaves, and whether all of its answer is the list's.
@@ -142,7 +143,7 @@ fn next_commands() -> Commands {
 
 fn next_signals() -> Signals {
     let finished = input::yes();
-    let start = next_answer();
+    let start = StartSignal::Answer(next_answer());
     let resume = next_answer();
     Signals {
         finished,

@@ -1,22 +1,31 @@
 -- The archive's entries cut in two, from the entries below: an accepted call's record means the state that it encodes. Assumes nothing.
-use mathlib.Core.Path.{_≡_, sym, ap, _∙_, subst}
+use mathlib.Core.Path.{_≡_, refl, sym, ap, _∙_, subst}
 use Prim.Native.Nat.{ℕ, _+_, _*_}
+use mathlib.Core.Bool.{Bool, true, false, cond}
 use mathlib.Core.List.{List}
-use lib.Dec.{T}
+use lib.Dec.{T, eqb}
 use lib.ListN.{take, drop}
+use Rattle.playback_state_manager.specs.declared.StartAnswer.the-variants.{Waiting}
+use Rattle.start_time.specs.declared.StartSignal.{StartSignal}
+use Rattle.start_time.specs.declared.StartSignal.the-variants.{Answer, Tick}
+use Rattle.start_time.specs.Ticks.{again}
 use Rattle.lanes.specs.Lanes.{firstLanes, restLanes}
 use Rattle.voice.specs.declared.StaticSound.{StaticSound}
 use Rattle.playing.specs.declared.Processed.{Processed}
+use Rattle.block.specs.declared.Signals.{Signals}
 use Rattle.block.specs.Blocks.{quiet}
 use Rattle.playing.specs.Plays.{Outcome}
 use Rattle.static_sound.specs.Entries.{processed, processedInto}
 use Rattle.records.specs.declared.CableowlState.{CableowlState}
 use Rattle.records.specs.Records.{decoded, encoded}
-use Rattle.inputs.specs.Inputs.{signalsOf}
+use Rattle.inputs.specs.declared.CableowlSignals.{CableowlSignals}
+use Rattle.inputs.specs.Inputs.{answerOf, startOf, signalsOf}
 use Rattle.cableowl.specs.Entries.{after, answered, OutcomeC, processedC, processedIntoC}
 use Rattle.records.proofs.Inverse.{decoded-encoded}
 use Rattle.theorems.specs.Alike.{bare, awake, Parts}
-use Rattle.theorems.specs.Archive.{PartsC, CutInTwoC, CutInMixC, CutBlocksC, CutMixesC}
+use Rattle.theorems.specs.Cut.{CutInTwo}
+use Rattle.theorems.specs.Mix.{CutInMix}
+use Rattle.theorems.specs.Archive.{quietC, PartsC, CutInTwoC, CutInMixC, CutBlocksC, CutMixesC}
 use Rattle.theorems.proofs.Cut.{cut-blocks}
 use Rattle.theorems.proofs.Mix.{cut-mixes}
 
@@ -50,13 +59,24 @@ parts p f r c s h d =
     below : T (awake (decoded (after (f .refusal) (f .sound) c))) → T (awake (f .sound))
     below a = subst (λ (v : StaticSound). T (awake v)) (after-means (f .refusal) (f .sound) c (d .accepted .0)) a
 
+-- signals of a later part mean those of a later part
+pub quiet-means : (g : CableowlSignals) → signalsOf (quietC g) ≡ quiet (signalsOf g)
+quiet-means g = ap (λ (x : StartSignal). record { finished = false; start = x; resume = Waiting }) (go (eqb (g .start) 3))
+  where
+    go : (b : Bool) → startOf (cond b 3 0) (g .due) (g .now) ≡ again (cond b (Tick (g .due) (g .now)) (Answer (answerOf (g .start))))
+    go true = refl
+    go false = refl
+
 pub archive-cut-blocks : CutBlocksC
 unfolding processedC
 archive-cut-blocks snd c dt b g out k h q =
     let p = processed snd (decoded c) dt b (signalsOf g) out in
     let f = processed snd (decoded c) dt (firstLanes k b) (signalsOf g) (take (2 * k) out) in
-    let r : StaticSound → Outcome = λ v. processed snd v dt (restLanes k b) quiet (drop (2 * k) out) in
-    let d = cut-blocks snd (decoded c) dt b (signalsOf g) out k h q in
+    let r : StaticSound → Outcome = λ v. processed snd v dt (restLanes k b) (signalsOf (quietC g)) (drop (2 * k) out) in
+    let d : CutInTwo p f (r (f .answer .sound)) =
+    subst (λ (w : Signals). CutInTwo p f (processed snd (f .answer .sound) dt (restLanes k b) w (drop (2 * k) out))) (sym (quiet-means g))
+    (cut-blocks snd (decoded c) dt b (signalsOf g) out k h q)
+    in
     let s = after (f .answer .refusal) (f .answer .sound) c in
     subst (λ (v : StaticSound). CutInTwoC (raw p c) (raw f c) (raw (r v) s))
     (sym (after-means (f .answer .refusal) (f .answer .sound) c (d .answers .accepted .0)))
@@ -67,8 +87,11 @@ unfolding processedIntoC
 archive-cut-mixes snd c dt b g mix from k h q =
     let p = processedInto snd (decoded c) dt b (signalsOf g) mix from in
     let f = processedInto snd (decoded c) dt (firstLanes k b) (signalsOf g) mix from in
-    let r : StaticSound → Outcome = λ v. processedInto snd v dt (restLanes k b) quiet (f .samples) (from + k) in
-    let d = cut-mixes snd (decoded c) dt b (signalsOf g) mix from k h q in
+    let r : StaticSound → Outcome = λ v. processedInto snd v dt (restLanes k b) (signalsOf (quietC g)) (f .samples) (from + k) in
+    let d : CutInMix p f (r (f .answer .sound)) =
+    subst (λ (w : Signals). CutInMix p f (processedInto snd (f .answer .sound) dt (restLanes k b) w (f .samples) (from + k))) (sym (quiet-means g))
+    (cut-mixes snd (decoded c) dt b (signalsOf g) mix from k h q)
+    in
     let s = after (f .answer .refusal) (f .answer .sound) c in
     subst (λ (v : StaticSound). CutInMixC (raw p c) (raw f c) (raw (r v) s))
     (sym (after-means (f .answer .refusal) (f .answer .sound) c (d .answers .accepted .0)))

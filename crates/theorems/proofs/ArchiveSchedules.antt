@@ -10,6 +10,7 @@ use lib.Ieee.Fits.{and-i, and-l, and-r}
 use Rattle.numbers.specs.Lists.{all}
 use Rattle.lanes.specs.Lanes.{Lanes, firstLanes, restLanes}
 use Rattle.voice.specs.declared.StaticSound.{StaticSound}
+use Rattle.block.specs.declared.Signals.{Signals}
 use Rattle.block.specs.Blocks.{quiet}
 use Rattle.playing.specs.Plays.{lower, Outcome}
 use Rattle.static_sound.specs.Entries.{processed, processedInto}
@@ -21,9 +22,9 @@ use Rattle.cableowl.specs.Entries.{after, processedC, processedIntoC}
 use Rattle.records.proofs.Inverse.{decoded-encoded}
 use Rattle.theorems.specs.Alike.{bare, awake}
 use Rattle.theorems.specs.Schedules.{Run, alone, followed, onto, playedBy, mixedBy, Agree}
-use Rattle.theorems.specs.Archive.{none}
+use Rattle.theorems.specs.Archive.{quietC}
 use Rattle.theorems.specs.ArchiveSchedules.{RunC, aloneC, thenC, playedByC, mixedByC, awakeC, AgreeC, AnySizesC, AnySizesMixC, AllAcceptedC, AllAcceptedMixC}
-use Rattle.theorems.proofs.Archive.{raw, after-is, after-means}
+use Rattle.theorems.proofs.Archive.{raw, after-is, after-means, quiet-means}
 use Rattle.theorems.proofs.Schedules.{any-sizes}
 use Rattle.theorems.proofs.Streams.{all-accepted}
 use Rattle.theorems.proofs.MixSchedules.{any-sizes-mix, all-accepted-mix}
@@ -66,13 +67,14 @@ module _ (snd : List Float) (dt : Float) where
   played-below k (j ∷ ks) b g c out h =
       let o = processed snd (decoded c) dt (firstLanes k b) (signalsOf g) (take (2 * k) out) in
       let s = after (o .answer .refusal) (o .answer .sound) c in
-      let m = playedByC snd dt j ks (restLanes k b) none s (drop (2 * k) out) in
+      let m = playedByC snd dt j ks (restLanes k b) (quietC g) s (drop (2 * k) out) in
       let e = eqb→eq (o .answer .refusal) 0 (and-l (eqb (o .answer .refusal) 0) (m .accepted) h) in
-      let w : AsBelow m (playedBy snd dt j ks (restLanes k b) quiet (o .answer .sound) (drop (2 * k) out)) =
-      subst (λ (v : StaticSound). AsBelow m (playedBy snd dt j ks (restLanes k b) quiet v (drop (2 * k) out))) (after-means (o .answer .refusal) (o .answer .sound) c e)
-      (played-below j ks (restLanes k b) none s (drop (2 * k) out) (and-r (eqb (o .answer .refusal) 0) (m .accepted) h))
+      let w : AsBelow m (playedBy snd dt j ks (restLanes k b) (quiet (signalsOf g)) (o .answer .sound) (drop (2 * k) out)) =
+      subst (λ (v : StaticSound). AsBelow m (playedBy snd dt j ks (restLanes k b) (quiet (signalsOf g)) v (drop (2 * k) out))) (after-means (o .answer .refusal) (o .answer .sound) c e)
+      (subst (λ (x : Signals). AsBelow m (playedBy snd dt j ks (restLanes k b) x (decoded s) (drop (2 * k) out))) (quiet-means g)
+      (played-below j ks (restLanes k b) (quietC g) s (drop (2 * k) out) (and-r (eqb (o .answer .refusal) 0) (m .accepted) h)))
       in
-      let r = playedBy snd dt j ks (restLanes k b) quiet (o .answer .sound) (drop (2 * k) out) in
+      let r = playedBy snd dt j ks (restLanes k b) (quiet (signalsOf g)) (o .answer .sound) (drop (2 * k) out) in
       record {
         accepted = and-i (eqb (o .answer .refusal) 0) (r .accepted) (and-l (eqb (o .answer .refusal) 0) (m .accepted) h) (w .accepted);
         state = w .state;
@@ -89,13 +91,14 @@ module _ (snd : List Float) (dt : Float) where
   mixed-below k (j ∷ ks) b g c mix from h =
       let o = processedInto snd (decoded c) dt (firstLanes k b) (signalsOf g) mix from in
       let s = after (o .answer .refusal) (o .answer .sound) c in
-      let m = mixedByC snd dt j ks (restLanes k b) none s (o .samples) (from + k) in
+      let m = mixedByC snd dt j ks (restLanes k b) (quietC g) s (o .samples) (from + k) in
       let e = eqb→eq (o .answer .refusal) 0 (and-l (eqb (o .answer .refusal) 0) (m .accepted) h) in
-      let w : AsBelow m (mixedBy snd dt j ks (restLanes k b) quiet (o .answer .sound) (o .samples) (from + k)) =
-      subst (λ (v : StaticSound). AsBelow m (mixedBy snd dt j ks (restLanes k b) quiet v (o .samples) (from + k))) (after-means (o .answer .refusal) (o .answer .sound) c e)
-      (mixed-below j ks (restLanes k b) none s (o .samples) (from + k) (and-r (eqb (o .answer .refusal) 0) (m .accepted) h))
+      let w : AsBelow m (mixedBy snd dt j ks (restLanes k b) (quiet (signalsOf g)) (o .answer .sound) (o .samples) (from + k)) =
+      subst (λ (v : StaticSound). AsBelow m (mixedBy snd dt j ks (restLanes k b) (quiet (signalsOf g)) v (o .samples) (from + k))) (after-means (o .answer .refusal) (o .answer .sound) c e)
+      (subst (λ (x : Signals). AsBelow m (mixedBy snd dt j ks (restLanes k b) x (decoded s) (o .samples) (from + k))) (quiet-means g)
+      (mixed-below j ks (restLanes k b) (quietC g) s (o .samples) (from + k) (and-r (eqb (o .answer .refusal) 0) (m .accepted) h)))
       in
-      let r = mixedBy snd dt j ks (restLanes k b) quiet (o .answer .sound) (o .samples) (from + k) in
+      let r = mixedBy snd dt j ks (restLanes k b) (quiet (signalsOf g)) (o .answer .sound) (o .samples) (from + k) in
       record {
         accepted = and-i (eqb (o .answer .refusal) 0) (r .accepted) (and-l (eqb (o .answer .refusal) 0) (m .accepted) h) (w .accepted);
         state = w .state;
@@ -113,12 +116,13 @@ module _ (snd : List Float) (dt : Float) where
   played-above k (j ∷ ks) b g c out h =
       let o = processed snd (decoded c) dt (firstLanes k b) (signalsOf g) (take (2 * k) out) in
       let s = after (o .answer .refusal) (o .answer .sound) c in
-      let r = playedBy snd dt j ks (restLanes k b) quiet (o .answer .sound) (drop (2 * k) out) in
+      let r = playedBy snd dt j ks (restLanes k b) (quiet (signalsOf g)) (o .answer .sound) (drop (2 * k) out) in
       let a = and-l (eqb (o .answer .refusal) 0) (r .accepted) h in
-      and-i (eqb (o .answer .refusal) 0) ((playedByC snd dt j ks (restLanes k b) none s (drop (2 * k) out)) .accepted) a
-      (played-above j ks (restLanes k b) none s (drop (2 * k) out)
-      (subst (λ (v : StaticSound). T ((playedBy snd dt j ks (restLanes k b) quiet v (drop (2 * k) out)) .accepted))
-      (sym (after-means (o .answer .refusal) (o .answer .sound) c (eqb→eq (o .answer .refusal) 0 a))) (and-r (eqb (o .answer .refusal) 0) (r .accepted) h)))
+      and-i (eqb (o .answer .refusal) 0) ((playedByC snd dt j ks (restLanes k b) (quietC g) s (drop (2 * k) out)) .accepted) a
+      (played-above j ks (restLanes k b) (quietC g) s (drop (2 * k) out)
+      (subst (λ (x : Signals). T ((playedBy snd dt j ks (restLanes k b) x (decoded s) (drop (2 * k) out)) .accepted)) (sym (quiet-means g))
+      (subst (λ (v : StaticSound). T ((playedBy snd dt j ks (restLanes k b) (quiet (signalsOf g)) v (drop (2 * k) out)) .accepted))
+      (sym (after-means (o .answer .refusal) (o .answer .sound) c (eqb→eq (o .answer .refusal) 0 a))) (and-r (eqb (o .answer .refusal) 0) (r .accepted) h))))
 
   mixed-above : (k : ℕ) (ks : List ℕ) (b : Lanes) (g : CableowlSignals) (c : CableowlState) (mix : List Float) (from : ℕ)
       → T ((mixedBy snd dt k ks b (signalsOf g) (decoded c) mix from) .accepted) → T ((mixedByC snd dt k ks b g c mix from) .accepted)
@@ -127,12 +131,13 @@ module _ (snd : List Float) (dt : Float) where
   mixed-above k (j ∷ ks) b g c mix from h =
       let o = processedInto snd (decoded c) dt (firstLanes k b) (signalsOf g) mix from in
       let s = after (o .answer .refusal) (o .answer .sound) c in
-      let r = mixedBy snd dt j ks (restLanes k b) quiet (o .answer .sound) (o .samples) (from + k) in
+      let r = mixedBy snd dt j ks (restLanes k b) (quiet (signalsOf g)) (o .answer .sound) (o .samples) (from + k) in
       let a = and-l (eqb (o .answer .refusal) 0) (r .accepted) h in
-      and-i (eqb (o .answer .refusal) 0) ((mixedByC snd dt j ks (restLanes k b) none s (o .samples) (from + k)) .accepted) a
-      (mixed-above j ks (restLanes k b) none s (o .samples) (from + k)
-      (subst (λ (v : StaticSound). T ((mixedBy snd dt j ks (restLanes k b) quiet v (o .samples) (from + k)) .accepted))
-      (sym (after-means (o .answer .refusal) (o .answer .sound) c (eqb→eq (o .answer .refusal) 0 a))) (and-r (eqb (o .answer .refusal) 0) (r .accepted) h)))
+      and-i (eqb (o .answer .refusal) 0) ((mixedByC snd dt j ks (restLanes k b) (quietC g) s (o .samples) (from + k)) .accepted) a
+      (mixed-above j ks (restLanes k b) (quietC g) s (o .samples) (from + k)
+      (subst (λ (x : Signals). T ((mixedBy snd dt j ks (restLanes k b) x (decoded s) (o .samples) (from + k)) .accepted)) (sym (quiet-means g))
+      (subst (λ (v : StaticSound). T ((mixedBy snd dt j ks (restLanes k b) (quiet (signalsOf g)) v (o .samples) (from + k)) .accepted))
+      (sym (after-means (o .answer .refusal) (o .answer .sound) c (eqb→eq (o .answer .refusal) 0 a))) (and-r (eqb (o .answer .refusal) 0) (r .accepted) h))))
 
 -- two rows agree as those below do
 agree : (m n : RunC) (r s : Run) → AsBelow m r → AsBelow n s → Agree r s → AgreeC m n

@@ -22,7 +22,7 @@ use Rattle.playing.specs.Plays.{Played, lower, plays}
 use Rattle.playing.proofs.Lowest.{four-lower}
 use Rattle.block.specs.Blocks.{silent, begun, live, block, quiet}
 use Rattle.playing.proofs.Plays.{plays-append, plays-started, plays-setup}
-use Rattle.block.proofs.Blocks.{zeros-append, block-live, block-silent, begun-quiet}
+use Rattle.block.proofs.Blocks.{zeros-append, block-live, block-silent, Taken, begun-taken, begun-quiet}
 use Rattle.block.proofs.Keeps.{begun-formed}
 use Rattle.playing.proofs.Keeps.{plays-formed}
 use Rattle.theorems.specs.Alike.{bare, awake}
@@ -44,27 +44,30 @@ and-false true = refl
 and-false false = refl
 
 module _ (snd : List Float) (dt : Float) (xs ys : List Lane) where
-  -- the rest of a block brings no signals
-  rest-live : (v : StaticSound) → live v ≡ true → block snd dt ys quiet v ≡ plays snd dt ys v
-  rest-live v e = block-live snd dt ys quiet v (ap live (begun-quiet v) ∙ e) ∙ ap (plays snd dt ys) (begun-quiet v)
+  -- the rest of a block brings the same tick at most
+  rest-live : (g : Signals) (v : StaticSound) → Taken g (v .started) → live v ≡ true → block snd dt ys (quiet g) v ≡ plays snd dt ys v
+  rest-live g v h e = block-live snd dt ys (quiet g) v (ap live (begun-quiet g v h) ∙ e) ∙ ap (plays snd dt ys) (begun-quiet g v h)
 
-  rest-silent : (v : StaticSound) → live v ≡ false → block snd dt ys quiet v ≡ silent ys v
-  rest-silent v e = block-silent snd dt ys quiet v (ap live (begun-quiet v) ∙ e) ∙ ap (silent ys) (begun-quiet v)
+  rest-silent : (g : Signals) (v : StaticSound) → Taken g (v .started) → live v ≡ false → block snd dt ys (quiet g) v ≡ silent ys v
+  rest-silent g v h e = block-silent snd dt ys (quiet g) v (ap live (begun-quiet g v h) ∙ e) ∙ ap (silent ys) (begun-quiet g v h)
 
-  cut-silent : (v : StaticSound) → live v ≡ false → CutPlayed (silent (xs ++ ys) v) (silent xs v) (block snd dt ys quiet v)
-  cut-silent v e = rw (rest-silent v e) (record { samples = zeros-append xs ys; same = λ n. (refl, refl); lowest = λ n. sym (four-lower 4 (le-refl 4)); alike = refl })
+  cut-silent : (g : Signals) (v : StaticSound) → Taken g (v .started) → live v ≡ false → CutPlayed (silent (xs ++ ys) v) (silent xs v) (block snd dt ys (quiet g) v)
+  cut-silent g v h e = rw (rest-silent g v h e) (record { samples = zeros-append xs ys; same = λ n. (refl, refl); lowest = λ n. sym (four-lower 4 (le-refl 4)); alike = refl })
 
   module _ (t : T (lt naught dt)) where
-    cut-live : (v : StaticSound) → Formed v → live v ≡ true → T (all laned (xs ++ ys)) → T (all (near (v .setup .«sample_rate») dt) (xs ++ ys))
-        → CutPlayed (plays snd dt (xs ++ ys) v) (plays snd dt xs v) (block snd dt ys quiet ((plays snd dt xs v) .voice))
-    cut-live v w e a k = go (plays-ends snd dt xs v)
+    cut-live : (g : Signals) (v : StaticSound) → Taken g (v .started) → Formed v → live v ≡ true → T (all laned (xs ++ ys)) → T (all (near (v .setup .«sample_rate») dt) (xs ++ ys))
+        → CutPlayed (plays snd dt (xs ++ ys) v) (plays snd dt xs v) (block snd dt ys (quiet g) ((plays snd dt xs v) .voice))
+    cut-live g v h w e a k = go (plays-ends snd dt xs v)
       where
         u : StaticSound
         u = (plays snd dt xs v) .voice
 
-        go : EndsOnly (v .moving .state) (u .moving) → CutPlayed (plays snd dt (xs ++ ys) v) (plays snd dt xs v) (block snd dt ys quiet u)
+        held : Taken g (u .started)
+        held = subst (Taken g) (sym (plays-started snd dt xs v)) h
+
+        go : EndsOnly (v .moving .state) (u .moving) → CutPlayed (plays snd dt (xs ++ ys) v) (plays snd dt xs v) (block snd dt ys (quiet g) u)
         go (inl f) =
-            rw (plays-append snd dt xs ys v, rest-live u (ap₂ (λ (x : Bool) (y : PlaybackState). x && advancing y) (plays-started snd dt xs v) f ∙ e))
+            rw (plays-append snd dt xs ys v, rest-live g u held (ap₂ (λ (x : Bool) (y : PlaybackState). x && advancing y) (plays-started snd dt xs v) f ∙ e))
             (record { samples = refl; same = λ n. (refl, refl); lowest = λ n. refl; alike = refl })
         go (inr s) =
             let n = near (v .setup .«sample_rate») dt in
@@ -73,14 +76,14 @@ module _ (snd : List Float) (dt : Float) (xs ys : List Lane) where
             (rw (plays-setup snd dt xs v) (all-rest n xs ys k))
             (plays-formed snd dt t xs v (all-front n xs ys k) w) s
             in
-            rw (plays-append snd dt xs ys v, rest-silent u (ap (λ (y : PlaybackState). u .started && advancing y) (s .stopped) ∙ and-false (u .started)))
+            rw (plays-append snd dt xs ys v, rest-silent g u held (ap (λ (y : PlaybackState). u .started && advancing y) (s .stopped) ∙ and-false (u .started)))
             (record { samples = ap (λ (z : List Float). (plays snd dt xs v) .samples ++ z) (i .samples); same = λ n. absurd (not-awake u (s .stopped) n); lowest = λ n. absurd (not-awake u (s .stopped) n); alike = i .alike })
 
     pub block-cut : (g : Signals) (v : StaticSound) → Formed v → T (all laned (xs ++ ys)) → T (all (near (v .setup .«sample_rate») dt) (xs ++ ys))
-        → CutPlayed (block snd dt (xs ++ ys) g v) (block snd dt xs g v) (block snd dt ys quiet ((block snd dt xs g v) .voice))
+        → CutPlayed (block snd dt (xs ++ ys) g v) (block snd dt xs g v) (block snd dt ys (quiet g) ((block snd dt xs g v) .voice))
     unfolding begun
     block-cut g v w a k = go (live (begun g v)) refl
       where
-        go : (c : Bool) → live (begun g v) ≡ c → CutPlayed (block snd dt (xs ++ ys) g v) (block snd dt xs g v) (block snd dt ys quiet ((block snd dt xs g v) .voice))
-        go true e = rw (block-live snd dt (xs ++ ys) g v e, block-live snd dt xs g v e) (cut-live (begun g v) (begun-formed g v w) e a k)
-        go false e = rw (block-silent snd dt (xs ++ ys) g v e, block-silent snd dt xs g v e) (cut-silent (begun g v) e)
+        go : (c : Bool) → live (begun g v) ≡ c → CutPlayed (block snd dt (xs ++ ys) g v) (block snd dt xs g v) (block snd dt ys (quiet g) ((block snd dt xs g v) .voice))
+        go true e = rw (block-live snd dt (xs ++ ys) g v e, block-live snd dt xs g v e) (cut-live g (begun g v) (begun-taken g v) (begun-formed g v w) e a k)
+        go false e = rw (block-silent snd dt (xs ++ ys) g v e, block-silent snd dt xs g v e) (cut-silent g (begun g v) (begun-taken g v) e)

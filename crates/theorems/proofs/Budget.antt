@@ -142,7 +142,7 @@ module _ (k : ℕ) (small : k ≤ 256) (snd : List Float) (dt : Float) where
       whole-of j n e = omega arith
   stream-few b g v j (i ∷ is) out e h s =
       let o = processed snd v dt (firstLanes j b) g (take (2 * j) out) in
-      let r = playedBy snd dt i is (restLanes j b) quiet (o .answer .sound) (drop (2 * j) out) in
+      let r = playedBy snd dt i is (restLanes j b) (quiet g) (o .answer .sound) (drop (2 * j) out) in
       let first = and-l (eqb (o .answer .refusal) 0) (r .accepted) h in
       let slow : Slow k (o .answer .sound) dt (restLanes j b) =
       subst (λ (x : Setup). T (all (atMost k (x .«sample_rate») dt) (rows (restLanes j b)))) (sym (setup-kept (firstLanes j b) g v (take (2 * j) out) first))
@@ -150,7 +150,7 @@ module _ (k : ℕ) (small : k ≤ 256) (snd : List Float) (dt : Float) where
       in
       join (o .answer .steps) (r .steps) j (sum is) (length (b .rate)) (length (drop j (b .rate))) e (length-drop j (b .rate))
       (first-few b g v j out (omega arith) s first)
-      (stream-few (restLanes j b) quiet (o .answer .sound) i is (drop (2 * j) out) (left (length (b .rate)) (sum is) e ∙ sym (length-drop j (b .rate))) (and-r (eqb (o .answer .refusal) 0) (r .accepted) h) slow)
+      (stream-few (restLanes j b) (quiet g) (o .answer .sound) i is (drop (2 * j) out) (left (length (b .rate)) (sum is) e ∙ sym (length-drop j (b .rate))) (and-r (eqb (o .answer .refusal) 0) (r .accepted) h) slow)
     where
       left : (n m : ℕ) → j + (i + m) ≡ n → i + m ≡ n - j
       left n m e = omega arith

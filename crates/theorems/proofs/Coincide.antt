@@ -52,6 +52,7 @@ coincide =
       playback-state-manager-playbackstate-stop = λ k a x y s t p q. same p q;
       playback-state-manager-playbackstate-mark-as-stopped = λ k a x y s t p q. same p q;
       playback-state-manager-playbackstate-update = λ k a x y s t p q. same p q;
+      start-time-startsignal-answer = λ k a x y s t p q. same p q;
       lanes-are-sized = λ k a x y s t p q. same p q;
       lanes-is-timely = λ k a x y s t p q. same p q;
       lanes-judge = λ k a x y s t p q. same p q;

@@ -68,11 +68,11 @@ module _ (snd : List Float) (v : StaticSound) (dt : Float) (b : Lanes) (g : Sign
         near = rest-near snd dt k b g v (p .near);
       }
 
-  pub accepted-cut : CutPlayed (block snd dt (rows b) g v) (block snd dt (rows (firstLanes k b)) g v) (block snd dt (rows (restLanes k b)) quiet ((block snd dt (rows (firstLanes k b)) g v) .voice))
+  pub accepted-cut : CutPlayed (block snd dt (rows b) g v) (block snd dt (rows (firstLanes k b)) g v) (block snd dt (rows (restLanes k b)) (quiet g) ((block snd dt (rows (firstLanes k b)) g v) .voice))
   accepted-cut =
       let xs = rows (firstLanes k b) in
       let ys = rows (restLanes k b) in
-      subst (λ (ls : List Lane). T (all laned ls) → T (all (near (v .setup .«sample_rate») dt) ls) → CutPlayed (block snd dt ls g v) (block snd dt xs g v) (block snd dt ys quiet ((block snd dt xs g v) .voice)))
+      subst (λ (ls : List Lane). T (all laned ls) → T (all (near (v .setup .«sample_rate») dt) ls) → CutPlayed (block snd dt ls g v) (block snd dt xs g v) (block snd dt ys (quiet g) ((block snd dt xs g v) .voice)))
       (rows-cut k b)
       (block-cut snd dt xs ys (timely-above dt (p .timely)) g v (ours-parts (length snd) v (p .ours) .0))
       (p .laned) (p .near)
@@ -95,7 +95,7 @@ rest-holds k b out h =
 
 pub cut-blocks : CutBlocks
 cut-blocks snd v dt b g out k h q =
-    rw (processed-done snd v dt b g out passed, processed-done snd v dt (firstLanes k b) g (take (2 * k) out) first-ok, processed-done snd u dt (restLanes k b) quiet (drop (2 * k) out) rest-ok)
+    rw (processed-done snd v dt b g out passed, processed-done snd v dt (firstLanes k b) g (take (2 * k) out) first-ok, processed-done snd u dt (restLanes k b) (quiet g) (drop (2 * k) out) rest-ok)
     (record { answers = record { accepted = (refl, refl); same = d .same; lowest = d .lowest; alike = d .alike }; samples = d .samples })
   where
     passed : refusedBlock (length snd) v dt b (holds b out) ≡ 0
@@ -107,7 +107,7 @@ cut-blocks snd v dt b g out k h q =
     u : StaticSound
     u = (block snd dt (rows (firstLanes k b)) g v) .voice
 
-    d : CutPlayed (block snd dt (rows b) g v) (block snd dt (rows (firstLanes k b)) g v) (block snd dt (rows (restLanes k b)) quiet u)
+    d : CutPlayed (block snd dt (rows b) g v) (block snd dt (rows (firstLanes k b)) g v) (block snd dt (rows (restLanes k b)) (quiet g) u)
     d = accepted-cut snd v dt b g (holds b out) k p
 
     first-ok : refusedBlock (length snd) v dt (firstLanes k b) (holds (firstLanes k b) (take (2 * k) out)) ≡ 0

@@ -18,6 +18,7 @@ use Rattle.playback_state_manager.specs.declared.PlaybackState.{PlaybackState}
 use Rattle.playback_state_manager.specs.declared.PlaybackState.the-variants.{Playing, Pausing, Paused, WaitingToResume, Resuming, Stopping, Stopped}
 use Rattle.playback_state_manager.specs.declared.StartAnswer.{StartAnswer}
 use Rattle.playback_state_manager.specs.declared.StartAnswer.the-variants.{Waiting, Now, Never}
+use Rattle.start_time.specs.Ticks.{answering}
 use Rattle.playback_state_manager.specs.States.{unless-stopped, pausing, stopping, settled, advancing}
 use Rattle.transport.specs.declared.Transport.{Transport}
 use Rattle.transport.specs.Moves.{cycled, under, over, forward, backward, seek}
@@ -257,15 +258,15 @@ module _ (s e : ℕ) (v : StaticSound) (h : In s e v) where
   untouched c = record { fits = h .fits; inside = h .inside; alive = λ a b. b }
 
   -- a block's signals
-  begun-alive : (g : Signals) → T (not (isNever (g .start) || isNever (g .resume))) → alive (v .moving .state) → alive ((begun g v) .moving .state)
+  begun-alive : (g : Signals) → T (not (isNever (answering (g .start)) || isNever (g .resume))) → alive (v .moving .state) → alive ((begun g v) .moving .state)
   unfolding begun
   begun-alive g k a =
-      let x = isNever (g .start) in
+      let x = isNever (answering (g .start)) in
       let y = isNever (g .resume) in
-      given-alive (g .start) (v .started) (settled (g .finished) (g .resume) (v .moving .state)) (not-or-l x y k)
+      given-alive (answering (g .start)) (v .started) (settled (g .finished) (g .resume) (v .moving .state)) (not-or-l x y k)
       (settled-alive (g .finished) (g .resume) (v .moving .state) (not-or-r x y k) a)
 
-  block-next : (c : Call) (snd : List Float) (dt : Float) (ls : List Lane) (g : Signals) → (Asked stops c v → T (not (isNever (g .start) || isNever (g .resume))))
+  block-next : (c : Call) (snd : List Float) (dt : Float) (ls : List Lane) (g : Signals) → (Asked stops c v → T (not (isNever (answering (g .start)) || isNever (g .resume))))
       → Next s e c v ((block snd dt ls g v) .voice)
   block-next c snd dt ls g k =
       let b = block-holds s e snd dt ls g v h in

@@ -83,7 +83,7 @@ room-of from n mix h =
 
 pub cut-mixes : CutMixes
 cut-mixes snd v dt b g mix from k h q =
-    rw (into-done snd v dt b g mix from passed, into-done snd v dt first g mix from first-ok, into-done snd u dt rest quiet after (from + k) rest-ok)
+    rw (into-done snd v dt b g mix from passed, into-done snd v dt first g mix from first-ok, into-done snd u dt rest (quiet g) after (from + k) rest-ok)
     (record { answers = record { accepted = (refl, refl); same = d .same; lowest = d .lowest; alike = d .alike }; samples = same })
   where
     first : Lanes
@@ -118,12 +118,12 @@ cut-mixes snd v dt b g mix from k h q =
     xs = (block snd dt (rows first) g v) .samples
 
     ys : List Float
-    ys = (block snd dt (rows rest) quiet u) .samples
+    ys = (block snd dt (rows rest) (quiet g) u) .samples
 
     after : List Float
     after = mixed from j mix xs
 
-    d : CutPlayed (block snd dt (rows b) g v) (block snd dt (rows first) g v) (block snd dt (rows rest) quiet u)
+    d : CutPlayed (block snd dt (rows b) g v) (block snd dt (rows first) g v) (block snd dt (rows rest) (quiet g) u)
     d = accepted-cut snd v dt b g (room from n mix) k p
 
     short : j ≡ k

@@ -73,19 +73,19 @@ module _ (snd : List Float) (dt : Float) where
       let xs = take (2 * k) out in
       let o = processedInto snd v dt f g mix from in
       let p = processed snd v dt f g xs in
-      let m = mixedBy snd dt j ks (restLanes k b) quiet (o .answer .sound) (o .samples) (from + k) in
+      let m = mixedBy snd dt j ks (restLanes k b) (quiet g) (o .answer .sound) (o .samples) (from + k) in
       let a = eqb→eq (o .answer .refusal) 0 (and-l (eqb (o .answer .refusal) 0) (m .accepted) h) in
       let t = first-holds k b out q l in
       let i = plain-is snd v dt f g mix from a xs t in
       let s = ap (λ (o : Outcome). o .answer .sound) i in
-      let w : AsPlain (from + k) (length (drop k (b .rate))) (o .samples) m (playedBy snd dt j ks (restLanes k b) quiet (o .answer .sound) (drop (2 * k) out)) =
-      as-plain j ks (restLanes k b) quiet (o .answer .sound) (o .samples) (from + k) (drop (2 * k) out) (left (length (b .rate)) (sum ks) e ∙ sym (length-drop k (b .rate)))
+      let w : AsPlain (from + k) (length (drop k (b .rate))) (o .samples) m (playedBy snd dt j ks (restLanes k b) (quiet g) (o .answer .sound) (drop (2 * k) out)) =
+      as-plain j ks (restLanes k b) (quiet g) (o .answer .sound) (o .samples) (from + k) (drop (2 * k) out) (left (length (b .rate)) (sum ks) e ∙ sym (length-drop k (b .rate)))
       (rest-length k b out l) (and-r (eqb (o .answer .refusal) 0) (m .accepted) h)
       in
-      let w' : AsPlain (from + k) (length (drop k (b .rate))) (o .samples) m (playedBy snd dt j ks (restLanes k b) quiet (p .answer .sound) (drop (2 * k) out)) =
-      subst (λ (u : StaticSound). AsPlain (from + k) (length (drop k (b .rate))) (o .samples) m (playedBy snd dt j ks (restLanes k b) quiet u (drop (2 * k) out))) s w
+      let w' : AsPlain (from + k) (length (drop k (b .rate))) (o .samples) m (playedBy snd dt j ks (restLanes k b) (quiet g) (p .answer .sound) (drop (2 * k) out)) =
+      subst (λ (u : StaticSound). AsPlain (from + k) (length (drop k (b .rate))) (o .samples) m (playedBy snd dt j ks (restLanes k b) (quiet g) u (drop (2 * k) out))) s w
       in
-      let r = playedBy snd dt j ks (restLanes k b) quiet (p .answer .sound) (drop (2 * k) out) in
+      let r = playedBy snd dt j ks (restLanes k b) (quiet g) (p .answer .sound) (drop (2 * k) out) in
       record {
         accepted = and-i (eqb (p .answer .refusal) 0) (r .accepted) (eq→eqb (plain-accepted snd v dt f g mix from a xs t)) (w' .accepted);
         sound = w' .sound;
@@ -159,19 +159,19 @@ module _ (snd : List Float) (dt : Float) where
       let f = firstLanes k b in
       let xs = take (2 * k) out in
       let p = processed snd v dt f g xs in
-      let rest = playedBy snd dt j ks (restLanes k b) quiet (p .answer .sound) (drop (2 * k) out) in
+      let rest = playedBy snd dt j ks (restLanes k b) (quiet g) (p .answer .sound) (drop (2 * k) out) in
       let o = processedInto snd v dt f g mix from in
       let a = into-accepted snd v dt f g xs mix from (eqb→eq (p .answer .refusal) 0 (and-l (eqb (p .answer .refusal) 0) (rest .accepted) h)) (first-room q) in
       let t = first-holds k b out q l in
       let i = plain-is snd v dt f g mix from a xs t in
       let s = ap (λ (o : Outcome). o .answer .sound) i in
       let w =
-      from-plain j ks (restLanes k b) quiet (o .answer .sound) (o .samples) (from + k) (drop (2 * k) out) (left (length (b .rate)) (sum ks) e ∙ sym (length-drop k (b .rate)))
+      from-plain j ks (restLanes k b) (quiet g) (o .answer .sound) (o .samples) (from + k) (drop (2 * k) out) (left (length (b .rate)) (sum ks) e ∙ sym (length-drop k (b .rate)))
       (rest-length k b out l)
       (subst (λ (z : List Float). T (room (from + k) (length (drop k (b .rate))) z)) (sym (ap (λ (o : Outcome). o .samples) i)) (rest-room q (p .samples) (plain-length snd v dt f g mix from a xs t)))
-      (subst (λ (u : StaticSound). T ((playedBy snd dt j ks (restLanes k b) quiet u (drop (2 * k) out)) .accepted)) (sym s) (and-r (eqb (p .answer .refusal) 0) (rest .accepted) h))
+      (subst (λ (u : StaticSound). T ((playedBy snd dt j ks (restLanes k b) (quiet g) u (drop (2 * k) out)) .accepted)) (sym s) (and-r (eqb (p .answer .refusal) 0) (rest .accepted) h))
       in
-      and-i (eqb (o .answer .refusal) 0) ((mixedBy snd dt j ks (restLanes k b) quiet (o .answer .sound) (o .samples) (from + k)) .accepted) (eq→eqb a) w
+      and-i (eqb (o .answer .refusal) 0) ((mixedBy snd dt j ks (restLanes k b) (quiet g) (o .answer .sound) (o .samples) (from + k)) .accepted) (eq→eqb a) w
     where
       there : Room from (length (b .rate)) mix
       there = room-parts from (length (b .rate)) mix r

@@ -22,6 +22,7 @@ use Rattle.theorems.proofs.Reports.{creation-feeds, commands-feed, bloc
 use Rattle.theorems.proofs.AnyOrder.{any-order, there-and-back, permutations}
 use Rattle.theorems.proofs.InTheLoop.{in-the-loop}
 use Rattle.theorems.proofs.Budget.{block-budget, mix-budget, stream-budget, two-steps}
+use Rattle.theorems.proofs.StartTicks.{half-reached, moved-together, tick-starts, mix-tick-starts}
 use Rattle.theorems.proofs.Archive.{archive-cut-blocks, archive-cut-mixes}
 use Rattle.theorems.proofs.ArchiveSchedules.{archive-any-sizes, archive-any-sizes-mix, archive-all-accepted, archive-all-accepted-mix}
 use Rattle.theorems.proofs.Coincide.{coincide}
@@ -97,6 +98,10 @@ promises =
       there-and-back = there-and-back;
       permutations = permutations;
       in-the-loop = in-the-loop;
+      half-reached = half-reached;
+      moved-together = moved-together;
+      tick-starts = tick-starts;
+      mix-tick-starts = mix-tick-starts;
       reads-b = reads-b;
       rust-agrees = record { forward = forward-is-rust; backward = backward-is-rust; seek = seek-is-rust };
       examples-hold = examples-hold;

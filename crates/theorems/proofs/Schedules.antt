@@ -55,7 +55,7 @@ module _ (snd : List Float) (dt : Float) where
   -- a block, and the row after it
   next : (b : Lanes) (ys : List Lane) (g : Signals) (v : StaticSound) (out : List Float) (r : Run) → Accepted (length snd) v dt b (holds b out)
       → let u = (block snd dt (rows b) g v) .voice in
-      Whole dt ys u (block snd dt ys quiet u) r → Whole dt (rows b ++ ys) v (block snd dt (rows b ++ ys) g v) (followed (done b g v) r)
+      Whole dt ys u (block snd dt ys (quiet g) u) r → Whole dt (rows b ++ ys) v (block snd dt (rows b ++ ys) g v) (followed (done b g v) r)
   next b ys g v out r p w =
       record {
         laned = la;
@@ -84,7 +84,7 @@ module _ (snd : List Float) (dt : Float) where
           all-append (near (v .setup .«sample_rate») dt) (rows b) ys (p .near)
           (subst (λ (s : Setup). T (all (near (s .«sample_rate») dt) ys)) (block-setup snd dt (rows b) g v) (w .near))
 
-      d : CutPlayed (block snd dt (rows b ++ ys) g v) (block snd dt (rows b) g v) (block snd dt ys quiet ((block snd dt (rows b) g v) .voice))
+      d : CutPlayed (block snd dt (rows b ++ ys) g v) (block snd dt (rows b) g v) (block snd dt ys (quiet g) ((block snd dt (rows b) g v) .voice))
       d = block-cut snd dt (rows b) ys (timely-above dt (p .timely)) g v (ours-parts (length snd) v (p .ours) .0) la ne
 
   -- what an accepted block gives
@@ -106,11 +106,11 @@ module _ (snd : List Float) (dt : Float) where
       let f = firstLanes k b in
       let ys = rows (restLanes k b) in
       let o = processed snd v dt f g (take (2 * k) out) in
-      let r = playedBy snd dt j ks (restLanes k b) quiet (o .answer .sound) (drop (2 * k) out) in
+      let r = playedBy snd dt j ks (restLanes k b) (quiet g) (o .answer .sound) (drop (2 * k) out) in
       let t = taken f g v (take (2 * k) out) (and-l (eqb (o .answer .refusal) 0) (r .accepted) h) in
-      let w = run-whole j ks (restLanes k b) quiet (o .answer .sound) (drop (2 * k) out) (left (length (b .rate)) (sum ks) e ∙ sym (length-drop k (b .rate))) (and-r (eqb (o .answer .refusal) 0) (r .accepted) h) in
-      let x : Whole dt ys ((done f g v) .answer .sound) (block snd dt ys quiet ((done f g v) .answer .sound)) r =
-      subst (λ (z : Outcome). Whole dt ys (z .answer .sound) (block snd dt ys quiet (z .answer .sound)) r) (t .0) w
+      let w = run-whole j ks (restLanes k b) (quiet g) (o .answer .sound) (drop (2 * k) out) (left (length (b .rate)) (sum ks) e ∙ sym (length-drop k (b .rate))) (and-r (eqb (o .answer .refusal) 0) (r .accepted) h) in
+      let x : Whole dt ys ((done f g v) .answer .sound) (block snd dt ys (quiet g) ((done f g v) .answer .sound)) r =
+      subst (λ (z : Outcome). Whole dt ys (z .answer .sound) (block snd dt ys (quiet g) (z .answer .sound)) r) (t .0) w
       in
       subst (λ (ls : List Lane). Whole dt ls v (block snd dt ls g v) (followed o r)) (rows-cut k b)
       (subst (λ (z : Outcome). Whole dt (rows f ++ ys) v (block snd dt (rows f ++ ys) g v) (followed z r)) (sym (t .0)) (next f ys g v (take (2 * k) out) r (t .1) x))

@@ -89,7 +89,7 @@ all-accepted snd dt b g v k (j ∷ ks) out s l e few =
     let q : k ≤ length (b .rate) = omega arith in
     let m = leb→le k 4096 (and-l (small k) (all small (j ∷ ks)) few) in
     rw (first-done snd dt b g v k out s l q m)
-    (all-accepted snd dt (restLanes k b) quiet ((block snd dt (rows (firstLanes k b)) g v) .voice) j ks (drop (2 * k) out) (rest-streams snd dt b g v k out s l q m) (rest-out snd dt b g v k out s l q)
+    (all-accepted snd dt (restLanes k b) (quiet g) ((block snd dt (rows (firstLanes k b)) g v) .voice) j ks (drop (2 * k) out) (rest-streams snd dt b g v k out s l q m) (rest-out snd dt b g v k out s l q)
     (left (length (b .rate)) (sum ks) e ∙ sym (length-drop k (b .rate))) (and-r (small k) (all small (j ∷ ks)) few))
   where
     left : (n m : ℕ) → k + (j + m) ≡ n → j + m ≡ n - k

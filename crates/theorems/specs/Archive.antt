@@ -1,9 +1,10 @@
 -- The archive's own entries, on records of numbers: a block cut in two, and the same into a mix, as Cut and Mix say of the entries below.
--- The second part is given the state that the first part answered, as a host hands it back, and signals of 0.
+-- The second part is given the state that the first part answered, as a host hands it back, and signals of 0, but the same tick where the start is due at one.
 use Prim.Native.Nat.{ℕ, _+_, _*_, _≤_}
 use mathlib.Core.Path.{_≡_}
 use mathlib.Core.List.{List, _++_}
-use lib.Dec.{T}
+use mathlib.Core.Bool.{cond}
+use lib.Dec.{T, eqb}
 use lib.ListN.{length, take, drop}
 use lib.Ieee.{Float}
 use Rattle.lanes.specs.Lanes.{Lanes, firstLanes, restLanes}
@@ -15,9 +16,9 @@ use Rattle.records.specs.Records.{decoded}
 use Rattle.cableowl.specs.Entries.{OutcomeC, processedC, processedIntoC}
 use Rattle.theorems.specs.Alike.{bare, awake}
 
--- no signals
-abbrev pub none : CableowlSignals
-none = record { finished = 0; start = 0; resume = 0 }
+-- the signals of a later part: 0, but the same tick where the start is due at one
+abbrev pub quietC : CableowlSignals → CableowlSignals
+quietC g = record { finished = 0; start = cond (eqb (g .start) 3) 3 0; resume = 0; due = g .due; now = g .now }
 
 -- the answers of two parts against the answer of the whole
 pub record PartsC (uncut first rest : CableowlProcessed) : Type 0 where
@@ -40,7 +41,7 @@ CutBlocksC =
     (snd : List Float) (c : CableowlState) (dt : Float) (b : Lanes) (g : CableowlSignals) (out : List Float) (k : ℕ)
     → (processedC snd c dt b g out) .answer .refusal ≡ 0 → k ≤ length (b .rate)
     → let first = processedC snd c dt (firstLanes k b) g (take (2 * k) out) in
-    let rest = processedC snd (first .answer .state) dt (restLanes k b) none (drop (2 * k) out) in
+    let rest = processedC snd (first .answer .state) dt (restLanes k b) (quietC g) (drop (2 * k) out) in
     CutInTwoC (processedC snd c dt b g out) first rest
 
 -- cableowl_process_into
@@ -49,5 +50,5 @@ CutMixesC =
     (snd : List Float) (c : CableowlState) (dt : Float) (b : Lanes) (g : CableowlSignals) (mix : List Float) (from k : ℕ)
     → (processedIntoC snd c dt b g mix from) .answer .refusal ≡ 0 → k ≤ length (b .rate)
     → let first = processedIntoC snd c dt (firstLanes k b) g mix from in
-    let rest = processedIntoC snd (first .answer .state) dt (restLanes k b) none (first .samples) (from + k) in
+    let rest = processedIntoC snd (first .answer .state) dt (restLanes k b) (quietC g) (first .samples) (from + k) in
     CutInMixC (processedIntoC snd c dt b g mix from) first rest

@@ -17,7 +17,7 @@ use Rattle.cableowl.specs.Entries.{OutcomeC, processedC, processedIntoC}
 use Rattle.theorems.specs.Sums.{sum}
 use Rattle.theorems.specs.Alike.{bare, awake}
 use Rattle.theorems.specs.Schedules.{Stream, short}
-use Rattle.theorems.specs.Archive.{none}
+use Rattle.theorems.specs.Archive.{quietC}
 
 -- what a row of blocks gives: whether each was accepted, the record after, all samples, all steps, the lowest count, and the record at each cut between two blocks
 pub record RunC : Type 0 where
@@ -56,7 +56,7 @@ unfoldable pub playedByC : List Float → Float → ℕ → List ℕ → Lanes �
 playedByC snd dt k [] b g c out = aloneC (processedC snd c dt (firstLanes k b) g (take (2 * k) out))
 playedByC snd dt k (j ∷ ks) b g c out =
     let o = processedC snd c dt (firstLanes k b) g (take (2 * k) out) in
-    let r = playedByC snd dt j ks (restLanes k b) none (o .answer .state) (drop (2 * k) out) in
+    let r = playedByC snd dt j ks (restLanes k b) (quietC g) (o .answer .state) (drop (2 * k) out) in
     thenC o r (o .samples ++ r .samples)
 
 -- blocks of cableowl_process_into, one after the other from a frame on
@@ -64,7 +64,7 @@ unfoldable pub mixedByC : List Float → Float → ℕ → List ℕ → Lanes �
 mixedByC snd dt k [] b g c mix from = aloneC (processedIntoC snd c dt (firstLanes k b) g mix from)
 mixedByC snd dt k (j ∷ ks) b g c mix from =
     let o = processedIntoC snd c dt (firstLanes k b) g mix from in
-    let r = mixedByC snd dt j ks (restLanes k b) none (o .answer .state) (o .samples) (from + k) in
+    let r = mixedByC snd dt j ks (restLanes k b) (quietC g) (o .answer .state) (o .samples) (from + k) in
     thenC o r (r .samples)
 
 -- not Stopped

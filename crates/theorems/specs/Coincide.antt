@@ -10,6 +10,7 @@ use Rattle.playback_position.proofs as playback_position
 use Rattle.transport.proofs as transport
 use Rattle.resampler.proofs as resampler
 use Rattle.playback_state_manager.proofs as playback_state_manager
+use Rattle.start_time.proofs as start_time
 use Rattle.lanes.proofs as lanes
 use Rattle.moving.proofs as moving
 use Rattle.voice.proofs as voice
@@ -82,6 +83,8 @@ pub record Coincide : Type 0 where
   pub playback-state-manager-playbackstate-stop : Decides playback_state_manager.PlaybackState.stop.Reads.Post
   pub playback-state-manager-playbackstate-mark-as-stopped : Decides playback_state_manager.PlaybackState.mark_as_stopped.Reads.Post
   pub playback-state-manager-playbackstate-update : Decides playback_state_manager.PlaybackState.update.Reads.Post
+  -- start_time
+  pub start-time-startsignal-answer : Decides start_time.StartSignal.answer.Reads.Post
   -- lanes
   pub lanes-are-sized : Decides lanes.are_sized.Reads.Post
   pub lanes-is-timely : Decides lanes.is_timely.Reads.Post

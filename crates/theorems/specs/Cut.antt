@@ -1,5 +1,5 @@
 -- A block cut in two. Whenever a block is accepted, it may be played in two parts, cut after any of its frames:
--- the first part is given the block's signals and the first k frames of each lane, the second no signals and the rest, from the state that the first left.
+-- the first part is given the block's signals and the first k frames of each lane, the second the rest, from the state that the first left, and no signals, but the same tick where the start is due at one.
 -- Both parts are accepted, the samples are the first part's and then the second's, and the answers compare as Alike says.
 use Prim.Native.Nat.{ℕ, _*_, _≤_}
 use mathlib.Core.Path.{_≡_}
@@ -23,5 +23,5 @@ CutBlocks =
     (snd : List Float) (v : StaticSound) (dt : Float) (b : Lanes) (g : Signals) (out : List Float) (k : ℕ)
     → (processed snd v dt b g out) .answer .refusal ≡ 0 → k ≤ length (b .rate)
     → let first = processed snd v dt (firstLanes k b) g (take (2 * k) out) in
-    let rest = processed snd (first .answer .sound) dt (restLanes k b) quiet (drop (2 * k) out) in
+    let rest = processed snd (first .answer .sound) dt (restLanes k b) (quiet g) (drop (2 * k) out) in
     CutInTwo (processed snd v dt b g out) first rest

@@ -12,6 +12,7 @@ use Rattle.playback_state_manager.specs.declared.PlaybackState.{PlaybackState}
 use Rattle.playback_state_manager.specs.declared.PlaybackState.the-variants.{Playing, Pausing, Paused, WaitingToResume, Resuming, Stopping, Stopped}
 use Rattle.playback_state_manager.specs.declared.StartAnswer.{StartAnswer}
 use Rattle.playback_state_manager.specs.declared.StartAnswer.the-variants as answer
+use Rattle.start_time.specs.Ticks.{answering}
 use Rattle.transport.specs.Seats.{Inside}
 use Rattle.lanes.specs.Lanes.{Lanes}
 use Rattle.voice.specs.declared.StaticSound.{StaticSound}
@@ -72,8 +73,8 @@ isNever answer.Never = true
 
 -- a stop command or a never answer
 abbrev pub stops : Call → Bool
-stops (Block snd dt b g out) = isNever (g .start) || isNever (g .resume)
-stops (Mix snd dt b g mix from) = isNever (g .start) || isNever (g .resume)
+stops (Block snd dt b g out) = isNever (answering (g .start)) || isNever (g .resume)
+stops (Mix snd dt b g mix from) = isNever (answering (g .start)) || isNever (g .resume)
 stops (Command snd c) = c .stop
 
 -- Stopping or Stopped

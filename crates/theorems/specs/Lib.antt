@@ -11,6 +11,7 @@ pub mod Reports
 pub mod AnyOrder
 pub mod InTheLoop
 pub mod Budget
+pub mod StartTicks
 pub mod Stays
 pub mod AtZero
 pub mod Wraps

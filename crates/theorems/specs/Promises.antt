@@ -11,6 +11,7 @@ use Rattle.theorems.specs.Stays.{SeekStartsNothing, StoppedStays}
 use Rattle.theorems.specs.AnyOrder.{AnyOrder, ThereAndBack, Permutations}
 use Rattle.theorems.specs.InTheLoop.{InTheLoop}
 use Rattle.theorems.specs.Budget.{BlockBudget, MixBudget, StreamBudget, TwoSteps}
+use Rattle.theorems.specs.StartTicks.{HalfReached, MovedTogether, TickStarts, MixTickStarts}
 use Rattle.theorems.specs.AtZero.{ReadsB}
 use Rattle.theorems.specs.Wraps.{RustAgrees}
 use Rattle.theorems.specs.Examples.{ExamplesHold}
@@ -74,6 +75,11 @@ pub record Promises : Type 0 where
   pub there-and-back : ThereAndBack
   pub permutations : Permutations
   pub in-the-loop : InTheLoop
+  -- ticks that wrap: half of them are reached, and a block starts a voice whose due tick is
+  pub half-reached : HalfReached
+  pub moved-together : MovedTogether
+  pub tick-starts : TickStarts
+  pub mix-tick-starts : MixTickStarts
   -- at fraction 0 the frame read is b
   pub reads-b : ReadsB
   -- kira's wraps and ours agree

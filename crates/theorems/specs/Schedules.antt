@@ -1,4 +1,4 @@
--- Block sizes do not matter. A stream of lanes between two commands, of any length, is cut into blocks: the first is given the signals, the others none.
+-- Block sizes do not matter. A stream of lanes between two commands, of any length, is cut into blocks: the first is given the signals, the others none, but the same tick where the start is due at one.
 -- Any two ways to cut it whose blocks are all accepted write the same samples; they end in states that agree in all but the fraction and the window's frame numbers;
 -- and unless the voice has stopped by one of their cuts, they end in the same state, with the same number of steps and the same lowest count.
 -- The same holds of blocks into a mix. And every way to cut a lawful stream is such a one, as long as no block has more than 4,096 frames.
@@ -58,7 +58,7 @@ unfoldable pub playedBy : List Float → Float → ℕ → List ℕ → Lanes �
 playedBy snd dt k [] b g v out = alone (processed snd v dt (firstLanes k b) g (take (2 * k) out))
 playedBy snd dt k (j ∷ ks) b g v out =
     let o = processed snd v dt (firstLanes k b) g (take (2 * k) out) in
-    followed o (playedBy snd dt j ks (restLanes k b) quiet (o .answer .sound) (drop (2 * k) out))
+    followed o (playedBy snd dt j ks (restLanes k b) (quiet g) (o .answer .sound) (drop (2 * k) out))
 
 pub record Agree (r s : Run) : Type 0 where
   pub samples : r .samples ≡ s .samples
@@ -92,7 +92,7 @@ unfoldable pub mixedBy : List Float → Float → ℕ → List ℕ → Lanes →
 mixedBy snd dt k [] b g v mix from = alone (processedInto snd v dt (firstLanes k b) g mix from)
 mixedBy snd dt k (j ∷ ks) b g v mix from =
     let o = processedInto snd v dt (firstLanes k b) g mix from in
-    onto o (mixedBy snd dt j ks (restLanes k b) quiet (o .answer .sound) (o .samples) (from + k))
+    onto o (mixedBy snd dt j ks (restLanes k b) (quiet g) (o .answer .sound) (o .samples) (from + k))
 
 abbrev pub AnySizesMix : Type 0
 AnySizesMix =

@@ -90,6 +90,8 @@ pub struct Signals {
     pub finished: u32,
     pub start: u32,
     pub resume: u32,
+    pub due: u32,
+    pub now: u32,
 }
 
 /// What creation answers.

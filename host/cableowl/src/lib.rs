@@ -55,7 +55,7 @@ pub use fades::{Level, MAX_RAMP_FRAMES, fade_ramp};
 pub use lanes::{BlockLanes, Lane, Lanes};
 pub use loop_table::{Hall, LoopTable};
 pub use playback_position::{EndPosition, PlaybackPosition, Region};
-pub use playback_state::{PlaybackState, Signals, StartAnswer};
+pub use playback_state::{PlaybackState, Signals, StartAnswer, StartSignal};
 pub use refusal::{LaneName, Refusal};
 pub use saved::Unreadable;
 pub use settings::Settings;

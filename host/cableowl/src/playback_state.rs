@@ -67,21 +67,70 @@ pub enum StartAnswer {
     Never,
 }
 
+/// What a block is told of the sound's own start: an answer, or the tick at which it is due and the
+/// tick now, on a counter of 32 bits that may wrap. The default is still waiting.
+///
+/// A due tick is reached where `now.wrapping_sub(due)` is below 2,147,483,648, half a turn: then the
+/// start is told [`Now`](StartAnswer::Now), and elsewhere [`Waiting`](StartAnswer::Waiting). So a
+/// tick due up to half a turn ahead is waited for, and **one due further ahead counts as reached
+/// already**; at 1,000 ticks a second half a turn is 24 days, 20 hours, 31 minutes and 23.648
+/// seconds. A start that has come stays so, though the tick goes on or back. Where a block is cut in
+/// two, both parts bring the same tick.
+///
+/// ```
+/// use cableowl::{Lanes, Settings, Signals, StartSignal, StaticSound};
+///
+/// let sound = [0.5; 8];
+/// let mut voice = StaticSound::new(Settings::new(1).start_waits(true), &sound)?;
+/// let mut lanes = Lanes::new();
+/// let due = 3; // just past the wrap
+/// for (now, steps) in [(u32::MAX, 0), (2, 0), (3, 1), (u32::MAX, 1)] {
+///     let signals = Signals::new().start(StartSignal::Tick { due, now });
+///     let block = voice.process(&sound, lanes.frames(1), 1.0, signals, &mut [0.0; 2])?;
+///     assert_eq!(block.steps, steps);
+/// }
+/// # Ok::<(), cableowl::Refusal>(())
+/// ```
+#[derive(Debug, Clone, Copy, PartialEq, Eq, Hash)]
+pub enum StartSignal {
+    /// An answer.
+    Answer(StartAnswer),
+    /// Due at a tick.
+    Tick {
+        /// The tick at which the sound starts.
+        due: u32,
+        /// The tick now.
+        now: u32,
+    },
+}
+
+impl Default for StartSignal {
+    fn default() -> Self {
+        Self::Answer(StartAnswer::default())
+    }
+}
+
+impl From<StartAnswer> for StartSignal {
+    fn from(answer: StartAnswer) -> Self {
+        Self::Answer(answer)
+    }
+}
+
 /// What a block is told beside its lanes; the default is no signals.
 ///
 /// ```
 /// use cableowl::{Signals, StartAnswer};
 ///
 /// let fade_has_ended = Signals::new().finished(true);
-/// assert_eq!(fade_has_ended.start, StartAnswer::Waiting);
+/// assert_eq!(fade_has_ended.start, StartAnswer::Waiting.into());
 /// ```
 #[derive(Debug, Clone, Copy, PartialEq, Eq, Hash, Default)]
 #[non_exhaustive]
 pub struct Signals {
     /// The fade of a pause, resume or stop has ended.
     pub finished: bool,
-    /// The answer for the sound's own start; ignored once that has come.
-    pub start: StartAnswer,
+    /// An answer or a tick for the sound's own start; ignored once that has come.
+    pub start: StartSignal,
     /// The answer for a waiting resume; ignored where none waits.
     pub resume: StartAnswer,
 }
@@ -100,10 +149,10 @@ impl Signals {
         self
     }
 
-    /// Answers the sound's own start.
+    /// Answers the sound's own start, or says the tick at which it is due and the tick now.
     #[must_use]
-    pub fn start(mut self, start: StartAnswer) -> Self {
-        self.start = start;
+    pub fn start(mut self, start: impl Into<StartSignal>) -> Self {
+        self.start = start.into();
         self
     }
 
@@ -117,10 +166,16 @@ impl Signals {
 
 impl From<Signals> for ffi::Signals {
     fn from(signals: Signals) -> Self {
+        let (start, due, now) = match signals.start {
+            StartSignal::Answer(answer) => (answer as u32, 0, 0),
+            StartSignal::Tick { due, now } => (3, due, now),
+        };
         Self {
             finished: signals.finished.into(),
-            start: signals.start as u32,
+            start,
             resume: signals.resume as u32,
+            due,
+            now,
         }
     }
 }

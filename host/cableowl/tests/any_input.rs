@@ -2,7 +2,7 @@
 
 use cableowl::{
     Commands, Frame, Lanes, LoopCommand, PlaybackPosition, PlaybackState, RecentFrame, Refusal,
-    Region, ResumeCommand, Settings, Signals, StartAnswer, State, StaticSound,
+    Region, ResumeCommand, Settings, Signals, StartAnswer, StartSignal, State, StaticSound,
 };
 use random::Random;
 
@@ -75,9 +75,16 @@ fn commands(random: &mut Random) -> Commands {
 fn signals(random: &mut Random) -> Signals {
     use StartAnswer::{Never, Now, Waiting};
     let answers = [Waiting, Now, Now, Never];
+    let start = match random.below(5) {
+        4 => StartSignal::Tick {
+            due: random.word() as u32,
+            now: random.word() as u32,
+        },
+        kind => answers[kind].into(),
+    };
     Signals::new()
         .finished(random.coin())
-        .start(answers[random.below(4)])
+        .start(start)
         .resume(answers[random.below(4)])
 }
 

@@ -1,7 +1,8 @@
 // What a voice does when its calls are accepted: document 01's examples through the API.
 
 use cableowl::{
-    Commands, Lanes, PlaybackState, Refusal, Settings, Signals, StartAnswer, StaticSound,
+    Commands, Lanes, PlaybackState, Refusal, Settings, Signals, StartAnswer, StartSignal,
+    StaticSound,
 };
 
 /// Frames 0, 1, 2 and so on, the right channel negated.
@@ -138,6 +139,48 @@ fn states_go_their_way() {
     assert_eq!(turn(all.stop(), none), (1, Stopping));
     assert_eq!(turn(all, finished), (0, Stopped));
     assert_eq!(turn(all.resume(), none), (0, Stopped));
+}
+
+#[test]
+fn a_start_that_is_due_at_a_tick_comes_and_stays() {
+    let sound = ramp(50);
+    let waiting = StaticSound::new(Settings::new(1).start_waits(true), &sound).unwrap();
+    let started = |voice: &StaticSound| voice.state().started;
+    let block = |voice: &mut StaticSound, frames: usize, due: u32, now: u32| {
+        let signals = Signals::new().start(StartSignal::Tick { due, now });
+        let mut out = vec![0.0; 2 * frames];
+        let lanes = &mut Lanes::new();
+        let block = voice.process(&sound, lanes.frames(frames), 1.0, signals, &mut out);
+        block.unwrap();
+    };
+    let half = 1 << 31;
+    for due in [0, 1, half - 1, half, u32::MAX] {
+        for (after, reached) in [
+            (0, true),
+            (half - 1, true),
+            (half, false),
+            (u32::MAX, false),
+        ] {
+            let mut voice = waiting.clone();
+            block(&mut voice, 0, due, due.wrapping_add(after));
+            assert_eq!(started(&voice), reached, "due {due}, {after} later");
+            block(&mut voice, 1, due, due);
+            block(&mut voice, 1, due, due.wrapping_sub(1));
+            assert!(started(&voice), "due {due}: the tick goes back");
+        }
+    }
+    let mut paused = waiting.clone();
+    paused
+        .on_start_processing(&sound, Commands::new().pause())
+        .unwrap();
+    block(&mut paused, 4, 7, 7);
+    assert!(started(&paused), "a pausing voice starts");
+    let mut refused = waiting.clone();
+    let signals = Signals::new().start(StartSignal::Tick { due: 7, now: 7 });
+    let lanes = &mut Lanes::new();
+    let answer = refused.process(&sound, lanes.frames(1), 0.0, signals, &mut [0.0; 2]);
+    assert_eq!(answer, Err(Refusal::TimeStep));
+    assert!(!started(&refused), "a refused block reaches nothing");
 }
 
 #[test]

@@ -257,6 +257,18 @@ pub fn signals(random: &mut Random) -> Signals {
     }
 }
 
+/// A due tick and the tick now: on it, beside it, half a turn off, or anywhere.
+pub fn tick(random: &mut Random) -> (u32, u32) {
+    let (due, any) = (random.word() as u32, random.word() as u32);
+    let half = 1u32 << 31;
+    let due = one_of(random, &[0, 1, half, u32::MAX, due]);
+    let since = one_of(
+        random,
+        &[0, 1, u32::MAX, half - 1, half, half, half + 1, any],
+    );
+    (due, due.wrapping_add(since))
+}
+
 /// A block's length: none, few, the usual ones, or the most.
 pub fn length(random: &mut Random) -> usize {
     let few = random.below(10);
@@ -301,6 +313,7 @@ pub fn block(random: &mut Random, n: usize, state: &State) -> Block {
         },
         dt,
         signals: signals(random),
+        tick: None,
         place: Place::Whole(2 * n),
     }
 }

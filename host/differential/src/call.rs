@@ -9,6 +9,7 @@ use oracle::{
     Commands, Entry, Frame, LaneBuffers, Oracle, PlaybackState, Settings, Signals, State, same_f32,
     same_f64,
 };
+use rules::Rules;
 
 /// A sound that calls share.
 #[derive(Debug)]
@@ -83,8 +84,24 @@ pub struct Block {
     pub dt: f64,
     /// The signals.
     pub signals: Signals,
+    /// The due tick and the tick now, where they stand in place of the start answer.
+    pub tick: Option<(u32, u32)>,
     /// Where it is written.
     pub place: Place,
+}
+
+impl Block {
+    /// The signals with the answer that the tick gives by these rules.
+    #[must_use]
+    pub fn told(&self, rules: &impl Rules) -> Signals {
+        let start = self
+            .tick
+            .map_or(self.signals.start, |(due, now)| rules.ticked(due, now));
+        Signals {
+            start,
+            ..self.signals
+        }
+    }
 }
 
 /// What is asked.

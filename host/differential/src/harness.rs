@@ -196,7 +196,7 @@ fn cut_differs(player: &dyn Player, call: &Call, parts: &[usize]) -> Option<Stri
         cut.steps += answer.steps;
         cut.lowest_count = cut.lowest_count.min(answer.lowest_count);
         cut.samples.extend(answer.samples);
-        // The first part alone is given the signals.
+        // The first part alone is given the signals; the tick goes with each.
         signals = Signals::default();
         from += length;
     }

@@ -17,6 +17,7 @@ mod shrink;
 mod tally;
 pub mod wrong;
 
+pub use any::tick;
 pub use call::{Ask, Block, Call, Outcome, Place, Sound, blank, is_identical, pattern};
 pub use harness::{Harness, differs, judged};
 pub use player::{DOCUMENT, Kira, Model, Ours, Player, refusal};

@@ -55,9 +55,19 @@ pub fn block(
         },
         dt,
         signals,
+        tick: None,
         place,
     };
     call(Ask::Block(state, block), sound)
+}
+
+/// The same block, its start due at a tick, with the tick now.
+#[must_use]
+pub fn ticked(mut call: Call, due: u32, now: u32) -> Call {
+    if let Ask::Block(_, block) = &mut call.ask {
+        block.tick = Some((due, now));
+    }
+    call
 }
 
 /// A stretch.
@@ -108,9 +118,13 @@ impl Display for Call {
                 let amplitudes = [&lanes.fade, &lanes.volume, &lanes.left, &lanes.right]
                     .map(|lane| format!("&{}", list(lane, single)))
                     .join(", ");
+                let open = block.tick.map_or("", |_| "ticked(");
+                let close = block
+                    .tick
+                    .map_or(String::new(), |(due, now)| format!(", {due}, {now})"));
                 write!(
                     f,
-                    "block({}, [{amplitudes}], &{}, {}, Signals {{ finished: {}, start: {:?}, resume: {:?} }}, {:?}, &{sound})",
+                    "{open}block({}, [{amplitudes}], &{}, {}, Signals {{ finished: {}, start: {:?}, resume: {:?} }}, {:?}, &{sound}){close}",
                     of_state(state),
                     list(&lanes.rate, double),
                     double(block.dt),

@@ -64,7 +64,7 @@ fn our_block(
     samples: &mut [f32],
 ) -> raw::CableowlProcessed {
     let given = convert::state_in(state);
-    let signals = convert::signals_in(block.signals);
+    let signals = convert::signals_in(block.signals, block.tick);
     let lanes = block.lanes.lend();
     match block.place {
         Place::Whole(_) => raw::process(given, sound, &lanes, block.dt, signals, samples),
@@ -123,7 +123,7 @@ impl<R: Rules + Sync> Player for Model<R> {
                 let mut voice = voice(state);
                 let written = block.place.written(block.lanes.rate.len());
                 let out = &mut outcome.samples[written];
-                let reported = voice.block(&block.lanes.lend(), block.dt, block.signals, out);
+                let reported = voice.block(&block.lanes.lend(), block.dt, block.told(rules), out);
                 (outcome.steps, outcome.lowest_count) = (reported.steps, reported.lowest_count);
                 outcome.state = Some(voice.state);
             }
@@ -182,7 +182,8 @@ impl Player for Kira {
                 let mut voice = found(state);
                 let written = block.place.written(block.lanes.rate.len());
                 let out = &mut outcome.samples[written];
-                let reported = voice.block(&block.lanes.lend(), block.dt, block.signals, out);
+                let reported =
+                    voice.block(&block.lanes.lend(), block.dt, block.told(&Document), out);
                 (outcome.steps, outcome.lowest_count) = (reported.steps, reported.lowest_count);
                 voice
             }

@@ -232,6 +232,7 @@ fn simpler_blocks(given: &Block, sample_rate: u32) -> Vec<Block> {
             &|b| b.place = Place::Mix(2 * n + 2, 1),
             &|b| b.signals = Signals::default(),
             &|b| b.signals.finished = false,
+            &|b| b.tick = None,
             &|b| b.signals.start = Signals::default().start,
             &|b| b.signals.resume = Signals::default().resume,
             &|b| b.dt = 1.0,

@@ -47,6 +47,9 @@ fn by_rule() -> Vec<Box<dyn Player>> {
         Box::new(Model::new("the loop's end is inclusive", InclusiveEnd)),
         Box::new(Model::new("signals are taken again", SignalsTwice)),
         Box::new(Model::new("a start that has come is answered", StartAgain)),
+        Box::new(Model::new("half a turn is reached", HalfReached)),
+        Box::new(Model::new("due minus now is taken", DueMinusNow)),
+        Box::new(Model::new("ticks do not wrap", TicksUnwrapped)),
         Box::new(Model::new("the fraction is cut to f32", FractionCut)),
         Box::new(Model::new("a start is rounded to even", RoundsToEven)),
         Box::new(Model::new("a paused seek pushes", PausedSeekPushes)),
@@ -143,6 +146,35 @@ impl Rules for StartAgain {
     fn start(&self, started: bool, given: PlaybackState, answer: Answer) -> (bool, PlaybackState) {
         let (now, after) = Document.start(false, given, answer);
         (now || started, after)
+    }
+}
+
+fn answer_if(reached: bool) -> Answer {
+    if reached {
+        Answer::Now
+    } else {
+        Answer::Waiting
+    }
+}
+
+struct HalfReached;
+impl Rules for HalfReached {
+    fn ticked(&self, due: u32, now: u32) -> Answer {
+        answer_if(now.wrapping_sub(due) <= 1 << 31)
+    }
+}
+
+struct DueMinusNow;
+impl Rules for DueMinusNow {
+    fn ticked(&self, due: u32, now: u32) -> Answer {
+        Document.ticked(now, due)
+    }
+}
+
+struct TicksUnwrapped;
+impl Rules for TicksUnwrapped {
+    fn ticked(&self, due: u32, now: u32) -> Answer {
+        answer_if(now >= due)
     }
 }
 

@@ -16,6 +16,7 @@ fn every_wrong_player_is_found_out() {
             let mut random = Random::new(round);
             runs::large(&mut harness, &mut random);
             runs::refusals(&mut harness, &mut random);
+            runs::ticks(&mut harness, &mut random);
             round += 1;
         }
         for ((name, _), found) in &harness.tally.found {

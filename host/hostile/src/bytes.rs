@@ -2,7 +2,7 @@
 
 use std::sync::Arc;
 
-use differential::{Ask, Block, Call, Outcome, Place, Sound, judged, refusal};
+use differential::{Ask, Block, Call, Outcome, Place, Sound, judged, refusal, tick};
 use oracle::LaneBuffers;
 use random::Random;
 use raw::{
@@ -176,11 +176,15 @@ impl Case {
     /// What the bytes mean; none where the state is not lawful.
     fn meaning(&self) -> Option<Call> {
         let held = |state| convert::state_out(state);
-        let block = |signals, dt, place| Block {
-            lanes: self.lanes.clone(),
-            dt,
-            signals: convert::signals_out(signals),
-            place,
+        let block = |signals, dt, place| {
+            let (signals, tick) = convert::signals_out(signals);
+            Block {
+                lanes: self.lanes.clone(),
+                dt,
+                signals,
+                tick,
+                place,
+            }
         };
         let ask = match &self.kind {
             Kind::New(settings) => Ask::Create(convert::settings_out(settings)),
@@ -355,10 +359,14 @@ fn commands(random: &mut Random, frames: u64) -> CableowlCommands {
 }
 
 fn signals(random: &mut Random) -> CableowlSignals {
+    // Drawn aside: a seed's other numbers stay as they are.
+    let (due, now) = tick(&mut random.clone());
     CableowlSignals {
         finished: any_tag(random, 2),
-        start: any_tag(random, 3),
+        start: any_tag(random, 4),
         resume: any_tag(random, 3),
+        due,
+        now,
     }
 }
 

@@ -163,34 +163,39 @@ pub fn commands_out(given: &CableowlCommands) -> Commands {
     }
 }
 
-/// Signals as the entries take them.
+/// Signals as the entries take them, with the due tick and the tick now in place of the start answer where given.
 #[must_use]
-pub fn signals_in(given: Signals) -> CableowlSignals {
+pub fn signals_in(given: Signals, tick: Option<(u32, u32)>) -> CableowlSignals {
     let answer = |answer| match answer {
         Answer::Waiting => 0,
         Answer::Now => 1,
         Answer::Never => 2,
     };
+    let (due, now) = tick.unwrap_or_default();
     CableowlSignals {
         finished: u32::from(given.finished),
-        start: answer(given.start),
+        start: tick.map_or(answer(given.start), |_| 3),
         resume: answer(given.resume),
+        due,
+        now,
     }
 }
 
-/// What signals of any bytes mean.
+/// What signals of any bytes mean; the tick goes before the start answer.
 #[must_use]
-pub fn signals_out(given: &CableowlSignals) -> Signals {
+pub fn signals_out(given: &CableowlSignals) -> (Signals, Option<(u32, u32)>) {
     let answer = |tag| match tag {
         1 => Answer::Now,
         2 => Answer::Never,
         _ => Answer::Waiting,
     };
-    Signals {
+    let signals = Signals {
         finished: given.finished != 0,
         start: answer(given.start),
         resume: answer(given.resume),
-    }
+    };
+    let tick = (given.start == 3).then_some((given.due, given.now));
+    (signals, tick)
 }
 
 /// A place that is refused, which is what an unknown kind means.

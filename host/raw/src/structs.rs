@@ -145,7 +145,7 @@ pub struct CableowlCommands {
     pub loop_region: CableowlRegion,
 }
 
-/// The signals of a block; answers: 0 still waiting, 1 now, 2 never.
+/// The signals of a block; answers: 0 still waiting, 1 now, 2 never, and for the start 3, by the tick.
 #[repr(C)]
 #[derive(Debug, Clone, Copy, Default)]
 pub struct CableowlSignals {
@@ -155,6 +155,10 @@ pub struct CableowlSignals {
     pub start: u32,
     /// The answer for a waiting resume.
     pub resume: u32,
+    /// The tick at which the start is due.
+    pub due: u32,
+    /// The tick now.
+    pub now: u32,
 }
 
 /// What creation answers.

@@ -139,6 +139,16 @@ pub trait Rules {
         }
     }
 
+    /// The answer that a due tick gives: reached for half a turn from its own number on, wrap or not.
+    fn ticked(&self, due: u32, now: u32) -> Answer {
+        let since = (i64::from(now) - i64::from(due)).rem_euclid(1 << 32);
+        if since < 1 << 31 {
+            Answer::Now
+        } else {
+            Answer::Waiting
+        }
+    }
+
     /// The sound's own start answer: whether it has started, and its state.
     fn start(&self, started: bool, given: PlaybackState, answer: Answer) -> (bool, PlaybackState) {
         match answer {

@@ -36,7 +36,7 @@ int main(void) {
     commands.has_rate = 2;
     expect(cableowl_on_start_processing(created.state, sound, 6, commands).refusal == 7, "on_start_processing: tag");
 
-    const CableowlSignals signals = {0, 0, 0};
+    const CableowlSignals signals = {0, 0, 0, 0, 0};
     float out[12];
     const CableowlProcessed processed = cableowl_process(commanded.state, sound, 6, ones, 6, ones, 6, ones, 6, ones, 6,
                                                          rate, 6, 1.0, signals, out, 12);
@@ -45,6 +45,17 @@ int main(void) {
     expect(processed.lowest_count == 0, "process: lowest count");
     expect(processed.state.state == 6, "process: stopped");
     expect(memcmp(out, heard, sizeof out) == 0, "process: frames");
+
+    settings.start_waits = 1;
+    const CableowlState waiting = cableowl_new(settings, sound, 6).state;
+    CableowlSignals tick = {0, CABLEOWL_START_TICK, 0, 3, 2};
+    expect(cableowl_process(waiting, sound, 6, ones, 0, ones, 0, ones, 0, ones, 0, rate, 0, 1.0, tick, out, 0)
+                   .state.started == 0,
+           "process: a tick that is not reached");
+    tick.now = 3;
+    expect(cableowl_process(waiting, sound, 6, ones, 0, ones, 0, ones, 0, ones, 0, rate, 0, 1.0, tick, out, 0)
+                   .state.started == 1,
+           "process: a tick that is reached");
 
     float mix[8] = {9, 9, 9, 9, 9, 9, 9, 9};
     const CableowlProcessed mixed = cableowl_process_into(commanded.state, sound, 6, ones, 2, ones, 2, ones, 2, ones, 2,

@@ -211,6 +211,7 @@ fn ask(harness: &mut Harness, state: State, signals: Signals, sound: &Arc<Sound>
         },
         dt: 1.0,
         signals,
+        tick: None,
         place: Place::Whole(8),
     };
     let call = Call {

@@ -82,6 +82,7 @@ impl Asked<'_, '_> {
             },
             dt: 1.0,
             signals: Signals::default(),
+            tick: None,
             place: Place::Whole(2 * n),
         };
         self.ask(Ask::Block(state, block))

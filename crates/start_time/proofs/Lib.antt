@@ -1,0 +1,2 @@
+-- Laws of a start that is due at a tick.
+pub mod Ticks

@@ -1,0 +1,2 @@
+-- A start that is due at a tick.
+pub mod Ticks

@@ -1,0 +1,37 @@
+-- Start ticks that wrap (request #112). For any due tick exactly half of all ticks are reached, and moving both ticks by the same amount, past the wrap or not, changes nothing.
+-- A voice that an accepted block leaves has started exactly if it had before, or if the block brought a due tick that is reached: in any state and with any number of frames.
+-- So a start that has come stays so, though the tick goes on or back. A refused block leaves the voice as it was (Kept).
+use Prim.Native.Nat.{ℕ, zero, suc, _+_, _%_, _<_}
+use mathlib.Core.Path.{_≡_}
+use mathlib.Core.Bool.{Bool, _||_, cond}
+use mathlib.Core.List.{List}
+use lib.Ieee.{Float}
+use Rattle.lanes.specs.Lanes.{Lanes}
+use Rattle.voice.specs.declared.StaticSound.{StaticSound}
+use Rattle.start_time.specs.declared.StartSignal.the-variants.{Tick}
+use Rattle.start_time.specs.Ticks.{turn, half, reached}
+use Rattle.block.specs.declared.Signals.{Signals}
+use Rattle.static_sound.specs.Entries.{processed, processedInto}
+
+-- how many numbers below n pass a test
+unfoldable pub howMany : (ℕ → Bool) → ℕ → ℕ
+howMany p zero = 0
+howMany p (suc n) = cond (p n) 1 0 + howMany p n
+
+abbrev pub HalfReached : Type 0
+HalfReached = (due : ℕ) → due < turn → howMany (λ (now : ℕ). reached due now) turn ≡ half
+
+abbrev pub MovedTogether : Type 0
+MovedTogether = (due now k : ℕ) → due < turn → now < turn → reached ((due + k) % turn) ((now + k) % turn) ≡ reached due now
+
+abbrev pub TickStarts : Type 0
+TickStarts =
+    (snd : List Float) (v : StaticSound) (dt : Float) (b : Lanes) (g : Signals) (out : List Float) (due now : ℕ)
+    → let a = (processed snd v dt b g out) .answer in
+    a .refusal ≡ 0 → g .start ≡ Tick due now → a .sound .started ≡ (v .started || reached due now)
+
+abbrev pub MixTickStarts : Type 0
+MixTickStarts =
+    (snd : List Float) (v : StaticSound) (dt : Float) (b : Lanes) (g : Signals) (mix : List Float) (from due now : ℕ)
+    → let a = (processedInto snd v dt b g mix from) .answer in
+    a .refusal ≡ 0 → g .start ≡ Tick due now → a .sound .started ≡ (v .started || reached due now)
