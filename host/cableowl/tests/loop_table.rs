@@ -3,8 +3,7 @@
 use std::ops::Range;
 
 use cableowl::{
-    Commands, Hall, Lanes, LoopTable, PlaybackPosition, Refusal, Settings, Signals, State,
-    StaticSound,
+    Commands, Hall, Lanes, LoopTable, PlaybackPosition, Refusal, Settings, Signals, StaticSound,
 };
 use random::Random;
 
@@ -70,22 +69,19 @@ fn a_refused_take_changes_nothing() {
     let sound = sound();
     let mut table = LoopTable::new(FRAMES);
     table.write(Hall::A, 0, 2..12).unwrap();
-    let sliced = StaticSound::new(Settings::new(1).slice(0..6), &sound).unwrap();
-    let broken = StaticSound::from_state(State {
-        sample_rate: 0,
-        ..sliced.state()
-    });
-    for (voice, slot, refusal) in [
-        (&sliced, 16, Refusal::LoopSlot),
-        (&sliced, 1, Refusal::EmptySlot),
+    let voice = StaticSound::new(Settings::new(1).slice(0..6), &sound).unwrap();
+    let another = &sound[2..];
+    for (sound, slot, refusal) in [
+        (&sound[..], 16, Refusal::LoopSlot),
+        (&sound, 1, Refusal::EmptySlot),
         // Judged over all frames by the table, over the slice's by the voice.
-        (&sliced, 0, Refusal::LoopRegion),
+        (&sound, 0, Refusal::LoopRegion),
         // The table's refusal comes first.
-        (&broken, 1, Refusal::EmptySlot),
-        (&broken, 0, Refusal::State),
+        (another, 1, Refusal::EmptySlot),
+        (another, 0, Refusal::State),
     ] {
         let mut taker = voice.clone();
-        assert_eq!(taker.take_loop(&sound, &table, slot), Err(refusal));
+        assert_eq!(taker.take_loop(sound, &table, slot), Err(refusal));
         assert_eq!(taker.state(), voice.state());
     }
 }
