@@ -4,6 +4,8 @@ ghost use Rattle.loop_table.specs.Tables.{emptyTable, found};
 ghost use Rattle.cableowl.specs.Loops.{hallOf, writtenC, clearedC, takenC};
 use crate::CableowlCommanded;
 use crate::CableowlState;
+use crate::decode;
+use crate::state_after;
 use loop_table::Hall;
 use loop_table::LoopChanged;
 use loop_table::LoopFound;
@@ -67,10 +69,10 @@ pub extern "C" fn cableowl_take_loop(
 ) -> CableowlCommanded
     ensures { λ r. ⌜ r ≡ takenC (now (sound .entry)) table slot state ⌝ }
 {
-    let commanded = take_loop::take(table, slot as usize, crate::decode(state), sound);
+    let commanded = take_loop::take(table, slot as usize, decode(state), sound);
     let voice = commanded.sound;
     CableowlCommanded {
-        state: crate::state_after(commanded.refusal, voice, state),
+        state: state_after(commanded.refusal, voice, state),
         position: commanded.position,
         refusal: commanded.refusal,
     }
