@@ -7,7 +7,7 @@ use lib.Ieee.{Float}
 use Rattle.loop_table.specs.declared.Hall.{Hall}
 use Rattle.loop_table.specs.declared.Hall.the-variants as hall
 use Rattle.loop_table.specs.declared.LoopTable.{LoopTable}
-use Rattle.loop_table.specs.declared.Changed.{Changed}
+use Rattle.loop_table.specs.declared.LoopChanged.{LoopChanged}
 use Rattle.loop_table.specs.Tables.{written, cleared}
 use Rattle.take_loop.specs.Taking.{taken}
 use Rattle.records.specs.declared.CableowlState.{CableowlState}
@@ -19,10 +19,10 @@ abbrev pub hallOf : ℕ → Hall
 hallOf n = cond (eqb n 0) hall.A hall.B
 
 -- a write, and a clear
-abbrev pub writtenC : LoopTable → ℕ → ℕ → ℕ → ℕ → Changed
+abbrev pub writtenC : LoopTable → ℕ → ℕ → ℕ → ℕ → LoopChanged
 writtenC t h k s e = cond (leb h 1) (written t (hallOf h) k s e) (record { table = t; refusal = 1 })
 
-abbrev pub clearedC : LoopTable → ℕ → ℕ → Changed
+abbrev pub clearedC : LoopTable → ℕ → ℕ → LoopChanged
 clearedC t h k = cond (leb h 1) (cleared t (hallOf h) k) (record { table = t; refusal = 1 })
 
 -- a voice takes a slot's loop

@@ -3,9 +3,10 @@ ghost use mathlib.Core.Path.{_≡_};
 ghost use Rattle.loop_table.specs.Tables.{emptyTable, found};
 ghost use Rattle.cableowl.specs.Loops.{hallOf, writtenC, clearedC, takenC};
 use crate::CableowlCommanded;
-use loop_table::Changed;
-use loop_table::Found;
+use crate::state_after;
 use loop_table::Hall;
+use loop_table::LoopChanged;
+use loop_table::LoopFound;
 use loop_table::LoopTable;
 use records::CableowlState;
 use records::decode;
@@ -33,27 +34,27 @@ pub extern "C" fn cableowl_write_loop(
     slot: u64,
     start: u64,
     end: u64,
-) -> Changed
+) -> LoopChanged
     ensures { λ r. ⌜ r ≡ writtenC table hall slot start end ⌝ }
 {
     if hall > 1 {
-        return Changed { table, refusal: 1 };
+        return LoopChanged { table, refusal: 1 };
     }
     table.write(hall_of(hall), slot as usize, start, end)
 }
 
 #[no_mangle]
-pub extern "C" fn cableowl_clear_loop(table: LoopTable, hall: u32, slot: u64) -> Changed
+pub extern "C" fn cableowl_clear_loop(table: LoopTable, hall: u32, slot: u64) -> LoopChanged
     ensures { λ r. ⌜ r ≡ clearedC table hall slot ⌝ }
 {
     if hall > 1 {
-        return Changed { table, refusal: 1 };
+        return LoopChanged { table, refusal: 1 };
     }
     table.clear(hall_of(hall), slot as usize)
 }
 
 #[no_mangle]
-pub extern "C" fn cableowl_read_loop(table: LoopTable, slot: u64) -> Found
+pub extern "C" fn cableowl_read_loop(table: LoopTable, slot: u64) -> LoopFound
     ensures { λ r. ⌜ r ≡ found table slot ⌝ }
 {
     table.read(slot as usize)
@@ -71,7 +72,7 @@ pub extern "C" fn cableowl_take_loop(
     let commanded = take_loop::take(table, slot as usize, decode(state), sound);
     let voice = commanded.sound;
     CableowlCommanded {
-        state: crate::state_after(commanded.refusal, voice, state),
+        state: state_after(commanded.refusal, voice, state),
         position: commanded.position,
         refusal: commanded.refusal,
     }

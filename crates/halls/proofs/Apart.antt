@@ -14,7 +14,7 @@ use Rattle.loop_table.specs.declared.Hall.{Hall}
 use Rattle.loop_table.specs.declared.Hall.the-variants as hall
 use Rattle.loop_table.specs.declared.LoopSlot.{LoopSlot}
 use Rattle.loop_table.specs.declared.LoopTable.{LoopTable}
-use Rattle.loop_table.specs.declared.Found.{Found}
+use Rattle.loop_table.specs.declared.LoopFound.{LoopFound}
 use Rattle.loop_table.specs.Tables.{unless, slotOf, empty, isEmpty, looping, lawfulTable, owns, refusedSlot, heldIn, changed, refusedWrite, written, refusedClear, cleared, refusedRead, found}
 use Rattle.take_loop.specs.Taking.{takenFrom, taken}
 use Rattle.halls.specs.Calls.{Call, Write, Clear, Read, Play, New, Take, Command, Block, Mix, Event, ByHall, ByVoice, Numbered, Looked, Told, Played, World, hallTold, tableAfter, voiceTold, voiceAfter, told, next}
@@ -30,7 +30,7 @@ pub record Alike (h : Hall) (t u : LoopTable) : Type 0 where
 -- ---- one call at two tables that are alike
 
 -- a read, by the two things it looks at
-abbrev foundBy : ℕ → Bool → LoopSlot → Found
+abbrev foundBy : ℕ → Bool → LoopSlot → LoopFound
 foundBy k l x =
     let n = unless l 1 (unless (leb k 15) 20 (cond (isEmpty x) 22 0)) in
     record { slot = cond (eqb n 0) x empty; refusal = n }
@@ -120,7 +120,7 @@ module _ (snd : List Float) (h : Hall) (i : ℕ) where
   voice-told : (p : Play) (t u : LoopTable) (v z : StaticSound) → T (takesFrom h (ByVoice i p)) → Alike h t u → v ≡ z → voiceTold snd t v p ≡ voiceTold snd u z p
   unfolding taken
   voice-told (New s) t u v z o a e = refl
-  voice-told (Take k) t u v z o a e = ap₂ (λ (x : StaticSound) (f : Found). Told (takenFrom snd x f)) e (found-alike h t u k a o)
+  voice-told (Take k) t u v z o a e = ap₂ (λ (x : StaticSound) (f : LoopFound). Told (takenFrom snd x f)) e (found-alike h t u k a o)
   voice-told (Command c) t u v z o a e = ap (λ (x : StaticSound). Told (commanded snd x c)) e
   voice-told (Block dt b g out) t u v z o a e = ap (λ (x : StaticSound). Played (processed snd x dt b g out)) e
   voice-told (Mix dt b g mix from) t u v z o a e = ap (λ (x : StaticSound). Played (processedInto snd x dt b g mix from)) e

@@ -15,7 +15,7 @@ use Rattle.loop_table.specs.declared.Hall.{Hall}
 use Rattle.loop_table.specs.declared.Hall.the-variants as hall
 use Rattle.loop_table.specs.declared.LoopSlot.{LoopSlot}
 use Rattle.loop_table.specs.declared.LoopTable.{LoopTable}
-use Rattle.loop_table.specs.declared.Changed.{Changed}
+use Rattle.loop_table.specs.declared.LoopChanged.{LoopChanged}
 use Rattle.loop_table.specs.Tables.{slotOf, empty, isEmpty, looping, lawfulSlot, lawfulTable, owns, heldIn, stored, changed, refusedWrite, refusedClear}
 use Rattle.loop_table.proofs.Accepted.{Own, write-accepted, clear-accepted}
 use Rattle.halls.specs.Apart.{same, half}
@@ -89,7 +89,7 @@ module _ (n : ℕ) (k : ℕ) (s : LoopSlot) where
   pub changed-number : (t : LoopTable) → (changed n t k s) .refusal ≡ n
   changed-number t = go (eqb n 0) refl
     where
-      go : (b : Bool) → eqb n 0 ≡ b → (cond {A = Changed} b (record { table = stored t k s; refusal = 0 }) (record { table = t; refusal = n })) .refusal ≡ n
+      go : (b : Bool) → eqb n 0 ≡ b → (cond {A = LoopChanged} b (record { table = stored t k s; refusal = 0 }) (record { table = t; refusal = n })) .refusal ≡ n
       go true e = sym (eqb-true n 0 e)
       go false e = refl
 
@@ -97,7 +97,7 @@ module _ (n : ℕ) (k : ℕ) (s : LoopSlot) where
   pub changed-either : (P : LoopTable → Type 0) (t : LoopTable) → (n ≡ 0 → P (stored t k s)) → P t → P ((changed n t k s) .table)
   changed-either P t y z = go (eqb n 0) refl
     where
-      go : (b : Bool) → eqb n 0 ≡ b → P ((cond {A = Changed} b (record { table = stored t k s; refusal = 0 }) (record { table = t; refusal = n })) .table)
+      go : (b : Bool) → eqb n 0 ≡ b → P ((cond {A = LoopChanged} b (record { table = stored t k s; refusal = 0 }) (record { table = t; refusal = n })) .table)
       go true e = y (eqb-true n 0 e)
       go false e = z
 
@@ -114,8 +114,8 @@ module _ (n : ℕ) (k : ℕ) (s : LoopSlot) where
   changed-own h t u p e = go (eqb n 0) refl
     where
       go : (b : Bool) → eqb n 0 ≡ b
-          → half h ((cond {A = Changed} b (record { table = stored t k s; refusal = 0 }) (record { table = t; refusal = n })) .table)
-          ≡ half h ((cond {A = Changed} b (record { table = stored u k s; refusal = 0 }) (record { table = u; refusal = n })) .table)
+          → half h ((cond {A = LoopChanged} b (record { table = stored t k s; refusal = 0 }) (record { table = t; refusal = n })) .table)
+          ≡ half h ((cond {A = LoopChanged} b (record { table = stored u k s; refusal = 0 }) (record { table = u; refusal = n })) .table)
       go true z = stored-own h t u k s (p (eqb-true n 0 z) .2 .own) e
       go false z = e
 

@@ -18,7 +18,7 @@ use Rattle.playing.specs.Plays.{Outcome}
 use Rattle.static_sound.specs.Entries.{processed, processedInto}
 use Rattle.loop_table.specs.declared.Hall.{Hall}
 use Rattle.loop_table.specs.declared.LoopTable.{LoopTable}
-use Rattle.loop_table.specs.declared.Found.{Found}
+use Rattle.loop_table.specs.declared.LoopFound.{LoopFound}
 use Rattle.loop_table.specs.Tables.{written, cleared, found}
 use Rattle.take_loop.specs.Taking.{taken}
 
@@ -47,7 +47,7 @@ pub data Event : Type 0 where
 -- what is answered: a write's or a clear's number, a loop, or all that a voice's call gives
 pub data Answer : Type 0 where
   Numbered : ℕ → Answer
-  Looked : Found → Answer
+  Looked : LoopFound → Answer
   Made : Created → Answer
   Told : Commanded → Answer
   Played : Outcome → Answer

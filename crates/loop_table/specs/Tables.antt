@@ -11,8 +11,8 @@ use Rattle.loop_table.specs.declared.Hall.{Hall}
 use Rattle.loop_table.specs.declared.Hall.the-variants as hall
 use Rattle.loop_table.specs.declared.LoopSlot.{LoopSlot}
 use Rattle.loop_table.specs.declared.LoopTable.{LoopTable}
-use Rattle.loop_table.specs.declared.Changed.{Changed}
-use Rattle.loop_table.specs.declared.Found.{Found}
+use Rattle.loop_table.specs.declared.LoopChanged.{LoopChanged}
+use Rattle.loop_table.specs.declared.LoopFound.{LoopFound}
 
 -- a number where its test fails, else what the rest gives
 abbrev pub unless : Bool → ℕ → ℕ → ℕ
@@ -60,26 +60,26 @@ abbrev pub heldIn : LoopTable → ℕ → LoopSlot
 heldIn t k = getD (t .slots) k empty
 
 -- accepted, the table with the slot replaced; refused, the given table
-abbrev pub changed : ℕ → LoopTable → ℕ → LoopSlot → Changed
+abbrev pub changed : ℕ → LoopTable → ℕ → LoopSlot → LoopChanged
 changed refusal t k s = cond (eqb refusal 0) (record { table = stored t k s; refusal = 0 }) (record { table = t; refusal = refusal })
 
 -- a write
 unfoldable pub refusedWrite : LoopTable → Hall → ℕ → ℕ → ℕ → ℕ
 refusedWrite t h k s e = unless (lawfulTable t) 1 (unless (looping (t .«num_frames») s e) 6 (refusedSlot h k))
 
-unfoldable pub written : LoopTable → Hall → ℕ → ℕ → ℕ → Changed
+unfoldable pub written : LoopTable → Hall → ℕ → ℕ → ℕ → LoopChanged
 written t h k s e = changed (refusedWrite t h k s e) t k (slotOf s e)
 
 -- a clear, of an empty slot too
 unfoldable pub refusedClear : LoopTable → Hall → ℕ → ℕ
 refusedClear t h k = unless (lawfulTable t) 1 (refusedSlot h k)
 
-unfoldable pub cleared : LoopTable → Hall → ℕ → Changed
+unfoldable pub cleared : LoopTable → Hall → ℕ → LoopChanged
 cleared t h k = changed (refusedClear t h k) t k empty
 
 -- a read by either hall; refused, no loop
 unfoldable pub refusedRead : LoopTable → ℕ → ℕ
 refusedRead t k = unless (lawfulTable t) 1 (unless (leb k 15) 20 (cond (isEmpty (heldIn t k)) 22 0))
 
-unfoldable pub found : LoopTable → ℕ → Found
+unfoldable pub found : LoopTable → ℕ → LoopFound
 found t k = let n = refusedRead t k in record { slot = cond (eqb n 0) (heldIn t k) empty; refusal = n }

@@ -24,14 +24,14 @@ pub struct LoopTable {
 
 // After a write or a clear.
 #[repr(C)]
-pub struct Changed {
+pub struct LoopChanged {
     pub table: LoopTable,
     pub refusal: u32,
 }
 
 // After a read.
 #[repr(C)]
-pub struct Found {
+pub struct LoopFound {
     pub slot: LoopSlot,
     pub refusal: u32,
 }
@@ -109,19 +109,19 @@ impl LoopTable {
     }
 
     // Accepted, the slot is replaced; refused, nothing changes.
-    fn change(self, refusal: u32, slot: usize, held: LoopSlot) -> Changed
+    fn change(self, refusal: u32, slot: usize, held: LoopSlot) -> LoopChanged
         requires { ⌜ (refusal ≡ 0 → slot < 16) ⌝ }
         ensures { λ r. ⌜ r ≡ changed refusal self slot held ⌝ }
     {
         if refusal != 0 {
-            return Changed {
+            return LoopChanged {
                 table: self,
                 refusal,
             };
         }
         let mut slots = self.slots;
         slots[slot] = held;
-        Changed {
+        LoopChanged {
             table: LoopTable {
                 num_frames: self.num_frames,
                 slots,
@@ -151,14 +151,14 @@ impl LoopTable {
         hall.refusal_of(slot)
     }
 
-    pub fn write(self, hall: Hall, slot: usize, start: u64, end: u64) -> Changed
+    pub fn write(self, hall: Hall, slot: usize, start: u64, end: u64) -> LoopChanged
         ensures { λ r. ⌜ r ≡ written self hall slot start end ⌝ }
     {
         let refusal = self.refusal_of_write(hall, slot, start, end);
         self.change(refusal, slot, LoopSlot { start, end })
     }
 
-    pub fn clear(self, hall: Hall, slot: usize) -> Changed
+    pub fn clear(self, hall: Hall, slot: usize) -> LoopChanged
         ensures { λ r. ⌜ r ≡ cleared self hall slot ⌝ }
     {
         let refusal = self.refusal_of_clear(hall, slot);
@@ -166,18 +166,18 @@ impl LoopTable {
     }
 
     // By either hall.
-    pub fn read(self, slot: usize) -> Found
+    pub fn read(self, slot: usize) -> LoopFound
         ensures { λ r. ⌜ r ≡ found self slot ⌝ }
     {
         let none = LoopSlot { start: 0, end: 0 };
         if !self.is_lawful() {
-            return Found {
+            return LoopFound {
                 slot: none,
                 refusal: 1,
             };
         }
         if slot > 15 {
-            return Found {
+            return LoopFound {
                 slot: none,
                 refusal: 20,
             };
@@ -185,12 +185,12 @@ impl LoopTable {
         let slots = self.slots;
         let held = slots[slot];
         if held.is_empty() {
-            return Found {
+            return LoopFound {
                 slot: none,
                 refusal: 22,
             };
         }
-        Found {
+        LoopFound {
             slot: held,
             refusal: 0,
         }

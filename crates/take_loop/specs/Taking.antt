@@ -16,7 +16,7 @@ use Rattle.command_set.specs.declared.Commanded.{Commanded}
 use Rattle.command_set.specs.Commands.{commanded}
 use Rattle.loop_table.specs.declared.LoopSlot.{LoopSlot}
 use Rattle.loop_table.specs.declared.LoopTable.{LoopTable}
-use Rattle.loop_table.specs.declared.Found.{Found}
+use Rattle.loop_table.specs.declared.LoopFound.{LoopFound}
 use Rattle.loop_table.specs.Tables.{found}
 
 -- the command set that sets a slot's loop, and nothing else
@@ -33,7 +33,7 @@ loopCommand s =
     }
 
 -- what follows from a read: the table's refusal, with the given voice and position +0; else the command set's answer
-abbrev pub takenFrom : List Float → StaticSound → Found → Commanded
+abbrev pub takenFrom : List Float → StaticSound → LoopFound → Commanded
 takenFrom snd v f =
     cond (eqb (f .refusal) 0) (commanded snd v (loopCommand (f .slot))) (record { refusal = f .refusal; sound = v; position = naught })
 

@@ -69,9 +69,9 @@ fn a_refused_take_changes_nothing() {
     let sound = sound();
     let mut table = LoopTable::new(FRAMES);
     table.write(Hall::A, 0, 2..12).unwrap();
-    let sliced = StaticSound::new(Settings::new(1).slice(0..6), &sound).unwrap();
+    let voice = StaticSound::new(Settings::new(1).slice(0..6), &sound).unwrap();
     let another = &sound[2..];
-    for (lent, slot, refusal) in [
+    for (sound, slot, refusal) in [
         (&sound[..], 16, Refusal::LoopSlot),
         (&sound, 1, Refusal::EmptySlot),
         // Judged over all frames by the table, over the slice's by the voice.
@@ -80,9 +80,9 @@ fn a_refused_take_changes_nothing() {
         (another, 1, Refusal::EmptySlot),
         (another, 0, Refusal::State),
     ] {
-        let mut taker = sliced.clone();
-        assert_eq!(taker.take_loop(lent, &table, slot), Err(refusal));
-        assert_eq!(taker.state(), sliced.state());
+        let mut taker = voice.clone();
+        assert_eq!(taker.take_loop(sound, &table, slot), Err(refusal));
+        assert_eq!(taker.state(), voice.state());
     }
 }
 

@@ -11,13 +11,13 @@ use Rattle.command_set.specs.declared.Commands.{Commands}
 use Rattle.command_set.specs.declared.Commanded.{Commanded}
 use Rattle.command_set.specs.Commands.{commanded}
 use Rattle.loop_table.specs.declared.LoopTable.{LoopTable}
-use Rattle.loop_table.specs.declared.Found.{Found}
+use Rattle.loop_table.specs.declared.LoopFound.{LoopFound}
 use Rattle.loop_table.specs.Tables.{found}
 use Rattle.take_loop.specs.Taking.{loopCommand, takenFrom, taken}
 use Rattle.take_loop.proofs.take.Statement.{statement}
 use Rattle.take_loop.proofs.take.Tie as tie
 
-module _ (snd : List Float) (t : LoopTable) (k : ℕ) (v : StaticSound) (f : Found) (e : f ≡ found t k) where
+module _ (snd : List Float) (t : LoopTable) (k : ℕ) (v : StaticSound) (f : LoopFound) (e : f ≡ found t k) where
   from : takenFrom snd v f ≡ taken snd t k v
   unfolding taken
   from = ap (takenFrom snd v) e
