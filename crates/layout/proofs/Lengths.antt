@@ -77,4 +77,3 @@ apart (r ∷ rs) vs (x ∷ ws) g e =
     let i = apart rs (vs ++ (x ∷ [])) ws (k .1) (h .1) in
     let f = field-apart r vs x (eqb (r .low) 0) (stands r vs) refl refl (k .0) in
     record { times = f .times + i .times; is = omega (arith, length-append (field (stands r vs) r x) (payload rs (vs ++ (x ∷ [])) ws), f .is, i .is) }
-
