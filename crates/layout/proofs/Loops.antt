@@ -5,6 +5,8 @@ use native.Mathlib.Omega.{arith}
 use native.Mathlib.Numerals.{add-one}
 use mathlib.Core.Bool.{true}
 use mathlib.Core.List.{List}
+use lib.ListN.{drop}
+use lib.Seq.{drop-drop}
 use Rattle.layout.specs.declared.Row.{Row}
 use Rattle.layout.specs.Rows.{rowAt, rows, sound}
 use Rattle.layout.specs.Reads.{Reading, step, steps}
@@ -31,3 +33,7 @@ next t n i d h = let e : n - i ≡ suc (n - (i + 1)) = omega arith in rw (e, add
 pub last : (t : List ℕ) (n i : ℕ) (d : Reading) → n ≤ i → steps (rows t i (n - i)) d ≡ d
 unfolding steps rows
 last t n i d h = let e : n - i ≡ 0 = omega arith in rw e refl
+
+-- the values after the rows read
+pub one-more : (xs ys : List ℕ) (i : ℕ) → drop i xs ≡ drop i ys → drop (i + 1) xs ≡ drop (i + 1) ys
+one-more xs ys i e = sym (drop-drop 1 i xs) ∙ ap (drop 1) e ∙ drop-drop 1 i ys

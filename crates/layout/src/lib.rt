@@ -95,7 +95,7 @@ fn number(s: &[u8], at: usize, width: usize) -> u64
 // Reads row r, the row of number i.
 fn read_row(s: &[u8], p: Parsed, i: usize, r: Row) -> Parsed
     requires { ⌜ (i < 80) × (p .at ≤ length (now s)) × (r .width ≤ 8) × (0 < r .refusal) ⌝ }
-    ensures { λ q. ⌜ (view (now (s .entry)) (i + 1) q ≡ step r (view (now (s .entry)) i p)) × (q .at ≤ length (now (s .entry))) ⌝ }
+    ensures { λ q. ⌜ (view (now (s .entry)) (i + 1) q ≡ step r (view (now (s .entry)) i p)) × (q .at ≤ length (now (s .entry))) × (drop (i + 1) (q .values) ≡ drop (i + 1) (p .values)) ⌝ }
 {
     if 0 < p.refused {
         return p;
@@ -151,10 +151,10 @@ pub fn begin(at: usize, left: usize) -> Parsed
     }
 }
 
-// Reads the first n rows of a table. What was refused stays refused.
+// Reads the first n rows of a table, and leaves the values after n. What was refused stays refused.
 pub fn read_rows(s: &[u8], p: Parsed, table: &[u64], n: usize) -> Parsed
     requires { ⌜ (p .at ≤ length (now s)) × (n ≤ 80) × (6 * n ≤ length (now table)) × (sound (rows (now table) 0 n) ≡ true) ⌝ }
-    ensures { λ q. ⌜ (view (now (s .entry)) n q ≡ steps (rows (now (table .entry)) 0 n) (view (now (s .entry)) 0 p)) × (q .at ≤ length (now (s .entry))) ⌝ }
+    ensures { λ q. ⌜ (view (now (s .entry)) n q ≡ steps (rows (now (table .entry)) 0 n) (view (now (s .entry)) 0 p)) × (q .at ≤ length (now (s .entry))) × (drop n (q .values) ≡ drop n (p .values)) ⌝ }
 {
     let mut q = p;
     let mut i = 0;

@@ -5,6 +5,7 @@ use borrow.Author.Tests.{ne-eqb}
 use Prim.Native.Nat.{_+_, _≤_, _<_}
 use mathlib.Core.Path.{_≡_, refl, sym, _∙_}
 use mathlib.Core.Bool.{true}
+use lib.Seq.{drop-set-lt}
 use lib.ListN.{length, take}
 use Rattle.layout.specs.Rows.{stands}
 use Rattle.layout.proofs.Ways.{closed, absent, ends, cut, short, wrong, right}
@@ -27,7 +28,7 @@ here : (c : tie.Then2) → true ≡ stands (c .before .before .before .before .b
 here c = sym (c .if2 .taken) ∙ c .before .row-stands .ensures
 
 returns : tie.Need-returns
-returns c = let a = c .before .before .before .args in (closed (now (a .s)) (a .i + 1) (a .i) (a .p) (a .r) (c .if1 .taken), search needs)
+returns c = let a = c .before .before .before .args in (closed (now (a .s)) (a .i + 1) (a .i) (a .p) (a .r) (c .if1 .taken), search needs, refl)
 
 row-stands-requires : tie.Need-row-stands-requires
 row-stands-requires c κs = search needs
@@ -36,13 +37,13 @@ sub-n : tie.Need-sub-n
 sub-n c = search needs
 
 returns-2 : tie.Need-returns-2
-returns-2 c = let a = c .before .before .before .before .before .before .before .before .before .args in (ends (now (a .s)) (a .i) (a .p) (a .r) (free (c .before .before .before .before)) (here (c .before .before .before)) (c .before .before .if3 .taken) (c .before .if4 .taken), search needs)
+returns-2 c = let a = c .before .before .before .before .before .before .before .before .before .args in (ends (now (a .s)) (a .i) (a .p) (a .r) (free (c .before .before .before .before)) (here (c .before .before .before)) (c .before .before .if3 .taken) (c .before .if4 .taken), search needs, refl)
 
 returns-3 : tie.Need-returns-3
-returns-3 c = let a = c .before .before .before .before .before .before .before .before .before .args in (cut (now (a .s)) (a .i) (a .p) (a .r) (free (c .before .before .before .before)) (here (c .before .before .before)) (c .before .before .if3 .taken) (c .before .if4 .left), search needs)
+returns-3 c = let a = c .before .before .before .before .before .before .before .before .before .args in (cut (now (a .s)) (a .i) (a .p) (a .r) (free (c .before .before .before .before)) (here (c .before .before .before)) (c .before .before .if3 .taken) (c .before .if4 .left), search needs, refl)
 
 returns-4 : tie.Need-returns-4
-returns-4 c = let a = c .before .before .before .before .before .before .before .before .before .args in (short (now (a .s)) (a .i) (a .p) (a .r) (free (c .before .before .before .before)) (here (c .before .before .before)) (c .before .before .if3 .left) (c .before .if5 .taken), search needs)
+returns-4 c = let a = c .before .before .before .before .before .before .before .before .before .args in (short (now (a .s)) (a .i) (a .p) (a .r) (free (c .before .before .before .before)) (here (c .before .before .before)) (c .before .before .if3 .left) (c .before .if5 .taken), search needs, refl)
 
 number-requires : tie.Need-number-requires
 number-requires c κs = search needs
@@ -63,14 +64,14 @@ returns-5 : tie.Need-returns-5
 returns-5 c =
     let n = c .before .before in
     let a = n .before .before .before .before .before .before .before .before .before .args in
-    (right (now (a .s)) (a .i) (a .p) (a .r) (free (n .before .before .before .before)) (here (n .before .before .before)) (n .before .before .if3 .left) (n .before .if5 .left) (n .number .result) (n .number .ensures) (a .p .values) refl (held (n .before .before .before .before .before)) (sym (c .if6 .taken) ∙ c .before .row-within .ensures), search needs)
+    (right (now (a .s)) (a .i) (a .p) (a .r) (free (n .before .before .before .before)) (here (n .before .before .before)) (n .before .before .if3 .left) (n .before .if5 .left) (n .number .result) (n .number .ensures) (a .p .values) refl (held (n .before .before .before .before .before)) (sym (c .if6 .taken) ∙ c .before .row-within .ensures), search needs, drop-set-lt (a .i + 1) (a .p .values) (a .i) _ (omega arith))
 
 returns-6 : tie.Need-returns-6
 returns-6 c =
     let n = c .before .before .before in
     let a = n .before .before .before .before .before .before .before .before .before .args in
     let z : 0 < a .r .refusal = search needs in
-    (rw (ne-eqb (a .r .refusal) 0 (λ e. omega arith)) (wrong (now (a .s)) (a .i) (a .p) (a .r) (free (n .before .before .before .before)) (here (n .before .before .before)) (n .before .before .if3 .left) (n .before .if5 .left) (n .number .result) (n .number .ensures) (sym (c .before .if6 .left) ∙ c .before .before .row-within .ensures)), search needs)
+    (rw (ne-eqb (a .r .refusal) 0 (λ e. omega arith)) (wrong (now (a .s)) (a .i) (a .p) (a .r) (free (n .before .before .before .before)) (here (n .before .before .before)) (n .before .before .if3 .left) (n .before .if5 .left) (n .number .result) (n .number .ensures) (sym (c .before .if6 .left) ∙ c .before .before .row-within .ensures)), search needs, refl)
 
 mul-values-2 : tie.Need-mul-values-2
 mul-values-2 c = search needs
@@ -79,7 +80,7 @@ array-write-values-2 : tie.Need-array-write-values-2
 array-write-values-2 c = search needs
 
 returns-7 : tie.Need-returns-7
-returns-7 c = let a = c .before .before .before .before .before .before .args in (absent (now (a .s)) (a .i) (a .p) (a .r) (free (c .before)) (a .p .values) refl (search needs) (sym (c .if2 .left) ∙ c .before .row-stands .ensures), search needs)
+returns-7 c = let a = c .before .before .before .before .before .before .args in (absent (now (a .s)) (a .i) (a .p) (a .r) (free (c .before)) (a .p .values) refl (search needs) (sym (c .if2 .left) ∙ c .before .row-stands .ensures), search needs, drop-set-lt (a .i + 1) (a .p .values) (a .i) _ (omega arith))
 
 pub read-row-spec : {M : Type 1} → statement M
 read-row-spec =
