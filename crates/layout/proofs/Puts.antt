@@ -89,3 +89,13 @@ module _ (t : List ℕ) (n : ℕ) (v : List ℕ) (i : ℕ) (h : i < n) (l : i < 
   pub row-put : (buf new : List ℕ) (a b : ℕ) → new ≡ sets buf a (field (stands r (take i v)) r (getD v i 0)) → b ≡ a + length (field (stands r (take i v)) r (getD v i 0))
       → sets new b (tailOf t n v (i + 1)) ≡ sets buf a (tailOf t n v i)
   row-put buf new a b p q = rw (p, q, tail-is) (sym (sets-append buf a (field (stands r (take i v)) r (getD v i 0)) (tailOf t n v (i + 1))))
+
+-- a copy: one byte more, and the last
+pub copy-next : (s out : List ℕ) (i to k : ℕ) → i < to → to ≤ length s
+    → sets (set out k (getD s i 0)) (k + 1) (take (to - (i + 1)) (drop (i + 1) s)) ≡ sets out k (take (to - i) (drop i s))
+copy-next s out i to k h l =
+    let e : to - i ≡ suc (to - (i + 1)) = omega arith in
+    rw (e, drop-cons s i 0 (omega arith), add-one i, add-one k) refl
+
+pub copy-last : (s out : List ℕ) (i to k : ℕ) → to ≤ i → sets out k (take (to - i) (drop i s)) ≡ out
+copy-last s out i to k h = let e : to - i ≡ 0 = omega arith in rw e refl

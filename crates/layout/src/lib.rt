@@ -1,7 +1,7 @@
 // Numbers in bytes by a table of rows: one reader, one writer, whatever the table. What is written is read back as the same
 // numbers, and what is read is written again byte for byte (proofs/Codec.antt).
 ghost use mathlib.Core.Path.{_≡_};
-ghost use Prim.Native.Nat.{_+_, _*_, _≤_, _<_};
+ghost use Prim.Native.Nat.{_+_, _-_, _*_, _≤_, _<_};
 ghost use mathlib.Core.Bool.{true};
 ghost use mathlib.Core.List.{[]};
 ghost use lib.ListN.{length, take, drop, getD, replicate};
@@ -264,4 +264,18 @@ pub fn rows_length(values: [u64; 80], table: &[u64], n: usize) -> usize
         i += 1;
     }
     k
+}
+
+// Copies s from `from` up to `to` into out from `at` on.
+pub fn copy(s: &[u8], from: usize, to: usize, out: &mut [u8], at: usize)
+    requires { ⌜ (from ≤ to) × (to ≤ length (now s)) × (at + (to - from) ≤ length (now out)) ⌝ }
+    ensures { λ _. ⌜ now (out .exit) ≡ sets (now (out .entry)) at (take (to - from) (drop from (now (s .entry)))) ⌝ }
+{
+    let mut i = from;
+    let mut k = at;
+    while i < to {
+        out[k] = s[i];
+        k += 1;
+        i += 1;
+    }
 }
