@@ -1,0 +1,4 @@
+-- Laws of saved settings.
+pub mod Low
+pub mod Loads
+pub mod Stores

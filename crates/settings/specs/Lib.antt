@@ -1,0 +1,3 @@
+-- What the contracts of saved settings cite.
+pub mod Tables
+pub mod Records
