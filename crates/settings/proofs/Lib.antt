@@ -2,3 +2,6 @@
 pub mod Low
 pub mod Loads
 pub mod Stores
+pub mod Fields
+pub mod Rounds
+pub mod Promises

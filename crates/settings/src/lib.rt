@@ -8,6 +8,7 @@ ghost use Rattle.layout.specs.Reads.{good, steps, view};
 ghost use Rattle.settings.specs.Tables.{firstRows, secondRows};
 ghost use Rattle.settings.specs.Records.{loopRight, finiteBits, pitchRight, lawful, hasLoop, pitchOf, savedOf, refusedBy, shown, second, loaded, storable, storeRefusal, firstNumbers, secondNumbers, encoded, stored};
 ghost use Rattle.settings.specs.Records as Records;
+ghost use Rattle.settings.specs.Promises.{Promises};
 
 mod tables;
 
@@ -274,3 +275,8 @@ pub fn store(version: u64, s: SavedSettings, buffer: &mut [u8]) -> u32
     put_second(s, buffer);
     0
 }
+
+// What is promised beyond the contracts.
+pub fn promised()
+    ensures { λ r. ⌜ Promises ⌝ }
+{}
