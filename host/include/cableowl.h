@@ -20,9 +20,15 @@
  * 12  an advance, (sample rate * |lane rate|) * time step, above 256
  * 13  a level above 601
  * 14  a ramp's count 0 or above 65,536, or not its lane's length
+ * 15  bytes that do not begin with the mark of a record
+ * 18  bytes that end inside a record
+ * 19  a buffer without room for a record
+ * 23  saved settings of a version that the reader does not know
+ * 24  a field of saved settings wrong, or their length
  *
  * The lowest number wins. Creation uses 2 to 7, a command set 1 and 6 to 8, a block 1 and 9 to 12,
- * a fade ramp 13 and 14.
+ * a fade ramp 13 and 14, storing settings 24, then 19, loading them 15, 23, 24 for the length, 18, 24 for
+ * a field, in this order.
  */
 #ifndef CABLEOWL_H
 #define CABLEOWL_H
@@ -133,6 +139,18 @@ typedef struct CableowlPart {
     uint64_t length;
 } CableowlPart;
 
+/* What a tutor saves of a sound: docs/SETTINGS.md. Eight words. */
+typedef struct CableowlSavedSettings {
+    uint64_t start;      /* frames, below 2^32 */
+    uint64_t has_loop;   /* 0 none, and then both of its numbers 0; 1 given */
+    uint64_t loop_start; /* frames */
+    uint64_t loop_end;   /* frames, exclusive, below 2^32 */
+    uint64_t reverse;    /* 0 or 1 */
+    double playback_rate;
+    int64_t pitch;    /* whole semitones, -24 to 24; 0 in version 1 */
+    uint64_t version; /* 1 or 2 */
+} CableowlSavedSettings;
+
 /* This interface's version: 1. */
 uint32_t cableowl_version(void);
 
@@ -167,6 +185,19 @@ uint32_t cableowl_amplitude(uint32_t level, float *to);
  * down: (start * (count - 1 - i) + end * i) / (count - 1) on frame i; one frame takes the end level. A block is lent the
  * part of the lane that it plays. Answers 0, or 13, then 14, and writes nothing. */
 uint32_t cableowl_fade_ramp(uint32_t start, uint32_t end, uint32_t count, float *lane, size_t lane_len);
+
+/* Writes the settings as a record of their version, 25 or 26 bytes, at the buffer's start. Answers 0, or 24, then 19, and
+ * writes nothing. */
+uint32_t cableowl_store_settings(const CableowlSavedSettings *saved, uint8_t *buffer, size_t buffer_len);
+
+/* Reads the record that the bytes begin with; what follows it is not read. Reader 1 knows version 1 alone, any other
+ * version 2 too. Answers 0, or a refusal and every field of `saved` is 0. */
+uint32_t cableowl_load_settings(uint32_t reader, const uint8_t *bytes, size_t bytes_len, CableowlSavedSettings *saved);
+
+/* What cableowl_new is told: all of the sound, the saved start and loop in frames, and the saved rate times the ratio of
+ * the pitch, rounded once; a NaN, which creation refuses, where the rate is not finite or the pitch not -24 to 24. The
+ * version is not read. */
+CableowlSettings cableowl_settings_of(const CableowlSavedSettings *saved, uint32_t sample_rate);
 
 #ifdef __cplusplus
 }

@@ -2,3 +2,4 @@
 pub mod Records
 pub mod Inputs
 pub mod Entries
+pub mod Saved

@@ -10,6 +10,7 @@ ghost use Rattle.cableowl.specs.Inputs.{placeOf, endOf, regionIf, option
 ghost use Rattle.cableowl.specs.Entries.{after, createdC, commandedC, answered, processedC, processedIntoC, partC};
 
 mod fades;
+mod saved;
 
 use command_set::Amount;
 use command_set::Commands;

@@ -9,7 +9,8 @@ use std::{
 };
 
 use crate::ffi::{
-    Commanded, Commands, Created, Entry, Part, Place, Processed, Region, Settings, Signals, State,
+    Commanded, Commands, Created, Entry, Part, Place, Processed, Region, SavedSettings, Settings,
+    Signals, State,
 };
 
 /// C assertions that a struct has Rust's size, and each field Rust's place.
@@ -43,6 +44,8 @@ fn layouts() -> String {
         layout!("CableowlCommanded", Commanded, state position refusal),
         layout!("CableowlProcessed", Processed, state steps refusal),
         layout!("CableowlPart", Part, offset length),
+        layout!("CableowlSavedSettings", SavedSettings, start has_loop loop_start loop_end reverse
+            playback_rate pitch version),
     ]
     .concat()
 }

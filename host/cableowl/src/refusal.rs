@@ -47,11 +47,21 @@ pub enum Refusal {
     Level,
     /// 14: a ramp's frame count, or its lane's length.
     Ramp,
+    /// 15: the mark that a record begins with.
+    Mark = 15,
+    /// 18: bytes that end inside a record.
+    Truncated = 18,
+    /// 19: the room for a record.
+    Room = 19,
+    /// 23: a version that the reader does not know.
+    Version = 23,
+    /// 24: a field of saved settings, or the length of their record.
+    SavedField = 24,
 }
 
 impl Refusal {
     /// All of them, from number 1 on.
-    pub const ALL: [Self; 14] = [
+    pub const ALL: [Self; 19] = [
         Self::State,
         Self::SampleRate,
         Self::FrameCount,
@@ -66,6 +76,11 @@ impl Refusal {
         Self::Advance,
         Self::Level,
         Self::Ramp,
+        Self::Mark,
+        Self::Truncated,
+        Self::Room,
+        Self::Version,
+        Self::SavedField,
     ];
 
     /// Its number in the one list of refusals.
@@ -77,8 +92,9 @@ impl Refusal {
     /// The refusal with this number, if one has it.
     #[must_use]
     pub fn from_number(number: u32) -> Option<Self> {
-        let index = usize::try_from(number).ok()?.checked_sub(1)?;
-        Self::ALL.get(index).copied()
+        Self::ALL
+            .into_iter()
+            .find(|refusal| refusal.number() == number)
     }
 
     /// What the library's answer says: 0 is no refusal.
@@ -126,6 +142,17 @@ impl Refusal {
             }
             Self::Level => {
                 "a level is 0 to 600 tenths of a decibel below full level, or 601 for silence"
+            }
+            Self::Mark => "this is no record of saved settings: one begins with the bytes 5E 71",
+            Self::Truncated => {
+                "the bytes end inside the record: read the rest of it, then load again"
+            }
+            Self::Room => "the buffer is too short: a record has 25 bytes, or 26 with a pitch",
+            Self::Version => {
+                "the record is of a version that this reader does not know: load it with a newer reader"
+            }
+            Self::SavedField => {
+                "the loop must start before it ends, the rate be finite, the pitch -24 to 24, and 0 in version 1"
             }
             Self::Ramp => {
                 "a ramp has 1 to 65,536 frames, and its lane as many: cut a longer fade into several ramps"

@@ -54,9 +54,9 @@ fn played(
 
 #[test]
 fn numbers_and_sentences() {
-    for (index, refusal) in Refusal::ALL.into_iter().enumerate() {
-        let number = index as u32 + 1;
-        assert_eq!(refusal.number(), number);
+    assert!(Refusal::ALL.is_sorted_by_key(|refusal| refusal.number()));
+    for refusal in Refusal::ALL {
+        let number = refusal.number();
         assert_eq!(Refusal::from_number(number), Some(refusal));
         assert!(
             refusal
@@ -65,7 +65,7 @@ fn numbers_and_sentences() {
         );
     }
     assert_eq!(Refusal::from_number(0), None);
-    assert_eq!(Refusal::from_number(15), None);
+    assert_eq!(Refusal::from_number(26), None);
 }
 
 #[test]
