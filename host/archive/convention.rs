@@ -153,7 +153,13 @@ impl Exports {
             handed.push("&the_result".to_owned());
         }
         for Named { name, kind } in &function.takes {
-            if let Some((element, constant)) = slice(kind) {
+            if let Some((pointed, constant)) = place(kind) {
+                let constant = if constant { "const " } else { "" };
+                let pointed = format!("{constant}{} *", self.by_value(pointed)?);
+                above.push(format!("{pointed}{name}"));
+                below.push(pointed);
+                handed.push(name.clone());
+            } else if let Some((element, constant)) = slice(kind) {
                 let element = self.by_value(element)?;
                 let constant = if constant { "const " } else { "" };
                 below.push("const struct slice *".to_owned());
@@ -161,11 +167,6 @@ impl Exports {
                     "{constant}{element} *{name}, unsigned long {name}_len"
                 ));
                 handed.push(format!("&(struct slice){{{name}, {name}_len}}"));
-            } else if let Some(written) = kind.strip_prefix("&mut ") {
-                let written = self.by_value(written)?;
-                below.push(format!("{written} *"));
-                above.push(format!("{written} *{name}"));
-                handed.push(name.clone());
             } else if number(kind).is_some() {
                 below.push(self.by_value(kind)?);
                 above.push(format!("{} {name}", self.by_value(kind)?));
@@ -240,6 +241,7 @@ struct Number {
 
 fn number(kind: &str) -> Option<Number> {
     let (in_c, in_the_module) = match kind {
+        "u8" => ("unsigned char", "i8"),
         "u32" => ("unsigned int", "i32"),
         "u64" | "usize" => ("unsigned long", "i64"),
         "f32" => ("float", "float"),
@@ -252,15 +254,25 @@ fn number(kind: &str) -> Option<Number> {
     })
 }
 
-/// The element of `&[T]` or `&mut [T]`, and whether it is only read.
-fn slice(kind: &str) -> Option<(&str, bool)> {
+/// What `&T` or `&mut T` leads to, and whether it is only read.
+fn lent(kind: &str) -> Option<(&str, bool)> {
     let rest = kind.strip_prefix('&')?.trim_start();
     let written = rest.strip_prefix("mut ");
-    let element = written
-        .unwrap_or(rest)
-        .strip_prefix('[')?
-        .strip_suffix(']')?;
-    Some((element, written.is_none()))
+    Some((written.unwrap_or(rest), written.is_none()))
+}
+
+/// The element of `&[T]` or `&mut [T]`, and whether it is only read.
+fn slice(kind: &str) -> Option<(&str, bool)> {
+    let (lent, constant) = lent(kind)?;
+    let element = lent.strip_prefix('[')?.strip_suffix(']')?;
+    Some((element, constant))
+}
+
+/// The number that a reference to one, or to an array of them, leads to, and whether it is only read.
+fn place(kind: &str) -> Option<(&str, bool)> {
+    let (lent, constant) = lent(kind)?;
+    let (element, _) = array(lent);
+    number(element).map(|_| (element, constant))
 }
 
 /// The element of `[T; N]` and N, or the type itself.

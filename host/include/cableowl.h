@@ -20,12 +20,18 @@
  * 12  an advance, (sample rate * |lane rate|) * time step, above 256
  * 13  a level above 601
  * 14  a ramp's count 0 or above 65,536, or not its lane's length
+ * 15  bytes that do not begin with the mark of a record
+ * 18  bytes that end inside a record
+ * 19  a buffer without room for a record
  * 20  loop table: slot above 15
  * 21  loop table: a write or a clear by the other hall
  * 22  loop table: a read of an empty slot
+ * 23  saved settings of a version that the reader does not know
+ * 24  a field of saved settings wrong, or their length
  *
  * The lowest number wins. Creation uses 2 to 7, a command set 1 and 6 to 8, a block 1 and 9 to 12,
- * a fade ramp 13 and 14; of a loop table a write 1, 6, 20, 21, a clear 1, 20, 21, a read 1, 20, 22.
+ * a fade ramp 13 and 14; of a loop table a write 1, 6, 20, 21, a clear 1, 20, 21, a read 1, 20, 22;
+ * storing settings 24, then 19, loading them 15, 23, 24 for the length, 18, 24 for a field, in this order.
  *
  * The float mode. What is promised of frames and refusals is promised in the mode that a program
  * begins with: rounding to nearest, subnormals kept (x86-64: neither FTZ nor DAZ; Arm: no FZ),
@@ -85,9 +91,14 @@ enum {
     CABLEOWL_REFUSAL_ADVANCE = 12,
     CABLEOWL_REFUSAL_LEVEL = 13,
     CABLEOWL_REFUSAL_RAMP = 14,
+    CABLEOWL_REFUSAL_MARK = 15,
+    CABLEOWL_REFUSAL_TRUNCATED = 18,
+    CABLEOWL_REFUSAL_ROOM = 19,
     CABLEOWL_REFUSAL_LOOP_SLOT = 20,
     CABLEOWL_REFUSAL_OTHER_HALL = 21,
-    CABLEOWL_REFUSAL_EMPTY_SLOT = 22
+    CABLEOWL_REFUSAL_EMPTY_SLOT = 22,
+    CABLEOWL_REFUSAL_VERSION = 23,
+    CABLEOWL_REFUSAL_SAVED_FIELD = 24
 };
 
 /* What a voice is doing: CableowlState's state. */
@@ -248,6 +259,18 @@ typedef struct CableowlLoopFound {
     uint32_t refusal;
 } CableowlLoopFound;
 
+/* What a tutor saves of a sound: docs/SETTINGS.md. Eight words. */
+typedef struct CableowlSavedSettings {
+    uint64_t start;      /* frames, below 2^32 */
+    uint64_t has_loop;   /* 0 none, and then both of its numbers 0; 1 given */
+    uint64_t loop_start; /* frames */
+    uint64_t loop_end;   /* frames, exclusive, below 2^32 */
+    uint64_t reverse;    /* 0 or 1 */
+    double playback_rate;
+    int64_t pitch;    /* whole semitones, -24 to 24; 0 in version 1 */
+    uint64_t version; /* 1 or 2 */
+} CableowlSavedSettings;
+
 /* This interface's version. */
 uint32_t cableowl_version(void);
 
@@ -296,6 +319,19 @@ uint32_t cableowl_amplitude(uint32_t level, float *to);
  * down: (start * (count - 1 - i) + end * i) / (count - 1) on frame i; one frame takes the end level. A block is lent the
  * part of the lane that it plays. Answers 0, or 13, then 14, and writes nothing. */
 uint32_t cableowl_fade_ramp(uint32_t start, uint32_t end, uint32_t count, float *lane, size_t lane_len);
+
+/* Writes the settings as a record of their version, 25 or 26 bytes, at the buffer's start. Answers 0, or 24, then 19, and
+ * writes nothing. */
+uint32_t cableowl_store_settings(const CableowlSavedSettings *saved, uint8_t *buffer, size_t buffer_len);
+
+/* Reads the record that the bytes begin with; what follows it is not read. Reader 1 knows version 1 alone, any other
+ * version 2 too. Answers 0, or a refusal and every field of `saved` is 0. */
+uint32_t cableowl_load_settings(uint32_t reader, const uint8_t *bytes, size_t bytes_len, CableowlSavedSettings *saved);
+
+/* What cableowl_new is told: all of the sound, the saved start and loop in frames, and the saved rate times the ratio of
+ * the pitch, rounded once; a NaN, which creation refuses, where the rate is not finite or the pitch not -24 to 24. The
+ * version is not read. */
+CableowlSettings cableowl_settings_of(const CableowlSavedSettings *saved, uint32_t sample_rate);
 
 /* The mode that floats were in, given back after the calls. */
 typedef uint64_t CableowlFloatMode;

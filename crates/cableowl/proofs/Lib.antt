@@ -5,3 +5,4 @@ pub mod Takes
 pub mod Kept
 pub mod Unknown
 pub mod Parts
+pub mod Numbers

@@ -7,6 +7,7 @@ ghost use Rattle.cableowl.specs.Entries.{after, createdC, commandedC, an
 
 mod fades;
 mod loops;
+mod saved;
 
 use inputs::CableowlCommands;
 use inputs::CableowlSettings;

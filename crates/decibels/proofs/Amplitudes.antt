@@ -2,16 +2,14 @@
 use mathlib.Core.Path.{_≡_, refl, sym, ap, _∙_, subst}
 use mathlib.Core.Bool.{Bool, true, false, cond, not}
 use Prim.Native.Nat.{ℕ, _*_, _^_, _≤_, _<_}
-use native.Mathlib.Nat.{le-antisymm, lt-of-lt-of-le, mul-assoc, mul-comm, mul-pos}
+use native.Mathlib.Nat.{le-antisymm, lt-of-lt-of-le, mul-assoc}
 use lib.Dec.{T, ltb, leb, le→leb, lit<, lit≤}
 use lib.IntN.{pos}
 use lib.Pow.{shl-lt}
-use lib.Ieee.{Float, nan, inf, fin, binary32, up, down, unlike, round, div, ofInt, ofBits, inFloat}
-use lib.Ieee.Fits.{down-pos}
+use lib.Ieee.{Float, nan, inf, fin, binary32, round, div, ofInt, ofBits, inFloat}
 use lib.Ieee.Exact.{HasValue, round-exact}
-use lib.Ieee.Scale.{round-same}
-use lib.Ieee.Back.{round-whole}
 use borrow.Author.Tests.{lt-ltb, le-ltb, ltb-true, ltb-false}
+use Rattle.tables.proofs.Quotients.{quotient}
 use Rattle.numbers.specs.Words.{naught, level}
 use Rattle.decibels.specs.Levels.{scaled, amplitude}
 use Rattle.decibels.proofs.Levels.{scaled-low}
@@ -32,19 +30,9 @@ exact e h = go (ltb e 16777216) refl
     go true t = exact-below e (ltb-true e 16777216 t)
     go false t = subst (λ (n : ℕ). HasValue (round binary32 false n 16777216) false n 16777216) (le-antisymm (ltb-false e 16777216 t) h) exact-top
 
--- a whole number divided by 2^24
-halved : (x : Float) (e : ℕ) → HasValue x false e 1 → div binary32 x (fin false 1 (pos 24)) ≡ round binary32 false e 16777216
-unfolding div
-halved nan e v = absurd v
-halved (inf s) e v = absurd v
-halved (fin s m k) e v =
-    ap (λ (t : Bool). round binary32 (unlike t false) (m * up k * 1) (16777216 * down k)) (v .0)
-    ∙ round-same binary32 false (m * up k * 1) (16777216 * down k) e 16777216 (mul-pos (lit< {m = 0} {n = 16777216} tt) (down-pos k)) (lit< {m = 0} {n = 16777216} tt)
-    (ap (λ (z : ℕ). z * 16777216) (v .1) ∙ mul-assoc e (down k) 16777216 ∙ ap (λ (z : ℕ). e * z) (mul-comm (down k) 16777216))
-
-quotient : (e : ℕ) → e ≤ 16777216 → div binary32 (ofInt binary32 (pos e)) (ofBits binary32 1266679808) ≡ round binary32 false e 16777216
-unfolding ofInt ofBits
-quotient e h = halved (round binary32 false e 1) e (round-whole binary32 false e h)
+quotient24 : (e : ℕ) → e ≤ 16777216 → div binary32 (ofInt binary32 (pos e)) (ofBits binary32 1266679808) ≡ round binary32 false e 16777216
+unfolding ofBits
+quotient24 e h = quotient binary32 24 e h
 
 -- ---- what the function leaves
 
@@ -56,7 +44,7 @@ pub at-level : (t e : ℕ) → t < 601 → e ≡ scaled t → div binary32 (ofIn
 unfolding amplitude
 at-level t e h q =
     ap (λ (n : ℕ). div binary32 (ofInt binary32 (pos n)) (ofBits binary32 1266679808)) q
-    ∙ quotient (scaled t) (scaled-low t)
+    ∙ quotient24 (scaled t) (scaled-low t)
     ∙ sym (ap (λ (b : Bool). cond b (round binary32 false (scaled t) 16777216) naught) (lt-ltb t 601 h))
 
 pub at-silence : (t : ℕ) → 601 ≤ t → ofBits binary32 0 ≡ amplitude t

@@ -368,3 +368,46 @@ pub fn amplitude(level: u32, to: &mut f32) -> u32 {
 pub fn fade_ramp(start: u32, end: u32, count: u32, lane: &mut [f32]) -> u32 {
     unsafe { cableowl_fade_ramp(start, end, count, lane.as_mut_ptr(), lane.len()) }
 }
+
+/// Saved settings: eight words.
+#[repr(C)]
+#[derive(Debug, Clone, Copy, Default)]
+pub struct SavedSettings {
+    pub start: u64,
+    pub has_loop: u64,
+    pub loop_start: u64,
+    pub loop_end: u64,
+    pub reverse: u64,
+    pub playback_rate: f64,
+    pub pitch: i64,
+    pub version: u64,
+}
+
+unsafe extern "C" {
+    fn cableowl_store_settings(
+        saved: *const SavedSettings,
+        buffer: *mut u8,
+        buffer_len: usize,
+    ) -> u32;
+
+    fn cableowl_load_settings(
+        reader: u32,
+        bytes: *const u8,
+        bytes_len: usize,
+        saved: *mut SavedSettings,
+    ) -> u32;
+
+    fn cableowl_settings_of(saved: *const SavedSettings, sample_rate: u32) -> Settings;
+}
+
+pub fn store_settings(saved: &SavedSettings, buffer: &mut [u8]) -> u32 {
+    unsafe { cableowl_store_settings(saved, buffer.as_mut_ptr(), buffer.len()) }
+}
+
+pub fn load_settings(reader: u32, bytes: &[u8], saved: &mut SavedSettings) -> u32 {
+    unsafe { cableowl_load_settings(reader, bytes.as_ptr(), bytes.len(), saved) }
+}
+
+pub fn settings_of(saved: &SavedSettings, sample_rate: u32) -> Settings {
+    unsafe { cableowl_settings_of(saved, sample_rate) }
+}

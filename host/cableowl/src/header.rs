@@ -62,6 +62,7 @@ fn c_structs(text: &str) -> Structs {
                     "double" => "f64".into(),
                     "uint32_t" => "u32".into(),
                     "uint64_t" => "u64".into(),
+                    "int64_t" => "i64".into(),
                     other => short(other),
                 };
                 Some(match name.split_once('[') {
@@ -207,8 +208,12 @@ fn four_declarations_are_one() {
     let ours = rust_structs(&sources.concat());
     let fields: usize = ours.iter().map(|(_, fields)| fields.len()).sum();
     assert!(ours.len() >= 11 && fields >= 58, "they are read: {ours:?}");
-    assert_eq!(c_structs(&header_text()), ours, "cableowl.h");
-    assert_eq!(rust_structs(&read("src/ffi.rs")), ours, "ffi.rs");
+    // Saved settings are eight words in the archive's own source, and a record in C and Rust alone.
+    let [in_c, in_rust] = [c_structs(&header_text()), rust_structs(&read("src/ffi.rs"))];
+    assert_eq!(in_c, in_rust, "cableowl.h and ffi.rs");
+    let is_named = |(name, _): &(String, Vec<Field>)| name != "SavedSettings";
+    let named: Structs = in_c.into_iter().filter(is_named).collect();
+    assert_eq!(named, ours, "cableowl.h");
     assert_eq!(rust_structs(&read("../raw/src/structs.rs")), ours, "raw");
     for (name, size) in [
         ("Entry", size_of::<ffi::Entry>()),

@@ -83,12 +83,22 @@ pub enum Refusal {
     Level,
     /// 14: a ramp's frame count, or its lane's length.
     Ramp,
+    /// 15: the mark that a record begins with.
+    Mark,
+    /// 18: bytes that end inside a record.
+    Truncated,
+    /// 19: the room for a record.
+    Room,
     /// 20: a slot of a loop table.
     LoopSlot,
     /// 21: a write or a clear of the other hall's slot.
     OtherHall,
     /// 22: a read of an empty slot.
     EmptySlot,
+    /// 23: a version that the reader does not know.
+    Version,
+    /// 24: a field of saved settings, or the length of their record.
+    SavedField,
 }
 
 impl Refusal {
@@ -110,9 +120,14 @@ impl Refusal {
             Self::Advance { .. } => 12,
             Self::Level => 13,
             Self::Ramp => 14,
+            Self::Mark => 15,
+            Self::Truncated => 18,
+            Self::Room => 19,
             Self::LoopSlot => 20,
             Self::OtherHall => 21,
             Self::EmptySlot => 22,
+            Self::Version => 23,
+            Self::SavedField => 24,
         }
     }
 
@@ -130,9 +145,14 @@ impl Refusal {
         Self::TimeStep,
         Self::Level,
         Self::Ramp,
+        Self::Mark,
+        Self::Truncated,
+        Self::Room,
         Self::LoopSlot,
         Self::OtherHall,
         Self::EmptySlot,
+        Self::Version,
+        Self::SavedField,
     ];
 
     /// What the library's answer to a creation or a command set says: 0 is no refusal.
@@ -201,6 +221,17 @@ impl Refusal {
             }
             Self::Level => {
                 "a level is 0 to 600 tenths of a decibel below full level, or 601 for silence"
+            }
+            Self::Mark => "this is no record of saved settings: one begins with the bytes 5E 71",
+            Self::Truncated => {
+                "the bytes end inside the record: read the rest of it, then load again"
+            }
+            Self::Room => "the buffer is too short: a record has 25 bytes, or 26 with a pitch",
+            Self::Version => {
+                "the record is of a version that this reader does not know: load it with a newer reader"
+            }
+            Self::SavedField => {
+                "the loop must start before it ends, the rate be finite, the pitch -24 to 24, and 0 in version 1"
             }
             Self::Ramp => {
                 "a ramp has 1 to 65,536 frames, and its lane as many: cut a longer fade into several ramps"

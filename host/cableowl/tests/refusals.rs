@@ -58,7 +58,7 @@ fn played(
 }
 
 /// The refusals, from number 1 on.
-const ALL: [Refusal; 17] = [
+const ALL: [Refusal; 22] = [
     Refusal::State,
     Refusal::SampleRate,
     Refusal::FrameCount,
@@ -73,9 +73,14 @@ const ALL: [Refusal; 17] = [
     Refusal::Advance { frame: 0 },
     Refusal::Level,
     Refusal::Ramp,
+    Refusal::Mark,
+    Refusal::Truncated,
+    Refusal::Room,
     Refusal::LoopSlot,
     Refusal::OtherHall,
     Refusal::EmptySlot,
+    Refusal::Version,
+    Refusal::SavedField,
 ];
 
 const fn at(lane: LaneName, frame: usize) -> Refusal {
@@ -84,7 +89,7 @@ const fn at(lane: LaneName, frame: usize) -> Refusal {
 
 #[test]
 fn numbers_and_sentences() {
-    for (number, refusal) in (1..=14).chain(20..=22).zip(ALL) {
+    for (number, refusal) in (1..=15).chain(18..=24).zip(ALL) {
         assert_eq!(refusal.number(), number);
         let said = refusal.to_string();
         assert!(said.starts_with(&format!("refusal {number}: ")), "{said}");

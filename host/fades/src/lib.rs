@@ -40,12 +40,45 @@ impl Whole {
         (0..exponent).fold(self.clone(), |product, _| product.times(small))
     }
 
+    /// The product of two numbers.
+    #[must_use]
+    pub fn product(&self, other: &Self) -> Self {
+        let mut digits = vec![0; self.0.len() + other.0.len()];
+        for (at, &digit) in self.0.iter().enumerate() {
+            let mut carry = 0;
+            for (to, &by) in digits[at..].iter_mut().zip(other.0.iter().chain([&0])) {
+                let sum = u64::from(*to) + u64::from(digit) * u64::from(by) + carry;
+                *to = sum as u32;
+                carry = sum >> 32;
+            }
+        }
+        while digits.len() > 1 && digits.last() == Some(&0) {
+            digits.pop();
+        }
+        Self(digits)
+    }
+
+    /// A power of this number.
+    #[must_use]
+    pub fn power(&self, exponent: u32) -> Self {
+        (0..exponent).fold(Self::one(), |product, _| product.product(self))
+    }
+
     /// A power of two.
     #[must_use]
     pub fn power_of_two(exponent: u32) -> Self {
         let mut digits = vec![0; (exponent / 32) as usize];
         digits.push(1 << (exponent % 32));
         Self(digits)
+    }
+}
+
+impl From<u64> for Whole {
+    fn from(number: u64) -> Self {
+        match number >> 32 {
+            0 => Self(vec![number as u32]),
+            high => Self(vec![number as u32, high as u32]),
+        }
     }
 }
 
@@ -108,6 +141,8 @@ mod test {
             Whole::one().times_power(10, 10),
             Whole(vec![1_410_065_408, 2])
         );
+        assert_eq!(Whole::from(3).power(100), Whole::one().times_power(3, 100));
+        assert_eq!(Whole::from(1 << 40).power(12), Whole::power_of_two(480));
         assert!(Whole::one().times_power(3, 200) < Whole::one().times_power(3, 201));
         assert!(Whole::one().times_power(3, 100) < Whole::one().times_power(2, 159));
         assert!(Whole::one().times_power(3, 100) > Whole::one().times_power(2, 158));

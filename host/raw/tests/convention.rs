@@ -7,7 +7,7 @@ use std::path::Path;
 
 use convention::Exports;
 
-const TEXT: &str = "// A pair.\n#[repr(C)]\npub struct Pair {\n    pub first: Half, // held\n    pub all: [f32; 4],\n}\n\n#[repr(C)]\npub struct Half {\n    pub n: u64,\n}\n\n#[no_mangle]\npub extern \"C\" fn pair(h: Half, lent: &[f32], out: &mut [f64], to: &mut f32, dt: f64) -> Pair\n    ensures { λ r. ⌜ r ≡ made h ⌝ }\n{\n}\n\n#[no_mangle]\npub extern \"C\" fn version() -> u32\n{\n    1\n}\n";
+const TEXT: &str = "// A pair.\n#[repr(C)]\npub struct Pair {\n    pub first: Half, // held\n    pub all: [f32; 4],\n}\n\n#[repr(C)]\npub struct Half {\n    pub n: u64,\n}\n\n#[no_mangle]\npub extern \"C\" fn pair(h: Half, lent: &[f32], out: &mut [f64], to: &mut f32, words: &[u64; 8], dt: f64) -> Pair\n    ensures { λ r. ⌜ r ≡ made h ⌝ }\n{\n}\n\n#[no_mangle]\npub extern \"C\" fn version() -> u32\n{\n    1\n}\n";
 
 fn read(text: &str) -> Exports {
     let mut exports = Exports::default();
@@ -21,14 +21,14 @@ fn records_go_by_pointer_below_and_by_value_above() {
     assert!(exports.names().eq(["pair", "version"]));
     assert_eq!(
         exports.signature("pair").unwrap(),
-        "void(ptr, ptr, ptr, ptr, ptr, double)"
+        "void(ptr, ptr, ptr, ptr, ptr, ptr, double)"
     );
     assert_eq!(exports.signature("version").unwrap(), "i32()");
     let c = exports.in_c().unwrap();
     for line in [
-        "void module_pair(struct Pair *, const struct Half *, const struct slice *, const struct slice *, float *, double);",
-        "struct Pair pair(struct Half h, const float *lent, unsigned long lent_len, double *out, unsigned long out_len, float *to, double dt) {",
-        "    module_pair(&the_result, &h, &(struct slice){lent, lent_len}, &(struct slice){out, out_len}, to, dt);",
+        "void module_pair(struct Pair *, const struct Half *, const struct slice *, const struct slice *, float *, const unsigned long *, double);",
+        "struct Pair pair(struct Half h, const float *lent, unsigned long lent_len, double *out, unsigned long out_len, float *to, const unsigned long *words, double dt) {",
+        "    module_pair(&the_result, &h, &(struct slice){lent, lent_len}, &(struct slice){out, out_len}, to, words, dt);",
         "    float all[4];",
         "    return module_version();",
     ] {
@@ -53,8 +53,8 @@ fn the_crates_that_are_linked_have_theirs() {
             .join(name)
             .join("src")
     };
-    for (name, count) in [("cableowl", 8), ("exports", 20)] {
-        let below = ["records", "inputs"].map(src);
+    for (name, count) in [("cableowl", 16), ("exports", 20)] {
+        let below = ["records", "inputs", "loop_table"].map(src);
         let exports = convention::exports(&src(name), &below).unwrap();
         assert!(exports.names().count() >= count);
         exports.in_c().unwrap();

@@ -99,6 +99,21 @@ int main(void) {
     expect(gone.refusal == 0 && memcmp(&gone.table, &empty, sizeof empty) == 0, "clear_loop");
     expect(cableowl_take_loop(gone.table, 8, created.state, sound, 6).refusal == 22, "take_loop: an empty slot");
 
+    CableowlSavedSettings saved = {1, 1, 1, 3, 1, -0.75, -1, 2};
+    uint8_t record[27];
+    memset(record, 9, sizeof record);
+    expect(cableowl_store_settings(&saved, record, 25) == 19 && record[0] == 9, "store_settings: room");
+    expect(cableowl_store_settings(&saved, record, 27) == 0 && record[2] == 2 && record[3] == 22, "store_settings");
+    expect(record[25] == 0xff && record[26] == 9, "store_settings: the last byte");
+    CableowlSavedSettings loaded;
+    expect(cableowl_load_settings(1, record, 27, &loaded) == 23 && loaded.start == 0, "load_settings: reader 1");
+    expect(cableowl_load_settings(2, record, 27, &loaded) == 0, "load_settings");
+    expect(memcmp(&saved, &loaded, sizeof saved) == 0, "load_settings: fields");
+    const CableowlSettings raised = cableowl_settings_of(&loaded, 1);
+    expect(raised.playback_rate > -0.71 && raised.playback_rate < -0.70, "settings_of: rate");
+    const CableowlCreated again = cableowl_new(raised, sound, 6);
+    expect(again.refusal == 0 && again.state.loop_end == 3 && again.state.reverse == 1, "settings_of: creation");
+
     printf("%d differ\n", faults);
     return faults == 0 ? 0 : 1;
 }

@@ -1,0 +1,19 @@
+-- `layout::row_stands`: the guard's number against `low`.
+use mathlib.Core.Path.{refl}
+use Rattle.layout.specs.Rows.{stands}
+use borrow.Author.Needs.{needs}
+use Rattle.layout.proofs.row_stands.Statement.{statement}
+use Rattle.layout.proofs.row_stands.Tie as tie
+use Rattle.layout.proofs.row_stands.Reads as reads
+use Rattle.layout.proofs.row_stands.Lts as lts
+use Rattle.layout.proofs.guarding.Reads as guarding-reads
+
+guarding-requires : tie.Need-guarding-requires
+guarding-requires c κs = search needs
+
+returns : tie.Need-returns
+unfolding stands
+returns c = rw (← c .before .guarding .ensures) refl
+
+pub row-stands-spec : {M : Type 1} → statement M
+row-stands-spec = tie.close (tie.spec guarding-requires returns)

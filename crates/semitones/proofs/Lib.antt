@@ -1,0 +1,3 @@
+-- Laws of pitches.
+pub mod Ratios
+pub mod Promises

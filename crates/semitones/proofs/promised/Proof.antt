@@ -1,0 +1,10 @@
+-- `semitones::promised` meets its contract: what is promised beyond the contracts is kept. Assumes nothing.
+use Rattle.semitones.proofs.Promises.{kept}
+use Rattle.semitones.proofs.promised.Statement.{statement}
+use Rattle.semitones.proofs.promised.Tie as tie
+
+returns : tie.Need-returns
+returns c = kept
+
+pub promised-spec : {M : Type 1} → statement M
+promised-spec = tie.close (tie.spec returns)

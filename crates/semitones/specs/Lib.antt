@@ -1,0 +1,3 @@
+-- What the contracts of pitches cite.
+pub mod Ratios
+pub mod Promises

@@ -1,0 +1,7 @@
+-- Laws of saved settings.
+pub mod Low
+pub mod Loads
+pub mod Stores
+pub mod Fields
+pub mod Rounds
+pub mod Promises

@@ -1,0 +1,7 @@
+-- What is promised of saved settings beyond the contracts, put together. Assumes nothing.
+use Rattle.settings.specs.Promises.{Promises}
+use Rattle.settings.proofs.Fields.{rates}
+use Rattle.settings.proofs.Rounds.{first, second-back, unknown, first-again, second-again}
+
+pub all-kept : Promises
+all-kept = record { first = first; second = second-back; unknown = unknown; first-again = first-again; second-again = second-again; rates = rates }

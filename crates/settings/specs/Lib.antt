@@ -1,0 +1,4 @@
+-- What the contracts of saved settings cite.
+pub mod Tables
+pub mod Records
+pub mod Promises

@@ -1,0 +1,2 @@
+-- Laws of a trace's records.
+pub mod Ways

@@ -1,0 +1,3 @@
+-- A trace's records: their layout, how they are read, how they are written.
+pub mod Tables
+pub mod Records

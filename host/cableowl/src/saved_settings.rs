@@ -1,0 +1,147 @@
+//! Settings saved as bytes: docs/SETTINGS.md has their layout.
+
+use crate::{PlaybackPosition, Refusal, Region, Settings, ffi, float_mode};
+
+/// The version of a record of saved settings, or the newest that a reader knows.
+#[derive(Debug, Clone, Copy, PartialEq, Eq, PartialOrd, Ord, Hash)]
+#[repr(u32)]
+pub enum SettingsVersion {
+    /// Start, loop, direction and rate: 25 bytes.
+    First = 1,
+    /// The same and a pitch: 26 bytes.
+    Second,
+}
+
+impl SettingsVersion {
+    /// The bytes of a record.
+    #[must_use]
+    pub const fn size(self) -> usize {
+        match self {
+            Self::First => 25,
+            Self::Second => 26,
+        }
+    }
+}
+
+/// What a tutor saves of a sound.
+///
+/// ```
+/// use cableowl::{SavedSettings, SettingsVersion, StaticSound};
+///
+/// let saved = SavedSettings {
+///     start: 3,
+///     loop_region: Some((2, 8)),
+///     playback_rate: 0.75,
+///     pitch: -5,
+///     ..SavedSettings::default()
+/// };
+/// let mut record = [0; 26];
+/// saved.store(SettingsVersion::Second, &mut record)?;
+///
+/// // Next term: load, and create.
+/// let (loaded, version) = SavedSettings::load(SettingsVersion::Second, &record)?;
+/// assert_eq!((loaded, version), (saved, SettingsVersion::Second));
+/// let sound = [0.0; 20];
+/// let voice = StaticSound::new(loaded.settings(48_000), &sound)?;
+/// assert_eq!(voice.state().loop_region, Some((2, 8)));
+/// # Ok::<(), cableowl::Refusal>(())
+/// ```
+#[derive(Debug, Clone, Copy, PartialEq)]
+pub struct SavedSettings {
+    /// The frame to start at.
+    pub start: u32,
+    /// The loop's first frame and its end, exclusive.
+    pub loop_region: Option<(u32, u32)>,
+    /// Whether to play in reverse.
+    pub reverse: bool,
+    /// The rate before the pitch.
+    pub playback_rate: f64,
+    /// Whole semitones, -24 to 24; version 1 takes 0 alone.
+    pub pitch: i8,
+}
+
+impl Default for SavedSettings {
+    fn default() -> Self {
+        Self {
+            start: 0,
+            loop_region: None,
+            reverse: false,
+            playback_rate: 1.0,
+            pitch: 0,
+        }
+    }
+}
+
+impl SavedSettings {
+    /// Writes a record at the buffer's start and tells its bytes; the rest of the buffer stays.
+    ///
+    /// # Errors
+    ///
+    /// [`Refusal::SavedField`], then [`Refusal::Room`]; nothing is written.
+    pub fn store(&self, version: SettingsVersion, buffer: &mut [u8]) -> Result<usize, Refusal> {
+        let saved = ffi::SavedSettings {
+            version: version as u64,
+            ..self.words()
+        };
+        Refusal::check(float_mode::plain(|| ffi::store_settings(&saved, buffer)))?;
+        Ok(version.size())
+    }
+
+    /// Reads the record that the bytes begin with, and its version; what follows it is not read.
+    /// A record of version 1 has pitch 0.
+    ///
+    /// # Errors
+    ///
+    /// In this order: [`Refusal::Mark`], [`Refusal::Version`], [`Refusal::SavedField`] for its
+    /// length, [`Refusal::Truncated`], [`Refusal::SavedField`] for a field.
+    pub fn load(reader: SettingsVersion, bytes: &[u8]) -> Result<(Self, SettingsVersion), Refusal> {
+        let mut saved = ffi::SavedSettings::default();
+        Refusal::check(float_mode::plain(|| {
+            ffi::load_settings(reader as u32, bytes, &mut saved)
+        }))?;
+        let version = match saved.version {
+            1 => SettingsVersion::First,
+            _ => SettingsVersion::Second,
+        };
+        // A loaded number has the bytes of its field.
+        let number = |word: u64| word as u32;
+        let loaded = Self {
+            start: number(saved.start),
+            loop_region: (saved.has_loop == 1)
+                .then(|| (number(saved.loop_start), number(saved.loop_end))),
+            reverse: saved.reverse == 1,
+            playback_rate: saved.playback_rate,
+            pitch: saved.pitch as i8,
+        };
+        Ok((loaded, version))
+    }
+
+    /// What creation is told: all of a sound of this sample rate, start and loop in frames, and the
+    /// rate times the ratio of the pitch, rounded once.
+    #[must_use]
+    pub fn settings(&self, sample_rate: u32) -> Settings {
+        let settings = float_mode::plain(|| ffi::settings_of(&self.words(), sample_rate));
+        let frames = |(start, end): (u32, u32)| Region::from(start as usize..end as usize);
+        Settings {
+            start_position: PlaybackPosition::Samples(self.start as usize),
+            loop_region: self.loop_region.map(frames),
+            reverse: self.reverse,
+            playback_rate: settings.playback_rate,
+            ..Settings::new(sample_rate)
+        }
+    }
+
+    fn words(&self) -> ffi::SavedSettings {
+        let (loop_start, loop_end) = self.loop_region.unwrap_or_default();
+        ffi::SavedSettings {
+            start: self.start.into(),
+            has_loop: self.loop_region.is_some().into(),
+            loop_start: loop_start.into(),
+            loop_end: loop_end.into(),
+            reverse: self.reverse.into(),
+            playback_rate: self.playback_rate,
+            pitch: self.pitch.into(),
+            version: 0,
+        }
+    }
+}
