@@ -50,7 +50,7 @@ pub fn put_block(
     position: u64,
 ) -> usize
     requires { ⌜ 139 ≤ length (now line) ⌝ }
-    ensures { λ a. ⌜ (now (line .exit) ≡ sets (now (line .entry)) 0 (blockLine number frames steps state position)) × (a ≡ length (blockLine number frames steps state position)) ⌝ }
+    ensures { λ a. ⌜ (now (line .exit) ≡ sets (now (line .entry)) 0 (blockLine number frames steps state position)) × (a ≡ length (blockLine number frames steps state position)) × (a ≤ 139) ⌝ }
 {
     let a = tell(line, 0, b"block=", number);
     let b = tell(line, a, b" frames=", frames);
@@ -63,7 +63,7 @@ pub fn put_block(
 // `block=1 refused=12`
 pub fn put_refused_block(line: &mut [u8], number: u64, refusal: u64) -> usize
     requires { ⌜ 139 ≤ length (now line) ⌝ }
-    ensures { λ a. ⌜ (now (line .exit) ≡ sets (now (line .entry)) 0 (refusedBlockLine number refusal)) × (a ≡ length (refusedBlockLine number refusal)) ⌝ }
+    ensures { λ a. ⌜ (now (line .exit) ≡ sets (now (line .entry)) 0 (refusedBlockLine number refusal)) × (a ≡ length (refusedBlockLine number refusal)) × (a ≤ 139) ⌝ }
 {
     let a = tell(line, 0, b"block=", number);
     let b = tell(line, a, b" refused=", refusal);
@@ -73,7 +73,7 @@ pub fn put_refused_block(line: &mut [u8], number: u64, refusal: u64) -> usize
 // `refused=15 at=0`
 pub fn put_refused(line: &mut [u8], refusal: u64, at: u64) -> usize
     requires { ⌜ 139 ≤ length (now line) ⌝ }
-    ensures { λ a. ⌜ (now (line .exit) ≡ sets (now (line .entry)) 0 (refusedLine refusal at)) × (a ≡ length (refusedLine refusal at)) ⌝ }
+    ensures { λ a. ⌜ (now (line .exit) ≡ sets (now (line .entry)) 0 (refusedLine refusal at)) × (a ≡ length (refusedLine refusal at)) × (a ≤ 139) ⌝ }
 {
     let a = tell(line, 0, b"refused=", refusal);
     let b = tell(line, a, b" at=", at);

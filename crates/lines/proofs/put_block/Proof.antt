@@ -72,7 +72,7 @@ returns c =
     let m = then (f .tell2 .last .0) (g .tell3 .last .0) (p .put .last .0) t (u ++ (v ++ (10 ∷ []))) (f .tell2 .result) (g .tell3 .result) z (g .tell3 .ensures .0) (g .tell3 .ensures .1) (l .0) (l .1) in
     let n = then (e .tell .last .0) (f .tell2 .last .0) (p .put .last .0) s (t ++ (u ++ (v ++ (10 ∷ [])))) (e .tell .result) (f .tell2 .result) z (f .tell2 .ensures .0) (f .tell2 .ensures .1) (m .0) (m .1) in
     let o = then (now (a .line)) (e .tell .last .0) (p .put .last .0) r (s ++ (t ++ (u ++ (v ++ (10 ∷ []))))) 0 (e .tell .result) z (e .tell .ensures .0) (e .tell .ensures .1) (n .0) (n .1) in
-    (o .0, omega (arith, o .1))
+    (o .0, omega (arith, o .1), omega (arith, e .tell .ensures .2, f .tell2 .ensures .2, g .tell3 .ensures .2, h .tell4 .ensures .2, i .tell5 .ensures .2, p .put .ensures .1))
 
 pub put-block-spec : {M : Type 1} → statement M
 put-block-spec =

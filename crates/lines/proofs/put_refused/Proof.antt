@@ -44,7 +44,7 @@ returns c =
     let y = told (at·is) (a .at) in
     let t = then (f .tell .last .0) (b .tell2 .last .0) (p .put .last .0) y (10 ∷ []) (f .tell .result) (b .tell2 .result) (p .put .result) (b .tell2 .ensures .0) (b .tell2 .ensures .1) (p .put .ensures .0) (p .put .ensures .1) in
     let s = then (now (a .line)) (f .tell .last .0) (p .put .last .0) x (y ++ (10 ∷ [])) 0 (f .tell .result) (p .put .result) (f .tell .ensures .0) (f .tell .ensures .1) (t .0) (t .1) in
-    (s .0, omega (arith, s .1))
+    (s .0, omega (arith, s .1), omega (arith, f .tell .ensures .2, b .tell2 .ensures .2, p .put .ensures .1))
 
 pub put-refused-spec : {M : Type 1} → statement M
 put-refused-spec =
