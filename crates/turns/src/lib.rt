@@ -173,7 +173,7 @@ pub fn turn(run: Run, kind: u64, values: [u64; 80], sound: &mut [f32], line: &mu
 
 // Before any record.
 pub fn begin() -> Run
-    ensures { λ r. ⌜ courseOf r [] ≡ blank ⌝ }
+    ensures { λ r. ⌜ (courseOf r [] ≡ blank) × (r .samples ≡ 0) ⌝ }
 {
     Run {
         voice: creation::blank(),

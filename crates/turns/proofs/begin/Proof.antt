@@ -18,7 +18,7 @@ blank-requires : tie.Need-blank-requires
 blank-requires c κs = search needs
 
 returns : tie.Need-returns
-returns c = ap (λ v. course v [] 0) (c .blank .ensures)
+returns c = (ap (λ v. course v [] 0) (c .blank .ensures), refl)
 
 pub begin-spec : {M : Type 1} → statement M
 begin-spec = tie.close (tie.spec blank-requires returns)
