@@ -106,8 +106,8 @@ fn create(run: Run, values: [u64; 80], sound: &mut [f32]) -> Run
     ensures { λ r. ⌜ (courseOf r (now (sound .exit)) ≡ afterCreation (courseOf run (now (sound .entry))) values .course) × (r .samples ≤ length (now (sound .exit))) ⌝ }
 {
     let samples = recorded::put_samples(values, sound);
-    let made = creation::new(recorded::settings_of(values), &sound[..samples]);
-    let voice = made.sound;
+    let created = creation::new(recorded::settings_of(values), &sound[..samples]);
+    let voice = created.sound;
     Run {
         voice,
         samples,
