@@ -1,2 +1,4 @@
 -- Laws of a trace's records.
 pub mod Ways
+pub mod Rounds
+pub mod Sends

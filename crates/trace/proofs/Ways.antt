@@ -2,7 +2,7 @@
 use mathlib.Core.Path.{_≡_, refl, sym, ap, _∙_}
 use Prim.Native.Nat.{ℕ, zero, suc, _+_, _-_, _*_, _≤_, _<_}
 use native.Mathlib.Omega.{arith}
-use mathlib.Core.Bool.{Bool, true, false, cond}
+use mathlib.Core.Bool.{Bool, true, false, not, cond}
 use mathlib.Core.List.{List, [], _∷_, _++_}
 use lib.Dec.{eqb}
 use lib.ListN.{length, getD, take, drop, replicate, length-replicate, length-drop, take-append-drop, drop-of-length-le}
@@ -12,10 +12,21 @@ use Rattle.layout.specs.declared.Row.{Row}
 use Rattle.layout.specs.declared.Parsed.{Parsed}
 use Rattle.layout.specs.Rows.{rowAt, rows, stands, sound}
 use Rattle.layout.specs.Reads.{Reading, bad, good, taken, step, steps, view}
+use Rattle.layout.proofs.Codec.{never}
 use Rattle.layout.proofs.Ways.{opened, shut, begun}
 use Rattle.trace.specs.declared.Record.{Record}
 use Rattle.trace.specs.Tables.{headTable, creationTable, frameTable, commandTable, blockTable, headRows, creationRows, commandRows, blockRows, body, fields}
 use Rattle.trace.specs.Records.{possible, Found, refused, found, ended, bodied, readRecord, valued, recordAt}
+
+-- ---- tests turned round
+
+pub not-true : (b : Bool) → not b ≡ true → b ≡ false
+not-true false e = refl
+not-true true e = never e
+
+pub not-false : (b : Bool) → not b ≡ false → b ≡ true
+not-false true e = refl
+not-false false e = never (sym e)
 
 -- ---- the tables
 

@@ -1,4 +1,4 @@
-// A trace's records, read: docs/TRACE.md has their layout.
+// A trace's records, read and written: docs/TRACE.md has their layout.
 ghost use mathlib.Core.Path.{_≡_};
 ghost use Prim.Native.Nat.{_-_, _≤_};
 ghost use mathlib.Core.List.{[]};
@@ -8,12 +8,15 @@ ghost use Rattle.trace.specs.Tables.{headRows, body, fields};
 ghost use Rattle.trace.specs.Records.{possible, shortest, longest, refused, valued, recordAt};
 
 mod tables;
+mod writes;
 
 use layout::Parsed;
 use tables::BLOCK;
 use tables::COMMANDS;
 use tables::CREATION;
 use tables::HEAD;
+pub use writes::Sent;
+pub use writes::write;
 
 // A record by value: its kind, its numbers in the layout's order and then zeros, and the place after it. Where a record is
 // refused, the number; then every other number is 0 and the place is the record's own.

@@ -1,9 +1,7 @@
 -- `trace::read`: each return is one of the ways of proofs/Ways.antt.
 use mathlib.Core.Path.{_≡_, refl, sym, ap, _∙_}
 use native.Mathlib.Omega.{arith}
-use mathlib.Core.Bool.{Bool, true, false, not}
-use Rattle.layout.proofs.Codec.{never}
-use Rattle.trace.proofs.Ways.{no-place, no-head, no-length, no-fields, goes-on, read-found}
+use Rattle.trace.proofs.Ways.{not-true, not-false, no-place, no-head, no-length, no-fields, goes-on, read-found}
 use borrow.Author.Needs.{needs}
 use Rattle.trace.proofs.read.Statement.{statement}
 use Rattle.trace.proofs.read.Tie as tie
@@ -13,14 +11,6 @@ use Rattle.trace.proofs.is_possible.Reads as is-possible-reads
 use Rattle.trace.proofs.read_body.Reads as read-body-reads
 use Rattle.trace.proofs.read_head.Reads as read-head-reads
 use Rattle.trace.proofs.refuse.Reads as refuse-reads
-
-not-true : (b : Bool) → not b ≡ true → b ≡ false
-not-true false e = refl
-not-true true e = never e
-
-not-false : (b : Bool) → not b ≡ false → b ≡ true
-not-false true e = refl
-not-false false e = never (sym e)
 
 refuse-requires : tie.Need-refuse-requires
 refuse-requires c κs = search needs

@@ -1,0 +1,2 @@
+-- The lines that a replayed trace prints.
+pub mod Lines

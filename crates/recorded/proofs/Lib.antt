@@ -1,0 +1,2 @@
+-- Laws of what a record tells.
+pub mod Samples

@@ -1,0 +1,2 @@
+-- What a record tells the player.
+pub mod Inputs

@@ -1,0 +1,136 @@
+// A trace from standard input, played again: one line a block on standard output (docs/TRACE.md). Each record's run and line
+// are `turns::turn`'s; what stands here is reading and writing. Input of any length: a window moves over it that holds a whole
+// record or the input's end.
+ghost use mathlib.Core.Path.{_≡_};
+ghost use Prim.Native.Nat.{_-_, _≤_};
+ghost use lib.ListN.{length};
+ghost use Rattle.replay.specs.Windows.{Held};
+use turns::Run;
+
+// The window on the input: its bytes lie from `at` to `end` of a buffer whose first byte has the place `base` in the trace.
+// `ended` says that the input has no more.
+pub struct Window {
+    pub at: usize,
+    pub end: usize,
+    pub base: u64,
+    pub ended: bool,
+}
+
+pub struct Play {
+    pub run: Run,
+    pub window: Window,
+    pub done: bool,
+}
+
+// Moves what is left to the front, and reads on behind it.
+fn refill(bytes: &mut [u8], spare: &mut [u8], w: Window) -> Window
+    requires { ⌜ (w .at ≤ w .end) × (w .end ≤ length (now bytes)) × (w .end - w .at ≤ length (now spare)) ⌝ }
+    ensures { λ r. ⌜ Held r (now (bytes .exit)) ⌝ }
+{
+    let at = w.at;
+    let end = w.end;
+    let n = end - at;
+    layout::copy(bytes, at, end, spare, 0);
+    layout::copy(spare, 0, n, bytes, 0);
+    let got = io::read_full(0, &mut bytes[n..]);
+    let end = n + got;
+    Window {
+        at: 0,
+        end,
+        base: std::num::wrapping_add_u64(w.base, at as u64),
+        ended: end < bytes.len(),
+    }
+}
+
+// One record: its line is printed.
+fn play_one(p: Play, bytes: &[u8], sound: &mut [f32], line: &mut [u8]) -> Play
+    requires { ⌜ Held (p .window) (now bytes) × (128 ≤ length (now sound)) × (p .run .samples ≤ length (now sound)) × (139 ≤ length (now line)) ⌝ }
+    ensures { λ r. ⌜ Held (r .window) (now (bytes .entry)) × (r .run .samples ≤ length (now (sound .exit))) ⌝ }
+{
+    let window = p.window;
+    let run = p.run;
+    let at = window.at;
+    let end = window.end;
+    if at == end {
+        return Play {
+            run,
+            window,
+            done: true,
+        };
+    }
+    let record = trace::read(&bytes[..end], at);
+    if record.refusal != 0 {
+        let n = lines::put_refused(
+            line,
+            record.refusal,
+            std::num::wrapping_add_u64(window.base, at as u64),
+        );
+        io::write_all(1, &line[..n]);
+        return Play {
+            run,
+            window,
+            done: true,
+        };
+    }
+    let values = record.values;
+    let turned = turns::turn(run, record.kind, values, sound, line);
+    let n = turned.written;
+    io::write_all(1, &line[..n]);
+    let run = turned.run;
+    Play {
+        run,
+        window: Window {
+            at: record.next,
+            ..window
+        },
+        done: false,
+    }
+}
+
+// Reads on where the window may end inside a record that goes on behind it (no record has more than 575 bytes), then plays one.
+fn advance(p: Play, bytes: &mut [u8], spare: &mut [u8], sound: &mut [f32], line: &mut [u8]) -> Play
+    requires { ⌜ Held (p .window) (now bytes) × (1024 ≤ length (now spare)) × (128 ≤ length (now sound)) × (p .run .samples ≤ length (now sound)) × (139 ≤ length (now line)) ⌝ }
+    ensures { λ r. ⌜ Held (r .window) (now (bytes .exit)) × (r .run .samples ≤ length (now (sound .exit))) ⌝ }
+{
+    let window = p.window;
+    if window.ended {
+        return play_one(p, bytes, sound, line);
+    }
+    if 1024 <= window.end - window.at {
+        return play_one(p, bytes, sound, line);
+    }
+    let window = refill(bytes, spare, window);
+    play_one(Play { window, ..p }, bytes, sound, line)
+}
+
+fn replay(bytes: &mut [u8], spare: &mut [u8], sound: &mut [f32], line: &mut [u8])
+    requires { ⌜ (1024 ≤ length (now spare)) × (128 ≤ length (now sound)) × (139 ≤ length (now line)) ⌝ }
+{
+    let window = Window {
+        at: 0,
+        end: 0,
+        base: 0,
+        ended: false,
+    };
+    let mut p = Play {
+        run: turns::begin(),
+        window,
+        done: false,
+    };
+    let mut left: u64 = 18446744073709551615;
+    while left > 0 {
+        if p.done {
+            return;
+        }
+        p = advance(p, bytes, spare, sound, line);
+        left -= 1;
+    }
+}
+
+fn main() {
+    let mut bytes = io::large_buffer();
+    let mut spare = [0u8; 1024];
+    let mut sound = [0.0f32; 128];
+    let mut line = [0u8; 160];
+    replay(&mut bytes, &mut spare, &mut sound, &mut line);
+}

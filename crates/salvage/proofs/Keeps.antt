@@ -1,0 +1,274 @@
+-- Kept and skipped bytes are all bytes; an undamaged trace is kept whole; what is kept is undamaged, so a second run changes nothing.
+use mathlib.Core.Path.{_≡_, refl, sym, ap, _∙_}
+use Prim.Native.Nat.{ℕ, zero, suc, _+_, _-_, _*_, _≤_, _<_}
+use native.Mathlib.Omega.{arith}
+use mathlib.Core.Bool.{Bool, true, false, cond}
+use mathlib.Core.List.{List, [], _∷_, _++_, append-assoc}
+use lib.Dec.{eqb}
+use lib.ListN.{length, getD, take, drop, set, length-append, length-drop, drop-of-length-le}
+use native.Mathlib.Numerals.{add-one}
+use lib.Seq.{take-at, drop-at, drop-cons, drop-drop, sets, length-sets, length-take-le}
+use Rattle.layout.proofs.Puts.{sets-append}
+use Rattle.layout.proofs.Numbers.{Small, small-drop}
+use Rattle.salvage.specs.declared.Turn.{Turn}
+use borrow.Author.Tests.{eqb-true, eqb-false, ne-eqb, eq-eqb, lt-ltb, le-ltb}
+use Rattle.trace.specs.declared.Record.{Record}
+use Rattle.trace.specs.Records.{Found, refused, found, readRecord, valued, recordAt}
+use Rattle.trace.specs.Writes.{recordOf}
+use Rattle.trace.proofs.Rounds.{read-record, written-record, Kept}
+use Rattle.salvage.specs.Salvage.{kept, skipped, records, first, sizeIn, sizeOf, placed, Turned, Salvaged, salvageOf}
+
+none : {A : Type 0} → ⊥ → A
+none e = elim e [ ]
+
+module _ (size : List ℕ → ℕ) where
+  pub all-bytes : (bs : List ℕ) (k : ℕ) → length (kept size bs k) + skipped size bs k ≡ length bs
+  unfolding kept skipped
+  all-bytes [] k = omega arith
+  all-bytes (b ∷ bs) (suc k) = omega (arith, all-bytes bs k)
+  all-bytes (b ∷ bs) zero = go (eqb (size (b ∷ bs)) 0) (all-bytes bs 0) (all-bytes bs (size (b ∷ bs) - 1))
+    where
+      go : (t : Bool) → length (kept size bs 0) + skipped size bs 0 ≡ length bs → length (kept size bs (size (b ∷ bs) - 1)) + skipped size bs (size (b ∷ bs) - 1) ≡ length bs
+          → length (cond t (kept size bs 0) (b ∷ kept size bs (size (b ∷ bs) - 1))) + cond t (suc (skipped size bs 0)) (skipped size bs (size (b ∷ bs) - 1)) ≡ suc (length bs)
+      go true e f = omega arith
+      go false e f = omega arith
+
+  -- a record begun is copied to its end
+  split : (bs : List ℕ) (k : ℕ) → k ≤ length bs → kept size bs k ≡ take k bs ++ kept size (drop k bs) 0
+  unfolding kept
+  split bs zero h = refl
+  split [] (suc k) h = refl
+  split (b ∷ bs) (suc k) h = ap (λ (l : List ℕ). b ∷ l) (split bs k (omega arith))
+
+  passed-over : (bs : List ℕ) (k : ℕ) → k ≤ length bs → skipped size bs k ≡ skipped size (drop k bs) 0
+  unfolding skipped
+  passed-over bs zero h = refl
+  passed-over [] (suc k) h = refl
+  passed-over (b ∷ bs) (suc k) h = passed-over bs k (omega arith)
+
+  counted-over : (bs : List ℕ) (k : ℕ) → k ≤ length bs → records size bs k ≡ records size (drop k bs) 0
+  unfolding records
+  counted-over bs zero h = refl
+  counted-over [] (suc k) h = refl
+  counted-over (b ∷ bs) (suc k) h = counted-over bs k (omega arith)
+
+  placed-over : (at : ℕ) (bs : List ℕ) (k : ℕ) → k ≤ length bs → first size at bs k ≡ first size (at + k) (drop k bs) 0
+  unfolding first
+  placed-over at bs zero h = let e : at + 0 ≡ at = omega arith in rw e refl
+  placed-over at [] (suc k) h = none (omega arith)
+  placed-over at (b ∷ bs) (suc k) h = let e : suc at + k ≡ at + suc k = omega arith in placed-over (suc at) bs k (omega arith) ∙ ap (λ (z : ℕ). first size z (drop k bs) 0) e
+
+  -- a record, whatever follows it; an undamaged trace is records one after the other
+  pub record One (r : List ℕ) : Type 0 where
+    pub some : 0 < length r
+    pub own : (t : List ℕ) → size (r ++ t) ≡ length r
+
+  pub data Whole : List ℕ → Type 0 where
+    ended : Whole []
+    more : (r t : List ℕ) → One r → Whole t → Whole (r ++ t)
+
+  one-first : (r t : List ℕ) → One r → (kept size (r ++ t) 0 ≡ r ++ kept size t 0) × (skipped size (r ++ t) 0 ≡ skipped size t 0)
+  unfolding kept skipped
+  one-first [] t o = let z = o .some in none (omega arith)
+  one-first (b ∷ r) t o =
+      let e = o .own t in
+      let n : eqb (size (b ∷ (r ++ t))) 0 ≡ false = ne-eqb (size (b ∷ (r ++ t))) 0 (λ z. omega (arith, e, z)) in
+      let f : size (b ∷ (r ++ t)) - 1 ≡ length r = omega (arith, e) in
+      let l : length r ≤ length (r ++ t) = omega (arith, length-append r t) in (
+        rw (n, f) (ap (λ (x : List ℕ). b ∷ x) (split (r ++ t) (length r) l ∙ rw (take-at r t (length r) refl, drop-at r t (length r) refl) refl)),
+        rw (n, f) (passed-over (r ++ t) (length r) l ∙ rw (drop-at r t (length r) refl) refl),
+      )
+
+  -- an undamaged trace comes out equal, with 0 skipped
+  pub whole-kept : (bs : List ℕ) → Whole bs → (kept size bs 0 ≡ bs) × (skipped size bs 0 ≡ 0)
+  unfolding kept skipped
+  whole-kept _ ended = (refl, refl)
+  whole-kept _ (more r t o w) =
+      let f = one-first r t o in
+      let i = whole-kept t w in
+      (f .0 ∙ ap (λ (x : List ℕ). r ++ x) (i .0), f .1 ∙ i .1)
+
+  -- a size is that of a record which does not look past itself
+  module _ (Fine : List ℕ → Type 0) (fine-drop : (n : ℕ) (bs : List ℕ) → Fine bs → Fine (drop n bs))
+      (found : (bs : List ℕ) → Fine bs → 0 < size bs → (size bs ≤ length bs) × ((t : List ℕ) → size (take (size bs) bs ++ t) ≡ size bs)) where
+    one-turn : (n : ℕ) (bs : List ℕ) → length bs ≤ suc n → Fine bs → ((l : List ℕ) → length l ≤ n → Fine l → Whole (kept size l 0)) → Whole (kept size bs 0)
+    unfolding kept
+    one-turn n [] h f ih = ended
+    one-turn n (b ∷ bs) h f ih = go (eqb (size (b ∷ bs)) 0) refl (λ k. ih (drop k bs) (omega (arith, length-drop k bs)) (fine-drop (suc k) (b ∷ bs) f))
+      where
+        go : (t : Bool) → eqb (size (b ∷ bs)) 0 ≡ t → ((k : ℕ) → Whole (kept size (drop k bs) 0)) → Whole (cond t (kept size bs 0) (b ∷ kept size bs (size (b ∷ bs) - 1)))
+        go true e ih = ih 0
+        go false e ih =
+            let s = size (b ∷ bs) in
+            let p : 0 < s = omega (arith, eqb-false s 0 e) in
+            let g = found (b ∷ bs) f p in
+            let q : s ≡ suc (s - 1) = omega arith in
+            let x : take s (b ∷ bs) ≡ b ∷ take (s - 1) bs = ap (λ (k : ℕ). take k (b ∷ bs)) q in
+            let m : length (take s (b ∷ bs)) ≡ s = length-take-le s (b ∷ bs) (g .0) in
+            let y : b ∷ kept size bs (s - 1) ≡ take s (b ∷ bs) ++ kept size (drop (s - 1) bs) 0 = ap (λ (l : List ℕ). b ∷ l) (split bs (s - 1) (omega (arith, g .0))) ∙ ap (λ (l : List ℕ). l ++ kept size (drop (s - 1) bs) 0) (sym x) in
+            rw y (more (take s (b ∷ bs)) (kept size (drop (s - 1) bs) 0) (record { some = omega (arith, m); own = λ t. g .1 t ∙ sym m }) (ih (s - 1)))
+
+    no-bytes : (bs : List ℕ) → length bs ≤ 0 → Whole (kept size bs 0)
+    unfolding kept
+    no-bytes [] h = ended
+    no-bytes (b ∷ bs) h = none (omega arith)
+
+    kept-whole : (n : ℕ) (bs : List ℕ) → length bs ≤ n → Fine bs → Whole (kept size bs 0)
+    kept-whole zero bs h f = no-bytes bs h
+    kept-whole (suc n) bs h f = one-turn n bs h f (λ l g e. kept-whole n l g e)
+
+    -- running the tool on its own output changes nothing
+    pub again : (bs : List ℕ) → Fine bs → (kept size (kept size bs 0) 0 ≡ kept size bs 0) × (skipped size (kept size bs 0) 0 ≡ 0)
+    again bs f = whole-kept (kept size bs 0) (kept-whole (length bs) bs (omega arith) f)
+
+-- the records of a trace do not look past themselves
+pub trace-found : (bs : List ℕ) → Small bs → 0 < sizeOf bs → (sizeOf bs ≤ length bs) × ((t : List ℕ) → sizeOf (take (sizeOf bs) bs ++ t) ≡ sizeOf bs)
+unfolding sizeOf sizeIn
+trace-found bs s h = go (readRecord bs) refl h
+  where
+    go : (d : Found) → readRecord bs ≡ d → 0 < sizeIn (length bs) d → (sizeIn (length bs) d ≤ length bs) × ((t : List ℕ) → sizeIn (length (take (sizeIn (length bs) d) bs ++ t)) (readRecord (take (sizeIn (length bs) d) bs ++ t)) ≡ sizeIn (length bs) d)
+    go (refused k) e p = (omega arith, λ t. let z : _≡_ {A = ℕ} 0 1 = omega arith in none (omega arith))
+    go (found k ws rest) e p =
+        let w = written-record bs k ws rest s e in
+        let r = recordOf k ws in
+        let n : length bs ≡ length r + length rest = ap length (w .same) ∙ length-append r rest in
+        let c : length bs - length rest ≡ length r = omega arith in
+        let x : take (length bs - length rest) bs ≡ r = ap (λ (z : ℕ). take z bs) c ∙ ap (λ (l : List ℕ). take (length r) l) (w .same) ∙ take-at r rest (length r) refl in
+        (omega arith, λ t. rw (x, read-record k ws t (w .kind) (w .takes)) (omega (arith, length-append r t, c)))
+
+pub trace-again : (bs : List ℕ) → Small bs → (kept sizeOf (kept sizeOf bs 0) 0 ≡ kept sizeOf bs 0) × (skipped sizeOf (kept sizeOf bs 0) 0 ≡ 0)
+trace-again bs s = again sizeOf Small (λ n l h. small-drop n l h) (λ l h p. trace-found l h p) bs s
+
+-- the turns of the code
+record Keep (size : List ℕ → ℕ) (at : ℕ) (bs : List ℕ) : Type 0 where
+  bytes : kept size bs 0 ≡ take (size bs) bs ++ kept size (drop (size bs) bs) 0
+  skips : skipped size bs 0 ≡ skipped size (drop (size bs) bs) 0
+  count : records size bs 0 ≡ suc (records size (drop (size bs) bs) 0)
+  place : first size at bs 0 ≡ first size (at + size bs) (drop (size bs) bs) 0
+
+turn-keep : (size : List ℕ → ℕ) (at : ℕ) (bs : List ℕ) → 0 < size bs → size bs ≤ length bs → Keep size at bs
+unfolding kept skipped records first
+turn-keep size at [] p h = none (omega arith)
+turn-keep size at (b ∷ bs) p h = go (size (b ∷ bs) - 1) (omega arith)
+  where
+    go : (k : ℕ) → size (b ∷ bs) ≡ suc k → Keep size at (b ∷ bs)
+    go k q =
+        let f : suc k - 1 ≡ k = omega arith in
+        let n : eqb (suc k) 0 ≡ false = ne-eqb (suc k) 0 (λ z. omega arith) in
+        let l : k ≤ length bs = omega arith in
+        let m : suc at + k ≡ at + suc k = omega arith in
+        record {
+          bytes = rw (q, n, f) (ap (λ (x : List ℕ). b ∷ x) (split size bs k l));
+          skips = rw (q, n, f) (passed-over size bs k l);
+          count = rw (q, n, f) (ap suc (counted-over size bs k l));
+          place = rw (q, n, f) (placed-over size (suc at) bs k l ∙ ap (λ (z : ℕ). first size z (drop k bs) 0) m);
+        }
+
+record Skip (size : List ℕ → ℕ) (at : ℕ) (bs : List ℕ) : Type 0 where
+  bytes : kept size bs 0 ≡ kept size (drop 1 bs) 0
+  skips : skipped size bs 0 ≡ suc (skipped size (drop 1 bs) 0)
+  count : records size bs 0 ≡ records size (drop 1 bs) 0
+  place : first size at bs 0 ≡ at
+
+turn-skip : (size : List ℕ → ℕ) (at : ℕ) (bs : List ℕ) → 0 < length bs → size bs ≤ 0 → Skip size at bs
+unfolding kept skipped records first
+turn-skip size at [] p h = none (omega arith)
+turn-skip size at (b ∷ bs) p h = let q : size (b ∷ bs) ≡ 0 = omega arith in record { bytes = rw q refl; skips = rw q refl; count = rw q refl; place = rw q refl }
+
+sizeIn-le : (n : ℕ) (d : Found) → sizeIn n d ≤ n
+unfolding sizeIn
+sizeIn-le n (refused k) = omega arith
+sizeIn-le n (found l ws rest) = omega arith
+
+pub size-le : (s : List ℕ) (at : ℕ) → sizeOf (drop at s) ≤ length s - at
+unfolding sizeOf
+size-le s at = omega (arith, sizeIn-le (length (drop at s)) (readRecord (drop at s)), length-drop at s)
+
+size-refused : (len at n : ℕ) (d : Found) → (valued len at d .refusal ≡ 0 → ⊥) → 0 ≡ sizeIn n d
+unfolding valued sizeIn
+size-refused len at n (refused k) h = refl
+size-refused len at n (found k ws rest) h = none (h refl)
+
+size-found : (len at n : ℕ) (d : Found) → n ≡ len - at → valued len at d .next - at ≡ sizeIn n d
+unfolding valued sizeIn
+size-found len at n (refused k) e = omega arith
+size-found len at n (found k ws rest) e = omega arith
+
+pub size-none : (s : List ℕ) (at : ℕ) (r : Record) → r ≡ recordAt s at → (r .refusal ≡ 0 → ⊥) → 0 ≡ sizeOf (drop at s)
+unfolding recordAt sizeOf
+size-none s at r e h = size-refused (length s) at (length (drop at s)) (readRecord (drop at s)) (λ z. h (ap (λ (x : Record). x .refusal) e ∙ z))
+
+pub size-some : (s : List ℕ) (at : ℕ) (r : Record) → r ≡ recordAt s at → r .next - at ≡ sizeOf (drop at s)
+unfolding recordAt sizeOf
+size-some s at r e = ap (λ (x : Record). x .next - at) e ∙ size-found (length s) at (length (drop at s)) (readRecord (drop at s)) (length-drop at s)
+
+module _ (s out : List ℕ) (t : Turn) (a : t .at < length s) (b : t .w ≤ t .at) (c : t .skip ≤ t .at) (g : t .records ≤ t .at) where
+  pub keeps : (new : List ℕ) (n : ℕ) → n ≡ sizeOf (drop (t .at) s) → 0 < n → new ≡ sets out (t .w) (take (t .at + n - t .at) (drop (t .at) s))
+      → Turned s out new t (record { at = t .at + n; w = t .w + n; skip = t .skip; records = t .records + 1; first = t .first })
+  keeps new n e p q =
+      let bs = drop (t .at) s in
+      let l : length bs ≡ length s - t .at = length-drop (t .at) s in
+      let h = size-le s (t .at) in
+      let m : t .at + n - t .at ≡ n = omega arith in
+      let k = turn-keep sizeOf (t .at) bs (omega (arith, e)) (omega (arith, h, l)) in
+      let d : drop (sizeOf bs) bs ≡ drop (t .at + n) s = drop-drop (sizeOf bs) (t .at) s ∙ ap (λ (z : ℕ). drop (t .at + z) s) (sym e) in
+      let x : new ≡ sets out (t .w) (take n bs) = q ∙ ap (λ (z : ℕ). sets out (t .w) (take z bs)) m in
+      let y : length (take n bs) ≡ n = length-take-le n bs (omega (arith, e, h, l)) in
+      let z : kept sizeOf bs 0 ≡ take n bs ++ kept sizeOf (drop (t .at + n) s) 0 = k .bytes ∙ ap (λ (u : ℕ). take u bs ++ kept sizeOf (drop (sizeOf bs) bs) 0) (sym e) ∙ ap (λ (u : List ℕ). take n bs ++ kept sizeOf u 0) d in
+      let o : records sizeOf bs 0 ≡ suc (records sizeOf (drop (t .at + n) s) 0) = k .count ∙ ap (λ (u : List ℕ). suc (records sizeOf u 0)) d in
+      let v : first sizeOf (t .at) bs 0 ≡ first sizeOf (t .at + n) (drop (t .at + n) s) 0 = k .place ∙ ap (λ (u : ℕ). first sizeOf (t .at + u) (drop (sizeOf bs) bs) 0) (sym e) ∙ ap (λ (u : List ℕ). first sizeOf (t .at + n) u 0) d in
+      record {
+        inside = omega (arith, e, h);
+        on = omega arith;
+        room = omega arith;
+        few = omega arith;
+        some = omega arith;
+        long = ap length q ∙ simp length-sets;
+        same = rw (x, z) (ap (λ (u : ℕ). sets (sets out (t .w) (take n bs)) (t .w + u) (kept sizeOf (drop (t .at + n) s) 0)) (sym y) ∙ sym (sets-append out (t .w) (take n bs) (kept sizeOf (drop (t .at + n) s) 0)));
+        count = ap (λ (u : ℕ). t .skip + u) (sym (k .skips ∙ ap (λ (u : List ℕ). skipped sizeOf u 0) d));
+        whole = omega (arith, o);
+        place = ap (λ (u : ℕ). cond (eqb (t .skip) 0) u (t .first)) (sym v);
+      }
+
+  pub skips : (n f : ℕ) → n ≡ sizeOf (drop (t .at) s) → n ≤ 0 → f ≡ cond (eqb (t .skip) 0) (t .at) (t .first) → Turned s out out t (record { at = t .at + 1; w = t .w; skip = t .skip + 1; records = t .records; first = f })
+  skips n f e p y =
+      let bs = drop (t .at) s in
+      let k = turn-skip sizeOf (t .at) bs (omega (arith, length-drop (t .at) s)) (omega (arith, e)) in
+      let d : drop 1 bs ≡ drop (t .at + 1) s = drop-drop 1 (t .at) s in
+      let j : skipped sizeOf bs 0 ≡ suc (skipped sizeOf (drop (t .at + 1) s) 0) = k .skips ∙ ap (λ (u : List ℕ). suc (skipped sizeOf u 0)) d in
+      let o : records sizeOf bs 0 ≡ records sizeOf (drop (t .at + 1) s) 0 = k .count ∙ ap (λ (u : List ℕ). records sizeOf u 0) d in
+      record {
+        inside = omega arith;
+        on = omega arith;
+        room = omega arith;
+        few = omega arith;
+        some = omega arith;
+        long = refl;
+        same = ap (λ (u : List ℕ). sets out (t .w) u) (sym (k .bytes ∙ ap (λ (u : List ℕ). kept sizeOf u 0) d));
+        count = omega (arith, j);
+        whole = ap (λ (u : ℕ). t .records + u) (sym o);
+        place = ap (λ (u : Bool). cond u (first sizeOf (t .at + 1) (drop (t .at + 1) s) 0) f) (ne-eqb (t .skip + 1) 0 (λ z. omega arith)) ∙ y ∙ ap (λ (u : ℕ). cond (eqb (t .skip) 0) u (t .first)) (sym (k .place));
+      }
+
+-- the whole loop
+abbrev done : ℕ → ℕ → ℕ → ℕ → List ℕ → Salvaged
+done k c n f l = record { number = k; count = c; skip = n; place = f; output = l }
+
+pub refused-short : (s out : List ℕ) → length out < length s → done 25 0 0 0 out ≡ salvageOf s out
+unfolding salvageOf
+refused-short s out h = rw (lt-ltb (length out) (length s) h) refl
+
+pub saved : (s out new : List ℕ) (t : Turn) (f : ℕ) → length s ≤ length out → length s ≤ t .at → sets new (t .w) (kept sizeOf (drop (t .at) s) 0) ≡ sets out 0 (kept sizeOf s 0)
+    → t .skip + skipped sizeOf (drop (t .at) s) 0 ≡ skipped sizeOf s 0 → t .records + records sizeOf (drop (t .at) s) 0 ≡ records sizeOf s 0 → placed t s ≡ first sizeOf 0 s 0
+    → f ≡ cond (eqb (t .skip) 0) (t .at) (t .first) → done 0 (t .records) (t .skip) f new ≡ salvageOf s out
+unfolding salvageOf kept skipped records first
+saved s out new t f h e p q r v y =
+    let d : drop (t .at) s ≡ [] = drop-of-length-le s e in
+    let x : new ≡ sets out 0 (kept sizeOf s 0) = rw d at p in
+    let m : t .skip + 0 ≡ skipped sizeOf s 0 = rw d at q in
+    let n : t .skip ≡ skipped sizeOf s 0 = omega arith in
+    let i : t .records + 0 ≡ records sizeOf s 0 = rw d at r in
+    let j : t .records ≡ records sizeOf s 0 = omega arith in
+    let u : cond (eqb (t .skip) 0) (t .at) (t .first) ≡ first sizeOf 0 s 0 = rw d at v in
+    rw (le-ltb (length out) (length s) h)
+    (ap (λ (z : ℕ). done 0 z (t .skip) f new) j ∙ ap (λ (z : ℕ). done 0 (records sizeOf s 0) z f new) n ∙ ap (λ (z : ℕ). done 0 (records sizeOf s 0) (skipped sizeOf s 0) z new) (y ∙ u) ∙ ap (λ (z : List ℕ). done 0 (records sizeOf s 0) (skipped sizeOf s 0) (first sizeOf 0 s 0) z) x)

@@ -1,0 +1,2 @@
+-- Laws of salvage.
+pub mod Keeps

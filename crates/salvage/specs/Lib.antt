@@ -1,0 +1,2 @@
+-- Salvage of a broken trace.
+pub mod Salvage

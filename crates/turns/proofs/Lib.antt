@@ -1,0 +1,4 @@
+-- Laws of a replay.
+pub mod Parts
+pub mod Answers
+pub mod Courses

@@ -1,0 +1,24 @@
+-- `turns::begin`: the blank voice.
+use mathlib.Core.Path.{_≡_, refl, sym, ap, _∙_}
+use native.Mathlib.Omega.{arith}
+use borrow.Author.Needs.{needs}
+use denote.Ref.{now}
+use mathlib.Core.List.{[]}
+use Rattle.recorded.specs.Inputs.{samplesOf, settingsOf, commandsOf, blockOf}
+use Rattle.turns.proofs.Parts.{prefix, inside, part-long}
+use Rattle.turns.proofs.Courses.{course, few-samples, few-frames, creation-course, command-course, block-course, block-line}
+use borrow.Author.Needs.{needs}
+use Rattle.turns.proofs.begin.Statement.{statement}
+use Rattle.turns.proofs.begin.Tie as tie
+use Rattle.turns.proofs.begin.Reads as reads
+use Rattle.turns.proofs.begin.Lts as lts
+use Rattle.creation.proofs.blank.Reads as blank-reads
+
+blank-requires : tie.Need-blank-requires
+blank-requires c κs = search needs
+
+returns : tie.Need-returns
+returns c = (ap (λ v. course v [] 0) (c .blank .ensures), refl)
+
+pub begin-spec : {M : Type 1} → statement M
+begin-spec = tie.close (tie.spec blank-requires returns)

@@ -1,0 +1,2 @@
+-- A trace played again.
+pub mod Runs
