@@ -53,5 +53,5 @@ fn the_structs_have_the_sizes_of_the_header() {
         size_of::<CableowlProcessed>(),
     ];
     assert_eq!(sizes, [160, 24, 48, 152, 104, 168, 176, 176]);
-    assert_eq!(version(), 1);
+    assert_eq!(version(), 2);
 }
