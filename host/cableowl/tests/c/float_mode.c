@@ -37,7 +37,7 @@ enum { MODES = sizeof modes / sizeof modes[0], FRAMES = 8 };
 static const float ones[FRAMES] = {1, 1, 1, 1, 1, 1, 1, 1};
 static const float halves[FRAMES] = {0.5f, 0.5f, 0.5f, 0.5f, 0.5f, 0.5f, 0.5f, 0.5f};
 static const double rates[FRAMES] = {0.7, 0.7, 0.7, 0.7, 0.7, 0.7, 0.7, 0.7};
-static const CableowlSignals none = {0, 0, 0};
+static const CableowlSignals none = {0, 0, 0, 0, 0};
 
 /* A block over subnormal samples. */
 static CableowlProcessed subnormal_block(float *out) {

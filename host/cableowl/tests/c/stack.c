@@ -15,7 +15,7 @@ static double slow[FRAMES], fast[FRAMES];
 static CableowlSettings settings;
 static CableowlCommands commands;
 static CableowlState voice, broken;
-static const CableowlSignals none = {0, 0, 0};
+static const CableowlSignals none = {0, 0, 0, 0, 0};
 static uint32_t refusal;
 
 static void nothing(void) {}
