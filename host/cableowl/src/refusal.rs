@@ -231,7 +231,7 @@ impl Refusal {
                 "the record is of a version that this reader does not know: load it with a newer reader"
             }
             Self::SavedField => {
-                "the loop must start before it ends, the rate be finite, the pitch -24 to 24, and 0 in version 1"
+                "saved settings need a loop that starts before it ends, a finite rate, a pitch of -24 to 24 (0 in version 1), and in bytes the length of their version, 21 or 22"
             }
             Self::Ramp => {
                 "a ramp has 1 to 65,536 frames, and its lane as many: cut a longer fade into several ramps"

@@ -191,7 +191,10 @@ fn any_words_and_any_room() {
     for _ in 0..2_000_000 {
         let words = any_words(&mut random);
         let mut buffer = [9; 30];
-        let room = random.below(31);
+        let room = match random.below(3) {
+            0 => random.below(31),
+            _ => 25 + random.below(6),
+        };
         let refusal = store(&words, &mut buffer[..room]);
         let written = match stored(&words, room) {
             Ok(bytes) => {
