@@ -30,7 +30,7 @@ pub struct Settings {
     /// The held rate: its sign gives the direction, and **it does not change the speed** (see
     /// [`Settings::playback_rate`](Settings::playback_rate())).
     pub playback_rate: f64,
-    /// Whether the start waits for an answer (see [`Signals::start`](crate::Signals::start)).
+    /// Whether the start waits for an answer or a tick (see [`Signals::start`](crate::Signals::start)).
     pub start_waits: bool,
 }
 
