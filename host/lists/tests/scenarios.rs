@@ -126,7 +126,7 @@ impl Seen {
                 let samples = reader.next();
                 reader.skip(kind - 6);
                 let refusal = reader.next();
-                reader.next();
+                reader.skip(2);
                 self.call(kind, refusal, reader.state());
                 reader.skip(samples);
                 if refusal == 0 {

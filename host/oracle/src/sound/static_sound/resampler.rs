@@ -117,7 +117,7 @@ pub fn push_frame(given: &Window, frame: Option<Frame>, number: usize) -> Window
 #[must_use]
 pub fn get(given: &Window, fraction: f32) -> (Frame, usize) {
     let original = Resampler::from_window(given);
-    (original.get(fraction), original.take_lowest())
+    (original.get(fraction), original.window().count)
 }
 
 /// kira's `Resampler::current_frame_index`.
