@@ -97,7 +97,7 @@ fn constants(header: &str) -> BTreeMap<&str, u64> {
 fn layout(structs: &Structs, kind: &str, offsets: &mut Vec<usize>) -> (usize, usize) {
     match kind {
         "u32" | "f32" => return (4, 4),
-        "u64" | "f64" => return (8, 8),
+        "u64" | "i64" | "f64" => return (8, 8),
         _ => {}
     }
     if let Some(array) = kind.strip_prefix('[') {

@@ -77,12 +77,12 @@ fn each_request_that_is_claimed_has_its_note() {
 #[test]
 fn a_missing_note_and_a_missing_part_are_found() {
     let landings = read("docs/LANDINGS.md");
-    assert_eq!(faults(&landings, "loops (#103)"), ["#103: no section"]);
+    assert_eq!(faults(&landings, "loops (#199)"), ["#199: no section"]);
     let row = landings
         .lines()
         .find(|line| line.starts_with("| left open |"));
     let lost = landings.replacen(row.expect("a row"), "", 1);
     assert_eq!(faults(&lost, "").len(), 1, "{:?}", faults(&lost, ""));
-    let note = landings.replacen("## Ground", "## #103 Loops", 1);
-    assert_eq!(faults(&note, "loops (#103)"), [""; 0]);
+    let note = landings.replacen("## Ground", "## #199 Loops", 1);
+    assert_eq!(faults(&note, "loops (#199)"), [""; 0]);
 }
