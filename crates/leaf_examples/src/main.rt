@@ -1,4 +1,4 @@
-// Document 01's marked examples that the leaves decide and that no theorem states: each is run, shown and compared.
+// The rules' marked examples that the leaves decide and that no theorem states: each is run, shown and compared.
 // N = 10 and loop (3, 6) unless said. Of a yes or no, 1 is shown for yes.
 ghost use mathlib.Core.Path.{_≡_};
 ghost use Prim.Native.Nat.{_<_};

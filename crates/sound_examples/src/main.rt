@@ -1,4 +1,4 @@
-// Document 01's marked examples of the sound that no theorem states, and both zeros as held rates: each is run, shown and compared.
+// The rules' marked examples of the sound that no theorem states, and both zeros as held rates: each is run, shown and compared.
 // 1 Hz, rate 1, a time step of 1 and unit lanes unless said. Of a yes or no, 1 is shown for yes.
 use block::Signals;
 use command_set::Amount;

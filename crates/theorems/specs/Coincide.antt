@@ -1,4 +1,4 @@
--- Whether a promise says enough (document 01): any two outcomes that one contract allows for one input coincide. A line for each public function,
+-- Whether a promise says enough (docs/RULES.md): any two outcomes that one contract allows for one input coincide. A line for each public function,
 -- over its contract itself: `Post` is all that the function ensures, of what it is given, what it answers and what the lent buffers hold at its end.
 use mathlib.Core.Path.{_≡_}
 use mathlib.Core.List.{List}

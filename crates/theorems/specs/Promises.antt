@@ -84,7 +84,7 @@ pub record Promises : Type 0 where
   pub reads-b : ReadsB
   -- kira's wraps and ours agree
   pub rust-agrees : RustAgrees
-  -- document 01's examples marked [P]
+  -- the rules' examples marked [P]
   pub examples-hold : ExamplesHold
   -- each contract says enough: any two outcomes that it allows coincide
   pub coincide : Coincide

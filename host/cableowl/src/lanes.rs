@@ -1,4 +1,4 @@
-//! The lanes of a block: document 01, "What the host supplies".
+//! The lanes of a block: docs/RULES.md, "What the host supplies".
 
 use crate::{MAX_BLOCK_FRAMES, ffi};
 

@@ -29,7 +29,7 @@
 //! # Ok::<(), cableowl::Refusal>(())
 //! ```
 //!
-//! "Document 01" is the paper that states the exact rules; the definitions of the crates below
+//! docs/RULES.md states the exact rules; the definitions of the crates below
 //! `crates/` say them, and the proofs hold the compiled code to them.
 #![deny(missing_docs)]
 #![deny(unsafe_code)]

@@ -1,4 +1,4 @@
-//! The seven states, and what a block is told: document 01, "States".
+//! The seven states, and what a block is told: docs/RULES.md, "States".
 
 use crate::ffi;
 
@@ -33,7 +33,7 @@ impl PlaybackState {
         Self::Stopped,
     ];
 
-    /// Document 01's number, 0 to 6.
+    /// The rules' number, 0 to 6.
     #[must_use]
     pub fn number(self) -> u32 {
         self as u32

@@ -1,4 +1,4 @@
-//! The refusals: document 01, "Numbers and their refusals".
+//! The refusals: docs/RULES.md, "Numbers and their refusals".
 
 use std::{error::Error, fmt, hint::black_box};
 
@@ -102,7 +102,7 @@ pub enum Refusal {
 }
 
 impl Refusal {
-    /// Document 01's number, from 1.
+    /// The rules' number, from 1.
     #[must_use]
     pub fn number(self) -> u32 {
         match self {

@@ -1,4 +1,4 @@
-//! A voice's whole state, to save and to give back: document 01, "Well formed".
+//! A voice's whole state, to save and to give back: docs/RULES.md, "Well formed".
 
 use crate::{PlaybackState, ffi};
 

@@ -1,4 +1,4 @@
-//! The voice: document 01, "Creation, commands, block".
+//! The voice: docs/RULES.md, "Creation, commands, block".
 
 use crate::{
     BlockLanes, Commands, LoopTable, PlaybackState, Refusal, Settings, Signals, State, ffi,

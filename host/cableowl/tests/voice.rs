@@ -1,4 +1,4 @@
-// What a voice does when its calls are accepted: document 01's examples through the API.
+// What a voice does when its calls are accepted: the rules' examples through the API.
 
 use cableowl::{
     Commands, Lanes, PlaybackState, Refusal, Settings, Signals, StartAnswer, StartSignal,

@@ -12,7 +12,7 @@ use crate::{
 /// How many differences of one player and kind are made small; the others are only counted.
 const SHRUNK: u64 = 3;
 
-/// Document 01's model as the judge, and the players it is compared with.
+/// The rules' model as the judge, and the players it is compared with.
 pub struct Harness<'a> {
     players: Vec<&'a dyn Player>,
     /// What has been counted so far.
@@ -133,7 +133,7 @@ impl<'a> Harness<'a> {
     }
 }
 
-/// What document 01's model answers.
+/// What the rules' model answers.
 #[must_use]
 pub fn judged(call: &Call) -> Outcome {
     DOCUMENT

@@ -1,8 +1,8 @@
-//! Ours, kira's text and document 01's rules on the same calls.
+//! Ours, kira's text and the rules on the same calls.
 //!
 //! A [`Player`] answers a [`Call`]: a creation, a command set, a block into an output or a mix, or a
 //! stretch, each with the whole state given and handed back, so a difference is always one call.
-//! The [`Harness`] asks them all, holds each answer to that of document 01's model, and makes what
+//! The [`Harness`] asks them all, holds each answer to that of the rules' model, and makes what
 //! differs small. [`runs`] makes the calls from a seed. [`wrong`] has players that must be found out.
 #![forbid(unsafe_code)]
 #![warn(missing_docs)]

@@ -1,4 +1,4 @@
-// Compares ours and kira's text with document 01's rules:
+// Compares ours and kira's text with the rules:
 // `differential [--seed N] [--rounds N] [--long] [--without-ours] [--wrong]`.
 // The same seed and rounds give the same table on every machine; progress and time go to standard error.
 

@@ -91,7 +91,7 @@ pub fn entry(left: f32, right: f32, number: usize) -> Entry {
     }
 }
 
-/// Ours and kira's text answer the call as document 01 does.
+/// Ours and kira's text answer the call as the rules do.
 ///
 /// # Panics
 /// When one of them does not.

@@ -75,7 +75,7 @@ fn our_block(
     }
 }
 
-/// A voice by rules, with document 01's refusals.
+/// A voice by rules, with the rules' refusals.
 pub struct Model<R> {
     name: &'static str,
     rules: R,
@@ -83,7 +83,7 @@ pub struct Model<R> {
 
 /// The rules as they stand.
 pub const DOCUMENT: Model<Document> = Model {
-    name: "document 01",
+    name: "the rules",
     rules: Document,
 };
 
@@ -136,7 +136,7 @@ impl<R: Rules + Sync> Player for Model<R> {
     }
 }
 
-/// The number document 01 gives a call, 0 for none.
+/// The number that the rules give a call, 0 for none.
 #[must_use]
 pub fn refusal(call: &Call) -> u32 {
     let samples = call.sound.samples().len();

@@ -1,4 +1,4 @@
-// Ours and kira's text agree with document 01's rules: tiny sounds exhaustively, then random calls,
+// Ours and kira's text agree with the rules: tiny sounds exhaustively, then random calls,
 // refusals, cuts. The program `differential` runs the same for longer.
 
 use differential::{

@@ -2,7 +2,7 @@
 //!
 //! States, tags, lengths and lanes are arbitrary or a few bits away from lawful ones. Each call must
 //! come back, with a refusal that leaves state and output byte for byte as they were, or with the
-//! answer of document 01's model to what the bytes mean, in a state that is well formed again.
+//! answer of the rules' model to what the bytes mean, in a state that is well formed again.
 #![forbid(unsafe_code)]
 #![warn(missing_docs)]
 

@@ -47,7 +47,7 @@ impl IntoOptionalRegion for Option<Region> {
     }
 }
 
-/// The seven states, under document 01's numbers.
+/// The seven states, under the rules' numbers.
 #[derive(Debug, Clone, Copy, PartialEq, Eq)]
 #[repr(u8)]
 pub enum PlaybackState {

@@ -95,7 +95,7 @@ impl State {
         }
     }
 
-    /// Document 01's "well formed".
+    /// The rules' "well formed".
     #[must_use]
     pub fn is_well_formed(&self) -> bool {
         let region_fits = |region: Option<(usize, usize)>, frames| {

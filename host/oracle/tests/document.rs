@@ -1,4 +1,4 @@
-// kira's text and document 01's rules agree leaf by leaf (whole voices: crate differential).
+// kira's text and the rules agree leaf by leaf (whole voices: crate differential).
 
 use oracle::{
     Answer, Entry, Frame, PlaybackPosition, PlaybackState, Signals,

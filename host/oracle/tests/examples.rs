@@ -1,4 +1,4 @@
-// Document 01's marked examples, run on kira's own text.
+// The rules' marked examples, run on kira's own text.
 
 mod common;
 

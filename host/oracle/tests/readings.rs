@@ -1,4 +1,4 @@
-// The readings of document 01 that the oracle can show, each with its smallest example.
+// The readings of docs/DECISIONS.md that the oracle can show, each with its smallest example.
 
 mod common;
 

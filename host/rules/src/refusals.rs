@@ -1,4 +1,4 @@
-//! Document 01's refusals: the lowest number that applies, 0 for none.
+//! The rules' refusals: the lowest number that applies, 0 for none.
 
 use oracle::{Commands, EndPosition, LIMIT, Lanes, PlaybackPosition, Region, Settings, State};
 

@@ -1,4 +1,4 @@
-// Each rule of document 01 as one method, so that a wrong player can differ in exactly one.
+// Each rule of docs/RULES.md as one method, so that a wrong player can differ in exactly one.
 
 use oracle::{
     Answer, EndPosition, Entry, Frame, LIMIT, PlaybackPosition, PlaybackState, Region, Signals,
@@ -6,7 +6,7 @@ use oracle::{
     leaves::{Transport, Window},
 };
 
-/// Document 01's rules, each of which may be overridden.
+/// The rules, each of which may be overridden.
 pub trait Rules {
     /// A forward step.
     fn forward(&self, given: Transport, num_frames: usize) -> Transport {

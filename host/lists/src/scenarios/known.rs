@@ -1,4 +1,4 @@
-// Scenarios by plan: document 01's examples and readings, every state with every signal and command, every small loop.
+// Scenarios by plan: the rules' examples and readings, every state with every signal and command, every small loop.
 
 use oracle::{
     Answer, Commands, EndPosition, Entry, LIMIT, LaneBuffers, Oracle,
@@ -53,7 +53,7 @@ pub fn created(first: usize, frames: usize) -> State {
     Oracle::create(&Settings::new(1), &ramp(first, frames)).state()
 }
 
-/// Document 01's marked examples.
+/// The rules' marked examples.
 fn examples(list: &mut Words) {
     let mut scene = Scene::begin(list, &ramp(1, 3));
     scene.create(&Settings::new(1));
@@ -95,7 +95,7 @@ fn examples(list: &mut Words) {
     scene.block(&unit(8, 0.5));
 }
 
-/// The readings of document 01 that have an example.
+/// The readings of docs/DECISIONS.md that have an example.
 fn readings(list: &mut Words) {
     let here = Commands {
         seek_by: Some(0.0),

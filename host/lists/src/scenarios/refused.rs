@@ -1,4 +1,4 @@
-// Refused calls, expected by document 01's rules: each number by each of its faults, and the lowest of two.
+// Refused calls, expected by the rules: each number by each of its faults, and the lowest of two.
 
 use oracle::{
     Commands, EndPosition, Entry, LIMIT,

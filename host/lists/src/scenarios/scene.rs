@@ -1,4 +1,4 @@
-// A scenario as it is written: each record beside what the oracle answers, or document 01's refusal.
+// A scenario as it is written: each record beside what the oracle answers, or the rules' refusal.
 
 use oracle::{
     Commands, Entry, LaneBuffers, Oracle, PlaybackState, Reported, Settings, Signals, State,
