@@ -7,7 +7,7 @@ use mathlib.Core.Bool.{Bool, true, false, cond}
 use mathlib.Core.List.{List, [], _∷_, _++_}
 use lib.ListN.{length}
 use lib.Ieee.{Float}
-use Rattle.numbers.specs.Words.{naught}
+use Rattle.numbers.specs.Words.{positiveZero}
 use Rattle.playback_state_manager.specs.declared.PlaybackState.{PlaybackState}
 use Rattle.playback_state_manager.specs.declared.StartAnswer.{StartAnswer}
 use Rattle.playback_state_manager.specs.declared.StartAnswer.the-variants.{Waiting, Now}
@@ -26,7 +26,7 @@ use Rattle.block.specs.Blocks.{zeros, silent, come, givenUp, begun, live
 pub zeros-append : (xs ys : List Lane) → zeros (xs ++ ys) ≡ zeros xs ++ zeros ys
 unfolding zeros
 zeros-append [] ys = refl
-zeros-append (l ∷ xs) ys = ap (λ (z : List Float). naught ∷ naught ∷ z) (zeros-append xs ys)
+zeros-append (l ∷ xs) ys = ap (λ (z : List Float). positiveZero ∷ positiveZero ∷ z) (zeros-append xs ys)
 
 pub zeros-length : (ls : List Lane) → length (zeros ls) ≡ 2 * length ls
 unfolding zeros

@@ -7,7 +7,7 @@ use native.Mathlib.Omega.{arith}
 use lib.ListN.{length, take, set, replicate, replicate-append-replicate}
 use lib.Seq.{take-suc-set, take-all}
 use lib.Ieee.{Float}
-use Rattle.numbers.specs.Words.{naught}
+use Rattle.numbers.specs.Words.{positiveZero}
 use Rattle.lanes.specs.Lanes.{Lane}
 use Rattle.block.specs.Blocks.{zeros}
 
@@ -23,10 +23,10 @@ fill-all l i n z e f g =
     sym t ∙ e ∙ ap (λ (k : ℕ). replicate k z) g
 
 -- a silent block's samples are that many positive zeros
-pub zeros-filled : (ls : List Lane) → zeros ls ≡ replicate (2 * length ls) naught
+pub zeros-filled : (ls : List Lane) → zeros ls ≡ replicate (2 * length ls) positiveZero
 unfolding zeros
 zeros-filled [] = refl
-zeros-filled (l ∷ ls) = ap (λ (r : List Float). naught ∷ naught ∷ r) (zeros-filled ls) ∙ ap (λ (n : ℕ). replicate n naught) (two (length ls))
+zeros-filled (l ∷ ls) = ap (λ (r : List Float). positiveZero ∷ positiveZero ∷ r) (zeros-filled ls) ∙ ap (λ (n : ℕ). replicate n positiveZero) (two (length ls))
   where
     two : (n : ℕ) → suc (suc (2 * n)) ≡ 2 * suc n
     two n = omega arith

@@ -3,7 +3,7 @@ use mathlib.Core.Bool.{Bool, true, false, cond}
 use mathlib.Core.List.{List}
 use lib.Dec.{T}
 use lib.Ieee.{Float, lt}
-use Rattle.numbers.specs.Words.{naught}
+use Rattle.numbers.specs.Words.{positiveZero}
 use Rattle.numbers.specs.Lists.{all}
 use Rattle.lanes.specs.Lanes.{Lane, near}
 use Rattle.voice.specs.declared.StaticSound.{StaticSound}
@@ -15,9 +15,9 @@ use Rattle.block.specs.Blocks.{begun, live, silent, block}
 
 pub begun-formed : (g : Signals) (v : StaticSound) → Formed v → Formed (begun g v)
 unfolding begun
-begun-formed g v h = record { setup = h .setup; rate = h .rate; seat = h .seat; fraction = h .fraction; window = h .window }
+begun-formed g v h = record { setup = h .setup; rate = h .rate; transportFormed = h .transportFormed; fraction = h .fraction; window = h .window }
 
-module _ (snd : List Float) (dt : Float) (t : T (lt naught dt)) where
+module _ (snd : List Float) (dt : Float) (t : T (lt positiveZero dt)) where
   pub block-formed : (ls : List Lane) (g : Signals) (v : StaticSound) → T (all (near (v .setup .«sample_rate») dt) ls) → Formed v → Formed ((block snd dt ls g v) .voice)
   unfolding block begun
   block-formed ls g v k h = go (live (begun g v))

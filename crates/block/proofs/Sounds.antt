@@ -5,7 +5,7 @@ use mathlib.Core.Bool.{true, false}
 use mathlib.Core.List.{List}
 use lib.ListN.{length, replicate}
 use lib.Ieee.{Float}
-use Rattle.numbers.specs.Words.{naught}
+use Rattle.numbers.specs.Words.{positiveZero}
 use Rattle.lanes.specs.Lanes.{Lanes, rows}
 use Rattle.lanes.proofs.Rows.{beside-length}
 use Rattle.voice.specs.declared.StaticSound.{StaticSound}
@@ -22,11 +22,11 @@ module _ (snd : List Float) (dt : Float) (b : Lanes) (g : Signals) (v u : Static
   sounds t o h =
       h ∙ ap acceptedAs (ap (plays snd dt (rows b)) e ∙ sym (block-live snd dt (rows b) g v (subst (λ (w : StaticSound). live w ≡ true) e t)))
 
-  pub rests : live u ≡ false → (out : List Float) (n : ℕ) → out ≡ replicate n naught → n ≡ 2 * length (b .rate)
+  pub rests : live u ≡ false → (out : List Float) (n : ℕ) → out ≡ replicate n positiveZero → n ≡ 2 * length (b .rate)
       → record { answer = record { refusal = 0; sound = u; steps = 0; «lowest_count» = 4 }; samples = out } ≡ acceptedAs (block snd dt (rows b) g v)
   rests t out n h k =
       ap (λ (z : List Float). acceptedAs (record { voice = u; samples = z; steps = 0; «lowest_count» = 4 }))
-      (h ∙ ap (λ (m : ℕ). replicate m naught) (k ∙ ap (λ (m : ℕ). 2 * m) (sym (beside-length (b .fade) (b .volume) (b .left) (b .right) (b .rate)))) ∙ sym (zeros-filled (rows b)))
+      (h ∙ ap (λ (m : ℕ). replicate m positiveZero) (k ∙ ap (λ (m : ℕ). 2 * m) (sym (beside-length (b .fade) (b .volume) (b .left) (b .right) (b .rate)))) ∙ sym (zeros-filled (rows b)))
       ∙ ap acceptedAs (ap (silent (rows b)) e ∙ sym (block-silent snd dt (rows b) g v (subst (λ (w : StaticSound). live w ≡ false) e t)))
 
   -- what playing asks, after the signals
@@ -34,4 +34,4 @@ module _ (snd : List Float) (dt : Float) (b : Lanes) (g : Signals) (v u : Static
   unfolding begun
   playable m h =
       subst (λ (w : StaticSound). Playable snd w dt b m) (sym e)
-      (record { formed = begun-formed g v (h .formed); lent = h .lent; sized = h .sized; long = h .long; timely = h .timely; near = h .near })
+      (record { formed = begun-formed g v (h .formed); lent = h .lent; sized = h .sized; long = h .long; timeStep = h .timeStep; near = h .near })

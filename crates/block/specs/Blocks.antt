@@ -2,7 +2,7 @@
 use mathlib.Core.Bool.{Bool, true, false, _&&_, cond}
 use mathlib.Core.List.{List, [], _∷_}
 use lib.Ieee.{Float}
-use Rattle.numbers.specs.Words.{naught}
+use Rattle.numbers.specs.Words.{positiveZero}
 use Rattle.playback_state_manager.specs.declared.PlaybackState.{PlaybackState}
 use Rattle.playback_state_manager.specs.declared.PlaybackState.the-variants as state
 use Rattle.playback_state_manager.specs.declared.StartAnswer.{StartAnswer}
@@ -17,7 +17,7 @@ use Rattle.block.specs.declared.Signals.{Signals}
 -- two positive zeros for each frame
 unfoldable pub zeros : List Lane → List Float
 zeros [] = []
-zeros (l ∷ ls) = naught ∷ naught ∷ zeros ls
+zeros (l ∷ ls) = positiveZero ∷ positiveZero ∷ zeros ls
 
 -- positive zeros are written and nothing moves; no window is read, and the count is 4
 abbrev pub silent : List Lane → StaticSound → Played

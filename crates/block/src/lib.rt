@@ -1,7 +1,7 @@
 // An accepted block: the voice takes its signals, then it plays or is silent.
 ghost use mathlib.Core.Path.{_≡_};
 ghost use lib.ListN.{length, replicate};
-ghost use Rattle.numbers.specs.Words.{naught};
+ghost use Rattle.numbers.specs.Words.{positiveZero};
 ghost use Rattle.lanes.specs.Lanes.{five, rows};
 ghost use Rattle.playing.specs.Plays.{acceptedAs};
 ghost use Rattle.playing.specs.Turns.{Playable};
@@ -75,7 +75,7 @@ fn is_live(voice: StaticSound) -> bool
 }
 
 fn silence(out: &mut [f32])
-    ensures { λ r. ⌜ now (out .exit) ≡ replicate (length (now (out .entry))) naught ⌝ }
+    ensures { λ r. ⌜ now (out .exit) ≡ replicate (length (now (out .entry))) positiveZero ⌝ }
 {
     for i in 0..out.len() {
         out[i] = 0.0;

@@ -7,7 +7,7 @@ use lib.Dec.{T}
 use lib.ListN.{length}
 use lib.Ieee.{Float}
 use borrow.Author.Tests.{ne-eqb}
-use Rattle.numbers.specs.Words.{naught}
+use Rattle.numbers.specs.Words.{positiveZero}
 use Rattle.lanes.specs.Lanes.{Lanes}
 use Rattle.voice.specs.declared.StaticSound.{StaticSound}
 use Rattle.voice.specs.WellFormed.{ours}
@@ -70,7 +70,7 @@ unfolding createdC
 created-blank snd s n = ap encoded (created-refused snd (settingsOf s) n)
 
 pub commanded-given : (snd : List Float) (c : CableowlState) (k : CableowlCommands) → ((commandedC snd c k) .refusal ≡ 0 → ⊥)
-    → let r = commandedC snd c k in (r .state ≡ c) × (r .position ≡ naught)
+    → let r = commandedC snd c k in (r .state ≡ c) × (r .position ≡ positiveZero)
 unfolding commandedC
 commanded-given snd c k n = (
   after-given _ _ c n,

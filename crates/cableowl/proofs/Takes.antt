@@ -7,7 +7,7 @@ use lib.Dec.{T, eqb}
 use lib.ListN.{length}
 use lib.Ieee.{Float}
 use borrow.Author.Tests.{eqb-false}
-use Rattle.numbers.specs.Words.{naught}
+use Rattle.numbers.specs.Words.{positiveZero}
 use Rattle.voice.specs.declared.StaticSound.{StaticSound}
 use Rattle.voice.specs.WellFormed.{ours}
 use Rattle.command_set.specs.declared.Commanded.{Commanded}
@@ -31,7 +31,7 @@ module _ (snd : List Float) (t : LoopTable) (k : ℕ) where
       n = (found t k) .refusal
 
       go : (b : Bool) → eqb n 0 ≡ b
-          → let r = cond {A = Commanded} b (commanded snd v (loopCommand ((found t k) .slot))) (record { refusal = n; sound = v; position = naught }) in
+          → let r = cond {A = Commanded} b (commanded snd v (loopCommand ((found t k) .slot))) (record { refusal = n; sound = v; position = positiveZero }) in
           r .refusal ≡ 0 → T (ours (length snd) (r .sound))
       go true e z = commanded-ours snd v (loopCommand ((found t k) .slot)) z
       go false e z = absurd (eqb-false n 0 e z)

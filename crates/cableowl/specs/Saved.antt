@@ -5,7 +5,7 @@ use mathlib.Core.List.{List, [], _∷_}
 use lib.Dec.{eqb}
 use lib.ListN.{getD}
 use lib.Ieee.{Float, nan, binary64, ofBits}
-use Rattle.numbers.specs.Words.{naught}
+use Rattle.numbers.specs.Words.{positiveZero}
 use Rattle.settings.specs.declared.SavedSettings.{SavedSettings}
 use Rattle.settings.specs.declared.Loaded.{Loaded}
 use Rattle.settings.specs.Records.{finiteBits}
@@ -43,7 +43,7 @@ abbrev pub tagOf : ℕ → ℕ
 tagOf word = cond (eqb word 0) 0 (cond (eqb word 1) 1 2)
 
 abbrev pub frameAt : ℕ → CableowlPlace
-frameAt n = record { seconds = naught; samples = n; kind = 1 }
+frameAt n = record { seconds = positiveZero; samples = n; kind = 1 }
 
 abbrev pub regionAt : ℕ → ℕ → CableowlRegion
 regionAt a b = record { start = frameAt a; end = frameAt b }

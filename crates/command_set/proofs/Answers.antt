@@ -4,7 +4,7 @@ use Prim.Native.Nat.{ℕ}
 use mathlib.Core.List.{List}
 use lib.ListN.{length}
 use lib.Ieee.{Float}
-use Rattle.numbers.specs.Words.{naught}
+use Rattle.numbers.specs.Words.{positiveZero}
 use Rattle.voice.specs.declared.StaticSound.{StaticSound}
 use Rattle.command_set.specs.declared.Commands.{Commands}
 use Rattle.command_set.specs.declared.Commanded.{Commanded}
@@ -16,7 +16,7 @@ abbrev obeying : List Float → StaticSound → Commands → Commanded
 obeying snd v c = record { refusal = 0; sound = obeyed snd c v; position = reported v }
 
 abbrev refusing : ℕ → StaticSound → Commanded
-refusing k v = record { refusal = k; sound = v; position = naught }
+refusing k v = record { refusal = k; sound = v; position = positiveZero }
 
 module _ (snd : List Float) (v : StaticSound) (c : Commands) where
   pub commanded-passed : (commanded snd v c) .refusal ≡ 0 → refusedSet (length snd) v c ≡ 0

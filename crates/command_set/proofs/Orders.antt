@@ -12,7 +12,7 @@ use Rattle.numbers.specs.Frames.{most, cutOff}
 use Rattle.numbers.proofs.Frames.{cut-le}
 use Rattle.playback_position.specs.Positions.{within}
 use Rattle.playback_state_manager.specs.States.{advancing}
-use Rattle.transport.proofs.Seats.{seek-seated}
+use Rattle.transport.proofs.WellFormed.{seek-formed-transport}
 use Rattle.voice.specs.declared.Setup.{Setup}
 use Rattle.voice.specs.declared.StaticSound.{StaticSound}
 use Rattle.voice.specs.Voices.{span, courseOf}
@@ -45,7 +45,7 @@ told-formed c v k r h =
     record {
       setup = h .setup;
       rate = rate-finite (c .«playback_rate») (v .«playback_rate») r (h .rate);
-      seat = record { loop = looped-within v (c .«loop_region») k (h .seat .loop); here = h .seat .here; low = h .seat .low };
+      transportFormed = record { loop = looped-within v (c .«loop_region») k (h .transportFormed .loop); here = h .transportFormed .here; low = h .transportFormed .low };
       fraction = h .fraction;
       window = h .window;
     }
@@ -54,7 +54,7 @@ told-formed c v k r h =
 
 pub jumped-kept : (v : StaticSound) (q : ℕ) → q ≤ most → Formed v → Kept (span (v .setup)) (jumped v q)
 jumped-kept v q k h =
-    record { seat = seek-seated (span (v .setup)) (v .moving .transport) q (span-most (v .setup) (h .setup)) (h .seat) k; window = h .window }
+    record { transportFormed = seek-formed-transport (span (v .setup)) (v .moving .transport) q (span-most (v .setup) (h .setup)) (h .transportFormed) k; window = h .window }
 
 pub sought-formed : (snd : List Float) (v : StaticSound) (q : ℕ) → q ≤ most → Formed v → Formed (sought snd v q)
 unfolding sought
@@ -64,7 +64,7 @@ sought-formed snd v q k h = moved-formed v (v .«fractional_position») _ h (h .
     j = jumped-kept v q k h
 
     go : (b : Bool) → Kept (span (v .setup)) (cond b (refilled snd (courseOf v) (jumped v q)) (jumped v q))
-    go true = record { seat = j .seat; window = pushed-windowed snd (courseOf v) (jumped v q) (j .seat .low) (h .window) }
+    go true = record { transportFormed = j .transportFormed; window = pushed-windowed snd (courseOf v) (jumped v q) (j .transportFormed .low) (h .window) }
     go false = j
 
 pub sought-setup : (snd : List Float) (v : StaticSound) (q : ℕ) → (sought snd v q) .setup ≡ v .setup

@@ -6,7 +6,7 @@ use lib.Dec.{eqb}
 use lib.IntN.{pos}
 use lib.ListN.{length}
 use lib.Ieee.{Float, fin, binary64, add, mul, div, lt, ofInt}
-use Rattle.numbers.specs.Words.{naught, finite}
+use Rattle.numbers.specs.Words.{positiveZero, finite}
 use Rattle.numbers.specs.Frames.{cutOff}
 use Rattle.playback_position.specs.declared.FrameRange.{FrameRange}
 use Rattle.playback_position.specs.declared.FrameRange.the-variants as range
@@ -142,4 +142,4 @@ reported v = div binary64 (ofInt binary64 (pos (heardNumber (v .moving .resample
 unfoldable pub commanded : List Float → StaticSound → Commands → Commanded
 commanded snd v c =
     let k = refusedSet (length snd) v c in
-    cond (eqb k 0) (record { refusal = 0; sound = obeyed snd c v; position = reported v }) (record { refusal = k; sound = v; position = naught })
+    cond (eqb k 0) (record { refusal = 0; sound = obeyed snd c v; position = reported v }) (record { refusal = k; sound = v; position = positiveZero })

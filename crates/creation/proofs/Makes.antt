@@ -10,12 +10,12 @@ use lib.ListN.{length}
 use lib.Ieee.{Float}
 use lib.Ieee.Fits.{and-i}
 use Rattle.numbers.specs.Words.{finite}
-use Rattle.numbers.proofs.Fractions.{naught-proper}
+use Rattle.numbers.proofs.Fractions.{positive-zero-proper}
 use Rattle.playback_position.specs.Positions.{within, placed}
 use Rattle.playback_position.proofs.Ranges.{lawful-within}
 use Rattle.transport.specs.declared.Transport.{Transport}
-use Rattle.transport.specs.Seats.{Seated}
-use Rattle.transport.proofs.Seats.{begun-seated}
+use Rattle.transport.specs.WellFormed.{FormedTransport}
+use Rattle.transport.proofs.WellFormed.{begun-formed-transport}
 use Rattle.resampler.proofs.Windows.{fresh-parts}
 use Rattle.voice.specs.declared.Setup.{Setup}
 use Rattle.voice.specs.declared.StaticSound.{StaticSound}
@@ -47,9 +47,9 @@ setup-of len s h =
     (and-i c d (lt→ltb 0 (len / 2) (h .some)) (le→leb (len / 2) 16777216 (h .few))))
     (allowed-within (s .«sample_rate») (len / 2) (s .slice) (h .slice))
 
-pub opened-formed : (k : Setup) (t : Transport) (rate : Float) (waits : Bool) → T (setUp k) → T (finite rate) → Seated (span k) t → Formed (opened k t rate waits)
+pub opened-formed : (k : Setup) (t : Transport) (rate : Float) (waits : Bool) → T (setUp k) → T (finite rate) → FormedTransport (span k) t → Formed (opened k t rate waits)
 opened-formed k t rate waits h r s =
-    record { setup = h; rate = r; seat = s; fraction = naught-proper; window = fresh-parts (t .position) (s .low) }
+    record { setup = h; rate = r; transportFormed = s; fraction = positive-zero-proper; window = fresh-parts (t .position) (s .low) }
 
 pub filled-formed : (snd : List Float) (v : StaticSound) → Formed v → Formed (filled snd v)
 filled-formed snd v h =
@@ -57,10 +57,10 @@ filled-formed snd v h =
     (updates-kept 3 snd (courseOf v) (v .moving) (span-most (v .setup) (h .setup)) (kept-of v h))
 
 -- the transport that creation begins with
-pub transport-seated : (len : ℕ) (s : Settings) → Creatable len s → Seated (span (setupOf len s)) (transportOf (setupOf len s) s)
-transport-seated len s h =
+pub transport-formed-transport : (len : ℕ) (s : Settings) → Creatable len s → FormedTransport (span (setupOf len s)) (transportOf (setupOf len s) s)
+transport-formed-transport len s h =
     let k = setupOf len s in
-    begun-seated (span k) (k .reverse) (ranged (s .«sample_rate») (span k) (s .«loop_region»)) (placed (s .«sample_rate») (s .«start_position»))
+    begun-formed-transport (span k) (k .reverse) (ranged (s .«sample_rate») (span k) (s .«loop_region»)) (placed (s .«sample_rate») (s .«start_position»))
     (span-most k (setup-of len s h)) (allowed-within (s .«sample_rate») (span k) (s .«loop_region») (h .loop)) (h .start-inside)
 
 module _ (snd : List Float) (s : Settings) (h : Creatable (length snd) s) where
@@ -70,7 +70,7 @@ module _ (snd : List Float) (s : Settings) (h : Creatable (length snd) s) where
       let k = setupOf (length snd) s in
       let t = transportOf k s in
       filled-formed snd (opened k t (s .«playback_rate») (s .«start_waits»))
-      (opened-formed k t (s .«playback_rate») (s .«start_waits») (setup-of (length snd) s h) (h .rate) (transport-seated (length snd) s h))
+      (opened-formed k t (s .«playback_rate») (s .«start_waits») (setup-of (length snd) s h) (h .rate) (transport-formed-transport (length snd) s h))
 
   -- over its own sound
   pub made-ours : T (ours (length snd) (made snd s))

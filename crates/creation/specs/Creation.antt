@@ -5,7 +5,7 @@ use mathlib.Core.List.{List}
 use lib.Dec.{leb, ltb, eqb}
 use lib.ListN.{length}
 use lib.Ieee.{Float}
-use Rattle.numbers.specs.Words.{naught, finite}
+use Rattle.numbers.specs.Words.{positiveZero, finite}
 use Rattle.playback_position.specs.declared.FrameRange.{FrameRange}
 use Rattle.playback_position.specs.declared.FrameRange.the-variants as range
 use Rattle.playback_position.specs.declared.Region.{Region}
@@ -60,7 +60,7 @@ opened k t rate waits =
       setup = k;
       «playback_rate» = rate;
       started = not waits;
-      «fractional_position» = naught;
+      «fractional_position» = positiveZero;
       moving = record { state = state.Playing; transport = t; resampler = fresh (t .position) };
     }
 
@@ -85,9 +85,9 @@ abbrev pub blankSound : StaticSound
 blankSound =
     record {
       setup = record { «sample_rate» = 0; «num_frames» = 0; slice = range.Absent; reverse = false };
-      «playback_rate» = naught;
+      «playback_rate» = positiveZero;
       started = false;
-      «fractional_position» = naught;
+      «fractional_position» = positiveZero;
       moving = record { state = state.Stopped; transport = record { position = 0; «loop_region» = range.Absent; playing = false }; resampler = fresh 0 };
     }
 

@@ -10,7 +10,7 @@ use lib.Ieee.{Float, nan, inf, fin, binary32, round, div, ofInt, ofBits, inFloat
 use lib.Ieee.Exact.{HasValue, round-exact}
 use borrow.Author.Tests.{lt-ltb, le-ltb, ltb-true, ltb-false}
 use Rattle.tables.proofs.Quotients.{quotient}
-use Rattle.numbers.specs.Words.{naught, level}
+use Rattle.numbers.specs.Words.{positiveZero, finiteClear}
 use Rattle.decibels.specs.Levels.{scaled, amplitude}
 use Rattle.decibels.proofs.Levels.{scaled-low}
 
@@ -45,28 +45,28 @@ unfolding amplitude
 at-level t e h q =
     ap (λ (n : ℕ). div binary32 (ofInt binary32 (pos n)) (ofBits binary32 1266679808)) q
     ∙ quotient24 (scaled t) (scaled-low t)
-    ∙ sym (ap (λ (b : Bool). cond b (round binary32 false (scaled t) 16777216) naught) (lt-ltb t 601 h))
+    ∙ sym (ap (λ (b : Bool). cond b (round binary32 false (scaled t) 16777216) positiveZero) (lt-ltb t 601 h))
 
 pub at-silence : (t : ℕ) → 601 ≤ t → ofBits binary32 0 ≡ amplitude t
 unfolding amplitude ofBits
-at-silence t h = sym (ap (λ (b : Bool). cond b (round binary32 false (scaled t) 16777216) naught) (le-ltb t 601 h))
+at-silence t h = sym (ap (λ (b : Bool). cond b (round binary32 false (scaled t) 16777216) positiveZero) (le-ltb t 601 h))
 
 -- ---- promises
 
 pub amplitude-exact : (t : ℕ) → t < 601 → HasValue (amplitude t) false (scaled t) 16777216
 unfolding amplitude
 amplitude-exact t h =
-    subst (λ (b : Bool). HasValue (cond b (round binary32 false (scaled t) 16777216) naught) false (scaled t) 16777216) (sym (lt-ltb t 601 h)) (exact (scaled t) (scaled-low t))
+    subst (λ (b : Bool). HasValue (cond b (round binary32 false (scaled t) 16777216) positiveZero) false (scaled t) 16777216) (sym (lt-ltb t 601 h)) (exact (scaled t) (scaled-low t))
 
-passes-of : (x : Float) (a c : ℕ) → HasValue x false a c → T (level x)
+passes-of : (x : Float) (a c : ℕ) → HasValue x false a c → T (finiteClear x)
 passes-of nan a c v = v
 passes-of (inf s) a c v = v
 passes-of (fin s m e) a c v = subst (λ (t : Bool). T (not t)) (sym (v .0)) tt
 
-pub amplitude-passes : (t : ℕ) → T (level (amplitude t))
+pub amplitude-passes : (t : ℕ) → T (finiteClear (amplitude t))
 unfolding amplitude
 amplitude-passes t = go (ltb t 601)
   where
-    go : (b : Bool) → T (level (cond b (round binary32 false (scaled t) 16777216) naught))
+    go : (b : Bool) → T (finiteClear (cond b (round binary32 false (scaled t) 16777216) positiveZero))
     go true = passes-of (round binary32 false (scaled t) 16777216) (scaled t) 16777216 (exact (scaled t) (scaled-low t))
     go false = tt

@@ -1,14 +1,14 @@
 -- What is promised of levels and ramps beyond the contracts, put together. Assumes nothing.
 use mathlib.Core.Path.{_≡_, refl}
 use lib.ListN.{take-append-drop}
-use Rattle.numbers.specs.Words.{naught}
+use Rattle.numbers.specs.Words.{positiveZero}
 use Rattle.decibels.specs.Levels.{amplitude}
 use Rattle.decibels.specs.Promises.{Promises}
 use Rattle.decibels.proofs.Levels as levels
 use Rattle.decibels.proofs.Amplitudes as amplitudes
 use Rattle.decibels.proofs.Ramps as ramps
 
-silent : amplitude 601 ≡ naught
+silent : amplitude 601 ≡ positiveZero
 unfolding amplitude
 silent = refl
 

@@ -7,7 +7,7 @@ use lib.Dec.{leb, ltb}
 use lib.ListN.{length, getD}
 use lib.Ieee.{Float, binary32, round}
 use Rattle.tables.specs.Largest.{largest}
-use Rattle.numbers.specs.Words.{naught}
+use Rattle.numbers.specs.Words.{positiveZero}
 
 -- (e / 2^24)^200 * 10^t is at most 1
 abbrev pub fits : ℕ → ℕ → Bool
@@ -27,7 +27,7 @@ Table xs = (length xs ≡ 601) × ((t : ℕ) → t < 601 → (getD xs t 0 ≡ sc
 
 -- the amplitude of a level: e / 2^24 as an f32, and +0 for silence
 unfoldable pub amplitude : ℕ → Float
-amplitude t = cond (ltb t 601) (round binary32 false (scaled t) 16777216) naught
+amplitude t = cond (ltb t 601) (round binary32 false (scaled t) 16777216) positiveZero
 
 -- 13: a level above 601
 abbrev pub levelRefusal : ℕ → ℕ

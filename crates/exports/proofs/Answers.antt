@@ -4,7 +4,7 @@ use mathlib.Core.Logic.{_⊎_, inl, inr}
 use mathlib.Core.Bool.{Bool, true, false, _&&_, cond}
 use lib.IntN.{pos}
 use lib.Ieee.{Float, fin, binary64, add, le}
-use Rattle.numbers.specs.Words.{naught, proper}
+use Rattle.numbers.specs.Words.{positiveZero, proper}
 use Rattle.numbers.specs.declared.Stepped.{Stepped}
 use Rattle.exports.specs.declared.Moved.{Moved}
 use Rattle.exports.specs.Answers.{walked, moved}
@@ -14,7 +14,7 @@ abbrev pub copied : Stepped → Moved
 copied s = record { steps = s .steps; rest = s .rest }
 
 abbrev pub still : Moved
-still = record { steps = 0; rest = naught }
+still = record { steps = 0; rest = positiveZero }
 
 module _ (f a : Float) where
   abbrev low : Bool

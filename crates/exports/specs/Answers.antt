@@ -4,7 +4,7 @@ use mathlib.Core.Bool.{Bool, false, _&&_, cond}
 use lib.Dec.{ltb}
 use lib.IntN.{pos}
 use lib.Ieee.{Float, fin, binary64, add, le}
-use Rattle.numbers.specs.Words.{naught, proper, whole, part}
+use Rattle.numbers.specs.Words.{positiveZero, proper, whole, part}
 use Rattle.exports.specs.declared.Moved.{Moved}
 
 -- 1 for yes, 0 for no
@@ -21,4 +21,4 @@ walked x = record { steps = whole x; rest = part x }
 
 -- a fraction moved on by an advance: no steps and positive zero where the fraction is not proper, or the advance is above 256
 unfoldable pub moved : Float → Float → Moved
-moved f a = cond (proper f && le a (fin false 1 (pos 8))) (walked (add binary64 f a)) (record { steps = 0; rest = naught })
+moved f a = cond (proper f && le a (fin false 1 (pos 8))) (walked (add binary64 f a)) (record { steps = 0; rest = positiveZero })

@@ -2,7 +2,7 @@
 // asks for more, the answer outside is said by the contract.
 ghost use mathlib.Core.Path.{_≡_};
 ghost use mathlib.Core.Bool.{cond};
-ghost use Rattle.numbers.specs.Words.{naught, finite, level, isNaught, negative, proper, narrowed};
+ghost use Rattle.numbers.specs.Words.{positiveZero, finite, finiteClear, isPositiveZero, negative, proper, narrowed};
 ghost use Rattle.numbers.specs.Words as Words;
 ghost use Rattle.numbers.specs.Frames.{rounded, cutOff};
 ghost use Rattle.exports.specs.Answers.{bit, yes, moved};
@@ -35,7 +35,7 @@ fn is_yes(n: u32) -> bool
 // Positive zero where x is no proper fraction.
 #[no_mangle]
 pub extern "C" fn cableowl_test_narrow(x: f64) -> f32
-    ensures { λ r. ⌜ r ≡ cond (proper x) (narrowed x) naught ⌝ }
+    ensures { λ r. ⌜ r ≡ cond (proper x) (narrowed x) positiveZero ⌝ }
 {
     if numbers::is_proper(x) {
         numbers::narrow(x)
@@ -107,15 +107,15 @@ pub extern "C" fn cableowl_test_is_proper(x: f64) -> u32
 }
 
 #[no_mangle]
-pub extern "C" fn cableowl_test_is_level(x: f32) -> u32
-    ensures { λ r. ⌜ r ≡ bit (level x) ⌝ }
+pub extern "C" fn cableowl_test_is_finite_clear(x: f32) -> u32
+    ensures { λ r. ⌜ r ≡ bit (finiteClear x) ⌝ }
 {
-    number(numbers::is_level(x))
+    number(numbers::is_finite_clear(x))
 }
 
 #[no_mangle]
-pub extern "C" fn cableowl_test_is_naught(x: f32) -> u32
-    ensures { λ r. ⌜ r ≡ bit (isNaught x) ⌝ }
+pub extern "C" fn cableowl_test_is_positive_zero(x: f32) -> u32
+    ensures { λ r. ⌜ r ≡ bit (isPositiveZero x) ⌝ }
 {
-    number(numbers::is_naught(x))
+    number(numbers::is_positive_zero(x))
 }

@@ -5,13 +5,13 @@ use mathlib.Core.Bool.{true, false}
 use lib.IntN.{pos, negsuc}
 use lib.Dec.{T, lit≤}
 use lib.Ieee.{Float, fin, binary32, add, sub, mul, eq, fits}
-use Rattle.numbers.specs.Words.{naught}
+use Rattle.numbers.specs.Words.{positiveZero}
 use Rattle.numbers.proofs.Bounds.{within, isZero, add-within, sub-within, mul-within, mul-zero-right, zero-add-eq}
 use Rattle.frame.specs.Frames.{cubic}
 
-pub cubic-at-naught : (a b c d : Float) → T (within 8 a) → T (within 8 b) → T (within 8 c) → T (within 8 d) → T (fits binary32 b) → eq (cubic a b c d naught) b ≡ true
+pub cubic-at-positive-zero : (a b c d : Float) → T (within 8 a) → T (within 8 b) → T (within 8 c) → T (within 8 d) → T (fits binary32 b) → eq (cubic a b c d positiveZero) b ≡ true
 unfolding cubic within isZero
-cubic-at-naught a b c d ha hb hc hd t =
+cubic-at-positive-zero a b c d ha hb hc hd t =
     let half = fin false 1 (negsuc 0) in
     let two-and-half = fin false 5 (negsuc 0) in
     let two = fin false 1 (pos 1) in
@@ -32,8 +32,8 @@ cubic-at-naught a b c d ha hb hc hd t =
     (mul-within binary32 16 1 (sub binary32 d a) half (lit≤ tt) (sub-within binary32 8 8 d a (lit≤ tt) hd ha) tt)
     (mul-within binary32 16 2 (sub binary32 b c) one-and-half (lit≤ tt) (sub-within binary32 8 8 b c (lit≤ tt) hb hc) tt)
     in
-    let u2 = add binary32 (mul binary32 c3 naught) c2 in
-    let k2 : T (within 56 u2) = add-within binary32 0 56 (mul binary32 c3 naught) c2 (lit≤ tt) (mul-within binary32 48 0 c3 naught (lit≤ tt) h3 tt) h2 in
-    let u1 = add binary32 (mul binary32 u2 naught) c1 in
-    let k1 : T (within 16 u1) = add-within binary32 0 16 (mul binary32 u2 naught) c1 (lit≤ tt) (mul-within binary32 56 0 u2 naught (lit≤ tt) k2 tt) h1 in
-    zero-add-eq binary32 8 (mul binary32 u1 naught) b (mul-zero-right binary32 16 u1 naught k1 tt) t hb
+    let u2 = add binary32 (mul binary32 c3 positiveZero) c2 in
+    let k2 : T (within 56 u2) = add-within binary32 0 56 (mul binary32 c3 positiveZero) c2 (lit≤ tt) (mul-within binary32 48 0 c3 positiveZero (lit≤ tt) h3 tt) h2 in
+    let u1 = add binary32 (mul binary32 u2 positiveZero) c1 in
+    let k1 : T (within 16 u1) = add-within binary32 0 16 (mul binary32 u2 positiveZero) c1 (lit≤ tt) (mul-within binary32 56 0 u2 positiveZero (lit≤ tt) k2 tt) h1 in
+    zero-add-eq binary32 8 (mul binary32 u1 positiveZero) b (mul-zero-right binary32 16 u1 positiveZero k1 tt) t hb

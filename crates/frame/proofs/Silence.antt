@@ -4,23 +4,23 @@ use mathlib.Core.Bool.{false}
 use lib.IntN.{pos, negsuc}
 use lib.Dec.{T}
 use lib.Ieee.{Float, fin, binary32}
-use Rattle.numbers.specs.Words.{naught, level}
-use Rattle.numbers.proofs.Silence.{add-naught, sub-naught, mul-naught}
-use Rattle.frame.specs.Frames.{cubic, hush, interpolated}
+use Rattle.numbers.specs.Words.{positiveZero, finiteClear}
+use Rattle.numbers.proofs.Silence.{add-positive-zero, sub-positive-zero, mul-positive-zero}
+use Rattle.frame.specs.Frames.{cubic, lastZero, interpolated}
 
-pub cubic-naught : (x : Float) → T (level x) → cubic naught naught naught naught x ≡ naught
+pub cubic-positive-zero : (x : Float) → T (finiteClear x) → cubic positiveZero positiveZero positiveZero positiveZero x ≡ positiveZero
 unfolding cubic
-cubic-naught x h =
+cubic-positive-zero x h =
     simp (
-      add-naught,
-      sub-naught,
-      mul-naught binary32 x h,
-      mul-naught binary32 (fin false 1 (negsuc 0)) tt,
-      mul-naught binary32 (fin false 5 (negsuc 0)) tt,
-      mul-naught binary32 (fin false 1 (pos 1)) tt,
-      mul-naught binary32 (fin false 3 (negsuc 0)) tt,
+      add-positive-zero,
+      sub-positive-zero,
+      mul-positive-zero binary32 x h,
+      mul-positive-zero binary32 (fin false 1 (negsuc 0)) tt,
+      mul-positive-zero binary32 (fin false 5 (negsuc 0)) tt,
+      mul-positive-zero binary32 (fin false 1 (pos 1)) tt,
+      mul-positive-zero binary32 (fin false 3 (negsuc 0)) tt,
     )
 
-pub interpolated-hush : (x : Float) → T (level x) → interpolated hush hush hush hush x ≡ hush
+pub interpolated-last-zero : (x : Float) → T (finiteClear x) → interpolated lastZero lastZero lastZero lastZero x ≡ lastZero
 unfolding interpolated
-interpolated-hush x h = simp (cubic-naught x h)
+interpolated-last-zero x h = simp (cubic-positive-zero x h)

@@ -5,12 +5,12 @@ use mathlib.Core.List.{List}
 use lib.IntN.{pos, negsuc}
 use lib.ListN.{getD}
 use lib.Ieee.{Float, nan, fin, binary32, add, sub, mul}
-use Rattle.numbers.specs.Words.{naught}
+use Rattle.numbers.specs.Words.{positiveZero}
 use Rattle.frame.specs.declared.Frame.{Frame}
 
 -- positive zero in both channels
-abbrev pub hush : Frame
-hush = record { left = naught; right = naught }
+abbrev pub lastZero : Frame
+lastZero = record { left = positiveZero; right = positiveZero }
 
 -- frame i of interleaved samples, left then right
 abbrev pub frameOf : List Float → ℕ → Frame

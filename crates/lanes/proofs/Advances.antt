@@ -8,10 +8,10 @@ use lib.IntN.{pos}
 use lib.Dec.{T, eqb}
 use lib.Ieee.{Float, nan, inf, fin, Format, binary64, up, down, unlike, round, mul, lt, le, eq, ofInt}
 use lib.Ieee.Fits.{and-i, and-l, and-r}
-use Rattle.numbers.specs.Words.{finite, level, magnitude, advance}
+use Rattle.numbers.specs.Words.{finite, finiteClear, magnitude, advance}
 use Rattle.numbers.specs.Lists.{all}
-use Rattle.numbers.proofs.Signs.{clear, round-clear, level-clear}
-use Rattle.lanes.specs.Lanes.{timely, slow}
+use Rattle.numbers.proofs.Signs.{clear, round-clear, finite-clear-clear}
+use Rattle.lanes.specs.Lanes.{timeStep, slow}
 
 -- a product's factors changed over
 unlike-comm : (s t : Bool) → unlike s t ≡ unlike t s
@@ -37,12 +37,12 @@ mul-swap f (fin s m e) (fin t n d) =
 abbrev most : Float
 most = fin false 1 (pos 8)
 
-timely-level : (dt : Float) → T (timely dt) → T (level dt)
+time-step-finite-clear : (dt : Float) → T (timeStep dt) → T (finiteClear dt)
 unfolding lt
-timely-level nan h = h
-timely-level (inf s) h = h
-timely-level (fin true m e) h = h
-timely-level (fin false m e) h = tt
+time-step-finite-clear nan h = h
+time-step-finite-clear (inf s) h = h
+time-step-finite-clear (fin true m e) h = h
+time-step-finite-clear (fin false m e) h = tt
 
 -- a NaN, or infinity
 abbrev endless : Float → Bool
@@ -73,20 +73,20 @@ fast (inf true) h k = h
 fast (inf false) h k = k
 fast (fin s m e) h k = h
 
-advance-endless : (hz : ℕ) (dt q : Float) → T (timely dt) → T (endless (magnitude q)) → T (endless (advance hz q dt))
+advance-endless : (hz : ℕ) (dt q : Float) → T (timeStep dt) → T (endless (magnitude q)) → T (endless (advance hz q dt))
 unfolding advance ofInt
 advance-endless hz dt q t h =
     mul-endless binary64 _ dt
     (subst (λ (x : Float). T (endless x)) (mul-swap binary64 (magnitude q) (round binary64 false hz 1)) (mul-endless binary64 (magnitude q) (round binary64 false hz 1) h (round-clear binary64 hz 1)))
-    (level-clear dt (timely-level dt t))
+    (finite-clear-clear dt (time-step-finite-clear dt t))
 
-pub near-finite : (hz : ℕ) (dt q : Float) → T (timely dt) → T (slow hz dt q) → T (finite q)
+pub near-finite : (hz : ℕ) (dt q : Float) → T (timeStep dt) → T (slow hz dt q) → T (finite q)
 unfolding magnitude
 near-finite hz dt nan t h = fast (advance hz nan dt) (advance-endless hz dt nan t tt) h
 near-finite hz dt (inf s) t h = fast (advance hz (inf s) dt) (advance-endless hz dt (inf s) t tt) h
 near-finite hz dt (fin s m e) t h = tt
 
-pub slow-finite : (hz : ℕ) (dt : Float) (qs : List Float) → T (timely dt) → T (all (slow hz dt) qs) → T (all finite qs)
+pub slow-finite : (hz : ℕ) (dt : Float) (qs : List Float) → T (timeStep dt) → T (all (slow hz dt) qs) → T (all finite qs)
 slow-finite hz dt [] t h = tt
 slow-finite hz dt (q ∷ qs) t h =
     and-i (finite q) (all finite qs) (near-finite hz dt q t (and-l (slow hz dt q) (all (slow hz dt) qs) h)) (slow-finite hz dt qs t (and-r (slow hz dt q) (all (slow hz dt) qs) h))

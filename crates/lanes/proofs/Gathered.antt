@@ -13,9 +13,9 @@ use lib.ListN.{length, getD, take}
 use lib.Seq.{take-all}
 use lib.Ieee.{Float, nan}
 use borrow.Author.Tests.{ltb-true, ltb-false, lt-ltb, le-ltb}
-use Rattle.numbers.specs.Words.{level}
+use Rattle.numbers.specs.Words.{finiteClear}
 use Rattle.numbers.specs.Lists.{all}
-use Rattle.lanes.specs.Lanes.{low, fourLevel}
+use Rattle.lanes.specs.Lanes.{low, fourFiniteClear}
 
 -- ---- `and`
 pub both-assoc : (a b c : Bool) → ((a && b) && c) ≡ (a && (b && c))
@@ -78,13 +78,13 @@ module _ {A : Type 0} (p : A → Bool) where
 
 -- one turn over four lanes
 pub four-turn : (a b c d : List Float) (i tops ta tb tc td : ℕ) → i < length a → i < length b → i < length c → i < length d
-    → low tops ≡ fourLevel (take i a) (take i b) (take i c) (take i d)
-    → low ta ≡ level (getD a i nan) → low tb ≡ level (getD b i nan) → low tc ≡ level (getD c i nan) → low td ≡ level (getD d i nan)
-    → low (bitOr (bitOr (bitOr (bitOr tops ta) tb) tc) td) ≡ fourLevel (take (i + 1) a) (take (i + 1) b) (take (i + 1) c) (take (i + 1) d)
+    → low tops ≡ fourFiniteClear (take i a) (take i b) (take i c) (take i d)
+    → low ta ≡ finiteClear (getD a i nan) → low tb ≡ finiteClear (getD b i nan) → low tc ≡ finiteClear (getD c i nan) → low td ≡ finiteClear (getD d i nan)
+    → low (bitOr (bitOr (bitOr (bitOr tops ta) tb) tc) td) ≡ fourFiniteClear (take (i + 1) a) (take (i + 1) b) (take (i + 1) c) (take (i + 1) d)
 four-turn a b c d i tops ta tb tc td ha hb hc hd e ea eb ec ed =
-    rw (add-one i, all-more level a i nan ha, all-more level b i nan hb, all-more level c i nan hc, all-more level d i nan hd, or-low (bitOr (bitOr (bitOr tops ta) tb) tc) td, or-low (bitOr (bitOr tops ta) tb) tc, or-low (bitOr tops ta) tb, or-low tops ta, e, ea, eb, ec, ed)
-    (four-more (all level (take i a)) (all level (take i b)) (all level (take i c)) (all level (take i d)) (level (getD a i nan)) (level (getD b i nan)) (level (getD c i nan)) (level (getD d i nan)))
+    rw (add-one i, all-more finiteClear a i nan ha, all-more finiteClear b i nan hb, all-more finiteClear c i nan hc, all-more finiteClear d i nan hd, or-low (bitOr (bitOr (bitOr tops ta) tb) tc) td, or-low (bitOr (bitOr tops ta) tb) tc, or-low (bitOr tops ta) tb, or-low tops ta, e, ea, eb, ec, ed)
+    (four-more (all finiteClear (take i a)) (all finiteClear (take i b)) (all finiteClear (take i c)) (all finiteClear (take i d)) (finiteClear (getD a i nan)) (finiteClear (getD b i nan)) (finiteClear (getD c i nan)) (finiteClear (getD d i nan)))
 
 pub four-end : (a b c d : List Float) (i : ℕ) (ok : Bool) → length a ≤ i → length b ≤ i → length c ≤ i → length d ≤ i
-    → ok ≡ fourLevel (take i a) (take i b) (take i c) (take i d) → ok ≡ fourLevel a b c d
+    → ok ≡ fourFiniteClear (take i a) (take i b) (take i c) (take i d) → ok ≡ fourFiniteClear a b c d
 four-end a b c d i ok ha hb hc hd e = e ∙ rw (take-all i a ha, take-all i b hb, take-all i c hc, take-all i d hd)

@@ -11,9 +11,9 @@ use lib.ListN.{length, getD, take, drop, take-append-drop, length-drop}
 use lib.Seq.{length-take-le}
 use lib.Ieee.{Float, nan}
 use lib.Ieee.Fits.{and-i, and-l, and-r, eq→eqb}
-use Rattle.numbers.specs.Words.{finite, level}
+use Rattle.numbers.specs.Words.{finite, finiteClear}
 use Rattle.numbers.specs.Lists.{all}
-use Rattle.lanes.specs.Lanes.{Lane, Lanes, beside, rows, sized, timely, laned, slow, near, judged, fourLevel, firstLanes, restLanes}
+use Rattle.lanes.specs.Lanes.{Lane, Lanes, beside, rows, sized, timeStep, laned, slow, near, judged, fourFiniteClear, firstLanes, restLanes}
 use Rattle.lanes.proofs.Gathered.{both-assoc, both-swap, four-more}
 use Rattle.lanes.proofs.Advances.{slow-finite}
 
@@ -44,30 +44,30 @@ length-tail (x ∷ l) n e = less (length l) n e
     less : (a b : ℕ) → suc a ≡ suc b → a ≡ b
     less a b e = omega arith
 
-all-none : (l : List Float) → length l ≡ 0 → all level l ≡ true
+all-none : (l : List Float) → length l ≡ 0 → all finiteClear l ≡ true
 all-none [] e = refl
 all-none (x ∷ l) e = absurd (never (length l) (sym e))
 
-all-split : (l : List Float) (n : ℕ) → length l ≡ suc n → all level l ≡ (level (getD l 0 nan) && all level (drop 1 l))
+all-split : (l : List Float) (n : ℕ) → length l ≡ suc n → all finiteClear l ≡ (finiteClear (getD l 0 nan) && all finiteClear (drop 1 l))
 all-split [] n e = absurd (never n e)
 all-split (x ∷ l) n e = refl
 
 -- refusal 11's test is that of the four lanes, and of the rates
 pub laned-all : (fs vs ls rs qs : List Float) → length fs ≡ length qs → length vs ≡ length qs → length ls ≡ length qs → length rs ≡ length qs
-    → all laned (beside fs vs ls rs qs) ≡ (fourLevel fs vs ls rs && all finite qs)
+    → all laned (beside fs vs ls rs qs) ≡ (fourFiniteClear fs vs ls rs && all finite qs)
 laned-all fs vs ls rs [] a b c d = rw (all-none fs a, all-none vs b, all-none ls c, all-none rs d)
 laned-all fs vs ls rs (q ∷ qs) a b c d =
     let n = length qs in
-    let A = level (getD fs 0 nan) in
-    let B = level (getD vs 0 nan) in
-    let C = level (getD ls 0 nan) in
-    let D = level (getD rs 0 nan) in
-    let fade = all level (drop 1 fs) in
-    let volume = all level (drop 1 vs) in
-    let left = all level (drop 1 ls) in
-    let right = all level (drop 1 rs) in
+    let A = finiteClear (getD fs 0 nan) in
+    let B = finiteClear (getD vs 0 nan) in
+    let C = finiteClear (getD ls 0 nan) in
+    let D = finiteClear (getD rs 0 nan) in
+    let fade = all finiteClear (drop 1 fs) in
+    let volume = all finiteClear (drop 1 vs) in
+    let left = all finiteClear (drop 1 ls) in
+    let right = all finiteClear (drop 1 rs) in
     let one = A && B && C && D in
-    let e : fourLevel fs vs ls rs ≡ ((A && fade) && (B && volume) && (C && left) && (D && right)) = rw (all-split fs n a, all-split vs n b, all-split ls n c, all-split rs n d) in
+    let e : fourFiniteClear fs vs ls rs ≡ ((A && fade) && (B && volume) && (C && left) && (D && right)) = rw (all-split fs n a, all-split vs n b, all-split ls n c, all-split rs n d) in
     ap (λ (x : Bool). (one && finite q) && x) (laned-all (drop 1 fs) (drop 1 vs) (drop 1 ls) (drop 1 rs) qs (length-tail fs n a) (length-tail vs n b) (length-tail ls n c) (length-tail rs n d))
     ∙ both-swap one (finite q) (fade && volume && left && right) (all finite qs)
     ∙ ap (λ (x : Bool). x && (finite q && all finite qs))
@@ -193,9 +193,9 @@ chosen true false true h = refl
 chosen true false false h = refl
 
 -- lane by lane, and 11 told from 12 only where a rate is too fast
-pub judged-lanes : (hz : ℕ) (dt : Float) (b : Lanes) → T (timely dt) → T (sized b)
-    → judged hz dt b ≡ cond (fourLevel (b .fade) (b .volume) (b .left) (b .right)) (cond (all (slow hz dt) (b .rate)) 0 (cond (all finite (b .rate)) 12 11)) 11
+pub judged-lanes : (hz : ℕ) (dt : Float) (b : Lanes) → T (timeStep dt) → T (sized b)
+    → judged hz dt b ≡ cond (fourFiniteClear (b .fade) (b .volume) (b .left) (b .right)) (cond (all (slow hz dt) (b .rate)) 0 (cond (all finite (b .rate)) 12 11)) 11
 judged-lanes hz dt b t s =
     let p = sized-parts b s in
     ap₂ (λ (x y : Bool). cond x (cond y 0 12) 11) (laned-all (b .fade) (b .volume) (b .left) (b .right) (b .rate) (p .fade) (p .volume) (p .left) (p .right)) (near-all hz dt (b .fade) (b .volume) (b .left) (b .right) (b .rate))
-    ∙ chosen (fourLevel (b .fade) (b .volume) (b .left) (b .right)) (all (slow hz dt) (b .rate)) (all finite (b .rate)) (slow-finite hz dt (b .rate) t)
+    ∙ chosen (fourFiniteClear (b .fade) (b .volume) (b .left) (b .right)) (all (slow hz dt) (b .rate)) (all finite (b .rate)) (slow-finite hz dt (b .rate) t)

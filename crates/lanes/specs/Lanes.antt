@@ -6,7 +6,7 @@ use lib.Dec.{leb, ltb, eqb}
 use lib.IntN.{pos}
 use lib.ListN.{length, getD, take, drop}
 use lib.Ieee.{Float, nan, fin, lt, le}
-use Rattle.numbers.specs.Words.{naught, finite, level, advance}
+use Rattle.numbers.specs.Words.{positiveZero, finite, finiteClear, advance}
 use Rattle.numbers.specs.Lists.{all}
 
 -- what one output frame brings
@@ -45,12 +45,12 @@ sized b =
     leb n 4096 && eqb (length (b .fade)) n && eqb (length (b .volume)) n && eqb (length (b .left)) n && eqb (length (b .right)) n
 
 -- 10: a time step that is finite and above 0
-abbrev pub timely : Float → Bool
-timely dt = finite dt && lt naught dt
+abbrev pub timeStep : Float → Bool
+timeStep dt = finite dt && lt positiveZero dt
 
 -- 11: amplitudes and gains finite with their sign bit clear, a finite rate
 abbrev pub laned : Lane → Bool
-laned l = level (l .fade) && level (l .volume) && level (l .left) && level (l .right) && finite (l .rate)
+laned l = finiteClear (l .fade) && finiteClear (l .volume) && finiteClear (l .left) && finiteClear (l .right) && finite (l .rate)
 
 -- 12: an advance of at most 256
 abbrev pub slow : ℕ → Float → Float → Bool
@@ -64,8 +64,8 @@ abbrev pub judged : ℕ → Float → Lanes → ℕ
 judged hz dt b = cond (all laned (rows b)) (cond (all (near hz dt) (rows b)) 0 12) 11
 
 -- the four lanes of amplitudes and gains
-abbrev pub fourLevel : List Float → List Float → List Float → List Float → Bool
-fourLevel fs vs ls rs = all level fs && all level vs && all level ls && all level rs
+abbrev pub fourFiniteClear : List Float → List Float → List Float → List Float → Bool
+fourFiniteClear fs vs ls rs = all finiteClear fs && all finiteClear vs && all finiteClear ls && all finiteClear rs
 
 -- the top bit of 32 is clear
 unfoldable pub low : ℕ → Bool

@@ -2,9 +2,9 @@
 ghost use mathlib.Core.Path.{_≡_};
 ghost use lib.Dec.{T};
 ghost use lib.ListN.{length};
-ghost use Rattle.numbers.specs.Words.{finite, level};
+ghost use Rattle.numbers.specs.Words.{finite, finiteClear};
 ghost use Rattle.numbers.specs.Lists.{all};
-ghost use Rattle.lanes.specs.Lanes.{five, sized, timely, slow, judged, fourLevel, low};
+ghost use Rattle.lanes.specs.Lanes.{five, sized, timeStep, slow, judged, fourFiniteClear, low};
 
 // Refusal 9, but for the output's length.
 pub fn are_sized(fade: &[f32], volume: &[f32], left: &[f32], right: &[f32], rate: &[f64]) -> bool
@@ -15,15 +15,15 @@ pub fn are_sized(fade: &[f32], volume: &[f32], left: &[f32], right: &[f32], rate
 }
 
 // Refusal 10.
-pub fn is_timely(dt: f64) -> bool
-    ensures { λ r. ⌜ r ≡ timely dt ⌝ }
+pub fn is_time_step(dt: f64) -> bool
+    ensures { λ r. ⌜ r ≡ timeStep dt ⌝ }
 {
     numbers::is_finite(dt) & (dt > 0.0)
 }
 
 // The bits of x where it is below infinity, else the top bit alone: that bit is set if and only if x is refused.
 fn top(x: f32) -> u32
-    ensures { λ r. ⌜ low r ≡ level x ⌝ }
+    ensures { λ r. ⌜ low r ≡ finiteClear x ⌝ }
 {
     let infinity: f32 = 1.0 / 0.0;
     if x < infinity {
@@ -33,11 +33,11 @@ fn top(x: f32) -> u32
     }
 }
 
-fn four_level(fade: &[f32], volume: &[f32], left: &[f32], right: &[f32]) -> bool
+fn four_finite_clear(fade: &[f32], volume: &[f32], left: &[f32], right: &[f32]) -> bool
     requires { ⌜ length (now volume) ≡ length (now fade) ⌝ }
     requires { ⌜ length (now left) ≡ length (now fade) ⌝ }
     requires { ⌜ length (now right) ≡ length (now fade) ⌝ }
-    ensures { λ r. ⌜ r ≡ fourLevel (now (fade .entry)) (now (volume .entry)) (now (left .entry)) (now (right .entry)) ⌝ }
+    ensures { λ r. ⌜ r ≡ fourFiniteClear (now (fade .entry)) (now (volume .entry)) (now (left .entry)) (now (right .entry)) ⌝ }
 {
     let mut tops: u32 = 0;
     let mut i: usize = 0;
@@ -86,10 +86,10 @@ pub fn judge(
     rate: &[f64],
 ) -> u32
     requires { ⌜ T (sized (five (now fade) (now volume) (now left) (now right) (now rate))) ⌝ }
-    requires { ⌜ T (timely dt) ⌝ }
+    requires { ⌜ T (timeStep dt) ⌝ }
     ensures { λ r. ⌜ r ≡ judged «sample_rate» dt (five (now (fade .entry)) (now (volume .entry)) (now (left .entry)) (now (right .entry)) (now (rate .entry))) ⌝ }
 {
-    if !four_level(fade, volume, left, right) {
+    if !four_finite_clear(fade, volume, left, right) {
         return 11;
     }
     if all_slow(sample_rate, dt, rate) {

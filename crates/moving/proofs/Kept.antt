@@ -1,4 +1,4 @@
--- Updates keep what is well formed of the moving parts, and that an update may be asked for: the step keeps the seat, the push the window.
+-- Updates keep what is well formed of the moving parts, and that an update may be asked for: the step keeps the transportFormed, the push the window.
 use mathlib.Core.Path.{_≡_}
 use Prim.Native.Nat.{ℕ, zero, suc, _+_, _*_, _≤_, _<_}
 use native.Mathlib.Nat.{le-trans}
@@ -11,26 +11,26 @@ use lib.Ieee.{Float}
 use Rattle.numbers.specs.Frames.{most}
 use Rattle.transport.specs.declared.Transport.{Transport}
 use Rattle.transport.specs.Moves.{forward, backward}
-use Rattle.transport.specs.Seats.{Seated}
+use Rattle.transport.specs.WellFormed.{FormedTransport}
 use Rattle.resampler.specs.Windows.{Windowed}
 use Rattle.resampler.proofs.Windows.{push-parts}
 use Rattle.moving.specs.declared.Moving.{Moving}
 use Rattle.moving.specs.declared.Course.{Course}
 use Rattle.moving.specs.Updates.{sounding, pushed, stepped, updated, updates, Able}
-use Rattle.transport.proofs.Seats.{forward-seated, backward-seated}
+use Rattle.transport.proofs.WellFormed.{forward-formed-transport, backward-formed-transport}
 
 -- the moving parts are well formed over n frames
 pub record Kept (n : ℕ) (m : Moving) : Type 0 where
-  pub seat : Seated n (m .transport)
+  pub transportFormed : FormedTransport n (m .transport)
   pub window : Windowed (m .resampler)
 
-pub stepped-seated : (c : Course) (t : Transport) → c .«num_frames» ≤ most → Seated (c .«num_frames») t → Seated (c .«num_frames») (stepped c t)
+pub stepped-formed-transport : (c : Course) (t : Transport) → c .«num_frames» ≤ most → FormedTransport (c .«num_frames») t → FormedTransport (c .«num_frames») (stepped c t)
 unfolding stepped
-stepped-seated c t k h = go (c .backwards)
+stepped-formed-transport c t k h = go (c .backwards)
   where
-    go : (b : Bool) → Seated (c .«num_frames») (cond b (backward t) (forward (c .«num_frames») t))
-    go true = backward-seated (c .«num_frames») t k h
-    go false = forward-seated (c .«num_frames») t k h
+    go : (b : Bool) → FormedTransport (c .«num_frames») (cond b (backward t) (forward (c .«num_frames») t))
+    go true = backward-formed-transport (c .«num_frames») t k h
+    go false = forward-formed-transport (c .«num_frames») t k h
 
 -- a push at a place in range keeps the window well formed
 pub pushed-windowed : (snd : List Float) (c : Course) (m : Moving) → m .transport .position ≤ most → Windowed (m .resampler) → Windowed (pushed snd c m)
@@ -41,8 +41,8 @@ pub updated-kept : (snd : List Float) (c : Course) (m : Moving) → c .«num_fra
 unfolding updated
 updated-kept snd c m k h =
     record {
-      seat = stepped-seated c (m .transport) k (h .seat);
-      window = pushed-windowed snd c m (h .seat .low) (h .window);
+      transportFormed = stepped-formed-transport c (m .transport) k (h .transportFormed);
+      window = pushed-windowed snd c m (h .transportFormed .low) (h .window);
     }
 
 pub updates-kept : (n : ℕ) (snd : List Float) (c : Course) (m : Moving) → c .«num_frames» ≤ most → Kept (c .«num_frames») m → Kept (c .«num_frames») (updates n snd c m)
@@ -53,7 +53,7 @@ updates-kept (suc n) snd c m k h = updates-kept n snd c (updated snd c m) k (upd
 -- what an update reads of the sound is there
 pub able-reads : (snd : List Float) (c : Course) (m : Moving) → Able snd c m → m .transport .playing ≡ true → 2 * (c .start + m .transport .position) + 1 < length snd
 able-reads snd c m h e =
-    let here = h .seat .here e in
+    let here = h .transportFormed .here e in
     let inside = h .inside in
     omega arith
 
@@ -61,7 +61,7 @@ able-reads snd c m h e =
 pub updated-able : (snd : List Float) (c : Course) (m : Moving) → Able snd c m → Able snd c (updated snd c m)
 unfolding updated
 updated-able snd c m h =
-    record { seat = stepped-seated c (m .transport) (le-trans (h .few) (lit≤ tt)) (h .seat); few = h .few; inside = h .inside }
+    record { transportFormed = stepped-formed-transport c (m .transport) (le-trans (h .few) (lit≤ tt)) (h .transportFormed); few = h .few; inside = h .inside }
 
 pub updates-able : (n : ℕ) (snd : List Float) (c : Course) (m : Moving) → Able snd c m → Able snd c (updates n snd c m)
 unfolding updates

@@ -11,7 +11,7 @@ use Rattle.playback_state_manager.specs.declared.PlaybackState.{PlaybackState}
 use Rattle.playback_state_manager.specs.declared.PlaybackState.the-variants as state
 use Rattle.transport.specs.declared.Transport.{Transport}
 use Rattle.transport.specs.Moves.{forward, backward}
-use Rattle.transport.specs.Seats.{Seated}
+use Rattle.transport.specs.WellFormed.{FormedTransport}
 use Rattle.resampler.specs.declared.Resampler.{Resampler}
 use Rattle.resampler.specs.declared.MaybeFrame.{MaybeFrame}
 use Rattle.resampler.specs.declared.MaybeFrame.the-variants as maybe
@@ -59,8 +59,8 @@ movingOf loop s p playing a b c d na nb nc nd count =
       };
     }
 
--- what an update asks: the transport seated in its N frames, which lie in the sound
+-- what an update asks: the transport formedTransport in its N frames, which lie in the sound
 pub record Able (snd : List Float) (c : Course) (m : Moving) : Type 0 where
-  pub seat : Seated (c .«num_frames») (m .transport)
+  pub transportFormed : FormedTransport (c .«num_frames») (m .transport)
   pub few : c .«num_frames» ≤ 16777216
   pub inside : 2 * (c .start + c .«num_frames») ≤ length snd

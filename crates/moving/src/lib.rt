@@ -4,7 +4,7 @@ ghost use mathlib.Core.Bool.{true};
 ghost use Prim.Native.Nat.{_+_, _*_, _<_};
 ghost use lib.ListN.{length};
 ghost use Rattle.frame.specs.Frames.{frameOf};
-ghost use Rattle.transport.specs.Seats.{Seated};
+ghost use Rattle.transport.specs.WellFormed.{FormedTransport};
 ghost use Rattle.moving.specs.Updates.{sounding, pushed, stepped, updated, updates, movingOf, Able};
 use frame::Frame;
 use playback_position::FrameRange;
@@ -51,7 +51,7 @@ fn frame_to_push(sound: &[f32], playing: bool, i: usize) -> MaybeFrame
 }
 
 fn step(transport: Transport, course: Course) -> Transport
-    requires { ⌜ Seated (course .«num_frames») transport ⌝ }
+    requires { ⌜ FormedTransport (course .«num_frames») transport ⌝ }
     ensures { λ r. ⌜ r ≡ stepped course transport ⌝ }
 {
     if course.backwards {

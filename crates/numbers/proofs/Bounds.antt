@@ -13,10 +13,10 @@ use lib.Ieee.Exact.{HasValue}
 use lib.Ieee.Order.{round-mono, drop, kept}
 use lib.Ieee.Scale.{overflow}
 use lib.Ieee.Back.{round-whole}
-use Rattle.numbers.specs.Words.{finite, level}
+use Rattle.numbers.specs.Words.{finite, finiteClear}
 use Rattle.numbers.proofs.Values.{rescale, round-fixed, le-at}
 use Rattle.numbers.proofs.Signs.{clear, round-clear, bounded, equal-self}
-use Rattle.numbers.proofs.Silence.{round-naught}
+use Rattle.numbers.proofs.Silence.{round-positive-zero}
 
 -- finite, and of magnitude k at most
 unfoldable pub within : ℕ → Float → Bool
@@ -64,7 +64,7 @@ within-of-le k y (inf s) p v h = absurd v
 within-of-le k y (fin true n d) p v h = absurd (true≢false (v .0))
 within-of-le k y (fin false n d) p v h = go y (bounded y n d p h) h
   where
-    go : (y : Float) → T (level y) → T (le y (fin false n d)) → T (within k y)
+    go : (y : Float) → T (finiteClear y) → T (le y (fin false n d)) → T (within k y)
     go nan l h = absurd l
     go (inf s) l h = absurd l
     go (fin true m e) l h = absurd l
@@ -131,7 +131,7 @@ unfolding isZero
 zero-is-zero s e = tt
 
 round-is-zero : (f : Format) (s : Bool) (a c : ℕ) → 0 < c → a ≡ 0 → T (isZero (round f s a c))
-round-is-zero f s a c C h = subst (λ (z : Float). T (isZero z)) (sym (ap (λ (z : ℕ). round f s z c) h ∙ round-naught f s c C)) (zero-is-zero s (pos 0))
+round-is-zero f s a c C h = subst (λ (z : Float). T (isZero z)) (sym (ap (λ (z : ℕ). round f s z c) h ∙ round-positive-zero f s c C)) (zero-is-zero s (pos 0))
 
 nothing : (m : ℕ) → T (eqb m 0) → (u d : ℕ) → m * u * d ≡ 0
 nothing m t u d = ap (λ (z : ℕ). z * u * d) (eqb→eq m 0 t) ∙ ap (λ (z : ℕ). z * d) (zero-mul u) ∙ zero-mul d

@@ -1,4 +1,4 @@
--- Fractions of a frame: level and proper values by whole numbers crosswise, and what a sum of fraction and advance is at most.
+-- Fractions of a frame: finiteClear and proper values by whole numbers crosswise, and what a sum of fraction and advance is at most.
 -- Rounding keeps order, so a bound that is a float itself goes through it. Assumes nothing.
 use mathlib.Core.Path.{_≡_, refl, subst}
 use mathlib.Core.Logic.{_⊎_, inl, inr}
@@ -12,8 +12,8 @@ use lib.Ieee.{Float, nan, inf, fin, binary32, binary64, up, down, round, add, mu
 use lib.Ieee.Fits.{down-pos, and-l, and-r}
 use lib.Ieee.Order.{round-mono}
 use lib.Ieee.Back.{round-whole}
-use Rattle.numbers.specs.Words.{naught, one, level, proper, magnitude, narrowed, whole, advance}
-use Rattle.numbers.proofs.Signs.{clear, round-clear, mul-clear, magnitude-clear, level-clear, bounded}
+use Rattle.numbers.specs.Words.{positiveZero, one, finiteClear, proper, magnitude, narrowed, whole, advance}
+use Rattle.numbers.proofs.Signs.{clear, round-clear, mul-clear, magnitude-clear, finite-clear-clear, bounded}
 use Rattle.numbers.proofs.Bounds.{within, within-of-le, add-within}
 
 -- ---- comparisons, crosswise
@@ -37,9 +37,9 @@ unfolding lt
 cross-lt n d m e t = lt→ltb (n * up d * down e) (m * up e * down d) t
 
 -- ---- proper values
-pub naught-proper : T (proper naught)
+pub positive-zero-proper : T (proper positiveZero)
 unfolding lt
-naught-proper = tt
+positive-zero-proper = tt
 
 pub proper-lt : (m : ℕ) (e : ℤ) → T (proper (fin false m e)) → m * up e < down e
 proper-lt m e h = tidy (m * up e) (down e) (lt-cross m e 1 (pos 0) (and-r true (lt (fin false m e) one) h))
@@ -51,12 +51,12 @@ round-one : round binary32 false 1 1 ≡ one
 unfolding round
 round-one = refl
 
-pub narrow-level : (x : Float) → T (proper x) → T (level (narrowed x))
+pub narrow-finite-clear : (x : Float) → T (proper x) → T (finiteClear (narrowed x))
 unfolding narrowed
-narrow-level nan h = absurd h
-narrow-level (inf s) h = absurd h
-narrow-level (fin true m e) h = absurd h
-narrow-level (fin false m e) h =
+narrow-finite-clear nan h = absurd h
+narrow-finite-clear (inf s) h = absurd h
+narrow-finite-clear (fin true m e) h = absurd h
+narrow-finite-clear (fin false m e) h =
     let k : m * up e * 1 < 1 * down e = lt-cross m e 1 (pos 0) (and-r true (lt (fin false m e) one) h) in
     bounded (round binary32 false (m * up e) (down e)) 1 (pos 0) (round-clear binary32 (m * up e) (down e))
     (subst (λ (z : Float). T (le (round binary32 false (m * up e) (down e)) z)) round-one
@@ -70,7 +70,7 @@ round-257 = refl
 sums : (a u b v d e : ℕ) → a * u * 1 < 1 * d → b * v * 1 ≤ 256 * e → (a * u * e + b * v * d) * 1 ≤ 257 * (d * e)
 sums a u b v d e h k = omega (arith, mul-le-mul-right e (le-of-lt h), mul-le-mul-right d k)
 
-pub add-most : (x y : Float) → T (proper x) → T (level y) → T (le y (fin false 1 (pos 8))) → T (clear (add binary64 x y)) × T (le (add binary64 x y) (fin false 257 (pos 0)))
+pub add-most : (x y : Float) → T (proper x) → T (finiteClear y) → T (le y (fin false 1 (pos 8))) → T (clear (add binary64 x y)) × T (le (add binary64 x y) (fin false 257 (pos 0)))
 unfolding add
 add-most nan y h l k = absurd h
 add-most (inf s) y h l k = absurd h
@@ -87,11 +87,11 @@ add-most (fin false m e) (fin false n d) h l k =
           (sums m (up e) n (up d) (down e) (down d) (lt-cross m e 1 (pos 0) (and-r true (lt (fin false m e) one) h)) (le-cross n d 1 (pos 8) k))),
     )
 
-pub add-level : (x y : Float) → T (proper x) → T (level y) → T (le y (fin false 1 (pos 8))) → T (level (add binary64 x y))
-add-level x y h l k = bounded (add binary64 x y) 257 (pos 0) (add-most x y h l k .0) (add-most x y h l k .1)
+pub add-finite-clear : (x y : Float) → T (proper x) → T (finiteClear y) → T (le y (fin false 1 (pos 8))) → T (finiteClear (add binary64 x y))
+add-finite-clear x y h l k = bounded (add binary64 x y) 257 (pos 0) (add-most x y h l k .0) (add-most x y h l k .1)
 
 -- ---- its whole part
-pub whole-257 : (x : Float) → T (level x) → T (le x (fin false 257 (pos 0))) → whole x < 1000
+pub whole-257 : (x : Float) → T (finiteClear x) → T (le x (fin false 257 (pos 0))) → whole x < 1000
 unfolding whole
 whole-257 nan h l = absurd h
 whole-257 (inf s) h l = absurd h
@@ -118,10 +118,10 @@ whole-within k (inf s) h = absurd h
 whole-within k (fin s m e) h = div-le-of-le-mul (down e) (le-trans (leb→le (m * up e) (k * down e) h) (le-of-eq (mul-comm k (down e))))
 
 -- a fraction moved on by at most k makes at most k + 1 steps
-pub sum-steps : (f a : Float) (k : ℕ) → k ≤ 256 → T (proper f) → T (level a) → T (le a (ofInt binary64 (pos k))) → whole (add binary64 f a) ≤ suc k
+pub sum-steps : (f a : Float) (k : ℕ) → k ≤ 256 → T (proper f) → T (finiteClear a) → T (le a (ofInt binary64 (pos k))) → whole (add binary64 f a) ≤ suc k
 unfolding ofInt
 sum-steps f a k K p l h =
-    let b = within-of-le k a (round binary64 false k 1) (level-clear a l) (round-whole binary64 false k (le-trans K (lit≤ tt))) h in
+    let b = within-of-le k a (round binary64 false k 1) (finite-clear-clear a l) (round-whole binary64 false k (le-trans K (lit≤ tt))) h in
     let s = whole-within (1 + k) (add binary64 f a) (add-within binary64 1 k f a (le-trans (more K) (lit≤ tt)) (proper-within f p) b) in
     omega arith
   where
@@ -129,7 +129,7 @@ sum-steps f a k K p l h =
     more h = omega arith
 
 -- ---- the advance
-above-clear : (x : Float) → T (lt naught x) → T (clear x)
+above-clear : (x : Float) → T (lt positiveZero x) → T (clear x)
 unfolding lt
 above-clear nan h = tt
 above-clear (inf true) h = absurd h
@@ -137,11 +137,11 @@ above-clear (inf false) h = tt
 above-clear (fin true m e) h = absurd h
 above-clear (fin false m e) h = tt
 
-advance-clear : (hz : ℕ) (r dt : Float) → T (lt naught dt) → T (clear (advance hz r dt))
+advance-clear : (hz : ℕ) (r dt : Float) → T (lt positiveZero dt) → T (clear (advance hz r dt))
 unfolding advance ofInt
 advance-clear hz r dt t =
     mul-clear binary64 (mul binary64 (round binary64 false hz 1) (magnitude r)) dt
     (mul-clear binary64 (round binary64 false hz 1) (magnitude r) (round-clear binary64 hz 1) (magnitude-clear r)) (above-clear dt t)
 
-pub advance-level : (hz : ℕ) (r dt : Float) → T (lt naught dt) → T (le (advance hz r dt) (fin false 1 (pos 8))) → T (level (advance hz r dt))
-advance-level hz r dt t h = bounded (advance hz r dt) 1 (pos 8) (advance-clear hz r dt t) h
+pub advance-finite-clear : (hz : ℕ) (r dt : Float) → T (lt positiveZero dt) → T (le (advance hz r dt) (fin false 1 (pos 8))) → T (finiteClear (advance hz r dt))
+advance-finite-clear hz r dt t h = bounded (advance hz r dt) 1 (pos 8) (advance-clear hz r dt t) h

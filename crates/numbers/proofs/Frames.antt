@@ -11,7 +11,7 @@ use lib.Pow.{pow-pos}
 use lib.Ieee.{Float, nan, inf, fin, binary64, up, down, add, lt, le, fits, toUnsigned, inFloat}
 use lib.Ieee.Fits.{down-pos, and-r}
 use lib.Ieee.Exact.{HasValue, round-exact}
-use Rattle.numbers.specs.Words.{naught}
+use Rattle.numbers.specs.Words.{positiveZero}
 use Rattle.numbers.specs.Frames.{most, rounded, cutOff}
 use Rattle.numbers.proofs.Values.{digits-lt, place, add-at, le-at, unsigned-of-value}
 
@@ -56,7 +56,7 @@ large (inf false) h = refl
 large (fin true m e) h = large-neg (2 ^ 32 * down e) (m * up e * 1) (mul-pos (pow-pos 32) (down-pos e)) (yes (eqb (2 ^ 32 * down e) (m * up e * 1) && (false || eqb (2 ^ 32 * down e) 0)) h)
 large (fin false m e) h = leb→le (2 ^ 32 * down e) (m * up e) (yes (leb (2 ^ 32 * down e) (m * up e)) (sym (le-at big (fin false m e) (2 ^ 32 * down e) (m * up e) (down e) (down-pos e) (big-val (down e)) (refl, refl)) ∙ h))
 
-pub middle : (x : Float) → le big x ≡ false → lt naught x ≡ true → Under (2 ^ 32) x
+pub middle : (x : Float) → le big x ≡ false → lt positiveZero x ≡ true → Under (2 ^ 32) x
 unfolding le lt
 middle nan h k = false≢true k
 middle (inf true) h k = false≢true k
@@ -71,7 +71,7 @@ Low (inf s) = s ≡ true
 Low (fin true m e) = Unit
 Low (fin false m e) = m * up e ≡ 0
 
-low-is : (x : Float) → le big x ≡ false → lt naught x ≡ false → Low x
+low-is : (x : Float) → le big x ≡ false → lt positiveZero x ≡ false → Low x
 unfolding le lt
 low-is nan h k = tt
 low-is (inf true) h k = refl
@@ -127,7 +127,7 @@ less-than a c C h = zero-of (a / c) (div-lt-iff-lt-mul C .1 (subst (λ (z : ℕ)
     zero-of : (q : ℕ) → q < 1 → min q (2 ^ 32) ≡ 0
     zero-of q h = omega arith
 
-pub rounded-low : (x : Float) → le big x ≡ false → lt naught x ≡ false → 0 ≡ rounded x
+pub rounded-low : (x : Float) → le big x ≡ false → lt positiveZero x ≡ false → 0 ≡ rounded x
 unfolding rounded
 rounded-low x h k = go x (low-is x h k)
   where
@@ -143,7 +143,7 @@ rounded-low x h k = go x (low-is x h k)
     go (fin true m e) l = refl
     go (fin false m e) l = sym (less-than (2 * (m * up e) + down e) (2 * down e) (twice (down e) (down-pos e)) (half (m * up e) (down e) l (down-pos e)))
 
-pub cut-low : (x : Float) → le big x ≡ false → lt naught x ≡ false → 0 ≡ cutOff x
+pub cut-low : (x : Float) → le big x ≡ false → lt positiveZero x ≡ false → 0 ≡ cutOff x
 unfolding cutOff
 cut-low x h k = go x (low-is x h k)
   where

@@ -12,7 +12,7 @@ use lib.Ieee.{Float, nan, inf, fin, Format, binary32, binary64, prec, low, emax,
 use lib.Ieee.Fits.{up-pos, neg-fits, inf-fits, and-l}
 use lib.Ieee.Bits.{ofBits-toBits, toBits-lt, nanBits-is}
 use borrow.Author.Tests.{lt-ltb, le-ltb, le-leb, lt-leb}
-use Rattle.numbers.specs.Words.{naught, one, finite, level, isNaught, negative, proper, magnitude}
+use Rattle.numbers.specs.Words.{positiveZero, one, finite, finiteClear, isPositiveZero, negative, proper, magnitude}
 use Rattle.numbers.proofs.Values.{zero-exp}
 
 -- ---- no set sign bit
@@ -60,13 +60,13 @@ mul-clear f (fin true m e) (fin t n d) h k = absurd h
 mul-clear f (fin false m e) (fin true n d) h k = absurd k
 mul-clear f (fin false m e) (fin false n d) h k = round-clear f (m * up e * (n * up d)) (down e * down d)
 
-pub level-clear : (x : Float) → T (level x) → T (clear x)
-level-clear nan h = tt
-level-clear (inf s) h = absurd h
-level-clear (fin s m e) h = h
+pub finite-clear-clear : (x : Float) → T (finiteClear x) → T (clear x)
+finite-clear-clear nan h = tt
+finite-clear-clear (inf s) h = absurd h
+finite-clear-clear (fin s m e) h = h
 
 -- a value with its sign clear that is at most a number is finite
-pub bounded : (y : Float) (m : ℕ) (e : ℤ) → T (clear y) → T (le y (fin false m e)) → T (level y)
+pub bounded : (y : Float) (m : ℕ) (e : ℤ) → T (clear y) → T (le y (fin false m e)) → T (finiteClear y)
 unfolding le
 bounded nan m e c h = absurd h
 bounded (inf true) m e c h = absurd c
@@ -82,7 +82,7 @@ finite-number (inf s) h = absurd h
 finite-number (fin s m e) h = tt
 
 abbrev infinity : Format → Float
-infinity f = div f one naught
+infinity f = div f one positiveZero
 
 pub below-infinity : (x : Float) → lt x (infinity binary64) ≡ true → lt (neg (infinity binary64)) x ≡ finite x
 unfolding lt div neg
@@ -183,26 +183,26 @@ high-bits : (f : Format) (s : Bool) (m : ℕ) (e : ℤ) → T (fits f (fin s m e
 high-bits f true m e t = ap (λ (n : ℕ). leb (top f) n) (set-bit f m e) ∙ le-leb _ _ (more (top f) (toBits f (fin false m e)))
 high-bits f false m e t = lt-leb _ _ (clear-bit f m e t)
 
--- level
+-- finiteClear
 pub below-number : (x y : Float) → lt x y ≡ true → T (not (isNan x))
 unfolding lt isNan
 below-number nan y h = absurd (false≢true h)
 below-number (inf s) y h = tt
 below-number (fin s m e) y h = tt
 
-pub level-bits : (x : Float) → T (fits binary32 x) → lt x (infinity binary32) ≡ true → ltb (toBits binary32 x) (2 ^ 31) ≡ level x
+pub finite-clear-bits : (x : Float) → T (fits binary32 x) → lt x (infinity binary32) ≡ true → ltb (toBits binary32 x) (2 ^ 31) ≡ finiteClear x
 unfolding lt div
-level-bits nan t h = absurd (false≢true h)
-level-bits (inf false) t h = absurd (false≢true h)
-level-bits (inf true) t h = unfold toBits in refl
-level-bits (fin s m e) t h = low-bits binary32 s m e t
+finite-clear-bits nan t h = absurd (false≢true h)
+finite-clear-bits (inf false) t h = absurd (false≢true h)
+finite-clear-bits (inf true) t h = unfold toBits in refl
+finite-clear-bits (fin s m e) t h = low-bits binary32 s m e t
 
-pub not-level : (x : Float) → lt x (infinity binary32) ≡ false → lt x (infinity binary32) ≡ level x
+pub not-finite-clear : (x : Float) → lt x (infinity binary32) ≡ false → lt x (infinity binary32) ≡ finiteClear x
 unfolding lt div
-not-level nan h = refl
-not-level (inf false) h = refl
-not-level (inf true) h = absurd (true≢false h)
-not-level (fin s m e) h = absurd (true≢false h)
+not-finite-clear nan h = refl
+not-finite-clear (inf false) h = refl
+not-finite-clear (inf true) h = absurd (true≢false h)
+not-finite-clear (fin s m e) h = absurd (true≢false h)
 
 -- proper
 pub proper-bits : (x : Float) → T (fits binary64 x) → lt x one ≡ true → ltb (toBits binary64 x) (2 ^ 63) ≡ proper x
@@ -239,13 +239,13 @@ equal-number nan y h = absurd (false≢true h)
 equal-number (inf s) y h = tt
 equal-number (fin s m e) y h = tt
 
-pub naught-bits : (x : Float) → T (fits binary32 x) → eq x naught ≡ true → ltb (toBits binary32 x) (2 ^ 31) ≡ isNaught x
+pub positive-zero-bits : (x : Float) → T (fits binary32 x) → eq x positiveZero ≡ true → ltb (toBits binary32 x) (2 ^ 31) ≡ isPositiveZero x
 unfolding eq
-naught-bits nan t h = absurd (false≢true h)
-naught-bits (inf s) t h = absurd (false≢true h)
-naught-bits (fin true zero e) t h = low-bits binary32 true zero e t
-naught-bits (fin false zero e) t h = low-bits binary32 false zero e t ∙ sym (ap (λ (z : ℤ). isNaught (fin false 0 z)) (zero-exp binary32 false e t))
-naught-bits (fin s (suc m) e) t h = absurd (some (eqb→eq (suc m * up e * 1) (0 * down e) (and-l (eqb (suc m * up e * 1) (0 * down e)) _ (subst T (sym h) tt))))
+positive-zero-bits nan t h = absurd (false≢true h)
+positive-zero-bits (inf s) t h = absurd (false≢true h)
+positive-zero-bits (fin true zero e) t h = low-bits binary32 true zero e t
+positive-zero-bits (fin false zero e) t h = low-bits binary32 false zero e t ∙ sym (ap (λ (z : ℤ). isPositiveZero (fin false 0 z)) (zero-exp binary32 false e t))
+positive-zero-bits (fin s (suc m) e) t h = absurd (some (eqb→eq (suc m * up e * 1) (0 * down e) (and-l (eqb (suc m * up e * 1) (0 * down e)) _ (subst T (sym h) tt))))
   where
     some : suc m * up e * 1 ≡ 0 * down e → ⊥
     some h = clash (suc m * up e) (down e) (mul-pos (zero-lt-suc m) (up-pos e)) h
@@ -253,12 +253,12 @@ naught-bits (fin s (suc m) e) t h = absurd (some (eqb→eq (suc m * up e * 1) (0
         clash : (x d : ℕ) → 0 < x → x * 1 ≡ 0 * d → ⊥
         clash x d p h = omega arith
 
-pub not-naught : (x : Float) → eq x naught ≡ false → eq x naught ≡ isNaught x
+pub not-positive-zero : (x : Float) → eq x positiveZero ≡ false → eq x positiveZero ≡ isPositiveZero x
 unfolding eq
-not-naught nan h = refl
-not-naught (inf s) h = refl
-not-naught (fin true m e) h = h
-not-naught (fin false (suc m) e) h = h
-not-naught (fin false zero (negsuc k)) h = h
-not-naught (fin false zero (pos (suc k))) h = h
-not-naught (fin false zero (pos zero)) h = refl
+not-positive-zero nan h = refl
+not-positive-zero (inf s) h = refl
+not-positive-zero (fin true m e) h = h
+not-positive-zero (fin false (suc m) e) h = h
+not-positive-zero (fin false zero (negsuc k)) h = h
+not-positive-zero (fin false zero (pos (suc k))) h = h
+not-positive-zero (fin false zero (pos zero)) h = refl

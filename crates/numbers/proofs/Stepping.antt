@@ -15,9 +15,9 @@ use lib.Ieee.Fits.{down-pos, sub-fits, add-fits}
 use lib.Ieee.Exact.{HasValue, round-exact}
 use lib.Ieee.Nearest.{div-same}
 use borrow.Author.Tests.{ltb-false, eqb-false}
-use Rattle.numbers.specs.Words.{one, level, proper, whole, taken, part}
+use Rattle.numbers.specs.Words.{one, finiteClear, proper, whole, taken, part}
 use Rattle.numbers.proofs.Values.{down-le, digits-lt, sub-at, pow-le-back, back}
-use Rattle.numbers.proofs.Fractions.{le-cross, cross-lt, add-most, add-level, whole-257}
+use Rattle.numbers.proofs.Fractions.{le-cross, cross-lt, add-most, add-finite-clear, whole-257}
 
 -- ---- x - 1 is exact from 1 up, below 2 ^ 53
 drop-one : (m : ℕ) (e : ℤ) → T (fits binary64 (fin false m e)) → m * up e < 2 ^ 53 * down e → HasValue (round binary64 false (m * up e - down e) (down e)) false (m * up e - down e) (down e)
@@ -44,16 +44,16 @@ sub-one m e t lo hi =
     (sym (sub-at binary64 (fin false m e) one (m * up e) (down e) (down e) (down-pos e) lo (refl, refl) (refl, one-mul (down e) ∙ sym (mul-one (down e)))))
     (drop-one m e t hi)
 
--- ---- one turn: x - 1 is level, and has one step less to go
+-- ---- one turn: x - 1 is finiteClear, and has one step less to go
 pub record Turn (x y : Float) : Type 0 where
-  pub level : T (level y)
+  pub finiteClear : T (finiteClear y)
   pub whole : whole x ≡ suc (whole y)
 
-level-of-value : (y : Float) (a c : ℕ) → HasValue y false a c → T (level y)
-level-of-value nan a c v = absurd v
-level-of-value (inf s) a c v = absurd v
-level-of-value (fin true n d) a c v = absurd (true≢false (v .0))
-level-of-value (fin false n d) a c v = tt
+finite-clear-of-value : (y : Float) (a c : ℕ) → HasValue y false a c → T (finiteClear y)
+finite-clear-of-value nan a c v = absurd v
+finite-clear-of-value (inf s) a c v = absurd v
+finite-clear-of-value (fin true n d) a c v = absurd (true≢false (v .0))
+finite-clear-of-value (fin false n d) a c v = tt
 
 whole-of-value : (y : Float) (a c : ℕ) → 0 < c → HasValue y false a c → whole y ≡ a / c
 unfolding whole
@@ -61,7 +61,7 @@ whole-of-value nan a c p v = absurd v
 whole-of-value (inf s) a c p v = absurd v
 whole-of-value (fin s n d) a c p v = div-same (n * up d) (down d) a c (down-pos d) p (v .1)
 
-pub turn : (x : Float) (n : ℕ) → T (level x) → T (fits binary64 x) → whole x ≡ suc n → n < 1000 → Turn x (sub binary64 x one)
+pub turn : (x : Float) (n : ℕ) → T (finiteClear x) → T (fits binary64 x) → whole x ≡ suc n → n < 1000 → Turn x (sub binary64 x one)
 unfolding whole
 turn nan n h t e k = absurd h
 turn (inf s) n h t e k = absurd h
@@ -72,7 +72,7 @@ turn (fin false m e) n h t w k =
     let low : c ≤ a = reach a c n w in
     let v = sub-one m e t low (under-top a c n (down-pos e) w k) in
     record {
-      level = level-of-value (sub binary64 (fin false m e) one) (a - c) c v;
+      finiteClear = finite-clear-of-value (sub binary64 (fin false m e) one) (a - c) c v;
       whole = div-eq-sub-div (down-pos e) low ∙ add-one ((a - c) / c) ∙ ap suc (sym (whole-of-value (sub binary64 (fin false m e) one) (a - c) c (down-pos e) v));
     }
   where
@@ -89,7 +89,7 @@ turn (fin false m e) n h t w k =
         few q n e k = omega arith
 
 -- ---- what is left is proper
-stop-proper : (x : Float) → T (level x) → whole x ≡ 0 → T (proper x)
+stop-proper : (x : Float) → T (finiteClear x) → whole x ≡ 0 → T (proper x)
 unfolding whole
 stop-proper nan h e = absurd h
 stop-proper (inf s) h e = absurd h
@@ -99,25 +99,25 @@ stop-proper (fin false m e) h w = cross-lt m e 1 (pos 0) (tidy (m * up e) (down 
     tidy : (a c : ℕ) → a < 1 * c → a * 1 < 1 * c
     tidy a c h = omega arith
 
-taken-proper : (n : ℕ) (x : Float) → T (level x) → T (fits binary64 x) → whole x ≡ n → n < 1000 → T (proper (taken n x))
+taken-proper : (n : ℕ) (x : Float) → T (finiteClear x) → T (fits binary64 x) → whole x ≡ n → n < 1000 → T (proper (taken n x))
 unfolding taken
 taken-proper zero x h t e k = stop-proper x h e
 taken-proper (suc n) x h t e k =
     let r = turn x n h t e (le-of-lt k) in
-    taken-proper n (sub binary64 x one) (r .level) (sub-fits binary64 x one) (less (sym (r .whole) ∙ e)) (le-of-lt k)
+    taken-proper n (sub binary64 x one) (r .finiteClear) (sub-fits binary64 x one) (less (sym (r .whole) ∙ e)) (le-of-lt k)
   where
     less : {a b : ℕ} → suc a ≡ suc b → a ≡ b
     less e = omega arith
 
-pub part-proper : (x : Float) → T (level x) → T (le x (fin false 257 (pos 0))) → T (fits binary64 x) → T (proper (part x))
+pub part-proper : (x : Float) → T (finiteClear x) → T (le x (fin false 257 (pos 0))) → T (fits binary64 x) → T (proper (part x))
 unfolding part
 part-proper x h l t = taken-proper (whole x) x h t refl (whole-257 x h l)
 
-pub sum-proper : (f a : Float) → T (proper f) → T (level a) → T (le a (fin false 1 (pos 8))) → T (proper (part (add binary64 f a)))
-sum-proper f a p l h = part-proper (add binary64 f a) (add-level f a p l h) (add-most f a p l h .1) (add-fits binary64 f a)
+pub sum-proper : (f a : Float) → T (proper f) → T (finiteClear a) → T (le a (fin false 1 (pos 8))) → T (proper (part (add binary64 f a)))
+sum-proper f a p l h = part-proper (add binary64 f a) (add-finite-clear f a p l h) (add-most f a p l h .1) (add-fits binary64 f a)
 
 -- ---- the test y ≥ 1
-pub go-on : (y : Float) → T (level y) → le one y ≡ true → whole y ≡ suc (whole y - 1)
+pub go-on : (y : Float) → T (finiteClear y) → le one y ≡ true → whole y ≡ suc (whole y - 1)
 unfolding whole
 go-on nan h e = absurd h
 go-on (inf s) h e = absurd h
@@ -138,7 +138,7 @@ and-true-false : (b : Bool) → (b && true) ≡ false → b ≡ false
 and-true-false true e = e
 and-true-false false e = e
 
-pub stop : (y : Float) → T (level y) → le one y ≡ false → whole y ≡ 0
+pub stop : (y : Float) → T (finiteClear y) → le one y ≡ false → whole y ≡ 0
 unfolding whole le
 stop nan h e = absurd h
 stop (inf s) h e = absurd h
@@ -155,7 +155,7 @@ stop (fin false m d) h e =
 
 -- ---- the loop: n steps are made, and y is left of x
 pub record Spinning (x y : Float) (n : ℕ) : Type 0 where
-  pub level : T (level y)
+  pub finiteClear : T (finiteClear y)
   pub fits : T (fits binary64 y)
   pub rest : part y ≡ part x
   pub sum : n + whole y ≡ whole x
@@ -166,10 +166,10 @@ unfolding part taken
 part-on y n e f = ap (λ (k : ℕ). taken k (sub binary64 y one)) f ∙ sym (ap (λ (k : ℕ). taken k y) e)
 
 -- the sum that a frame begins with
-pub spinning : (f a : Float) → T (proper f) → T (level a) → T (le a (fin false 1 (pos 8))) → Spinning (add binary64 f a) (add binary64 f a) 0
+pub spinning : (f a : Float) → T (proper f) → T (finiteClear a) → T (le a (fin false 1 (pos 8))) → Spinning (add binary64 f a) (add binary64 f a) 0
 spinning f a p l h =
-    let x = add-level f a p l h in
-    record { level = x; fits = add-fits binary64 f a; rest = refl; sum = none (whole (add binary64 f a)); few = whole-257 (add binary64 f a) x (add-most f a p l h .1) }
+    let x = add-finite-clear f a p l h in
+    record { finiteClear = x; fits = add-fits binary64 f a; rest = refl; sum = none (whole (add binary64 f a)); few = whole-257 (add binary64 f a) x (add-most f a p l h .1) }
   where
     none : (n : ℕ) → 0 + n ≡ n
     none n = omega arith
@@ -177,11 +177,11 @@ spinning f a p l h =
 -- a turn
 pub spun : (x y : Float) (n : ℕ) → Spinning x y n → le one y ≡ true → Turn y (sub binary64 y one) × Spinning x (sub binary64 y one) (n + 1)
 spun x y n h e =
-    let w = go-on y (h .level) e in
-    let r = turn y (whole y - 1) (h .level) (h .fits) w (few (whole y) (whole x) n (h .sum) (h .few)) in (
+    let w = go-on y (h .finiteClear) e in
+    let r = turn y (whole y - 1) (h .finiteClear) (h .fits) w (few (whole y) (whole x) n (h .sum) (h .few)) in (
       r,
       record {
-        level = r .level;
+        finiteClear = r .finiteClear;
         fits = sub-fits binary64 y one;
         rest = part-on y (whole (sub binary64 y one)) (r .whole) refl ∙ h .rest;
         sum = shift (whole y) (whole (sub binary64 y one)) (whole x) (r .whole) (h .sum);
@@ -199,7 +199,7 @@ spun x y n h e =
 pub spun-out : (x y : Float) (n : ℕ) → Spinning x y n → le one y ≡ false → (y ≡ part x) × (n ≡ whole x)
 unfolding part taken
 spun-out x y n h e =
-    let w = stop y (h .level) e in
+    let w = stop y (h .finiteClear) e in
     (sym (ap (λ (k : ℕ). taken k y) w) ∙ h .rest, done (whole y) (whole x) w (h .sum))
   where
     done : (a b : ℕ) → a ≡ 0 → n + a ≡ b → n ≡ b

@@ -7,8 +7,8 @@ use lib.Ieee.{Float, nan, inf, fin, binary32, binary64, up, down, round, sub, mu
 use Rattle.numbers.specs.declared.Stepped.{Stepped}
 
 -- positive zero
-abbrev pub naught : Float
-naught = fin false 0 (pos 0)
+abbrev pub positiveZero : Float
+positiveZero = fin false 0 (pos 0)
 
 abbrev pub one : Float
 one = fin false 1 (pos 0)
@@ -20,20 +20,20 @@ finite (inf s) = false
 finite (fin s m e) = true
 
 -- finite, and its sign bit is clear
-abbrev pub level : Float → Bool
-level nan = false
-level (inf s) = false
-level (fin s m e) = not s
+abbrev pub finiteClear : Float → Bool
+finiteClear nan = false
+finiteClear (inf s) = false
+finiteClear (fin s m e) = not s
 
 -- exactly positive zero
-abbrev pub isNaught : Float → Bool
-isNaught nan = false
-isNaught (inf s) = false
-isNaught (fin true m e) = false
-isNaught (fin false (suc m) e) = false
-isNaught (fin false zero (negsuc k)) = false
-isNaught (fin false zero (pos (suc k))) = false
-isNaught (fin false zero (pos zero)) = true
+abbrev pub isPositiveZero : Float → Bool
+isPositiveZero nan = false
+isPositiveZero (inf s) = false
+isPositiveZero (fin true m e) = false
+isPositiveZero (fin false (suc m) e) = false
+isPositiveZero (fin false zero (negsuc k)) = false
+isPositiveZero (fin false zero (pos (suc k))) = false
+isPositiveZero (fin false zero (pos zero)) = true
 
 -- the sign bit is set: minus zero is negative
 abbrev pub negative : Float → Bool
@@ -43,7 +43,7 @@ negative (fin s m e) = s
 
 -- at least 0, below 1, and the sign bit is clear
 abbrev pub proper : Float → Bool
-proper x = level x && lt x one
+proper x = finiteClear x && lt x one
 
 -- without its sign
 unfoldable pub magnitude : Float → Float

@@ -5,7 +5,7 @@ ghost use lib.IntN.{pos};
 ghost use lib.Ieee as Ieee;
 ghost use lib.Ieee.{fin, binary64};
 ghost use mathlib.Core.Bool.{false};
-ghost use Rattle.numbers.specs.Words.{finite, level, isNaught, negative, proper, narrowed, stepped};
+ghost use Rattle.numbers.specs.Words.{finite, finiteClear, isPositiveZero, negative, proper, narrowed, stepped};
 ghost use Rattle.numbers.specs.Words as Words;
 ghost use Rattle.numbers.specs.Frames.{rounded, cutOff};
 
@@ -30,7 +30,7 @@ pub struct Stepped {
 // The fraction moved on by the advance: 1 is subtracted while it is there, a step each time.
 pub fn advance_by(fraction: f64, advance: f64) -> Stepped
     requires { ⌜ T (proper fraction) ⌝ }
-    requires { ⌜ T (level advance) ⌝ }
+    requires { ⌜ T (finiteClear advance) ⌝ }
     requires { ⌜ T (Ieee.le advance (fin false 1 (pos 8))) ⌝ }
     ensures { λ r. ⌜ r ≡ stepped (Ieee.add binary64 fraction advance) ⌝ }
 {
@@ -102,16 +102,16 @@ pub fn is_proper(x: f64) -> bool
 }
 
 // Finite with its sign bit clear: minus zero is refused, so the bits decide.
-pub fn is_level(x: f32) -> bool
-    ensures { λ r. ⌜ r ≡ level x ⌝ }
+pub fn is_finite_clear(x: f32) -> bool
+    ensures { λ r. ⌜ r ≡ finiteClear x ⌝ }
 {
     let top: f32 = 1.0 / 0.0;
     x < top && f32::to_bits(x) < 0x8000_0000
 }
 
 // Exactly positive zero, which minus zero equals.
-pub fn is_naught(x: f32) -> bool
-    ensures { λ r. ⌜ r ≡ isNaught x ⌝ }
+pub fn is_positive_zero(x: f32) -> bool
+    ensures { λ r. ⌜ r ≡ isPositiveZero x ⌝ }
 {
     x == 0.0 && f32::to_bits(x) < 0x8000_0000
 }

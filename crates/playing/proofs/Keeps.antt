@@ -8,9 +8,9 @@ use lib.Dec.{T}
 use lib.ListN.{length}
 use lib.Ieee.{Float, lt, ofInt}
 use lib.Ieee.Fits.{and-l, and-r}
-use Rattle.numbers.specs.Words.{naught, proper, whole, part, advance}
+use Rattle.numbers.specs.Words.{positiveZero, proper, whole, part, advance}
 use Rattle.numbers.specs.Lists.{all}
-use Rattle.numbers.proofs.Fractions.{advance-level, sum-steps}
+use Rattle.numbers.proofs.Fractions.{advance-finite-clear, sum-steps}
 use Rattle.numbers.proofs.Stepping.{sum-proper}
 use Rattle.lanes.specs.Lanes.{Lane, near}
 use Rattle.voice.specs.declared.StaticSound.{StaticSound}
@@ -21,7 +21,7 @@ use Rattle.voice.proofs.Formed.{span-most, kept-of, moved-formed}
 use Rattle.moving.proofs.Kept.{updates-kept}
 use Rattle.playing.specs.Plays.{total, turned, plays}
 
-module _ (snd : List Float) (dt : Float) (t : T (lt naught dt)) where
+module _ (snd : List Float) (dt : Float) (t : T (lt positiveZero dt)) where
   -- ---- one frame
 
   -- the sum's rest is a fraction again
@@ -29,14 +29,14 @@ module _ (snd : List Float) (dt : Float) (t : T (lt naught dt)) where
   unfolding total
   rest-proper v l k h =
       let a = advance (v .setup .«sample_rate») (l .rate) dt in
-      sum-proper (v .«fractional_position») a h (advance-level (v .setup .«sample_rate») (l .rate) dt t k) k
+      sum-proper (v .«fractional_position») a h (advance-finite-clear (v .setup .«sample_rate») (l .rate) dt t k) k
 
   -- at most 257 steps
   pub frame-steps : (v : StaticSound) (l : Lane) → T (near (v .setup .«sample_rate») dt l) → T (proper (v .«fractional_position»)) → whole (total dt v l) ≤ 257
   unfolding total ofInt
   frame-steps v l k h =
       let a = advance (v .setup .«sample_rate») (l .rate) dt in
-      sum-steps (v .«fractional_position») a 256 (le-refl 256) h (advance-level (v .setup .«sample_rate») (l .rate) dt t k) k
+      sum-steps (v .«fractional_position») a 256 (le-refl 256) h (advance-finite-clear (v .setup .«sample_rate») (l .rate) dt t k) k
 
   pub turned-formed : (v : StaticSound) (l : Lane) → T (near (v .setup .«sample_rate») dt l) → Formed v → Formed (turned snd dt v l)
   unfolding turned

@@ -12,7 +12,7 @@ use lib.Seq.{take-suc-set, take-all}
 use lib.Ieee.{Float, nan, binary64, add, ofInt}
 use lib.Ieee.Fits.{and-l, and-r}
 use Rattle.numbers.specs.Words.{whole, part, advance}
-use Rattle.numbers.proofs.Fractions.{advance-level, sum-steps}
+use Rattle.numbers.proofs.Fractions.{advance-finite-clear, sum-steps}
 use Rattle.numbers.proofs.Stepping.{sum-proper}
 use Rattle.numbers.specs.Lists.{all}
 use Rattle.frame.specs.declared.Frame.{Frame}
@@ -126,7 +126,7 @@ module _ (snd : List Float) (c : Course) (hz : ℕ) (rate dt : Float) (m : Movin
   unfolding turnOf ofInt
   turned-few t h e =
       subst (λ (t : Turned). t .steps ≤ 257) (sym e)
-      (sum-steps f (advance hz rate dt) 256 (le-refl 256) (h .below) (advance-level hz rate dt (h .timely) (h .slow)) (h .slow))
+      (sum-steps f (advance hz rate dt) 256 (le-refl 256) (h .below) (advance-finite-clear hz rate dt (h .timeStep) (h .slow)) (h .slow))
 
   -- and keep the loop
   pub turned-loop : (t : Turned) → t ≡ turnOf snd c hz rate dt m f → t .moving .transport .«loop_region» ≡ m .transport .«loop_region»
@@ -142,5 +142,5 @@ turned-on snd dt v rate m f t w h e =
     (let hz = v .setup .«sample_rate» in
     let x = add binary64 f (advance hz rate dt) in
     moved-formed (moved v f m) (part x) (updates (whole x) snd (courseOf v) m) w
-    (sum-proper f (advance hz rate dt) (h .below) (advance-level hz rate dt (h .timely) (h .slow)) (h .slow))
+    (sum-proper f (advance hz rate dt) (h .below) (advance-finite-clear hz rate dt (h .timeStep) (h .slow)) (h .slow))
     (updates-kept (whole x) snd (courseOf v) m (span-most (v .setup) (w .setup)) (kept-of (moved v f m) w)))

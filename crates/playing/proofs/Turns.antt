@@ -7,8 +7,8 @@ use lib.Dec.{T}
 use lib.IntN.{pos}
 use lib.Ieee.{Float, fin, binary64, mul, add, le, lt, ofInt}
 use Rattle.numbers.specs.declared.Stepped.{Stepped}
-use Rattle.numbers.specs.Words.{naught, level, magnitude, stepped, advance}
-use Rattle.numbers.proofs.Fractions.{advance-level}
+use Rattle.numbers.specs.Words.{positiveZero, finiteClear, magnitude, stepped, advance}
+use Rattle.numbers.proofs.Fractions.{advance-finite-clear}
 use Rattle.lanes.specs.Lanes.{slow}
 use Rattle.moving.specs.declared.Course.{Course}
 use Rattle.moving.specs.declared.Moving.{Moving}
@@ -24,8 +24,8 @@ unfolding advance
 advance-is hz r dt m e = ap (λ (x : Float). product hz x dt) e
 
 -- what the sum asks of the advance
-pub asks : (hz : ℕ) (r dt m : Float) → m ≡ magnitude r → T (lt naught dt) → T (slow hz dt r) → T (level (product hz m dt)) × T (le (product hz m dt) (fin false 1 (pos 8)))
-asks hz r dt m e t s = rw (advance-is hz r dt m e) (advance-level hz r dt t s, s)
+pub asks : (hz : ℕ) (r dt m : Float) → m ≡ magnitude r → T (lt positiveZero dt) → T (slow hz dt r) → T (finiteClear (product hz m dt)) × T (le (product hz m dt) (fin false 1 (pos 8)))
+asks hz r dt m e t s = rw (advance-is hz r dt m e) (advance-finite-clear hz r dt t s, s)
 
 -- the steps and the rest of the sum, and the updates, are the frame's
 pub turned-as : (snd : List Float) (c : Course) (hz : ℕ) (r dt m : Float) (mo : Moving) (f : Float) (a : Stepped) (u : Moving)

@@ -5,7 +5,7 @@ use mathlib.Core.List.{List}
 use lib.Dec.{T}
 use lib.ListN.{length}
 use lib.Ieee.{Float, binary32, binary64, add, mul, lt}
-use Rattle.numbers.specs.Words.{naught, proper, narrowed, whole, part, advance}
+use Rattle.numbers.specs.Words.{positiveZero, proper, narrowed, whole, part, advance}
 use Rattle.numbers.specs.Lists.{all}
 use Rattle.frame.specs.declared.Frame.{Frame}
 use Rattle.frame.specs.Frames.{interpolated}
@@ -36,7 +36,7 @@ turnOf snd c hz rate dt m f =
 pub record Turning (snd : List Float) (c : Course) (hz : ℕ) (rate dt : Float) (m : Moving) (f : Float) : Type 0 where
   pub able : Able snd c m
   pub below : T (proper f)
-  pub timely : T (lt naught dt)
+  pub timeStep : T (lt positiveZero dt)
   pub slow : T (slow hz dt rate)
 
 -- what a block asks that is neither refused nor judged again; m is the output's length
@@ -45,5 +45,5 @@ pub record Playable (snd : List Float) (v : StaticSound) (dt : Float) (b : Lanes
   pub lent : length snd ≡ 2 * v .setup .«num_frames»
   pub sized : T (sized b)
   pub long : m ≡ 2 * length (b .rate)
-  pub timely : T (lt naught dt)
+  pub timeStep : T (lt positiveZero dt)
   pub near : T (all (near (v .setup .«sample_rate») dt) (rows b))

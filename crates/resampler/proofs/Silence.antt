@@ -9,46 +9,46 @@ use lib.IntN.{pos, negsuc}
 use lib.ListN.{length, getD, drop}
 use lib.Ieee.{Float, nan, inf, fin}
 use lib.Ieee.Fits.{and-l, and-r}
-use Rattle.numbers.specs.Words.{naught, level, isNaught}
+use Rattle.numbers.specs.Words.{positiveZero, finiteClear, isPositiveZero}
 use Rattle.numbers.specs.Lists.{all}
 use Rattle.frame.specs.declared.Frame.{Frame}
-use Rattle.frame.specs.Frames.{hush}
-use Rattle.frame.proofs.Silence.{interpolated-hush}
+use Rattle.frame.specs.Frames.{lastZero}
+use Rattle.frame.proofs.Silence.{interpolated-last-zero}
 use Rattle.resampler.specs.declared.RecentFrame.{RecentFrame}
 use Rattle.resampler.specs.declared.Resampler.{Resampler}
-use Rattle.resampler.specs.Windows.{blank, nth, reading, hushed, Windowed}
+use Rattle.resampler.specs.Windows.{blank, nth, reading, zeroFrame, Windowed}
 
-naught-of : (x : Float) → T (isNaught x) → x ≡ naught
-naught-of nan h = absurd h
-naught-of (inf s) h = absurd h
-naught-of (fin true m e) h = absurd h
-naught-of (fin false (suc m) e) h = absurd h
-naught-of (fin false zero (negsuc k)) h = absurd h
-naught-of (fin false zero (pos (suc k))) h = absurd h
-naught-of (fin false zero (pos zero)) h = refl
+positive-zero-of : (x : Float) → T (isPositiveZero x) → x ≡ positiveZero
+positive-zero-of nan h = absurd h
+positive-zero-of (inf s) h = absurd h
+positive-zero-of (fin true m e) h = absurd h
+positive-zero-of (fin false (suc m) e) h = absurd h
+positive-zero-of (fin false zero (negsuc k)) h = absurd h
+positive-zero-of (fin false zero (pos (suc k))) h = absurd h
+positive-zero-of (fin false zero (pos zero)) h = refl
 
--- a hushed entry has the zero frame
-pub hushed-frame : (r : RecentFrame) → T (hushed r) → r .frame ≡ hush
-hushed-frame r h =
-    let a = isNaught (r .frame .left) in
-    let b = isNaught (r .frame .right) in
-    ap₂ framed (naught-of (r .frame .left) (and-l a b h)) (naught-of (r .frame .right) (and-r a b h))
+-- a zeroFrame entry has the zero frame
+pub zero-frame-frame : (r : RecentFrame) → T (zeroFrame r) → r .frame ≡ lastZero
+zero-frame-frame r h =
+    let a = isPositiveZero (r .frame .left) in
+    let b = isPositiveZero (r .frame .right) in
+    ap₂ framed (positive-zero-of (r .frame .left) (and-l a b h)) (positive-zero-of (r .frame .right) (and-r a b h))
   where
     framed : Float → Float → Frame
     framed x y = record { left = x; right = y }
 
--- with the count at 0 every entry is hushed
-pub empty-hushed : (w : Resampler) → w .«time_until_empty» ≡ 0 → Windowed w → T (all hushed (w .frames))
-empty-hushed w e h = subst (λ (t : ℕ). T (all hushed (drop t (w .frames)))) e (h .hush)
+-- with the count at 0 every entry is zeroFrame
+pub empty-zero-frame : (w : Resampler) → w .«time_until_empty» ≡ 0 → Windowed w → T (all zeroFrame (w .frames))
+empty-zero-frame w e h = subst (λ (t : ℕ). T (all zeroFrame (drop t (w .frames)))) e (h .lastZero)
 
-at-hush : (l : List RecentFrame) (i : ℕ) → i < length l → T (all hushed l) → (getD l i blank) .frame ≡ hush
-at-hush [] i k h = absurd (not-suc-le-zero k)
-at-hush (r ∷ l) zero k h = hushed-frame r (and-l (hushed r) (all hushed l) h)
-at-hush (r ∷ l) (suc i) k h = at-hush l i (le-of-suc-le-suc k) (and-r (hushed r) (all hushed l) h)
+at-last-zero : (l : List RecentFrame) (i : ℕ) → i < length l → T (all zeroFrame l) → (getD l i blank) .frame ≡ lastZero
+at-last-zero [] i k h = absurd (not-suc-le-zero k)
+at-last-zero (r ∷ l) zero k h = zero-frame-frame r (and-l (zeroFrame r) (all zeroFrame l) h)
+at-last-zero (r ∷ l) (suc i) k h = at-last-zero l i (le-of-suc-le-suc k) (and-r (zeroFrame r) (all zeroFrame l) h)
 
 -- reading an empty window gives silence
-pub reading-naught : (w : Resampler) (f : Float) → w .«time_until_empty» ≡ 0 → Windowed w → T (level f) → (reading w f) .frame ≡ hush
+pub reading-positive-zero : (w : Resampler) (f : Float) → w .«time_until_empty» ≡ 0 → Windowed w → T (finiteClear f) → (reading w f) .frame ≡ lastZero
 unfolding reading
-reading-naught w f e h l =
-    let n : (i : ℕ) → i < 4 → nth w i ≡ hush = λ i k. at-hush (w .frames) i (subst (λ (m : ℕ). i < m) (sym (h .four)) k) (empty-hushed w e h) in
-    simp (n 0 (lit< tt), n 1 (lit< tt), n 2 (lit< tt), n 3 (lit< tt)) (interpolated-hush f l)
+reading-positive-zero w f e h l =
+    let n : (i : ℕ) → i < 4 → nth w i ≡ lastZero = λ i k. at-last-zero (w .frames) i (subst (λ (m : ℕ). i < m) (sym (h .four)) k) (empty-zero-frame w e h) in
+    simp (n 0 (lit< tt), n 1 (lit< tt), n 2 (lit< tt), n 3 (lit< tt)) (interpolated-last-zero f l)

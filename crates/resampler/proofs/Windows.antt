@@ -18,18 +18,18 @@ use Rattle.resampler.specs.declared.RecentFrame.{RecentFrame}
 use Rattle.resampler.specs.declared.Resampler.{Resampler}
 use Rattle.resampler.specs.declared.MaybeFrame.{MaybeFrame}
 use Rattle.resampler.specs.declared.MaybeFrame.the-variants.{Absent, Present}
-use Rattle.resampler.specs.Windows.{blank, given-count, given-entry, push, fresh, hushed, numbered, windowed, Windowed, heardNumber}
+use Rattle.resampler.specs.Windows.{blank, given-count, given-entry, push, fresh, zeroFrame, numbered, windowed, Windowed, heardNumber}
 
 pub windowed-parts : (w : Resampler) → T (windowed w) → Windowed w
 windowed-parts w h =
     let a = eqb (length (w .frames)) 4 in
     let b = leb (w .«time_until_empty») 4 in
-    let c = all hushed (drop (w .«time_until_empty») (w .frames)) in
+    let c = all zeroFrame (drop (w .«time_until_empty») (w .frames)) in
     let d = all numbered (w .frames) in
     record {
       four = eqb→eq (length (w .frames)) 4 (and-l a b (and-l (a && b) c (and-l (a && b && c) d h)));
       few = leb→le (w .«time_until_empty») 4 (and-r a b (and-l (a && b) c (and-l (a && b && c) d h)));
-      hush = and-r (a && b) c (and-l (a && b && c) d h);
+      lastZero = and-r (a && b) c (and-l (a && b && c) d h);
       numbers = and-r (a && b && c) d h;
     }
 
@@ -37,9 +37,9 @@ pub windowed-of : (w : Resampler) → Windowed w → T (windowed w)
 windowed-of w h =
     let a = eqb (length (w .frames)) 4 in
     let b = leb (w .«time_until_empty») 4 in
-    let c = all hushed (drop (w .«time_until_empty») (w .frames)) in
+    let c = all zeroFrame (drop (w .«time_until_empty») (w .frames)) in
     let d = all numbered (w .frames) in
-    and-i (a && b && c) d (and-i (a && b) c (and-i a b (eq→eqb (h .four)) (le→leb (w .«time_until_empty») 4 (h .few))) (h .hush)) (h .numbers)
+    and-i (a && b && c) d (and-i (a && b) c (and-i a b (eq→eqb (h .four)) (le→leb (w .«time_until_empty») 4 (h .few))) (h .lastZero)) (h .numbers)
 
 -- the first entry goes, and the given one comes last
 abbrev pub shift : Resampler → MaybeFrame → ℕ → Resampler
@@ -59,28 +59,28 @@ unfolding push
 push-shift w g n e = simp (four-shift (w .frames) (given-entry g n) e)
 
 -- a count of 4 asks nothing of four entries
-none-left : (l : List RecentFrame) → length l ≡ 4 → T (all hushed (drop 4 l))
-none-left l e = subst (λ (r : List RecentFrame). T (all hushed r)) (sym (drop-of-length-le l {i = 4} (le-of-eq e))) tt
+none-left : (l : List RecentFrame) → length l ≡ 4 → T (all zeroFrame (drop 4 l))
+none-left l e = subst (λ (r : List RecentFrame). T (all zeroFrame r)) (sym (drop-of-length-le l {i = 4} (le-of-eq e))) tt
 
 shift-parts : (w : Resampler) (g : MaybeFrame) (n : ℕ) → n ≤ most → Windowed w → Windowed (shift w g n)
 shift-parts w g n k h =
     record {
       four = four g;
       few = few g;
-      hush = hush g;
+      lastZero = lastZero g;
       numbers = all-append numbered (drop 1 (w .frames)) (given-entry g n ∷ []) (all-drop numbered 1 (w .frames) (h .numbers)) (and-i (leb n most) true (le→leb n most k) tt);
     }
   where
     four : (g : MaybeFrame) → length (drop 1 (w .frames) ++ given-entry g n ∷ []) ≡ 4
-    four g = shifted-length hushed (w .frames) (given-entry g n) (let e = h .four in omega arith) ∙ h .four
+    four g = shifted-length zeroFrame (w .frames) (given-entry g n) (let e = h .four in omega arith) ∙ h .four
 
     few : (g : MaybeFrame) → given-count g (w .«time_until_empty») ≤ 4
     few Absent = let e = h .few in omega arith
     few (Present f) = le-refl 4
 
-    hush : (g : MaybeFrame) → T (all hushed (drop (given-count g (w .«time_until_empty»)) (drop 1 (w .frames) ++ given-entry g n ∷ [])))
-    hush Absent = shifted hushed (w .«time_until_empty») (w .frames) (given-entry Absent n) (h .hush) tt
-    hush (Present f) = none-left (drop 1 (w .frames) ++ given-entry (Present f) n ∷ []) (four (Present f))
+    lastZero : (g : MaybeFrame) → T (all zeroFrame (drop (given-count g (w .«time_until_empty»)) (drop 1 (w .frames) ++ given-entry g n ∷ [])))
+    lastZero Absent = shifted zeroFrame (w .«time_until_empty») (w .frames) (given-entry Absent n) (h .lastZero) tt
+    lastZero (Present f) = none-left (drop 1 (w .frames) ++ given-entry (Present f) n ∷ []) (four (Present f))
 
 -- a push keeps the window well formed
 pub push-parts : (w : Resampler) (g : MaybeFrame) (n : ℕ) → n ≤ most → Windowed w → Windowed (push w g n)
@@ -88,7 +88,7 @@ push-parts w g n k h = subst Windowed (sym (push-shift w g n (h .four))) (shift-
 
 -- the new window is well formed
 pub fresh-parts : (n : ℕ) → n ≤ most → Windowed (fresh n)
-fresh-parts n k = record { four = refl; few = lit≤ tt; hush = tt; numbers = simp (le-leb n most k) tt }
+fresh-parts n k = record { four = refl; few = lit≤ tt; lastZero = tt; numbers = simp (le-leb n most k) tt }
 
 -- the number heard is in range
 pub heard-low : (w : Resampler) → Windowed w → heardNumber w ≤ most

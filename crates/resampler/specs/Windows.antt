@@ -6,11 +6,11 @@ use mathlib.Core.List.{[], _∷_}
 use lib.Dec.{T, leb, eqb}
 use lib.ListN.{length, getD, drop}
 use lib.Ieee.{Float, nan}
-use Rattle.numbers.specs.Words.{isNaught}
+use Rattle.numbers.specs.Words.{isPositiveZero}
 use Rattle.numbers.specs.Frames.{most}
 use Rattle.numbers.specs.Lists.{all}
 use Rattle.frame.specs.declared.Frame.{Frame}
-use Rattle.frame.specs.Frames.{hush, interpolated}
+use Rattle.frame.specs.Frames.{lastZero, interpolated}
 use Rattle.resampler.specs.declared.RecentFrame.{RecentFrame}
 use Rattle.resampler.specs.declared.Reading.{Reading}
 use Rattle.resampler.specs.declared.Resampler.{Resampler}
@@ -23,7 +23,7 @@ blank = record { frame = record { left = nan; right = nan }; «frame_index» = 0
 
 -- the frame that is stored: none stores a zero frame
 abbrev pub given-frame : MaybeFrame → Frame
-given-frame Absent = hush
+given-frame Absent = lastZero
 given-frame (Present f) = f
 
 -- the count afterwards: a real frame sets it to 4, none lowers it, not below 0
@@ -66,8 +66,8 @@ fresh n =
     record { frames = e ∷ e ∷ e ∷ e ∷ []; «time_until_empty» = 0 }
 
 -- positive zero in both channels
-abbrev pub hushed : RecentFrame → Bool
-hushed r = isNaught (r .frame .left) && isNaught (r .frame .right)
+abbrev pub zeroFrame : RecentFrame → Bool
+zeroFrame r = isPositiveZero (r .frame .left) && isPositiveZero (r .frame .right)
 
 -- a frame number of at most 4,294,967,296
 abbrev pub numbered : RecentFrame → Bool
@@ -78,12 +78,12 @@ abbrev pub windowed : Resampler → Bool
 windowed w =
     eqb (length (w .frames)) 4
     && leb (w .«time_until_empty») 4
-    && all hushed (drop (w .«time_until_empty») (w .frames))
+    && all zeroFrame (drop (w .«time_until_empty») (w .frames))
     && all numbered (w .frames)
 
 -- the same by named facts
 pub record Windowed (w : Resampler) : Type 0 where
   pub four : length (w .frames) ≡ 4
   pub few : w .«time_until_empty» ≤ 4
-  pub hush : T (all hushed (drop (w .«time_until_empty») (w .frames)))
+  pub lastZero : T (all zeroFrame (drop (w .«time_until_empty») (w .frames)))
   pub numbers : T (all numbered (w .frames))

@@ -10,9 +10,9 @@ use lib.Seq.{drop-drop}
 use lib.Ieee.{Float}
 use lib.Ieee.Fits.{and-r}
 use borrow.Author.Tests.{ne-eqb, not-true, not-false}
-use Rattle.numbers.specs.Words.{finite, naught}
+use Rattle.numbers.specs.Words.{finite, positiveZero}
 use lib.Ieee.{lt}
-use Rattle.lanes.specs.Lanes.{Lanes, rows, sized, timely, judged}
+use Rattle.lanes.specs.Lanes.{Lanes, rows, sized, timeStep, judged}
 use Rattle.voice.specs.declared.StaticSound.{StaticSound}
 use Rattle.voice.specs.WellFormed.{ours}
 use Rattle.voice.proofs.Formed.{ours-parts}
@@ -46,11 +46,11 @@ module _ (len : ℕ) (v : StaticSound) (dt : Float) (b : Lanes) (placed : Bool) 
   unfolding refusedBlock
   number-9-place h s p = simp (h, s, p)
 
-  pub number-10 : ours len v ≡ true → sized b ≡ true → placed ≡ true → timely dt ≡ false → 10 ≡ refusedBlock len v dt b placed
+  pub number-10 : ours len v ≡ true → sized b ≡ true → placed ≡ true → timeStep dt ≡ false → 10 ≡ refusedBlock len v dt b placed
   unfolding refusedBlock
   number-10 h s p t = simp (h, s, p, t)
 
-  pub number-judged : ours len v ≡ true → sized b ≡ true → placed ≡ true → timely dt ≡ true → judged (v .setup .«sample_rate») dt b ≡ refusedBlock len v dt b placed
+  pub number-judged : ours len v ≡ true → sized b ≡ true → placed ≡ true → timeStep dt ≡ true → judged (v .setup .«sample_rate») dt b ≡ refusedBlock len v dt b placed
   unfolding refusedBlock
   number-judged h s p t = simp (h, s, p, t)
 
@@ -61,7 +61,7 @@ playable : (snd : List Float) (v : StaticSound) (dt : Float) (b : Lanes) (placed
 playable snd v dt b placed m h k =
     let p = accepted-parts (length snd) v dt b placed h in
     let o = ours-parts (length snd) v (p .ours) in
-    record { formed = o .0; lent = o .1; sized = p .sized; long = k; timely = and-r (finite dt) (lt naught dt) (p .timely); near = p .near }
+    record { formed = o .0; lent = o .1; sized = p .sized; long = k; timeStep = and-r (finite dt) (lt positiveZero dt) (p .timeStep); near = p .near }
 
 -- ---- the two entries
 

@@ -9,8 +9,8 @@ use lib.ListN.{length}
 use lib.Ieee.{Float, lt}
 use lib.Ieee.Fits.{and-r}
 use Rattle.voice.proofs.Refusals.{none-refused, some-refused, accepted}
-use Rattle.numbers.specs.Words.{naught, finite}
-use Rattle.lanes.specs.Lanes.{Lanes, rows, timely}
+use Rattle.numbers.specs.Words.{positiveZero, finite}
+use Rattle.lanes.specs.Lanes.{Lanes, rows, timeStep}
 use Rattle.voice.specs.declared.Setup.{Setup}
 use Rattle.voice.specs.declared.StaticSound.{StaticSound}
 use Rattle.voice.specs.WellFormed.{ours}
@@ -25,8 +25,8 @@ use Rattle.static_sound.proofs.Refusals.{Accepted}
 
 -- ---- an accepted block
 
-pub timely-above : (dt : Float) → T (timely dt) → T (lt naught dt)
-timely-above dt h = and-r (finite dt) (lt naught dt) h
+pub time-step-above : (dt : Float) → T (timeStep dt) → T (lt positiveZero dt)
+time-step-above dt h = and-r (finite dt) (lt positiveZero dt) h
 
 -- an accepted block leaves a state that is well formed over its sound
 pub block-ours : (snd : List Float) (v : StaticSound) (dt : Float) (b : Lanes) (g : Signals) (placed : Bool) → Accepted (length snd) v dt b placed
@@ -34,7 +34,7 @@ pub block-ours : (snd : List Float) (v : StaticSound) (dt : Float) (b : Lanes) (
 block-ours snd v dt b g placed h =
     let p = ours-parts (length snd) v (h .ours) in
     let u = (block snd dt (rows b) g v) .voice in
-    ours-of (length snd) u (block-formed snd dt (timely-above dt (h .timely)) (rows b) g v (h .near) (p .0))
+    ours-of (length snd) u (block-formed snd dt (time-step-above dt (h .timeStep)) (rows b) g v (h .near) (p .0))
     (p .1 ∙ ap (λ (k : Setup). 2 * k .«num_frames») (sym (block-setup snd dt (rows b) g v)))
 
 -- ---- by the refusal

@@ -7,7 +7,7 @@ use lib.Ieee.{Float}
 use lib.Ieee.Fits.{and-i, and-l, and-r}
 use Rattle.numbers.specs.Lists.{all}
 use Rattle.playback_position.specs.Positions.{placed}
-use Rattle.lanes.specs.Lanes.{Lanes, rows, sized, timely, laned, near}
+use Rattle.lanes.specs.Lanes.{Lanes, rows, sized, timeStep, laned, near}
 use Rattle.voice.specs.declared.StaticSound.{StaticSound}
 use Rattle.voice.specs.WellFormed.{ours}
 use Rattle.static_sound.specs.Entries.{refusedBlock}
@@ -17,7 +17,7 @@ pub record Accepted (len : ℕ) (v : StaticSound) (dt : Float) (b : Lanes) (room
   pub ours : T (ours len v)
   pub sized : T (sized b)
   pub placed : T room
-  pub timely : T (timely dt)
+  pub timeStep : T (timeStep dt)
   pub laned : T (all laned (rows b))
   pub near : T (all (near (v .setup .«sample_rate») dt) (rows b))
 
@@ -27,14 +27,14 @@ module _ (len : ℕ) (v : StaticSound) (dt : Float) (b : Lanes) (room : Bool) wh
   accepted-parts h =
       let p1 = passed (ours len v) 0 _ h in
       let p9 = passed (sized b && room) 8 _ (p1 .1) in
-      let p10 = passed (timely dt) 9 _ (p9 .1) in
+      let p10 = passed (timeStep dt) 9 _ (p9 .1) in
       let p11 = passed (all laned (rows b)) 10 _ (p10 .1) in
       let p12 = passed (all (near (v .setup .«sample_rate») dt) (rows b)) 11 0 (p11 .1) in
       record {
         ours = p1 .0;
         sized = and-l (sized b) room (p9 .0);
         placed = and-r (sized b) room (p9 .0);
-        timely = p10 .0;
+        timeStep = p10 .0;
         laned = p11 .0;
         near = p12 .0;
       }
@@ -44,5 +44,5 @@ module _ (len : ℕ) (v : StaticSound) (dt : Float) (b : Lanes) (room : Bool) wh
   accepted-of h =
       passing (ours len v) 1 _ (h .ours)
       (passing (sized b && room) 9 _ (and-i (sized b) room (h .sized) (h .placed))
-      (passing (timely dt) 10 _ (h .timely)
+      (passing (timeStep dt) 10 _ (h .timeStep)
       (passing (all laned (rows b)) 11 _ (h .laned) (passing (all (near (v .setup .«sample_rate») dt) (rows b)) 12 0 (h .near) refl))))

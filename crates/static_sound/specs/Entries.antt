@@ -7,7 +7,7 @@ use lib.ListN.{length, take, drop}
 use lib.Ieee.{Float}
 use Rattle.playback_position.specs.declared.FrameRange.{FrameRange}
 use Rattle.playback_position.specs.declared.FrameRange.the-variants as range
-use Rattle.lanes.specs.Lanes.{Lanes, rows, sized, timely, laned, near}
+use Rattle.lanes.specs.Lanes.{Lanes, rows, sized, timeStep, laned, near}
 use Rattle.numbers.specs.Lists.{all}
 use Rattle.voice.specs.declared.StaticSound.{StaticSound}
 use Rattle.voice.specs.Voices.{offset}
@@ -22,7 +22,7 @@ unfoldable pub refusedBlock : ℕ → StaticSound → Float → Lanes → Bool �
 refusedBlock len v dt b placed =
     unless (ours len v) 1
     (unless (sized b && placed) 9
-    (unless (timely dt) 10
+    (unless (timeStep dt) 10
     (unless (all laned (rows b)) 11
     (unless (all (near (v .setup .«sample_rate») dt) (rows b)) 12 0))))
 

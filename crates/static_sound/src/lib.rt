@@ -56,7 +56,7 @@ fn refusal_of(
     if !placed {
         return 9;
     }
-    if !lanes::is_timely(dt) {
+    if !lanes::is_time_step(dt) {
         return 10;
     }
     let setup = voice.setup;

@@ -4,7 +4,7 @@ use mathlib.Core.Bool.{false, cond}
 use mathlib.Core.List.{List}
 use lib.Dec.{eqb}
 use lib.Ieee.{Float}
-use Rattle.numbers.specs.Words.{naught}
+use Rattle.numbers.specs.Words.{positiveZero}
 use Rattle.playback_position.specs.declared.PlaybackPosition.the-variants.{Samples}
 use Rattle.playback_position.specs.declared.EndPosition.the-variants.{Custom}
 use Rattle.voice.specs.declared.StaticSound.{StaticSound}
@@ -35,7 +35,7 @@ loopCommand s =
 -- what follows from a read: the table's refusal, with the given voice and position +0; else the command set's answer
 abbrev pub takenFrom : List Float → StaticSound → LoopFound → Commanded
 takenFrom snd v f =
-    cond (eqb (f .refusal) 0) (commanded snd v (loopCommand (f .slot))) (record { refusal = f .refusal; sound = v; position = naught })
+    cond (eqb (f .refusal) 0) (commanded snd v (loopCommand (f .slot))) (record { refusal = f .refusal; sound = v; position = positiveZero })
 
 unfoldable pub taken : List Float → LoopTable → ℕ → StaticSound → Commanded
 taken snd t k v = takenFrom snd v (found t k)

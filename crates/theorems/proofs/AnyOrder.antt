@@ -12,7 +12,7 @@ use Rattle.playback_position.specs.declared.FrameRange.{FrameRange}
 use Rattle.playback_position.specs.declared.FrameRange.the-variants.{Frames}
 use Rattle.transport.specs.declared.Transport.{Transport}
 use Rattle.transport.specs.Moves.{cycled, landed, forward, backward}
-use Rattle.transport.specs.Seats.{Inside}
+use Rattle.transport.specs.WellFormed.{Inside}
 use Rattle.transport.proofs.Wraps.{cycled-above, cycled-below, cycled-lt}
 use Rattle.theorems.specs.AnyOrder.{Step, Forward, Backward, forwards, backwards, step, walked, AnyOrder, ThereAndBack, Permuted, none, kept, swapped, then, Permutations}
 

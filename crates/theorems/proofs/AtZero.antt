@@ -7,7 +7,7 @@ use lib.Ieee.{Float, nan, inf, fin, le}
 use Rattle.numbers.specs.Words.{magnitude}
 use Rattle.numbers.proofs.Bounds.{within, within-of-le}
 use Rattle.frame.specs.Frames.{interpolated}
-use Rattle.frame.proofs.AtZero.{cubic-at-naught}
+use Rattle.frame.proofs.AtZero.{cubic-at-positive-zero}
 use Rattle.theorems.specs.AtZero.{ReadsB}
 
 -- at most 8 without its sign is within 8
@@ -20,6 +20,6 @@ small (fin s m e) h = within-of-le 8 (fin false m e) (fin false 8 (pos 0)) tt (r
 pub reads-b : ReadsB
 unfolding interpolated
 reads-b a b c d ha hb hc hd = (
-  cubic-at-naught (a .left) (b .left) (c .left) (d .left) (small (a .left) (ha .0 .0)) (small (b .left) (hb .0 .0)) (small (c .left) (hc .0 .0)) (small (d .left) (hd .0 .0)) (hb .0 .1),
-  cubic-at-naught (a .right) (b .right) (c .right) (d .right) (small (a .right) (ha .1 .0)) (small (b .right) (hb .1 .0)) (small (c .right) (hc .1 .0)) (small (d .right) (hd .1 .0)) (hb .1 .1),
+  cubic-at-positive-zero (a .left) (b .left) (c .left) (d .left) (small (a .left) (ha .0 .0)) (small (b .left) (hb .0 .0)) (small (c .left) (hc .0 .0)) (small (d .left) (hd .0 .0)) (hb .0 .1),
+  cubic-at-positive-zero (a .right) (b .right) (c .right) (d .right) (small (a .right) (ha .1 .0)) (small (b .right) (hb .1 .0)) (small (c .right) (hc .1 .0)) (small (d .right) (hd .1 .0)) (hb .1 .1),
 )

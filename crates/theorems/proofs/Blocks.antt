@@ -8,7 +8,7 @@ use mathlib.Core.Bool.{Bool, true, false, not, _&&_}
 use mathlib.Core.List.{List, _++_}
 use lib.Dec.{T, eqb}
 use lib.Ieee.{Float, lt}
-use Rattle.numbers.specs.Words.{naught}
+use Rattle.numbers.specs.Words.{positiveZero}
 use Rattle.numbers.specs.Lists.{all}
 use Rattle.numbers.proofs.Lists.{all-front, all-rest}
 use Rattle.playback_state_manager.specs.declared.PlaybackState.{PlaybackState}
@@ -54,7 +54,7 @@ module _ (snd : List Float) (dt : Float) (xs ys : List Lane) where
   cut-silent : (g : Signals) (v : StaticSound) → Taken g (v .started) → live v ≡ false → CutPlayed (silent (xs ++ ys) v) (silent xs v) (block snd dt ys (quiet g) v)
   cut-silent g v h e = rw (rest-silent g v h e) (record { samples = zeros-append xs ys; same = λ n. (refl, refl); lowest = λ n. sym (four-lower 4 (le-refl 4)); alike = refl })
 
-  module _ (t : T (lt naught dt)) where
+  module _ (t : T (lt positiveZero dt)) where
     cut-live : (g : Signals) (v : StaticSound) → Taken g (v .started) → Formed v → live v ≡ true → T (all laned (xs ++ ys)) → T (all (near (v .setup .«sample_rate») dt) (xs ++ ys))
         → CutPlayed (plays snd dt (xs ++ ys) v) (plays snd dt xs v) (block snd dt ys (quiet g) ((plays snd dt xs v) .voice))
     cut-live g v h w e a k = go (plays-ends snd dt xs v)

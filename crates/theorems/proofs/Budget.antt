@@ -10,9 +10,9 @@ use lib.ListN.{length, take, drop, length-drop}
 use lib.Seq.{length-take-le}
 use lib.Ieee.{Float, binary64, lt, add, le}
 use lib.Ieee.Fits.{and-i, and-l, and-r}
-use Rattle.numbers.specs.Words.{naught, one, whole, advance}
+use Rattle.numbers.specs.Words.{positiveZero, one, whole, advance}
 use Rattle.numbers.specs.Lists.{all}
-use Rattle.numbers.proofs.Fractions.{advance-level, sum-steps}
+use Rattle.numbers.proofs.Fractions.{advance-finite-clear, sum-steps}
 use Rattle.lanes.specs.Lanes.{Lane, Lanes, rows, near, firstLanes, restLanes}
 use Rattle.lanes.proofs.Rows.{beside-length}
 use Rattle.voice.specs.declared.Setup.{Setup}
@@ -27,7 +27,7 @@ use Rattle.block.proofs.Blocks.{block-live, block-silent, block-setup}
 use Rattle.block.proofs.Keeps.{begun-formed}
 use Rattle.playing.proofs.Keeps.{turned-formed}
 use Rattle.static_sound.proofs.Refusals.{Accepted, accepted-parts}
-use Rattle.static_sound.proofs.Entries.{timely-above, processed-passed, processed-done, into-passed, into-done}
+use Rattle.static_sound.proofs.Entries.{time-step-above, processed-passed, processed-done, into-passed, into-done}
 use Rattle.theorems.specs.Sums.{sum}
 use Rattle.theorems.specs.Steps.{stepsOf}
 use Rattle.theorems.specs.Schedules.{playedBy}
@@ -38,13 +38,13 @@ use Rattle.theorems.proofs.Steps.{plays-sum}
 abbrev few : ℕ → ℕ → Bool
 few k n = leb n (k + 1)
 
-module _ (k : ℕ) (small : k ≤ 256) (snd : List Float) (dt : Float) (t : T (lt naught dt)) where
+module _ (k : ℕ) (small : k ≤ 256) (snd : List Float) (dt : Float) (t : T (lt positiveZero dt)) where
   -- one frame
   frame-few : (v : StaticSound) (l : Lane) → Formed v → T (near (v .setup .«sample_rate») dt l) → T (atMost k (v .setup .«sample_rate») dt l) → whole (total dt v l) ≤ k + 1
   unfolding total
   frame-few v l h n s =
       let a = advance (v .setup .«sample_rate») (l .rate) dt in
-      more (whole (add binary64 (v .«fractional_position») a)) (sum-steps (v .«fractional_position») a k small (h .fraction) (advance-level (v .setup .«sample_rate») (l .rate) dt t n) s)
+      more (whole (add binary64 (v .«fractional_position») a)) (sum-steps (v .«fractional_position») a k small (h .fraction) (advance-finite-clear (v .setup .«sample_rate») (l .rate) dt t n) s)
     where
       more : (w : ℕ) → w ≤ suc k → w ≤ k + 1
       more w h = omega arith
@@ -82,8 +82,8 @@ module _ (k : ℕ) (small : k ≤ 256) (snd : List Float) (v : StaticSound) (dt 
   unfolding begun
   block-within placed out p s = go (live (begun g v)) refl
     where
-      f : Frames k small snd dt (timely-above dt (p .timely)) (rows b) (begun g v)
-      f = frames-few k small snd dt (timely-above dt (p .timely)) (rows b) (begun g v) (begun-formed g v (ours-parts (length snd) v (p .ours) .0)) (p .near) s
+      f : Frames k small snd dt (time-step-above dt (p .timeStep)) (rows b) (begun g v)
+      f = frames-few k small snd dt (time-step-above dt (p .timeStep)) (rows b) (begun g v) (begun-formed g v (ours-parts (length snd) v (p .ours) .0)) (p .near) s
 
       sized : length (rows b) ≡ length (b .rate)
       sized = beside-length (b .fade) (b .volume) (b .left) (b .right) (b .rate)

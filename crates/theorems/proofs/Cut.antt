@@ -11,7 +11,7 @@ use lib.Ieee.{Float}
 use lib.Ieee.Fits.{eq→eqb}
 use Rattle.numbers.specs.Lists.{all}
 use Rattle.numbers.proofs.Lists.{all-front, all-rest}
-use Rattle.lanes.specs.Lanes.{Lane, Lanes, rows, timely, laned, near, firstLanes, restLanes}
+use Rattle.lanes.specs.Lanes.{Lane, Lanes, rows, timeStep, laned, near, firstLanes, restLanes}
 use Rattle.lanes.proofs.Rows.{rows-cut, first-sized, rest-sized}
 use Rattle.voice.specs.declared.Setup.{Setup}
 use Rattle.voice.specs.declared.StaticSound.{StaticSound}
@@ -22,7 +22,7 @@ use Rattle.block.specs.Blocks.{block, quiet}
 use Rattle.static_sound.specs.Entries.{refusedBlock, holds}
 use Rattle.block.proofs.Blocks.{block-setup}
 use Rattle.static_sound.proofs.Refusals.{Accepted, accepted-parts, accepted-of}
-use Rattle.static_sound.proofs.Entries.{timely-above, block-ours, processed-passed, processed-done}
+use Rattle.static_sound.proofs.Entries.{time-step-above, block-ours, processed-passed, processed-done}
 use Rattle.theorems.specs.Cut.{CutBlocks}
 use Rattle.theorems.proofs.Blocks.{CutPlayed, block-cut}
 
@@ -52,7 +52,7 @@ module _ (snd : List Float) (v : StaticSound) (dt : Float) (b : Lanes) (g : Sign
         ours = p .ours;
         sized = first-sized k b q (p .sized);
         placed = h;
-        timely = p .timely;
+        timeStep = p .timeStep;
         laned = first-all laned k b (p .laned);
         near = first-all (near (v .setup .«sample_rate») dt) k b (p .near);
       }
@@ -63,7 +63,7 @@ module _ (snd : List Float) (v : StaticSound) (dt : Float) (b : Lanes) (g : Sign
         ours = block-ours snd v dt (firstLanes k b) g true (first-accepted true tt q);
         sized = rest-sized k b (p .sized);
         placed = h;
-        timely = p .timely;
+        timeStep = p .timeStep;
         laned = rest-all laned k b (p .laned);
         near = rest-near snd dt k b g v (p .near);
       }
@@ -74,7 +74,7 @@ module _ (snd : List Float) (v : StaticSound) (dt : Float) (b : Lanes) (g : Sign
       let ys = rows (restLanes k b) in
       subst (λ (ls : List Lane). T (all laned ls) → T (all (near (v .setup .«sample_rate») dt) ls) → CutPlayed (block snd dt ls g v) (block snd dt xs g v) (block snd dt ys (quiet g) ((block snd dt xs g v) .voice)))
       (rows-cut k b)
-      (block-cut snd dt xs ys (timely-above dt (p .timely)) g v (ours-parts (length snd) v (p .ours) .0))
+      (block-cut snd dt xs ys (time-step-above dt (p .timeStep)) g v (ours-parts (length snd) v (p .ours) .0))
       (p .laned) (p .near)
 
 -- ---- the plain entry

@@ -11,12 +11,12 @@ use lib.ListN.{length, replicate}
 use lib.Ieee.{Float, lt, binary32}
 use lib.Ieee.Fits.{and-l, and-r}
 use borrow.Author.Tests.{eqb-true}
-use Rattle.numbers.specs.Words.{naught, level, finite, proper, narrowed, whole}
+use Rattle.numbers.specs.Words.{positiveZero, finiteClear, finite, proper, narrowed, whole}
 use Rattle.numbers.specs.Lists.{all}
-use Rattle.numbers.proofs.Silence.{mul-naught}
-use Rattle.numbers.proofs.Fractions.{narrow-level}
+use Rattle.numbers.proofs.Silence.{mul-positive-zero}
+use Rattle.numbers.proofs.Fractions.{narrow-finite-clear}
 use Rattle.frame.specs.declared.Frame.{Frame}
-use Rattle.frame.specs.Frames.{hush}
+use Rattle.frame.specs.Frames.{lastZero}
 use Rattle.playback_state_manager.specs.declared.PlaybackState.{PlaybackState}
 use Rattle.playback_state_manager.specs.declared.PlaybackState.the-variants.{Stopped}
 use Rattle.transport.specs.declared.Transport.{Transport}
@@ -24,8 +24,8 @@ use Rattle.transport.specs.Moves.{forward, backward}
 use Rattle.transport.proofs.Steps.{forward-still, backward-still}
 use Rattle.resampler.specs.declared.RecentFrame.{RecentFrame}
 use Rattle.resampler.specs.declared.Resampler.{Resampler}
-use Rattle.resampler.specs.Windows.{push, given-count, isEmpty, hushed, Windowed}
-use Rattle.resampler.proofs.Silence.{hushed-frame, empty-hushed, reading-naught}
+use Rattle.resampler.specs.Windows.{push, given-count, isEmpty, zeroFrame, Windowed}
+use Rattle.resampler.proofs.Silence.{zero-frame-frame, empty-zero-frame, reading-positive-zero}
 use Rattle.lanes.specs.Lanes.{Lane, laned, near}
 use Rattle.voice.specs.declared.Setup.{Setup}
 use Rattle.moving.specs.declared.Moving.{Moving}
@@ -138,35 +138,35 @@ module _ (snd : List Float) (dt : Float) where
 
 -- ---- what is heard
 
-frame-hush : (v : StaticSound) (l : Lane) → Windowed (v .moving .resampler) → T (proper (v .«fractional_position»)) → v .moving .resampler .«time_until_empty» ≡ 0 → T (laned l)
-    → frameHeard v l ≡ hush
+frame-last-zero : (v : StaticSound) (l : Lane) → Windowed (v .moving .resampler) → T (proper (v .«fractional_position»)) → v .moving .resampler .«time_until_empty» ≡ 0 → T (laned l)
+    → frameHeard v l ≡ lastZero
 unfolding frameHeard
-frame-hush v l w p e k =
-    let a = level (l .fade) in
-    let b = level (l .volume) in
-    let c = level (l .left) in
-    let d = level (l .right) in
+frame-last-zero v l w p e k =
+    let a = finiteClear (l .fade) in
+    let b = finiteClear (l .volume) in
+    let c = finiteClear (l .left) in
+    let d = finiteClear (l .right) in
     let abcd = and-l (a && b && c && d) (finite (l .rate)) k in
     let abc = and-l (a && b && c) d abcd in
     simp (
-      reading-naught (v .moving .resampler) (narrowed (v .«fractional_position»)) e w (narrow-level (v .«fractional_position») p),
-      mul-naught binary32 (l .fade) (and-l a b (and-l (a && b) c abc)),
-      mul-naught binary32 (l .volume) (and-r a b (and-l (a && b) c abc)),
-      mul-naught binary32 (l .left) (and-r (a && b) c abc),
-      mul-naught binary32 (l .right) (and-r (a && b && c) d abcd),
+      reading-positive-zero (v .moving .resampler) (narrowed (v .«fractional_position»)) e w (narrow-finite-clear (v .«fractional_position») p),
+      mul-positive-zero binary32 (l .fade) (and-l a b (and-l (a && b) c abc)),
+      mul-positive-zero binary32 (l .volume) (and-r a b (and-l (a && b) c abc)),
+      mul-positive-zero binary32 (l .left) (and-r (a && b) c abc),
+      mul-positive-zero binary32 (l .right) (and-r (a && b && c) d abcd),
     )
 
 -- ---- all of a voice but its fraction and its window's frame numbers
 
 abbrev mute : RecentFrame
-mute = record { frame = hush; «frame_index» = 0 }
+mute = record { frame = lastZero; «frame_index» = 0 }
 
-unnumbered-hush : (l : List RecentFrame) → T (all hushed l) → map unnumbered l ≡ replicate (length l) mute
-unnumbered-hush [] h = refl
-unnumbered-hush (r ∷ l) h =
+unnumbered-last-zero : (l : List RecentFrame) → T (all zeroFrame l) → map unnumbered l ≡ replicate (length l) mute
+unnumbered-last-zero [] h = refl
+unnumbered-last-zero (r ∷ l) h =
     ap₂ (λ (f : Frame) (t : List RecentFrame). record { frame = f; «frame_index» = 0 } ∷ t)
-    (hushed-frame r (and-l (hushed r) (all hushed l) h))
-    (unnumbered-hush l (and-r (hushed r) (all hushed l) h))
+    (zero-frame-frame r (and-l (zeroFrame r) (all zeroFrame l) h))
+    (unnumbered-last-zero l (and-r (zeroFrame r) (all zeroFrame l) h))
 
 -- an ended voice without them
 abbrev spare : Setup → Float → Bool → Transport → StaticSound
@@ -175,26 +175,26 @@ spare k r b t =
       setup = k;
       «playback_rate» = r;
       started = b;
-      «fractional_position» = naught;
+      «fractional_position» = positiveZero;
       moving = record { state = Stopped; transport = t; resampler = record { frames = replicate 4 mute; «time_until_empty» = 0 } };
     }
 
 bare-ended : (v : StaticSound) → Windowed (v .moving .resampler) → Ended (v .moving) → bare v ≡ spare (v .setup) (v .«playback_rate») (v .started) (v .moving .transport)
 bare-ended v w h =
     let f : map unnumbered (v .moving .resampler .frames) ≡ replicate 4 mute =
-    unnumbered-hush (v .moving .resampler .frames) (empty-hushed (v .moving .resampler) (h .empty) w) ∙ ap (λ (n : ℕ). replicate n mute) (w .four)
+    unnumbered-last-zero (v .moving .resampler .frames) (empty-zero-frame (v .moving .resampler) (h .empty) w) ∙ ap (λ (n : ℕ). replicate n mute) (w .four)
     in
     ap₂ (λ (s : PlaybackState) (x : Resampler). record {
       setup = v .setup;
       «playback_rate» = v .«playback_rate»;
       started = v .started;
-      «fractional_position» = naught;
+      «fractional_position» = positiveZero;
       moving = record { state = s; transport = v .moving .transport; resampler = x };
     })
     (h .stopped)
     (ap₂ (λ (l : List RecentFrame) (n : ℕ). record { frames = l; «time_until_empty» = n }) f (h .empty))
 
-module _ (snd : List Float) (dt : Float) (t : T (lt naught dt)) where
+module _ (snd : List Float) (dt : Float) (t : T (lt positiveZero dt)) where
   bare-turned : (v : StaticSound) (l : Lane) → T (near (v .setup .«sample_rate») dt l) → Formed v → Ended (v .moving) → bare (turned snd dt v l) ≡ bare v
   unfolding turned
   bare-turned v l k w h =
@@ -215,7 +215,7 @@ module _ (snd : List Float) (dt : Float) (t : T (lt naught dt)) where
       let r = all (near (v .setup .«sample_rate») dt) ls in
       let u = turned snd dt v l in
       let i = plays-idle ls u (and-r (laned l) (all laned ls) a) (and-r n r k) (turned-formed snd dt t v l (and-l n r k) w) (turned-ended snd dt v l h) in
-      let f = frame-hush v l (w .window) (w .fraction) (h .empty) (and-l (laned l) (all laned ls) a) in
+      let f = frame-last-zero v l (w .window) (w .fraction) (h .empty) (and-l (laned l) (all laned ls) a) in
       record {
         samples = ap₂ (λ (x : Frame) (z : List Float). x .left ∷ x .right ∷ z) f (i .samples);
         alike = i .alike ∙ bare-turned v l (and-l n r k) w h;

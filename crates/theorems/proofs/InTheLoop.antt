@@ -22,9 +22,9 @@ use Rattle.start_time.specs.Ticks.{answering}
 use Rattle.playback_state_manager.specs.States.{unless-stopped, pausing, stopping, settled, advancing}
 use Rattle.transport.specs.declared.Transport.{Transport}
 use Rattle.transport.specs.Moves.{cycled, under, over, forward, backward, seek}
-use Rattle.transport.specs.Seats.{Inside}
+use Rattle.transport.specs.WellFormed.{Inside}
 use Rattle.transport.proofs.Wraps.{wrapped-lt}
-use Rattle.transport.proofs.Seats.{forward-inside, backward-inside}
+use Rattle.transport.proofs.WellFormed.{forward-inside, backward-inside}
 use Rattle.resampler.specs.Windows.{isEmpty}
 use Rattle.lanes.specs.Lanes.{Lane, rows}
 use Rattle.voice.specs.declared.Setup.{Setup}
@@ -352,7 +352,7 @@ in-the-loop s e cs v w h k =
     record { inside = row-inside s e cs v i k; stopped = λ q. ends (someAccepted stops cs v) (ending (v .moving .state)) (λ a b. subst alive q (row-alive s e cs v i k a b)) }
   where
     fits : e ≤ span (v .setup)
-    fits = (ranged-parts (span (v .setup)) s e (subst (λ (r : FrameRange). T (within (span (v .setup)) r)) (h .loop) ((formed-parts v w) .seat .loop))) .inside
+    fits = (ranged-parts (span (v .setup)) s e (subst (λ (r : FrameRange). T (within (span (v .setup)) r)) (h .loop) ((formed-parts v w) .transportFormed .loop))) .inside
 
     i : In s e v
     i = record { fits = fits; inside = h }

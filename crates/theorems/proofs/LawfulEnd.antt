@@ -22,7 +22,7 @@ use Rattle.block.proofs.Blocks.{block-live}
 use Rattle.block.proofs.Keeps.{begun-formed}
 use Rattle.playing.proofs.Keeps.{plays-formed}
 use Rattle.static_sound.proofs.Refusals.{Accepted, accepted-parts}
-use Rattle.static_sound.proofs.Entries.{timely-above, processed-passed, processed-done}
+use Rattle.static_sound.proofs.Entries.{time-step-above, processed-passed, processed-done}
 use Rattle.theorems.specs.LawfulEnd.{Ended, EndsOnly, UpdateEnds, BlockEnds}
 use Rattle.theorems.proofs.Ends.{updated-ends, plays-ends, plays-idle}
 
@@ -78,7 +78,7 @@ block-ends snd v dt b g out k e live-now q = go (plays-ends snd dt xs u)
     go (inl s) = inl s
     go (inr s) =
         let n = near (v .setup .«sample_rate») dt in
-        let t = timely-above dt (p .timely) in
+        let t = time-step-above dt (p .timeStep) in
         let i =
         plays-idle snd dt t ys w (all-rest laned xs ys la)
         (subst (λ (z : Setup). T (all (near (z .«sample_rate») dt) ys)) (sym (plays-setup snd dt xs u)) (all-rest n xs ys ne))

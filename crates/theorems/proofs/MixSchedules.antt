@@ -9,7 +9,7 @@ use lib.ListN.{length, take, drop, length-drop, replicate, length-replicate}
 use lib.Seq.{length-take-le}
 use lib.Ieee.{Float}
 use lib.Ieee.Fits.{and-i, and-l, and-r, eq→eqb}
-use Rattle.numbers.specs.Words.{naught}
+use Rattle.numbers.specs.Words.{positiveZero}
 use Rattle.numbers.specs.Lists.{all}
 use Rattle.lanes.specs.Lanes.{Lanes, firstLanes, restLanes}
 use Rattle.voice.specs.declared.StaticSound.{StaticSound}
@@ -117,8 +117,8 @@ module _ (snd : List Float) (dt : Float) where
 
 pub any-sizes-mix : AnySizesMix
 any-sizes-mix snd dt b g v k ks j js mix from e f h i =
-    let out = replicate (2 * length (b .rate)) naught in
-    let l = length-replicate (2 * length (b .rate)) naught in
+    let out = replicate (2 * length (b .rate)) positiveZero in
+    let l = length-replicate (2 * length (b .rate)) positiveZero in
     let x = as-plain snd dt k ks b g v mix from out e l h in
     let y = as-plain snd dt j js b g v mix from out f l i in
     let a = any-sizes snd dt b g v k ks out j js out e f (x .accepted) (y .accepted) in
@@ -143,7 +143,7 @@ into-accepted snd v dt b g out mix from e h =
     let r = room from (length (b .rate)) mix in
     let p = accepted-parts (length snd) v dt b (holds b out) (processed-passed snd v dt b g out e) in
     ap (λ (o : Outcome). o .answer .refusal)
-    (into-done snd v dt b g mix from (accepted-of (length snd) v dt b r (record { ours = p .ours; sized = p .sized; placed = h; timely = p .timely; laned = p .laned; near = p .near })))
+    (into-done snd v dt b g mix from (accepted-of (length snd) v dt b r (record { ours = p .ours; sized = p .sized; placed = h; timeStep = p .timeStep; laned = p .laned; near = p .near })))
 
 module _ (snd : List Float) (dt : Float) where
   from-plain : (k : ℕ) (ks : List ℕ) (b : Lanes) (g : Signals) (v : StaticSound) (mix : List Float) (from : ℕ) (out : List Float)
@@ -198,6 +198,6 @@ module _ (snd : List Float) (dt : Float) where
 
 pub all-accepted-mix : AllAcceptedMix
 all-accepted-mix snd dt b g v k ks mix from s r e few =
-    let out = replicate (2 * length (b .rate)) naught in
-    let l = length-replicate (2 * length (b .rate)) naught in
+    let out = replicate (2 * length (b .rate)) positiveZero in
+    let l = length-replicate (2 * length (b .rate)) positiveZero in
     from-plain snd dt k ks b g v mix from out e l r (all-accepted snd dt b g v k ks out s l e few)

@@ -43,7 +43,7 @@ module _ (snd : List Float) (v : StaticSound) (dt : Float) (b : Lanes) (g : Sign
     pub plain-passed : refusedBlock (length snd) v dt b (holds b out) ≡ 0
     plain-passed =
         let p = passed in
-        accepted-of (length snd) v dt b (holds b out) (record { ours = p .ours; sized = p .sized; placed = h; timely = p .timely; laned = p .laned; near = p .near })
+        accepted-of (length snd) v dt b (holds b out) (record { ours = p .ours; sized = p .sized; placed = h; timeStep = p .timeStep; laned = p .laned; near = p .near })
 
     pub plain-accepted : (processed snd v dt b g out) .answer .refusal ≡ 0
     plain-accepted = ap (λ (o : Outcome). o .answer .refusal) (processed-done snd v dt b g out plain-passed)

@@ -1,6 +1,6 @@
 -- Every field of the record of promises, by its law.
 use Rattle.transport.proofs.Rust.{forward-is-rust, backward-is-rust, seek-is-rust}
-use Rattle.transport.proofs.Seats.{seek-starts-nothing}
+use Rattle.transport.proofs.WellFormed.{seek-starts-nothing}
 use Rattle.playback_state_manager.proofs.Stays.{pausing-stopped, resuming-stopped, stopping-stopped, settled-stopped}
 use Rattle.cableowl.proofs.Kept.{created-kept, created-blank, commanded-kept, commanded-given, processed-kept, processed-given, into-kept, into-given}
 use Rattle.records.proofs.Inverse.{decoded-encoded, encoded-decoded}

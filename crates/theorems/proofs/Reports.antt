@@ -10,7 +10,7 @@ use lib.Dec.{leb, ltb, eqb}
 use lib.ListN.{length, getD, take}
 use lib.Ieee.{Float}
 use borrow.Author.Tests.{leb-true, leb-false}
-use Rattle.numbers.specs.Words.{naught, whole}
+use Rattle.numbers.specs.Words.{positiveZero, whole}
 use Rattle.frame.specs.Frames.{frameOf}
 use Rattle.transport.specs.declared.Transport.{Transport}
 use Rattle.transport.specs.Moves.{seek}
@@ -159,7 +159,7 @@ commands-feed snd v c h = go (eqb (refusedSet (length snd) v c) 0)
   where
     go : (b : Bool)
         → FedVoice snd
-        ((cond {A = Commanded} b (record { refusal = 0; sound = obeyed snd c v; position = reported v }) (record { refusal = refusedSet (length snd) v c; sound = v; position = naught })) .sound)
+        ((cond {A = Commanded} b (record { refusal = 0; sound = obeyed snd c v; position = reported v }) (record { refusal = refusedSet (length snd) v c; sound = v; position = positiveZero })) .sound)
     go true = obeyed-fed snd v c h
     go false = h
 

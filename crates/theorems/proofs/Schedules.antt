@@ -22,7 +22,7 @@ use Rattle.block.specs.Blocks.{block, quiet}
 use Rattle.static_sound.specs.Entries.{holds, processed}
 use Rattle.block.proofs.Blocks.{block-setup}
 use Rattle.static_sound.proofs.Refusals.{Accepted, accepted-parts}
-use Rattle.static_sound.proofs.Entries.{timely-above, processed-passed, processed-done}
+use Rattle.static_sound.proofs.Entries.{time-step-above, processed-passed, processed-done}
 use Rattle.theorems.specs.Sums.{sum}
 use Rattle.theorems.specs.Alike.{bare, awake}
 use Rattle.theorems.specs.Schedules.{Run, alone, followed, playedBy, AnySizes}
@@ -85,7 +85,7 @@ module _ (snd : List Float) (dt : Float) where
           (subst (λ (s : Setup). T (all (near (s .«sample_rate») dt) ys)) (block-setup snd dt (rows b) g v) (w .near))
 
       d : CutPlayed (block snd dt (rows b ++ ys) g v) (block snd dt (rows b) g v) (block snd dt ys (quiet g) ((block snd dt (rows b) g v) .voice))
-      d = block-cut snd dt (rows b) ys (timely-above dt (p .timely)) g v (ours-parts (length snd) v (p .ours) .0) la ne
+      d = block-cut snd dt (rows b) ys (time-step-above dt (p .timeStep)) g v (ours-parts (length snd) v (p .ours) .0) la ne
 
   -- what an accepted block gives
   taken : (b : Lanes) (g : Signals) (v : StaticSound) (out : List Float) → T (eqb ((processed snd v dt b g out) .answer .refusal) 0)

@@ -23,7 +23,7 @@ use Rattle.block.proofs.Blocks.{block-live, block-silent}
 use Rattle.block.proofs.Keeps.{begun-formed}
 use Rattle.playing.proofs.Keeps.{plays-steps}
 use Rattle.static_sound.proofs.Refusals.{Accepted, accepted-parts}
-use Rattle.static_sound.proofs.Entries.{timely-above, processed-passed, processed-done}
+use Rattle.static_sound.proofs.Entries.{time-step-above, processed-passed, processed-done}
 use Rattle.theorems.specs.Sums.{sum}
 use Rattle.theorems.specs.Steps.{stepsOf, Stepped, StepsMade}
 
@@ -59,7 +59,7 @@ steps-made snd v dt b g out e = rw (processed-done snd v dt b g out (processed-p
           reported = plays-sum snd dt (rows b) (begun g v) ∙ sym (ap (λ (c : Bool). cond c (sum (stepsOf snd dt (rows b) (begun g v))) 0) f);
           few =
               subst (λ (n : ℕ). (plays snd dt (rows b) (begun g v)) .steps ≤ 257 * n) (beside-length (b .fade) (b .volume) (b .left) (b .right) (b .rate))
-              (plays-steps snd dt (timely-above dt (p .timely)) (rows b) (begun g v) (p .near) (begun-formed g v (ours-parts (length snd) v (p .ours) .0)));
+              (plays-steps snd dt (time-step-above dt (p .timeStep)) (rows b) (begun g v) (p .near) (begun-formed g v (ours-parts (length snd) v (p .ours) .0)));
           made = plays-made snd dt (rows b) (begun g v);
         })
     go false f =

@@ -49,7 +49,7 @@ module _ (snd : List Float) (dt : Float) (b : Lanes) (g : Signals) (v : StaticSo
               right = first-alike k (b .right) (b .rate) (s .right);
             });
         placed = eq→eqb (length-take-le (2 * k) out (omega (arith, l)) ∙ ap (λ (n : ℕ). 2 * n) (sym short));
-        timely = s .timely;
+        timeStep = s .timeStep;
         laned = first-all laned k b (s .laned);
         near = first-all (near (v .setup .«sample_rate») dt) k b (s .near);
       }
@@ -67,7 +67,7 @@ module _ (snd : List Float) (dt : Float) (b : Lanes) (g : Signals) (v : StaticSo
         volume = rest-alike k (b .volume) (b .rate) (s .volume);
         left = rest-alike k (b .left) (b .rate) (s .left);
         right = rest-alike k (b .right) (b .rate) (s .right);
-        timely = s .timely;
+        timeStep = s .timeStep;
         laned = rest-all laned k b (s .laned);
         near = rest-near snd dt k b g v (s .near);
       }

@@ -5,7 +5,7 @@ use mathlib.Core.Path.{_≡_}
 use mathlib.Core.Bool.{Bool, not}
 use mathlib.Core.List.{map}
 use lib.Dec.{T, eqb}
-use Rattle.numbers.specs.Words.{naught}
+use Rattle.numbers.specs.Words.{positiveZero}
 use Rattle.resampler.specs.declared.RecentFrame.{RecentFrame}
 use Rattle.resampler.specs.declared.Resampler.{Resampler}
 use Rattle.playback_state_manager.specs.States.{number}
@@ -27,7 +27,7 @@ bare v =
       setup = v .setup;
       «playback_rate» = v .«playback_rate»;
       started = v .started;
-      «fractional_position» = naught;
+      «fractional_position» = positiveZero;
       moving = record { state = v .moving .state; transport = v .moving .transport; resampler = unnumberedWindow (v .moving .resampler) };
     }
 

@@ -7,7 +7,7 @@ use mathlib.Core.List.{List, [], _∷_}
 use lib.ListN.{take}
 use Rattle.transport.specs.declared.Transport.{Transport}
 use Rattle.transport.specs.Moves.{cycled, forward, backward}
-use Rattle.transport.specs.Seats.{Inside}
+use Rattle.transport.specs.WellFormed.{Inside}
 
 pub data Step : Type 0 where
   Forward Backward : Step

@@ -8,7 +8,7 @@ use mathlib.Core.List.{List}
 use lib.Dec.{T}
 use lib.ListN.{length, take, drop}
 use lib.Ieee.{Float}
-use Rattle.numbers.specs.Words.{naught}
+use Rattle.numbers.specs.Words.{positiveZero}
 use Rattle.playback_position.specs.Positions.{placeable, endable, lawfulRegion}
 use Rattle.lanes.specs.Lanes.{Lanes}
 use Rattle.voice.specs.declared.StaticSound.{StaticSound}
@@ -43,7 +43,7 @@ pub record ArchiveKeeps : Type 0 where
   pub creation : (snd : List Float) (s : CableowlSettings)
       → let a = createdC snd s in Either (a .refusal) (Good snd (a .state)) (a .state ≡ encoded blankSound)
   pub commands : (snd : List Float) (c : CableowlState) (k : CableowlCommands)
-      → let a = commandedC snd c k in Either (a .refusal) (Good snd (a .state)) ((a .state ≡ c) × (a .position ≡ naught))
+      → let a = commandedC snd c k in Either (a .refusal) (Good snd (a .state)) ((a .state ≡ c) × (a .position ≡ positiveZero))
   pub block : (snd : List Float) (c : CableowlState) (dt : Float) (b : Lanes) (g : CableowlSignals) (out : List Float)
       → BlockKeepsC snd c out (processedC snd c dt b g out)
   pub mix : (snd : List Float) (c : CableowlState) (dt : Float) (b : Lanes) (g : CableowlSignals) (mix : List Float) (from : ℕ)

@@ -4,7 +4,7 @@ use mathlib.Core.Bool.{true, false}
 use lib.IntN.{pos}
 use lib.Dec.{T}
 use lib.Ieee.{Float, fin, binary32, le, eq, fits}
-use Rattle.numbers.specs.Words.{naught, magnitude}
+use Rattle.numbers.specs.Words.{positiveZero, magnitude}
 use Rattle.frame.specs.declared.Frame.{Frame}
 use Rattle.frame.specs.Frames.{interpolated}
 
@@ -21,4 +21,4 @@ abbrev pub Equal : Frame → Frame → Type 0
 Equal f g = (eq (f .left) (g .left) ≡ true) × (eq (f .right) (g .right) ≡ true)
 
 abbrev pub ReadsB : Type 0
-ReadsB = (a b c d : Frame) → SmallFrame a → SmallFrame b → SmallFrame c → SmallFrame d → Equal (interpolated a b c d naught) b
+ReadsB = (a b c d : Frame) → SmallFrame a → SmallFrame b → SmallFrame c → SmallFrame d → Equal (interpolated a b c d positiveZero) b

@@ -51,8 +51,8 @@ pub record Coincide : Type 0 where
   pub numbers-is-finite : Decides numbers.is_finite.Reads.Post
   pub numbers-is-negative : Decides numbers.is_negative.Reads.Post
   pub numbers-is-proper : Decides numbers.is_proper.Reads.Post
-  pub numbers-is-level : Decides numbers.is_level.Reads.Post
-  pub numbers-is-naught : Decides numbers.is_naught.Reads.Post
+  pub numbers-is-finite-clear : Decides numbers.is_finite_clear.Reads.Post
+  pub numbers-is-positive-zero : Decides numbers.is_positive_zero.Reads.Post
   -- frame
   pub frame-interpolate-frame : Decides frame.interpolate_frame.Reads.Post
   -- playback_position
@@ -87,7 +87,7 @@ pub record Coincide : Type 0 where
   pub start-time-startsignal-answer : Decides start_time.StartSignal.answer.Reads.Post
   -- lanes
   pub lanes-are-sized : Decides lanes.are_sized.Reads.Post
-  pub lanes-is-timely : Decides lanes.is_timely.Reads.Post
+  pub lanes-is-time-step : Decides lanes.is_time_step.Reads.Post
   pub lanes-judge : Decides lanes.judge.Reads.Post
   -- voice
   pub voice-setup-num-frames : Decides voice.Setup.num_frames.Reads.Post

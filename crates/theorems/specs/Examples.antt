@@ -6,7 +6,7 @@ use mathlib.Core.List.{List, [], _∷_, map}
 use lib.IntN.{pos, negsuc}
 use lib.ListN.{replicate}
 use lib.Ieee.{Float, fin}
-use Rattle.numbers.specs.Words.{naught, one}
+use Rattle.numbers.specs.Words.{positiveZero, one}
 use Rattle.numbers.specs.Frames.{cutOff}
 use Rattle.frame.specs.declared.Frame.{Frame}
 use Rattle.playback_position.specs.declared.PlaybackPosition.the-variants.{Seconds, Samples}
@@ -53,7 +53,7 @@ ended p = moved p false
 -- ---- creation: ten frames at 1 Hz, rate 1
 
 abbrev ten : List Float
-ten = replicate 20 naught
+ten = replicate 20 positiveZero
 
 abbrev from : ℕ → Bool → Settings
 from start reverse =
@@ -81,7 +81,7 @@ recent x = record { frame = both x; «frame_index» = 0 }
 
 -- the entries 0, 1, 2, 3
 abbrev rising : Resampler
-rising = record { frames = recent naught ∷ recent one ∷ recent (fin false 1 (pos 1)) ∷ recent (fin false 3 (pos 0)) ∷ []; «time_until_empty» = 4 }
+rising = record { frames = recent positiveZero ∷ recent one ∷ recent (fin false 1 (pos 1)) ∷ recent (fin false 3 (pos 0)) ∷ []; «time_until_empty» = 4 }
 
 -- so many halves
 abbrev halves : ℕ → Float

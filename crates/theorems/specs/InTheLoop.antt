@@ -13,7 +13,7 @@ use Rattle.playback_state_manager.specs.declared.PlaybackState.the-variants.{Pl
 use Rattle.playback_state_manager.specs.declared.StartAnswer.{StartAnswer}
 use Rattle.playback_state_manager.specs.declared.StartAnswer.the-variants as answer
 use Rattle.start_time.specs.Ticks.{answering}
-use Rattle.transport.specs.Seats.{Inside}
+use Rattle.transport.specs.WellFormed.{Inside}
 use Rattle.lanes.specs.Lanes.{Lanes}
 use Rattle.voice.specs.declared.StaticSound.{StaticSound}
 use Rattle.voice.specs.WellFormed.{wellFormed}

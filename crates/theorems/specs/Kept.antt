@@ -7,7 +7,7 @@ use mathlib.Core.List.{List}
 use lib.Dec.{T}
 use lib.ListN.{length}
 use lib.Ieee.{Float}
-use Rattle.numbers.specs.Words.{naught}
+use Rattle.numbers.specs.Words.{positiveZero}
 use Rattle.lanes.specs.Lanes.{Lanes}
 use Rattle.voice.specs.declared.StaticSound.{StaticSound}
 use Rattle.voice.specs.WellFormed.{wellFormed, ours}
@@ -34,7 +34,7 @@ BlankIsNot = wellFormed blankSound ≡ false
 abbrev pub CommandsKeep : Type 0
 CommandsKeep =
     (snd : List Float) (v : StaticSound) (c : Commands)
-    → let a = commanded snd v c in Either (a .refusal) (T (ours (length snd) (a .sound))) ((a .sound ≡ v) × (a .position ≡ naught))
+    → let a = commanded snd v c in Either (a .refusal) (T (ours (length snd) (a .sound))) ((a .sound ≡ v) × (a .position ≡ positiveZero))
 
 -- of a block's outcome, given the state and the samples before
 abbrev pub BlockKeeps : List Float → StaticSound → List Float → Outcome → Type 0

@@ -10,7 +10,7 @@ use lib.Dec.{T, leb, eqb}
 use lib.ListN.{length, take, drop}
 use lib.Ieee.{Float}
 use Rattle.numbers.specs.Lists.{all}
-use Rattle.lanes.specs.Lanes.{Lanes, rows, timely, laned, near, firstLanes, restLanes}
+use Rattle.lanes.specs.Lanes.{Lanes, rows, timeStep, laned, near, firstLanes, restLanes}
 use Rattle.voice.specs.declared.StaticSound.{StaticSound}
 use Rattle.voice.specs.WellFormed.{ours}
 use Rattle.block.specs.declared.Signals.{Signals}
@@ -112,7 +112,7 @@ pub record Stream (snd : List Float) (dt : Float) (b : Lanes) (v : StaticSound) 
   pub volume : length (b .volume) ≡ length (b .rate)
   pub left : length (b .left) ≡ length (b .rate)
   pub right : length (b .right) ≡ length (b .rate)
-  pub timely : T (timely dt)
+  pub timeStep : T (timeStep dt)
   pub laned : T (all laned (rows b))
   pub near : T (all (near (v .setup .«sample_rate») dt) (rows b))
 

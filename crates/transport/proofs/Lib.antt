@@ -1,5 +1,5 @@
 -- Laws that the proofs of this crate and of the crates above cite.
 pub mod Wraps
 pub mod Steps
-pub mod Seats
+pub mod WellFormed
 pub mod Rust

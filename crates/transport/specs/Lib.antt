@@ -1,4 +1,4 @@
 -- What contracts and laws on the transport cite, and the crates above.
 pub mod Moves
-pub mod Seats
+pub mod WellFormed
 pub mod Rust

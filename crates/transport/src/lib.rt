@@ -4,7 +4,7 @@ ghost use Prim.Native.Nat.{_<_};
 ghost use lib.Dec.{T};
 ghost use Rattle.playback_position.specs.Positions.{ordered};
 ghost use Rattle.transport.specs.Moves.{under, over, landed, forward, backward, seek, reloop, begun};
-ghost use Rattle.transport.specs.Seats.{Seated};
+ghost use Rattle.transport.specs.WellFormed.{FormedTransport};
 use playback_position::FrameRange;
 
 pub struct Transport {
@@ -93,7 +93,7 @@ impl Transport {
     }
 
     pub fn increment_position(mut self, num_frames: usize) -> Transport
-        requires { ⌜ Seated «num_frames» self ⌝ }
+        requires { ⌜ FormedTransport «num_frames» self ⌝ }
         ensures { λ r. ⌜ r ≡ forward «num_frames» self ⌝ }
     {
         if self.playing {

@@ -7,7 +7,7 @@ use lib.Dec.{eqb}
 use lib.ListN.{replicate}
 use lib.Ieee.{Float}
 use borrow.Author.Tests.{ne-eqb}
-use Rattle.numbers.specs.Words.{naught}
+use Rattle.numbers.specs.Words.{positiveZero}
 use Rattle.playback_state_manager.specs.States.{number}
 use Rattle.lanes.specs.Lanes.{five}
 use Rattle.voice.specs.declared.StaticSound.{StaticSound}
@@ -20,7 +20,7 @@ use Rattle.turns.specs.Runs.{answered, lineOf}
 
 pub answer-is : (snd : List Float) (v : StaticSound) (b : Block) (fa vo le ri ra out : List Float) (o : Outcome)
     → fa ≡ replicate (b .frames) (b .fade) → vo ≡ replicate (b .frames) (b .volume) → le ≡ replicate (b .frames) (b .left) → ri ≡ replicate (b .frames) (b .right) → ra ≡ replicate (b .frames) (b .rate)
-    → out ≡ replicate (2 * b .frames) naught → o ≡ processed snd v (b .«time_step») (five fa vo le ri ra) (b .signals) out → o .answer ≡ answered snd v b
+    → out ≡ replicate (2 * b .frames) positiveZero → o ≡ processed snd v (b .«time_step») (five fa vo le ri ra) (b .signals) out → o .answer ≡ answered snd v b
 unfolding answered
 answer-is snd v b fa vo le ri ra out o e1 e2 e3 e4 e5 e6 q =
     ap (λ (x : Outcome). x .answer) q

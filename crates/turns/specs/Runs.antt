@@ -5,7 +5,7 @@ use mathlib.Core.List.{List, [], _∷_, _++_}
 use lib.Dec.{eqb, ltb}
 use lib.ListN.{take, replicate}
 use lib.Ieee.{Float}
-use Rattle.numbers.specs.Words.{naught}
+use Rattle.numbers.specs.Words.{positiveZero}
 use Rattle.playback_state_manager.specs.States.{number}
 use Rattle.lanes.specs.Lanes.{Lanes, five}
 use Rattle.voice.specs.declared.StaticSound.{StaticSound}
@@ -44,7 +44,7 @@ lanesOf b = five (replicate (b .frames) (b .fade)) (replicate (b .frames) (b .vo
 
 -- the player's answer to a block
 unfoldable pub answered : List Float → StaticSound → Block → Processed
-answered snd v b = processed snd v (b .«time_step») (lanesOf b) (b .signals) (replicate (2 * b .frames) naught) .answer
+answered snd v b = processed snd v (b .«time_step») (lanesOf b) (b .signals) (replicate (2 * b .frames) positiveZero) .answer
 
 -- the line of a block, from its number, its frames and the player's answer
 unfoldable pub lineOf : ℕ → ℕ → Processed → List ℕ

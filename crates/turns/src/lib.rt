@@ -3,7 +3,7 @@ ghost use mathlib.Core.Path.{_≡_};
 ghost use Prim.Native.Nat.{_≤_};
 ghost use mathlib.Core.List.{[]};
 ghost use lib.ListN.{length, take, replicate};
-ghost use Rattle.numbers.specs.Words.{naught};
+ghost use Rattle.numbers.specs.Words.{positiveZero};
 ghost use Rattle.turns.specs.Runs.{blank, courseOf, more, answered, lineOf, afterCreation, afterCommands, afterBlock, after};
 use playing::Processed;
 use recorded::Block;
@@ -46,7 +46,7 @@ fn doubles(x: f64) -> [f64; 1024]
 
 // The output of a block, before it is played.
 fn silence() -> [f32; 2048]
-    ensures { λ r. ⌜ r ≡ replicate 2048 naught ⌝ }
+    ensures { λ r. ⌜ r ≡ replicate 2048 positiveZero ⌝ }
 {
     [0.0; 2048]
 }

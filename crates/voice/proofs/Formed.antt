@@ -16,7 +16,7 @@ use Rattle.playback_position.specs.declared.FrameRange.{FrameRange}
 use Rattle.playback_position.specs.declared.FrameRange.the-variants.{Absent, Frames}
 use Rattle.playback_position.specs.Positions.{within}
 use Rattle.playback_position.proofs.Ranges.{ranged-parts}
-use Rattle.transport.specs.Seats.{seated}
+use Rattle.transport.specs.WellFormed.{formedTransport}
 use Rattle.resampler.specs.Windows.{windowed}
 use Rattle.resampler.proofs.Windows.{windowed-parts, windowed-of}
 use Rattle.voice.specs.declared.Setup.{Setup}
@@ -26,7 +26,7 @@ use Rattle.moving.specs.Updates.{Able}
 use Rattle.moving.specs.declared.Moving.{Moving}
 use Rattle.moving.proofs.Kept.{Kept}
 use Rattle.voice.specs.WellFormed.{setUp, wellFormed, ours, Formed}
-use Rattle.transport.proofs.Seats.{seated-parts, seated-of}
+use Rattle.transport.proofs.WellFormed.{formed-transport-parts, formed-transport-of}
 
 -- ---- what creation fixes
 
@@ -83,7 +83,7 @@ unfolding wellFormed
 formed-parts v h =
     let a = setUp (v .setup) in
     let b = finite (v .«playback_rate») in
-    let c = seated (span (v .setup)) (v .moving .transport) in
+    let c = formedTransport (span (v .setup)) (v .moving .transport) in
     let d = proper (v .«fractional_position») in
     let e = windowed (v .moving .resampler) in
     let abcd = and-l (a && b && c && d) e h in
@@ -91,7 +91,7 @@ formed-parts v h =
     record {
       setup = and-l a b (and-l (a && b) c abc);
       rate = and-r a b (and-l (a && b) c abc);
-      seat = seated-parts (span (v .setup)) (v .moving .transport) (and-r (a && b) c abc);
+      transportFormed = formed-transport-parts (span (v .setup)) (v .moving .transport) (and-r (a && b) c abc);
       fraction = and-r (a && b && c) d abcd;
       window = windowed-parts (v .moving .resampler) (and-r (a && b && c && d) e h);
     }
@@ -101,11 +101,11 @@ unfolding wellFormed
 formed-of v h =
     let a = setUp (v .setup) in
     let b = finite (v .«playback_rate») in
-    let c = seated (span (v .setup)) (v .moving .transport) in
+    let c = formedTransport (span (v .setup)) (v .moving .transport) in
     let d = proper (v .«fractional_position») in
     let e = windowed (v .moving .resampler) in
     and-i (a && b && c && d) e
-    (and-i (a && b && c) d (and-i (a && b) c (and-i a b (h .setup) (h .rate)) (seated-of (span (v .setup)) (v .moving .transport) (h .seat))) (h .fraction))
+    (and-i (a && b && c) d (and-i (a && b) c (and-i a b (h .setup) (h .rate)) (formed-transport-of (span (v .setup)) (v .moving .transport) (h .transportFormed))) (h .fraction))
     (windowed-of (v .moving .resampler) (h .window))
 
 -- the same with the lent sound's length
@@ -124,7 +124,7 @@ ours-of len v h e = and-i (wellFormed v) (eqb len (2 * v .setup .«num_frames»)
 pub able-of : (snd : List Float) (v : StaticSound) → Formed v → length snd ≡ 2 * v .setup .«num_frames» → Able snd (courseOf v) (v .moving)
 able-of snd v h e =
     record {
-      seat = h .seat;
+      transportFormed = h .transportFormed;
       few = span-few (v .setup) (h .setup);
       inside = subst (λ (n : ℕ). 2 * (offset (v .setup) + span (v .setup)) ≤ n) (sym e) (span-inside (v .setup) (h .setup));
     }
@@ -133,8 +133,8 @@ able-of snd v h e =
 
 -- a well formed voice's moving parts
 pub kept-of : (v : StaticSound) → Formed v → Kept (span (v .setup)) (v .moving)
-kept-of v h = record { seat = h .seat; window = h .window }
+kept-of v h = record { transportFormed = h .transportFormed; window = h .window }
 
 -- with another proper fraction and other well formed moving parts it stays well formed
 pub moved-formed : (v : StaticSound) (f : Float) (m : Moving) → Formed v → T (proper f) → Kept (span (v .setup)) m → Formed (moved v f m)
-moved-formed v f m h p k = record { setup = h .setup; rate = h .rate; seat = k .seat; fraction = p; window = k .window }
+moved-formed v f m h p k = record { setup = h .setup; rate = h .rate; transportFormed = k .transportFormed; fraction = p; window = k .window }

@@ -10,10 +10,10 @@ use lib.Seq.{drop-cons}
 use borrow.Author.Tests.{lt-leb}
 use Rattle.numbers.specs.Words.{finite, proper}
 use Rattle.numbers.specs.Lists.{all}
-use Rattle.transport.specs.Seats.{seated}
+use Rattle.transport.specs.WellFormed.{formedTransport}
 use Rattle.resampler.specs.declared.RecentFrame.{RecentFrame}
 use Rattle.resampler.specs.declared.Resampler.{Resampler}
-use Rattle.resampler.specs.Windows.{blank, hushed, numbered, windowed}
+use Rattle.resampler.specs.Windows.{blank, zeroFrame, numbered, windowed}
 use Rattle.voice.specs.declared.StaticSound.{StaticSound}
 use Rattle.voice.specs.Voices.{span}
 use Rattle.voice.specs.WellFormed.{setUp, ours}
@@ -28,15 +28,15 @@ regrouped true true true false = refl
 regrouped true true true true = refl
 
 -- the entries from the count on
-hushed-from : (t : ℕ) (a b c d : RecentFrame)
-    → leb t 4 && (ltb 0 t || hushed a) && (ltb 1 t || hushed b) && (ltb 2 t || hushed c) && (ltb 3 t || hushed d)
-    ≡ leb t 4 && all hushed (drop t (a ∷ b ∷ c ∷ d ∷ []))
-hushed-from zero a b c d = regrouped (hushed a) (hushed b) (hushed c) (hushed d)
-hushed-from (suc zero) a b c d = regrouped true (hushed b) (hushed c) (hushed d)
-hushed-from (suc (suc zero)) a b c d = regrouped true true (hushed c) (hushed d)
-hushed-from (suc (suc (suc zero))) a b c d = regrouped true true true (hushed d)
-hushed-from (suc (suc (suc (suc zero)))) a b c d = refl
-hushed-from (suc (suc (suc (suc (suc n))))) a b c d = rw (lt-leb (suc (suc (suc (suc (suc n))))) 4 (omega arith))
+zero-frame-from : (t : ℕ) (a b c d : RecentFrame)
+    → leb t 4 && (ltb 0 t || zeroFrame a) && (ltb 1 t || zeroFrame b) && (ltb 2 t || zeroFrame c) && (ltb 3 t || zeroFrame d)
+    ≡ leb t 4 && all zeroFrame (drop t (a ∷ b ∷ c ∷ d ∷ []))
+zero-frame-from zero a b c d = regrouped (zeroFrame a) (zeroFrame b) (zeroFrame c) (zeroFrame d)
+zero-frame-from (suc zero) a b c d = regrouped true (zeroFrame b) (zeroFrame c) (zeroFrame d)
+zero-frame-from (suc (suc zero)) a b c d = regrouped true true (zeroFrame c) (zeroFrame d)
+zero-frame-from (suc (suc (suc zero))) a b c d = regrouped true true true (zeroFrame d)
+zero-frame-from (suc (suc (suc (suc zero)))) a b c d = refl
+zero-frame-from (suc (suc (suc (suc (suc n))))) a b c d = rw (lt-leb (suc (suc (suc (suc (suc n))))) 4 (omega arith))
 
 four : (l : List RecentFrame) → length l ≡ 4 → getD l 0 blank ∷ getD l 1 blank ∷ getD l 2 blank ∷ getD l 3 blank ∷ [] ≡ l
 four l e =
@@ -53,7 +53,7 @@ pub windowed-tests : (w : Resampler) → length (w .frames) ≡ 4
     let b = getD (w .frames) 1 blank in
     let c = getD (w .frames) 2 blank in
     let d = getD (w .frames) 3 blank in
-    leb t 4 && (ltb 0 t || hushed a) && (ltb 1 t || hushed b) && (ltb 2 t || hushed c) && (ltb 3 t || hushed d) && (numbered a && numbered b && numbered c && numbered d)
+    leb t 4 && (ltb 0 t || zeroFrame a) && (ltb 1 t || zeroFrame b) && (ltb 2 t || zeroFrame c) && (ltb 3 t || zeroFrame d) && (numbered a && numbered b && numbered c && numbered d)
     ≡ windowed w)
 windowed-tests w e =
     let t = w .«time_until_empty» in
@@ -61,19 +61,19 @@ windowed-tests w e =
     let b = getD (w .frames) 1 blank in
     let c = getD (w .frames) 2 blank in
     let d = getD (w .frames) 3 blank in
-    rw (hushed-from t a b c d, regrouped (numbered a) (numbered b) (numbered c) (numbered d))
-    (ap (λ (l : List RecentFrame). eqb (length l) 4 && leb t 4 && all hushed (drop t l) && all numbered l) (four (w .frames) e))
+    rw (zero-frame-from t a b c d, regrouped (numbered a) (numbered b) (numbered c) (numbered d))
+    (ap (λ (l : List RecentFrame). eqb (length l) 4 && leb t 4 && all zeroFrame (drop t l) && all numbered l) (four (w .frames) e))
 
 -- ---- the voice
 
 pub ours-unset : (len : ℕ) (v : StaticSound) → setUp (v .setup) ≡ false → ours len v ≡ false
 unfolding ours
 ours-unset len v e =
-    ap (λ (b : Bool). b && finite (v .«playback_rate») && seated (span (v .setup)) (v .moving .transport) && proper (v .«fractional_position») && windowed (v .moving .resampler) && eqb len (2 * v .setup .«num_frames»)) e
+    ap (λ (b : Bool). b && finite (v .«playback_rate») && formedTransport (span (v .setup)) (v .moving .transport) && proper (v .«fractional_position») && windowed (v .moving .resampler) && eqb len (2 * v .setup .«num_frames»)) e
 
 pub ours-set : (len : ℕ) (v : StaticSound) → setUp (v .setup) ≡ true
     → ours len v
-    ≡ finite (v .«playback_rate») && seated (span (v .setup)) (v .moving .transport) && proper (v .«fractional_position») && windowed (v .moving .resampler) && eqb len (2 * v .setup .«num_frames»)
+    ≡ finite (v .«playback_rate») && formedTransport (span (v .setup)) (v .moving .transport) && proper (v .«fractional_position») && windowed (v .moving .resampler) && eqb len (2 * v .setup .«num_frames»)
 unfolding ours
 ours-set len v e =
-    ap (λ (b : Bool). b && finite (v .«playback_rate») && seated (span (v .setup)) (v .moving .transport) && proper (v .«fractional_position») && windowed (v .moving .resampler) && eqb len (2 * v .setup .«num_frames»)) e
+    ap (λ (b : Bool). b && finite (v .«playback_rate») && formedTransport (span (v .setup)) (v .moving .transport) && proper (v .«fractional_position») && windowed (v .moving .resampler) && eqb len (2 * v .setup .«num_frames»)) e

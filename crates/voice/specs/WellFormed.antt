@@ -4,7 +4,7 @@ use mathlib.Core.Bool.{Bool, _&&_}
 use lib.Dec.{T, leb, ltb, eqb}
 use Rattle.numbers.specs.Words.{finite, proper}
 use Rattle.playback_position.specs.Positions.{within}
-use Rattle.transport.specs.Seats.{seated, Seated}
+use Rattle.transport.specs.WellFormed.{formedTransport, FormedTransport}
 use Rattle.resampler.specs.Windows.{windowed, Windowed}
 use Rattle.voice.specs.declared.Setup.{Setup}
 use Rattle.voice.specs.declared.StaticSound.{StaticSound}
@@ -16,7 +16,7 @@ setUp k = (ltb 0 (k .«sample_rate») && leb (k .«sample_rate») 768000) && (lt
 
 -- the voice itself
 unfoldable pub wellFormed : StaticSound → Bool
-wellFormed v = setUp (v .setup) && finite (v .«playback_rate») && seated (span (v .setup)) (v .moving .transport) && proper (v .«fractional_position») && windowed (v .moving .resampler)
+wellFormed v = setUp (v .setup) && finite (v .«playback_rate») && formedTransport (span (v .setup)) (v .moving .transport) && proper (v .«fractional_position») && windowed (v .moving .resampler)
 
 -- and the lent sound's length, in samples, is the recorded one
 unfoldable pub ours : ℕ → StaticSound → Bool
@@ -27,6 +27,6 @@ ours len v = wellFormed v && eqb len (2 * v .setup .«num_frames»)
 pub record Formed (v : StaticSound) : Type 0 where
   pub setup : T (setUp (v .setup))
   pub rate : T (finite (v .«playback_rate»))
-  pub seat : Seated (span (v .setup)) (v .moving .transport)
+  pub transportFormed : FormedTransport (span (v .setup)) (v .moving .transport)
   pub fraction : T (proper (v .«fractional_position»))
   pub window : Windowed (v .moving .resampler)

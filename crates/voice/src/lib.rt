@@ -1,7 +1,7 @@
 // A voice by value: what it holds, and when it is well formed (kira's StaticSound).
 ghost use mathlib.Core.Path.{_≡_};
-ghost use Rattle.transport.specs.Seats.{seated};
-ghost use Rattle.resampler.specs.Windows.{hushed, numbered, windowed};
+ghost use Rattle.transport.specs.WellFormed.{formedTransport};
+ghost use Rattle.resampler.specs.Windows.{zeroFrame, numbered, windowed};
 ghost use Rattle.voice.specs.Voices.{span, offset, backwards, courseOf};
 ghost use Rattle.voice.specs.WellFormed.{setUp, ours};
 use moving::Course;
@@ -70,8 +70,8 @@ fn is_playing_backwards(playback_rate: f64, reverse: bool) -> bool
     }
 }
 
-fn is_seated(transport: Transport, num_frames: usize) -> bool
-    ensures { λ r. ⌜ r ≡ seated «num_frames» transport ⌝ }
+fn is_formed_transport(transport: Transport, num_frames: usize) -> bool
+    ensures { λ r. ⌜ r ≡ formedTransport «num_frames» transport ⌝ }
 {
     let loop_region = transport.loop_region;
     loop_region.is_within(num_frames)
@@ -79,11 +79,11 @@ fn is_seated(transport: Transport, num_frames: usize) -> bool
         & (transport.position <= 4294967296)
 }
 
-fn is_hushed(entry: RecentFrame) -> bool
-    ensures { λ r. ⌜ r ≡ hushed entry ⌝ }
+fn is_zero_frame(entry: RecentFrame) -> bool
+    ensures { λ r. ⌜ r ≡ zeroFrame entry ⌝ }
 {
     let frame = entry.frame;
-    numbers::is_naught(frame.left) & numbers::is_naught(frame.right)
+    numbers::is_positive_zero(frame.left) & numbers::is_positive_zero(frame.right)
 }
 
 fn is_numbered(entry: RecentFrame) -> bool
@@ -102,10 +102,10 @@ fn is_windowed(resampler: Resampler) -> bool
     let c = resampler.frames[2];
     let d = resampler.frames[3];
     (t <= 4)
-        & ((t > 0) | is_hushed(a))
-        & ((t > 1) | is_hushed(b))
-        & ((t > 2) | is_hushed(c))
-        & ((t > 3) | is_hushed(d))
+        & ((t > 0) | is_zero_frame(a))
+        & ((t > 1) | is_zero_frame(b))
+        & ((t > 2) | is_zero_frame(c))
+        & ((t > 3) | is_zero_frame(d))
         & (is_numbered(a) & is_numbered(b) & is_numbered(c) & is_numbered(d))
 }
 
@@ -131,7 +131,7 @@ impl StaticSound {
             return false;
         }
         numbers::is_finite(self.playback_rate)
-            & is_seated(moving.transport, setup.num_frames())
+            & is_formed_transport(moving.transport, setup.num_frames())
             & numbers::is_proper(self.fractional_position)
             & is_windowed(moving.resampler)
             & (len == 2 * setup.num_frames)

@@ -84,8 +84,8 @@ unsafe extern "C" {
     pub safe fn cableowl_test_is_finite(x: f64) -> u32;
     pub safe fn cableowl_test_is_negative(x: f64) -> u32;
     pub safe fn cableowl_test_is_proper(x: f64) -> u32;
-    pub safe fn cableowl_test_is_level(x: f32) -> u32;
-    pub safe fn cableowl_test_is_naught(x: f32) -> u32;
+    pub safe fn cableowl_test_is_finite_clear(x: f32) -> u32;
+    pub safe fn cableowl_test_is_positive_zero(x: f32) -> u32;
 
     pub safe fn cableowl_test_into_samples(position: PlainPosition, sample_rate: u32) -> u64;
     pub safe fn cableowl_test_into_frames(

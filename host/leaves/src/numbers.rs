@@ -37,14 +37,14 @@ pub fn is_proper(x: f64) -> bool {
 
 /// Finite, its sign bit clear.
 #[must_use]
-pub fn is_level(x: f32) -> bool {
-    calls::cableowl_test_is_level(x) != 0
+pub fn is_finite_clear(x: f32) -> bool {
+    calls::cableowl_test_is_finite_clear(x) != 0
 }
 
 /// Exactly positive zero.
 #[must_use]
-pub fn is_naught(x: f32) -> bool {
-    calls::cableowl_test_is_naught(x) != 0
+pub fn is_positive_zero(x: f32) -> bool {
+    calls::cableowl_test_is_positive_zero(x) != 0
 }
 
 /// Compares every function with Rust's own on so many random doubles: a tally for each.
@@ -106,6 +106,6 @@ fn tests_alike(x: f64, sample: f32) -> bool {
     is_finite(x) == x.is_finite()
         && is_negative(x) == (!x.is_nan() && x.is_sign_negative())
         && is_proper(x) == proper(x)
-        && is_level(sample) == (sample.is_finite() && sample.is_sign_positive())
-        && is_naught(sample) == (sample.to_bits() == 0)
+        && is_finite_clear(sample) == (sample.is_finite() && sample.is_sign_positive())
+        && is_positive_zero(sample) == (sample.to_bits() == 0)
 }

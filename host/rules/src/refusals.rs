@@ -86,8 +86,8 @@ pub fn of_block(state: &State, samples: usize, lanes: &Lanes, dt: f64, placed: b
     if !dt.is_finite() || dt <= 0.0 {
         return 10;
     }
-    let is_level = |x: &f32| x.is_finite() && x.is_sign_positive();
-    if !amplitudes.into_iter().flatten().all(is_level)
+    let is_finite_clear = |x: &f32| x.is_finite() && x.is_sign_positive();
+    if !amplitudes.into_iter().flatten().all(is_finite_clear)
         || !lanes.rate.iter().all(|rate| rate.is_finite())
     {
         return 11;

@@ -6,11 +6,11 @@ use mathlib.Core.Path.{_≡_, refl, sym, ap, _∙_}
 use native.Mathlib.Omega.{arith}
 use lib.ListN.{length, take, replicate, length-set}
 use lib.Ieee.{ofBits, binary32}
-use Rattle.numbers.specs.Words.{naught}
+use Rattle.numbers.specs.Words.{positiveZero}
 use Rattle.block.proofs.Fills.{fill-more, fill-all}
 
 abbrev Inv-loop : tie.InvT-loop
-Inv-loop out₀ i₀ i-end out i = (i ≤ length out₀) × (length out ≡ length out₀) × (take i out ≡ replicate i naught) × (i-end ≡ length out₀)
+Inv-loop out₀ i₀ i-end out i = (i ≤ length out₀) × (length out ≡ length out₀) × (take i out ≡ replicate i positiveZero) × (i-end ≡ length out₀)
 
 abbrev μ-loop : tie.MeasureT-loop
 μ-loop out₀ i₀ i-end out i = length out₀ - i
@@ -33,7 +33,7 @@ loop-less c = omega arith
 loop-again : tie.Need-loop-again Inv-loop μ-loop
 unfolding ofBits
 loop-again c =
-    (omega arith, simp length-set (c .before .loop .inv .1), fill-more (c .before .loop .out) (c .before .loop .i) naught (omega arith) (c .before .loop .inv .2), c .before .loop .inv .3)
+    (omega arith, simp length-set (c .before .loop .inv .1), fill-more (c .before .loop .out) (c .before .loop .i) positiveZero (omega arith) (c .before .loop .inv .2), c .before .loop .inv .3)
 
 same-length : tie.Need-same-length Inv-loop μ-loop
 same-length c = c .before .loop .inv .1

@@ -6,7 +6,7 @@ use lib.ListN.{length}
 use lib.Ieee.{Float, ofBits}
 use borrow.Author.Needs.{needs}
 use borrow.Author.Tests.{ne-eqb}
-use Rattle.numbers.specs.Words.{naught}
+use Rattle.numbers.specs.Words.{positiveZero}
 use Rattle.resampler.proofs.Windows.{heard-low}
 use Rattle.voice.specs.declared.StaticSound.{StaticSound}
 use Rattle.voice.proofs.Formed.{ours-parts}
@@ -18,7 +18,7 @@ use Rattle.command_set.proofs.on_start_processing.Statement.{statement}
 use Rattle.command_set.proofs.on_start_processing.Tie as tie
 
 refused : (snd : List Float) (v : StaticSound) (c : Commands) (k : ℕ) → k ≡ refusedSet (length snd) v c → (k ≡ 0 → ⊥)
-    → _≡_ {A = Commanded} (record { refusal = k; sound = v; position = naught }) (commanded snd v c)
+    → _≡_ {A = Commanded} (record { refusal = k; sound = v; position = positiveZero }) (commanded snd v c)
 unfolding commanded
 refused snd v c k e n = rw (← e, ne-eqb k 0 n)
 

@@ -46,7 +46,7 @@ returns-3 c =
     (refused-here _ _ _ _ (c .before .is-rate .ensures) (c .if3 .taken)))
 
 is-seek-by-requires : tie.Need-is-seek-by-requires
-is-seek-by-requires c κs = ours-parts _ _ (well-formed (c .before .before .before .before)) .0 .seat .low
+is-seek-by-requires c κs = ours-parts _ _ (well-formed (c .before .before .before .before)) .0 .transportFormed .low
 
 is-seek-to-requires : tie.Need-is-seek-to-requires
 is-seek-to-requires c κs = search needs

@@ -16,7 +16,7 @@ enum-known-command : tie.Need-enum-known-command
 enum-known-command c = search needs
 
 frames-by-requires : tie.Need-frames-by-requires
-frames-by-requires c κs = ours-parts _ _ (c .before .before .before .before .pre) .0 .seat .low
+frames-by-requires c κs = ours-parts _ _ (c .before .before .before .before .pre) .0 .transportFormed .low
 
 cut-requires : tie.Need-cut-requires
 cut-requires c κs = search needs

@@ -1,5 +1,5 @@
 -- `command_set::seek_to_index` meets its contract: by whether the state advances once the transport has sought the frame.
--- The sought transport is seated, so a frame may be pushed.
+-- The sought transport is formedTransport, so a frame may be pushed.
 use mathlib.Core.Path.{_≡_, sym, ap, _∙_}
 use Prim.Native.Nat.{ℕ, _≤_}
 use mathlib.Core.Bool.{true, false}
@@ -35,7 +35,7 @@ jumped-able : (snd : List Float) (v : StaticSound) (q : ℕ) (c : Course) (t : T
 jumped-able snd v q c t h k e f =
     let p = ours-parts (length snd) v h in
     let a = able-of snd v (p .0) (p .1) in
-    rw (f, e) (record { seat = jumped-kept v q k (p .0) .seat; few = a .few; inside = a .inside })
+    rw (f, e) (record { transportFormed = jumped-kept v q k (p .0) .transportFormed; few = a .few; inside = a .inside })
 
 sought-going : (snd : List Float) (v : StaticSound) (q : ℕ) (c : Course) (t : Transport) (w : Resampler) → advancing (v .moving .state) ≡ true
     → t ≡ seek (span (v .setup)) (v .moving .transport) q → c ≡ courseOf v → w ≡ pushed snd c (with v t (v .moving .resampler))
@@ -61,7 +61,7 @@ seek-to-requires : tie.Need-seek-to-requires
 seek-to-requires c κs =
     let s = c .before .before .before .before .before in
     let v = s .args .voice in
-    within-ordered (span (v .setup)) (v .moving .transport .«loop_region») (ours-parts _ v (s .pre .0) .0 .seat .loop)
+    within-ordered (span (v .setup)) (v .moving .transport .«loop_region») (ours-parts _ v (s .pre .0) .0 .transportFormed .loop)
 
 is-advancing-requires : tie.Need-is-advancing-requires
 is-advancing-requires c κs = search needs

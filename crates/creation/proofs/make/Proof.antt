@@ -17,7 +17,7 @@ use Rattle.moving.proofs.Kept.{updated-able}
 use Rattle.creation.specs.declared.Settings.{Settings}
 use Rattle.creation.specs.Creation.{setupOf, opened, filled, transportOf, made}
 use Rattle.creation.proofs.Refusals.{Creatable, creatable-parts}
-use Rattle.creation.proofs.Makes.{setup-of, opened-formed, transport-seated}
+use Rattle.creation.proofs.Makes.{setup-of, opened-formed, transport-formed-transport}
 use Rattle.creation.proofs.make.Statement.{statement}
 use Rattle.creation.proofs.make.Tie as tie
 
@@ -29,7 +29,7 @@ first-able : (snd : List Float) (s : Settings) → Creatable (length snd) s → 
 first-able snd s h =
     let k = setupOf (length snd) s in
     able-of snd (first (length snd) s)
-    (opened-formed k (transportOf k s) (s .«playback_rate») (s .«start_waits») (setup-of (length snd) s h) (h .rate) (transport-seated (length snd) s h))
+    (opened-formed k (transportOf k s) (s .«playback_rate») (s .«start_waits») (setup-of (length snd) s h) (h .rate) (transport-formed-transport (length snd) s h))
     (halved (length snd) (h .even))
   where
     halved : (n : ℕ) → n % 2 ≡ 0 → n ≡ 2 * (n / 2)

@@ -4,7 +4,7 @@ use Prim.Native.Nat.{ℕ}
 use mathlib.Core.Bool.{Bool, not}
 use lib.Ieee.{Float, ofBits}
 use borrow.Author.Needs.{needs}
-use Rattle.numbers.specs.Words.{naught}
+use Rattle.numbers.specs.Words.{positiveZero}
 use Rattle.playback_position.specs.declared.FrameRange.{FrameRange}
 use Rattle.playback_position.specs.Positions.{placed}
 use Rattle.playback_state_manager.specs.declared.PlaybackState.the-variants as state
@@ -36,7 +36,7 @@ opened-with : (k j : Setup) (t u : Transport) (w : Resampler) (rate : Float) (wa
       setup = k;
       «playback_rate» = rate;
       started = not waits;
-      «fractional_position» = naught;
+      «fractional_position» = positiveZero;
       moving = record { state = state.Playing; transport = t; resampler = w };
     })
     (opened j u rate waits)

@@ -4,7 +4,7 @@ use mathlib.Core.Path.{_≡_, sym, ap, subst, _∙_}
 use mathlib.Core.Bool.{Bool, true, cond}
 use lib.Dec.{T}
 use lib.Ieee.{ofBits}
-use Rattle.numbers.specs.Words.{naught, proper, narrowed}
+use Rattle.numbers.specs.Words.{positiveZero, proper, narrowed}
 use Rattle.exports.proofs.cableowl_test_narrow.Statement.{statement}
 use Rattle.exports.proofs.cableowl_test_narrow.Tie as tie
 
@@ -20,13 +20,13 @@ narrow-requires c κs = subst T (sym (proper-here c)) tt
 returns : tie.Need-returns
 returns c =
     let x = c .before .before .before .args .x in
-    c .narrow .ensures ∙ sym (ap (λ (b : Bool). cond b (narrowed x) naught) (proper-here (c .before)))
+    c .narrow .ensures ∙ sym (ap (λ (b : Bool). cond b (narrowed x) positiveZero) (proper-here (c .before)))
 
 returns-2 : tie.Need-returns-2
 unfolding ofBits
 returns-2 c =
     let x = c .before .before .args .x in
-    sym (ap (λ (b : Bool). cond b (narrowed x) naught) (sym (c .before .is-proper .ensures) ∙ c .if1 .left))
+    sym (ap (λ (b : Bool). cond b (narrowed x) positiveZero) (sym (c .before .is-proper .ensures) ∙ c .if1 .left))
 
 pub cableowl-test-narrow-spec : {M : Type 1} → statement M
 cableowl-test-narrow-spec = tie.close (tie.spec is-proper-requires narrow-requires returns returns-2)

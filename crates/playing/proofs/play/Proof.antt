@@ -105,7 +105,7 @@ turning c =
     record {
       able = able-of (now (st .args .sound)) (moved v (at .loop .fractional-position) (moving at)) (at .loop .inv .formed) (st .pre .lent);
       below = at .loop .inv .formed .fraction;
-      timely = st .pre .timely;
+      timeStep = st .pre .timeStep;
       slow = slow-at (now (st .args .sound)) (st .args .dt) (lent at) v (v .setup .«sample_rate») (at .loop .i) (c .loop-test .taken) (st .pre .near);
     }
 

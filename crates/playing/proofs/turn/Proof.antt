@@ -22,7 +22,7 @@ magnitude-requires c κs = search needs
 advance-by-requires : tie.Need-advance-by-requires
 advance-by-requires c κs =
     let s = c .before .before .before in
-    (s .pre .below, asks _ _ _ _ (c .magnitude .ensures) (s .pre .timely) (s .pre .slow))
+    (s .pre .below, asks _ _ _ _ (c .magnitude .ensures) (s .pre .timeStep) (s .pre .slow))
 
 update-positions-requires : tie.Need-update-positions-requires
 update-positions-requires c κs = search needs

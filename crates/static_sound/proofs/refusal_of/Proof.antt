@@ -3,7 +3,7 @@ use mathlib.Core.Path.{_≡_, sym, _∙_, subst}
 use lib.Dec.{T}
 use mathlib.Core.Bool.{true}
 use denote.Ref.{now}
-use Rattle.lanes.specs.Lanes.{five, sized, timely}
+use Rattle.lanes.specs.Lanes.{five, sized, timeStep}
 use Rattle.voice.specs.WellFormed.{ours}
 use Rattle.static_sound.proofs.Calls.{number-1, number-9, number-9-place, number-10, number-judged, fails, passes}
 use borrow.Author.Tests.{not-true, not-false}
@@ -13,7 +13,7 @@ use Rattle.static_sound.proofs.refusal_of.Tie as tie
 use Rattle.static_sound.proofs.refusal_of.Reads as reads
 use Rattle.static_sound.proofs.refusal_of.Lts as lts
 use Rattle.lanes.proofs.are_sized.Reads as are-sized-reads
-use Rattle.lanes.proofs.is_timely.Reads as is-timely-reads
+use Rattle.lanes.proofs.is_time_step.Reads as is-time-step-reads
 use Rattle.lanes.proofs.judge.Reads as judge-reads
 use Rattle.voice.proofs.StaticSound.is_well_formed.Reads as is-well-formed-reads
 
@@ -28,8 +28,8 @@ start c = c .before .before .before .before .before .before .before
 lanes-sized : (c : tie.Else2) → (let a = start (c .before .before) .args in sized (five (now (a .fade)) (now (a .volume)) (now (a .left)) (now (a .right)) (now (a .rate))) ≡ true)
 lanes-sized c = passes (c .before .are-sized .ensures) (c .if2 .left)
 
-timely-step : (c : tie.Else4) → timely (start (c .before .before .before .before .before) .args .dt) ≡ true
-timely-step c = passes (c .before .is-timely .ensures) (c .if4 .left)
+time-step-one : (c : tie.Else4) → timeStep (start (c .before .before .before .before .before) .args .dt) ≡ true
+time-step-one c = passes (c .before .is-time-step .ensures) (c .if4 .left)
 
 is-well-formed-requires : tie.Need-is-well-formed-requires
 is-well-formed-requires c κs = search needs
@@ -46,20 +46,20 @@ returns-2 c = number-9 _ _ _ _ _ (formed (c .before .before)) (fails (c .before 
 returns-3 : tie.Need-returns-3
 returns-3 c = number-9-place _ _ _ _ _ (formed (c .before .before .before)) (lanes-sized (c .before)) (not-true _ (c .if3 .taken))
 
-is-timely-requires : tie.Need-is-timely-requires
-is-timely-requires c κs = search needs
+is-time-step-requires : tie.Need-is-time-step-requires
+is-time-step-requires c κs = search needs
 
 returns-4 : tie.Need-returns-4
-returns-4 c = let p = c .before .before in number-10 _ _ _ _ _ (formed (p .before .before .before)) (lanes-sized (p .before)) (not-false _ (p .if3 .left)) (fails (c .before .is-timely .ensures) (c .if4 .taken))
+returns-4 c = let p = c .before .before in number-10 _ _ _ _ _ (formed (p .before .before .before)) (lanes-sized (p .before)) (not-false _ (p .if3 .left)) (fails (c .before .is-time-step .ensures) (c .if4 .taken))
 
 judge-requires : tie.Need-judge-requires
-judge-requires c κs = let q = c .before in (subst T (sym (lanes-sized (q .before .before .before))) tt, subst T (sym (timely-step q)) tt)
+judge-requires c κs = let q = c .before in (subst T (sym (lanes-sized (q .before .before .before))) tt, subst T (sym (time-step-one q)) tt)
 
 returns-5 : tie.Need-returns-5
 returns-5 c =
     let q = c .before .before in
     let p = q .before .before in
-    c .judge .ensures ∙ number-judged _ _ _ _ _ (formed (p .before .before .before)) (lanes-sized (p .before)) (not-false _ (p .if3 .left)) (timely-step q)
+    c .judge .ensures ∙ number-judged _ _ _ _ _ (formed (p .before .before .before)) (lanes-sized (p .before)) (not-false _ (p .if3 .left)) (time-step-one q)
 
 pub refusal-of-spec : {M : Type 1} → statement M
 refusal-of-spec =
@@ -70,7 +70,7 @@ refusal-of-spec =
     are-sized-requires
     returns-2
     returns-3
-    is-timely-requires
+    is-time-step-requires
     returns-4
     judge-requires
     returns-5)

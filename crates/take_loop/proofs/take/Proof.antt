@@ -5,7 +5,7 @@ use mathlib.Core.List.{List}
 use lib.Ieee.{Float, ofBits}
 use borrow.Author.Needs.{needs}
 use borrow.Author.Tests.{eq-eqb, ne-eqb}
-use Rattle.numbers.specs.Words.{naught}
+use Rattle.numbers.specs.Words.{positiveZero}
 use Rattle.voice.specs.declared.StaticSound.{StaticSound}
 use Rattle.command_set.specs.declared.Commands.{Commands}
 use Rattle.command_set.specs.declared.Commanded.{Commanded}
@@ -22,7 +22,7 @@ module _ (snd : List Float) (t : LoopTable) (k : ℕ) (v : StaticSound) (f : Loo
   unfolding taken
   from = ap (takenFrom snd v) e
 
-  refused : (f .refusal ≡ 0 → ⊥) → _≡_ {A = Commanded} (record { refusal = f .refusal; sound = v; position = naught }) (taken snd t k v)
+  refused : (f .refusal ≡ 0 → ⊥) → _≡_ {A = Commanded} (record { refusal = f .refusal; sound = v; position = positiveZero }) (taken snd t k v)
   refused n = (rw (ne-eqb (f .refusal) 0 n)) ∙ from
 
   set : (c : Commands) (r : Commanded) → f .refusal ≡ 0 → c ≡ loopCommand (f .slot) → r ≡ commanded snd v c → r ≡ taken snd t k v

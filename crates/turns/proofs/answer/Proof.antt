@@ -4,7 +4,7 @@ use native.Mathlib.Omega.{arith}
 use denote.Ref.{now}
 use lib.ListN.{length}
 use Prim.Native.Nat.{_*_, _≤_}
-use Rattle.numbers.specs.Words.{naught}
+use Rattle.numbers.specs.Words.{positiveZero}
 use Rattle.turns.proofs.Parts.{lane, lane-long}
 use Rattle.turns.proofs.Answers.{answer-is}
 use borrow.Author.Needs.{needs}
@@ -72,7 +72,7 @@ array-borrow-prefix-out : tie.Need-array-borrow-prefix-out
 array-borrow-prefix-out c = search needs
 
 slice-aggregate-process-6 : tie.Need-slice-aggregate-process-6
-slice-aggregate-process-6 c = lane-long (2 * c .before .before .before .before .before .before .before .before .before .before .before .before .before .before .args .block .frames) 2048 naught (c .before .before .before .before .before .before .before .silence .result) (c .before .before .before .before .before .before .before .silence .ensures) (omega (arith, c .before .before .before .before .before .before .before .before .before .before .before .before .before .before .pre))
+slice-aggregate-process-6 c = lane-long (2 * c .before .before .before .before .before .before .before .before .before .before .before .before .before .before .args .block .frames) 2048 positiveZero (c .before .before .before .before .before .before .before .silence .result) (c .before .before .before .before .before .before .before .silence .ensures) (omega (arith, c .before .before .before .before .before .before .before .before .before .before .before .before .before .before .pre))
 
 process-requires : tie.Need-process-requires
 process-requires c κs = search needs
@@ -89,7 +89,7 @@ returns c =
     let x = a .before .before .args in
     let n = x .block .frames in
     let h : n ≤ 1024 = a .before .before .pre in
-    answer-is _ _ (x .block) _ _ _ _ _ _ _ (lane n 1024 (x .block .fade) (a .singles .result) (a .singles .ensures) h) (lane n 1024 (x .block .volume) (v .singles2 .result) (v .singles2 .ensures) h) (lane n 1024 (x .block .left) (r .singles3 .result) (r .singles3 .ensures) h) (lane n 1024 (x .block .right) (f .singles4 .result) (f .singles4 .ensures) h) (lane n 1024 (x .block .rate) (d .doubles .result) (d .doubles .ensures) h) (lane (2 * n) 2048 naught (s .silence .result) (s .silence .ensures) (omega (arith, h))) (c .before .process .ensures)
+    answer-is _ _ (x .block) _ _ _ _ _ _ _ (lane n 1024 (x .block .fade) (a .singles .result) (a .singles .ensures) h) (lane n 1024 (x .block .volume) (v .singles2 .result) (v .singles2 .ensures) h) (lane n 1024 (x .block .left) (r .singles3 .result) (r .singles3 .ensures) h) (lane n 1024 (x .block .right) (f .singles4 .result) (f .singles4 .ensures) h) (lane n 1024 (x .block .rate) (d .doubles .result) (d .doubles .ensures) h) (lane (2 * n) 2048 positiveZero (s .silence .result) (s .silence .ensures) (omega (arith, h))) (c .before .process .ensures)
 
 pub answer-spec : {M : Type 1} → statement M
 answer-spec =

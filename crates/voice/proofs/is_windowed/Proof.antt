@@ -21,17 +21,17 @@ element-copy-out-c c = search needs
 element-copy-out-d : tie.Need-element-copy-out-d
 element-copy-out-d c = search needs
 
-is-hushed-requires : tie.Need-is-hushed-requires
-is-hushed-requires c κs = search needs
+is-zero-frame-requires : tie.Need-is-zero-frame-requires
+is-zero-frame-requires c κs = search needs
 
-is-hushed-requires-2 : tie.Need-is-hushed-requires-2
-is-hushed-requires-2 c κs = search needs
+is-zero-frame-requires-2 : tie.Need-is-zero-frame-requires-2
+is-zero-frame-requires-2 c κs = search needs
 
-is-hushed-requires-3 : tie.Need-is-hushed-requires-3
-is-hushed-requires-3 c κs = search needs
+is-zero-frame-requires-3 : tie.Need-is-zero-frame-requires-3
+is-zero-frame-requires-3 c κs = search needs
 
-is-hushed-requires-4 : tie.Need-is-hushed-requires-4
-is-hushed-requires-4 c κs = search needs
+is-zero-frame-requires-4 : tie.Need-is-zero-frame-requires-4
+is-zero-frame-requires-4 c κs = search needs
 
 is-numbered-requires : tie.Need-is-numbered-requires
 is-numbered-requires c κs = search needs
@@ -51,10 +51,10 @@ returns c =
     let h = n .before in
     let start = h .before .before .before .before .before .before .before .before in
     rw (
-      h .before .before .before .is-hushed .ensures,
-      h .before .before .is-hushed2 .ensures,
-      h .before .is-hushed3 .ensures,
-      h .is-hushed4 .ensures,
+      h .before .before .before .is-zero-frame .ensures,
+      h .before .before .is-zero-frame2 .ensures,
+      h .before .is-zero-frame3 .ensures,
+      h .is-zero-frame4 .ensures,
       n .is-numbered .ensures,
       c .before .before .is-numbered2 .ensures,
       c .before .is-numbered3 .ensures,
@@ -70,10 +70,10 @@ is-windowed-spec =
     element-copy-out-b
     element-copy-out-c
     element-copy-out-d
-    is-hushed-requires
-    is-hushed-requires-2
-    is-hushed-requires-3
-    is-hushed-requires-4
+    is-zero-frame-requires
+    is-zero-frame-requires-2
+    is-zero-frame-requires-3
+    is-zero-frame-requires-4
     is-numbered-requires
     is-numbered-requires-2
     is-numbered-requires-3

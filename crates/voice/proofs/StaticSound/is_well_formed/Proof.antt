@@ -27,8 +27,8 @@ is-finite-requires c κs = search needs
 num-frames-requires : tie.Need-num-frames-requires
 num-frames-requires c κs = search needs
 
-is-seated-requires : tie.Need-is-seated-requires
-is-seated-requires c κs = search needs
+is-formed-transport-requires : tie.Need-is-formed-transport-requires
+is-formed-transport-requires c κs = search needs
 
 is-proper-requires : tie.Need-is-proper-requires
 is-proper-requires c κs = search needs
@@ -50,7 +50,7 @@ returns-2 c =
     let s = p .before in
     let n = s .before in
     let f = n .before in
-    rw (f .is-finite .ensures, s .is-seated .ensures, n .num-frames .ensures, p .is-proper .ensures, w .is-windowed .ensures)
+    rw (f .is-finite .ensures, s .is-formed-transport .ensures, n .num-frames .ensures, p .is-proper .ensures, w .is-windowed .ensures)
     (sym (ours-set _ _ (set (f .before))))
 
 pub is-well-formed-spec : {M : Type 1} → statement M
@@ -61,7 +61,7 @@ is-well-formed-spec =
     returns
     is-finite-requires
     num-frames-requires
-    is-seated-requires
+    is-formed-transport-requires
     is-proper-requires
     is-windowed-requires
     mul-result

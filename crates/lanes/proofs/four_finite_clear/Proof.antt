@@ -1,4 +1,4 @@
--- `lanes::four_level` meets its contract. The loop's invariant: the words' top bit is clear where the four lanes pass as far as they are read.
+-- `lanes::four_finite_clear` meets its contract. The loop's invariant: the words' top bit is clear where the four lanes pass as far as they are read.
 -- Assumes nothing.
 use Prim.Native.Nat.{_-_, _≤_}
 use mathlib.Core.Path.{_≡_, refl}
@@ -6,13 +6,13 @@ use native.Mathlib.Omega.{arith}
 use lib.ListN.{length, take}
 use denote.Ref.{now}
 use borrow.Author.Needs.{needs}
-use Rattle.lanes.specs.Lanes.{low, fourLevel}
+use Rattle.lanes.specs.Lanes.{low, fourFiniteClear}
 use Rattle.lanes.proofs.Gathered.{four-turn, four-end}
-use Rattle.lanes.proofs.four_level.Statement.{statement}
-use Rattle.lanes.proofs.four_level.Tie as tie
+use Rattle.lanes.proofs.four_finite_clear.Statement.{statement}
+use Rattle.lanes.proofs.four_finite_clear.Tie as tie
 
 abbrev Inv-loop : tie.InvT-loop
-Inv-loop fade volume left right tops₀ i₀ tops i = (i ≤ length fade) × (low tops ≡ fourLevel (take i fade) (take i volume) (take i left) (take i right))
+Inv-loop fade volume left right tops₀ i₀ tops i = (i ≤ length fade) × (low tops ≡ fourFiniteClear (take i fade) (take i volume) (take i left) (take i right))
 
 abbrev μ-loop : tie.MeasureT-loop
 μ-loop fade volume left right tops₀ i₀ tops i = length fade - i
@@ -87,8 +87,8 @@ returns c =
     four-end (now (st .args .fade)) (now (st .args .volume)) (now (st .args .left)) (now (st .args .right)) (c .before .loop .i) _
     l (omega (arith, h .0, l)) (omega (arith, h .1 .0, l)) (omega (arith, h .1 .1, l)) (c .before .loop .inv .1)
 
-pub four-level-spec : {M : Type 1} → statement M
-four-level-spec =
+pub four-finite-clear-spec : {M : Type 1} → statement M
+four-finite-clear-spec =
     tie.close
     (tie.spec
     Inv-loop
