@@ -1,5 +1,6 @@
 -- The order of steps in a loop does not matter. While a transport plays with its position p inside its loop (s, e), f forward and b backward steps,
 -- in any order, lead to s + ((p - s + f - b) mod L), the remainder never negative; and after each of them it still plays, inside that loop.
+-- The promise is about the position: how often the loop is wrapped depends on the order. From 0 in the loop (0, 2), forward and then back wraps not at all, back and then forward once each way.
 -- So one forward and one back, in either order, return to where it was, and two rows of steps that are permutations of each other end alike.
 use Prim.Native.Nat.{ℕ, suc, _+_, _-_, _≤_}
 use mathlib.Core.Path.{_≡_}
