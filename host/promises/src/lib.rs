@@ -37,13 +37,18 @@ pub fn public_functions(krate: &str, source: &str) -> Vec<String> {
 
 /// The public functions of every crate below `crates/`.
 pub fn all_public_functions(crates: &Path) -> Vec<String> {
+    of_every_source(crates, public_functions)
+}
+
+/// What every source of every crate below `crates/` has, crate by crate.
+fn of_every_source<T>(crates: &Path, of_one: impl Fn(&str, &str) -> Vec<T>) -> Vec<T> {
     let mut found = Vec::new();
     for krate in sorted(crates) {
         let sources = crates.join(&krate).join("src");
         for file in sorted(&sources) {
             if file.ends_with(".rt") {
                 let text = fs::read_to_string(sources.join(&file)).expect("a source is text");
-                found.extend(public_functions(&krate, &text));
+                found.extend(of_one(&krate, &text));
             }
         }
     }
@@ -168,17 +173,7 @@ pub fn functions(krate: &str, source: &str) -> Vec<Function> {
 
 /// Every function of every crate below `crates/`.
 pub fn all_functions(crates: &Path) -> Vec<Function> {
-    let mut found = Vec::new();
-    for krate in sorted(crates) {
-        let sources = crates.join(&krate).join("src");
-        for file in sorted(&sources) {
-            if file.ends_with(".rt") {
-                let text = fs::read_to_string(sources.join(&file)).expect("a source is text");
-                found.extend(functions(&krate, &text));
-            }
-        }
-    }
-    found
+    of_every_source(crates, functions)
 }
 
 impl Function {
