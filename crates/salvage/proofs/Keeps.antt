@@ -15,7 +15,9 @@ use borrow.Author.Tests.{eqb-true, eqb-false, ne-eqb, eq-eqb, lt-ltb, le-ltb}
 use Rattle.trace.specs.declared.Record.{Record}
 use Rattle.trace.specs.Records.{Found, refused, found, readRecord, valued, recordAt}
 use Rattle.trace.specs.Writes.{recordOf}
-use Rattle.trace.proofs.Rounds.{read-record, written-record, Kept}
+use Rattle.trace.specs.Promises.{Kept}
+use Rattle.trace.proofs.Rounds.{read-record, written-record}
+use Rattle.salvage.specs.Promises.{One, Whole, ended, more}
 use Rattle.salvage.specs.Salvage.{kept, skipped, records, first, sizeIn, sizeOf, placed, Turned, Salvaged, salvageOf}
 
 none : {A : Type 0} → ⊥ → A
@@ -58,16 +60,7 @@ module _ (size : List ℕ → ℕ) where
   placed-over at [] (suc k) h = none (omega arith)
   placed-over at (b ∷ bs) (suc k) h = let e : suc at + k ≡ at + suc k = omega arith in placed-over (suc at) bs k (omega arith) ∙ ap (λ (z : ℕ). first size z (drop k bs) 0) e
 
-  -- a record, whatever follows it; an undamaged trace is records one after the other
-  pub record One (r : List ℕ) : Type 0 where
-    pub some : 0 < length r
-    pub own : (t : List ℕ) → size (r ++ t) ≡ length r
-
-  pub data Whole : List ℕ → Type 0 where
-    ended : Whole []
-    more : (r t : List ℕ) → One r → Whole t → Whole (r ++ t)
-
-  one-first : (r t : List ℕ) → One r → (kept size (r ++ t) 0 ≡ r ++ kept size t 0) × (skipped size (r ++ t) 0 ≡ skipped size t 0)
+  one-first : (r t : List ℕ) → One size r → (kept size (r ++ t) 0 ≡ r ++ kept size t 0) × (skipped size (r ++ t) 0 ≡ skipped size t 0)
   unfolding kept skipped
   one-first [] t o = let z = o .some in none (omega arith)
   one-first (b ∷ r) t o =
@@ -80,7 +73,7 @@ module _ (size : List ℕ → ℕ) where
       )
 
   -- an undamaged trace comes out equal, with 0 skipped
-  pub whole-kept : (bs : List ℕ) → Whole bs → (kept size bs 0 ≡ bs) × (skipped size bs 0 ≡ 0)
+  pub whole-kept : (bs : List ℕ) → Whole size bs → (kept size bs 0 ≡ bs) × (skipped size bs 0 ≡ 0)
   unfolding kept skipped
   whole-kept _ ended = (refl, refl)
   whole-kept _ (more r t o w) =
@@ -91,12 +84,12 @@ module _ (size : List ℕ → ℕ) where
   -- a size is that of a record which does not look past itself
   module _ (Fine : List ℕ → Type 0) (fine-drop : (n : ℕ) (bs : List ℕ) → Fine bs → Fine (drop n bs))
       (found : (bs : List ℕ) → Fine bs → 0 < size bs → (size bs ≤ length bs) × ((t : List ℕ) → size (take (size bs) bs ++ t) ≡ size bs)) where
-    one-turn : (n : ℕ) (bs : List ℕ) → length bs ≤ suc n → Fine bs → ((l : List ℕ) → length l ≤ n → Fine l → Whole (kept size l 0)) → Whole (kept size bs 0)
+    one-turn : (n : ℕ) (bs : List ℕ) → length bs ≤ suc n → Fine bs → ((l : List ℕ) → length l ≤ n → Fine l → Whole size (kept size l 0)) → Whole size (kept size bs 0)
     unfolding kept
     one-turn n [] h f ih = ended
     one-turn n (b ∷ bs) h f ih = go (eqb (size (b ∷ bs)) 0) refl (λ k. ih (drop k bs) (omega (arith, length-drop k bs)) (fine-drop (suc k) (b ∷ bs) f))
       where
-        go : (t : Bool) → eqb (size (b ∷ bs)) 0 ≡ t → ((k : ℕ) → Whole (kept size (drop k bs) 0)) → Whole (cond t (kept size bs 0) (b ∷ kept size bs (size (b ∷ bs) - 1)))
+        go : (t : Bool) → eqb (size (b ∷ bs)) 0 ≡ t → ((k : ℕ) → Whole size (kept size (drop k bs) 0)) → Whole size (cond t (kept size bs 0) (b ∷ kept size bs (size (b ∷ bs) - 1)))
         go true e ih = ih 0
         go false e ih =
             let s = size (b ∷ bs) in
@@ -108,12 +101,12 @@ module _ (size : List ℕ → ℕ) where
             let y : b ∷ kept size bs (s - 1) ≡ take s (b ∷ bs) ++ kept size (drop (s - 1) bs) 0 = ap (λ (l : List ℕ). b ∷ l) (split bs (s - 1) (omega (arith, g .0))) ∙ ap (λ (l : List ℕ). l ++ kept size (drop (s - 1) bs) 0) (sym x) in
             rw y (more (take s (b ∷ bs)) (kept size (drop (s - 1) bs) 0) (record { some = omega (arith, m); own = λ t. g .1 t ∙ sym m }) (ih (s - 1)))
 
-    no-bytes : (bs : List ℕ) → length bs ≤ 0 → Whole (kept size bs 0)
+    no-bytes : (bs : List ℕ) → length bs ≤ 0 → Whole size (kept size bs 0)
     unfolding kept
     no-bytes [] h = ended
     no-bytes (b ∷ bs) h = none (omega arith)
 
-    kept-whole : (n : ℕ) (bs : List ℕ) → length bs ≤ n → Fine bs → Whole (kept size bs 0)
+    kept-whole : (n : ℕ) (bs : List ℕ) → length bs ≤ n → Fine bs → Whole size (kept size bs 0)
     kept-whole zero bs h f = no-bytes bs h
     kept-whole (suc n) bs h f = one-turn n bs h f (λ l g e. kept-whole n l g e)
 

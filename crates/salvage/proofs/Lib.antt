@@ -1,2 +1,3 @@
 -- Laws of salvage.
 pub mod Keeps
+pub mod Promises

@@ -1,2 +1,3 @@
 -- Salvage of a broken trace.
 pub mod Salvage
+pub mod Promises

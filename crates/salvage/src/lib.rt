@@ -4,6 +4,7 @@ ghost use Prim.Native.Nat.{_≤_, _<_};
 ghost use mathlib.Core.Bool.{cond};
 ghost use lib.Dec.{eqb};
 ghost use lib.ListN.{length, drop};
+ghost use Rattle.salvage.specs.Promises.{Promises};
 ghost use Rattle.salvage.specs.Salvage.{sizeOf, savedOf, salvageOf, Turned};
 
 // A salvage in progress: the place in the input and in the output, the bytes skipped, the records kept, and the place of the
@@ -106,3 +107,8 @@ pub fn salvage(s: &[u8], out: &mut [u8]) -> Saved
         first: first_of(t),
     }
 }
+
+// What is promised beyond the contract.
+pub fn promised()
+    ensures { λ r. ⌜ Promises ⌝ }
+{}

@@ -2,3 +2,4 @@
 pub mod Ways
 pub mod Rounds
 pub mod Sends
+pub mod Promises

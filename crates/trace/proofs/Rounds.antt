@@ -19,6 +19,7 @@ use Rattle.layout.proofs.Lengths.{always, most, least, eights, at-most, at-leas
 use Rattle.trace.specs.Tables.{headTable, creationTable, frameTable, commandTable, blockTable, headRows, creationRows, commandRows, blockRows, body}
 use Rattle.trace.specs.Records.{shortest, longest, possible, Found, refused, found, ended, bodied, readRecord}
 use Rattle.trace.specs.Writes.{headOf, recordOf, known}
+use Rattle.trace.specs.Promises.{Kept}
 use Rattle.trace.proofs.Ways.{head-sound, creation-sound, command-sound, block-sound}
 
 -- ---- the kinds' rows
@@ -182,11 +183,6 @@ body-good k n j bs ws rest e = go (possible k n) (steps (body k) (good n [] bs))
     go false d f = refused-found 17 j ws rest f
     go true (bad i) f = refused-found i j ws rest f
     go true (good l us r) f = left l us r (eqb l 0) refl f
-
-pub record Kept (bs : List ℕ) (k : ℕ) (ws rest : List ℕ) : Type 0 where
-  pub kind : known k ≡ true
-  pub takes : fine (body k) [] ws ≡ true
-  pub same : bs ≡ recordOf k ws ++ rest
 
 pub written-record : (bs : List ℕ) (k : ℕ) (ws rest : List ℕ) → Small bs → readRecord bs ≡ found k ws rest → Kept bs k ws rest
 unfolding readRecord bodied recordOf

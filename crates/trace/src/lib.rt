@@ -5,6 +5,7 @@ ghost use mathlib.Core.List.{[]};
 ghost use lib.ListN.{length, drop, replicate};
 ghost use Rattle.layout.specs.Reads.{good, steps, view};
 ghost use Rattle.trace.specs.Tables.{headRows, body, fields};
+ghost use Rattle.trace.specs.Promises.{Promises};
 ghost use Rattle.trace.specs.Records.{possible, shortest, longest, refused, valued, recordAt};
 
 mod tables;
@@ -135,3 +136,8 @@ pub fn read(s: &[u8], at: usize) -> Record
         values,
     }
 }
+
+// What is promised beyond the contracts.
+pub fn promised()
+    ensures { λ r. ⌜ Promises ⌝ }
+{}
