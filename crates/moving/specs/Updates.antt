@@ -59,7 +59,7 @@ movingOf loop s p playing a b c d na nb nc nd count =
       };
     }
 
--- what an update asks: the transport formedTransport in its N frames, which lie in the sound
+-- what an update asks: a transport formed in its N frames, which lie in the sound
 pub record Able (snd : List Float) (c : Course) (m : Moving) : Type 0 where
   pub transportFormed : FormedTransport (c .«num_frames») (m .transport)
   pub few : c .«num_frames» ≤ 16777216

@@ -1,4 +1,4 @@
--- Fractions of a frame: finiteClear and proper values by whole numbers crosswise, and what a sum of fraction and advance is at most.
+-- Fractions of a frame: finite clear and proper values by whole numbers crosswise, and what a sum of fraction and advance is at most.
 -- Rounding keeps order, so a bound that is a float itself goes through it. Assumes nothing.
 use mathlib.Core.Path.{_≡_, refl, subst}
 use mathlib.Core.Logic.{_⊎_, inl, inr}

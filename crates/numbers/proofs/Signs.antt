@@ -183,7 +183,7 @@ high-bits : (f : Format) (s : Bool) (m : ℕ) (e : ℤ) → T (fits f (fin s m e
 high-bits f true m e t = ap (λ (n : ℕ). leb (top f) n) (set-bit f m e) ∙ le-leb _ _ (more (top f) (toBits f (fin false m e)))
 high-bits f false m e t = lt-leb _ _ (clear-bit f m e t)
 
--- finiteClear
+-- finite and clear
 pub below-number : (x y : Float) → lt x y ≡ true → T (not (isNan x))
 unfolding lt isNan
 below-number nan y h = absurd (false≢true h)

@@ -1,4 +1,4 @@
--- Positive zero stays positive zero: rounded, multiplied by a finiteClear value, added to itself, taken from itself. Assumes nothing.
+-- Positive zero stays positive zero: rounded, multiplied by a finite clear value, added to itself, taken from itself. Assumes nothing.
 use mathlib.Core.Path.{_≡_, refl, sym, ap, _∙_}
 use Prim.Native.Nat.{ℕ, _*_, _<_}
 use native.Mathlib.Nat.{zero-mul, mul-pos}

@@ -44,7 +44,7 @@ sub-one m e t lo hi =
     (sym (sub-at binary64 (fin false m e) one (m * up e) (down e) (down e) (down-pos e) lo (refl, refl) (refl, one-mul (down e) ∙ sym (mul-one (down e)))))
     (drop-one m e t hi)
 
--- ---- one turn: x - 1 is finiteClear, and has one step less to go
+-- ---- one turn: x - 1 is finite and clear, and has one step less to go
 pub record Turn (x y : Float) : Type 0 where
   pub finiteClear : T (finiteClear y)
   pub whole : whole x ≡ suc (whole y)

@@ -27,7 +27,7 @@ positive-zero-of (fin false zero (negsuc k)) h = absurd h
 positive-zero-of (fin false zero (pos (suc k))) h = absurd h
 positive-zero-of (fin false zero (pos zero)) h = refl
 
--- a zeroFrame entry has the zero frame
+-- an entry that is zero has the zero frame
 pub zero-frame-frame : (r : RecentFrame) → T (zeroFrame r) → r .frame ≡ lastZero
 zero-frame-frame r h =
     let a = isPositiveZero (r .frame .left) in
@@ -37,7 +37,7 @@ zero-frame-frame r h =
     framed : Float → Float → Frame
     framed x y = record { left = x; right = y }
 
--- with the count at 0 every entry is zeroFrame
+-- with the count at 0 every entry is a zero frame
 pub empty-zero-frame : (w : Resampler) → w .«time_until_empty» ≡ 0 → Windowed w → T (all zeroFrame (w .frames))
 empty-zero-frame w e h = subst (λ (t : ℕ). T (all zeroFrame (drop t (w .frames)))) e (h .lastZero)
 

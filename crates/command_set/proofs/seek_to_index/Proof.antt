@@ -1,5 +1,5 @@
 -- `command_set::seek_to_index` meets its contract: by whether the state advances once the transport has sought the frame.
--- The sought transport is formedTransport, so a frame may be pushed.
+-- The sought transport is formed, so a frame may be pushed.
 use mathlib.Core.Path.{_≡_, sym, ap, _∙_}
 use Prim.Native.Nat.{ℕ, _≤_}
 use mathlib.Core.Bool.{true, false}

@@ -1,4 +1,4 @@
--- `exports::cableowl_test_advance_by` meets its contract: a magnitude that is at most 256 is level. Assumes nothing.
+-- `exports::cableowl_test_advance_by` meets its contract: a magnitude that is at most 256 is finite and clear. Assumes nothing.
 use borrow.Author.Needs.{needs}
 use mathlib.Core.Path.{_≡_, sym, ap, subst, _∙_}
 use mathlib.Core.Logic.{inl, inr, ⊎-elim}
