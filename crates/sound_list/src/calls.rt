@@ -232,7 +232,16 @@ pub(crate) fn command(voice: StaticSound, sound: &[f32]) -> Answer {
     }
 }
 
-pub(crate) fn block(voice: StaticSound, sound: &[f32]) -> Answer {
+fn played(made: Processed, out: &[f32; 32], samples: usize) -> Answer {
+    let voice = made.sound;
+    Answer {
+        voice,
+        same: is_processed(made) & is_output(out, samples),
+    }
+}
+
+// A block, or one into a mix, whose frame comes last.
+pub(crate) fn block(voice: StaticSound, sound: &[f32], mixes: bool) -> Answer {
     let mut fade = [0.0f32; 32];
     let mut volume = [0.0f32; 32];
     let mut left = [0.0f32; 32];
@@ -247,6 +256,23 @@ pub(crate) fn block(voice: StaticSound, sound: &[f32]) -> Answer {
     let dt = input::double();
     let signals = next_signals();
     let samples = prepare(&mut out);
+    if mixes {
+        let from = input::index();
+        let made = static_sound::process_into(
+            voice,
+            sound,
+            &fade[..fades],
+            &volume[..volumes],
+            &left[..lefts],
+            &right[..rights],
+            &rate[..rates],
+            dt,
+            signals,
+            &mut out[..samples],
+            from,
+        );
+        return played(made, &out, samples);
+    }
     let made = static_sound::process(
         voice,
         sound,
@@ -259,47 +285,7 @@ pub(crate) fn block(voice: StaticSound, sound: &[f32]) -> Answer {
         signals,
         &mut out[..samples],
     );
-    let voice = made.sound;
-    Answer {
-        voice,
-        same: is_processed(made) & is_output(&out, samples),
-    }
-}
-
-pub(crate) fn mix(voice: StaticSound, sound: &[f32]) -> Answer {
-    let mut fade = [0.0f32; 32];
-    let mut volume = [0.0f32; 32];
-    let mut left = [0.0f32; 32];
-    let mut right = [0.0f32; 32];
-    let mut rate = [0.0f64; 32];
-    let mut out = [0.0f32; 32];
-    let fades = input::singles(&mut fade);
-    let volumes = input::singles(&mut volume);
-    let lefts = input::singles(&mut left);
-    let rights = input::singles(&mut right);
-    let rates = input::doubles(&mut rate);
-    let dt = input::double();
-    let signals = next_signals();
-    let samples = prepare(&mut out);
-    let from = input::index();
-    let made = static_sound::process_into(
-        voice,
-        sound,
-        &fade[..fades],
-        &volume[..volumes],
-        &left[..lefts],
-        &right[..rights],
-        &rate[..rates],
-        dt,
-        signals,
-        &mut out[..samples],
-        from,
-    );
-    let voice = made.sound;
-    Answer {
-        voice,
-        same: is_processed(made) & is_output(&out, samples),
-    }
+    played(made, &out, samples)
 }
 
 // Whether the list goes on with the sound's own stretch: its length, then its samples.

@@ -53,12 +53,8 @@ impl Replay {
             let made = calls::command(voice, sound);
             return self.answered(made.voice, made.same);
         }
-        if kind == 6 {
-            let made = calls::block(voice, sound);
-            return self.answered(made.voice, made.same);
-        }
-        if kind == 7 {
-            let made = calls::mix(voice, sound);
+        if (kind == 6) | (kind == 7) {
+            let made = calls::block(voice, sound, kind == 7);
             return self.answered(made.voice, made.same);
         }
         if kind == 8 {
