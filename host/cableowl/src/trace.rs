@@ -28,6 +28,7 @@
 //! ```
 
 mod line;
+mod log;
 mod record;
 mod recorder;
 mod replay;
@@ -38,6 +39,7 @@ mod values;
 use std::{error::Error, fmt};
 
 pub use line::Line;
+pub use log::{LOG_HEAD, Log, LogLine, Since};
 pub use record::{Block, Record, ShortSound};
 pub use recorder::{Recorded, Recorder};
 pub use replay::{Lines, Replay, lines, replay};

@@ -21,6 +21,7 @@ pub struct Replay {
     lanes: Lanes,
     out: Vec<f32>,
     heard: usize,
+    lowest_count: u32,
 }
 
 impl Replay {
@@ -34,6 +35,7 @@ impl Replay {
             lanes: Lanes::new(),
             out: vec![0.0; 2 * MAX_TRACED_FRAMES],
             heard: 0,
+            lowest_count: 4,
         }
     }
 
@@ -58,7 +60,7 @@ impl Replay {
 
     fn block(&mut self, block: &Block) -> Line {
         self.blocks = self.blocks.saturating_add(1);
-        self.heard = 0;
+        (self.heard, self.lowest_count) = (0, 4);
         let number = self.blocks;
         let refused = |refusal| Line::RefusedBlock {
             block: number,
@@ -77,8 +79,8 @@ impl Replay {
         let lanes = lanes.right(block.right).rate(block.rate);
         let sound = self.sound.samples();
         let answer = voice.process(sound, lanes, block.time_step, block.signals(), out);
-        if answer.is_ok() {
-            self.heard = samples;
+        if let Ok(processed) = &answer {
+            (self.heard, self.lowest_count) = (samples, processed.lowest_count);
         }
         Line::of_block(number, block.frames, voice, answer)
     }
@@ -87,6 +89,12 @@ impl Replay {
     #[must_use]
     pub fn heard(&self) -> &[f32] {
         &self.out[..self.heard]
+    }
+
+    /// The lowest window count that the last block read; 4 where it was refused.
+    #[must_use]
+    pub fn lowest_count(&self) -> u32 {
+        self.lowest_count
     }
 
     /// The voice as it is now, if there is one.
