@@ -318,9 +318,14 @@ fn first_unlawful(lanes: ffi::Lanes) -> Refusal {
 
 /// The first frame that refusal 12 is given for.
 fn first_too_far(sample_rate: u32, dt: f64, rate: &[f64]) -> usize {
-    let too_far = |rate: &f64| f64::from(sample_rate) * rate.abs() * dt > 256.0;
+    let too_far = |rate: &f64| too_far(sample_rate, dt, *rate);
     // Hidden from the optimizer, so that no product is made before the mode is set.
     let first = || black_box(black_box(rate).iter().position(too_far));
     // There is one: the library gives 12 exactly then, by the same products in the same mode.
     float_mode::plain(first).unwrap_or_default()
+}
+
+/// Whether an advance is above 256, in the float mode of the thread.
+pub fn too_far(sample_rate: u32, dt: f64, rate: f64) -> bool {
+    f64::from(sample_rate) * rate.abs() * dt > 256.0
 }

@@ -24,6 +24,22 @@ pub struct Processed {
     pub lowest_count: u32,
 }
 
+impl Processed {
+    /// What a block of no frames reports.
+    pub(crate) const NONE: Self = Self {
+        steps: 0,
+        lowest_count: 4,
+    };
+
+    /// Of two parts, one after the other.
+    pub(crate) fn and(self, next: Self) -> Self {
+        Self {
+            steps: self.steps.saturating_add(next.steps),
+            lowest_count: self.lowest_count.min(next.lowest_count),
+        }
+    }
+}
+
 /// A voice: one sound being played.
 ///
 /// It owns its state alone. The sound, interleaved samples, left then right, is lent to each call,
@@ -218,7 +234,17 @@ impl StaticSound {
     /// What the voice is doing.
     #[must_use]
     pub fn playback_state(&self) -> PlaybackState {
-        self.state().playback_state
+        // The library answers with 0 to 6 alone.
+        PlaybackState::from_number(self.state.state).unwrap_or(PlaybackState::Stopped)
+    }
+
+    pub(crate) fn sample_rate(&self) -> u32 {
+        self.state.sample_rate
+    }
+
+    /// The held rate.
+    pub(crate) fn playback_rate(&self) -> f64 {
+        self.state.playback_rate
     }
 
     /// Whether the voice is stopped, and so silent for ever.

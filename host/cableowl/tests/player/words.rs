@@ -1,0 +1,1 @@
+// What each word does, frame by frame; what is refused, and how.
