@@ -18,7 +18,7 @@ use crate::{
 };
 
 /// How many blocks that differ are listed.
-const LISTED: usize = 10;
+const LISTED: usize = 5;
 
 /// A block that differs.
 #[derive(Debug, Clone, PartialEq, Eq)]
@@ -54,6 +54,7 @@ struct Found {
     seconds: f64,
     differing: u64,
     first: Vec<Differs>,
+    first_at: f64,
     creep: i128,
     apart: bool,
     gaps: Series<Gap>,
@@ -83,6 +84,9 @@ impl Found {
         };
         if !same {
             self.differing += 1;
+            if self.first.is_empty() {
+                self.first_at = self.seconds;
+            }
             if self.first.len() < LISTED {
                 let creep = self.creep;
                 self.first.push(Differs {
@@ -232,6 +236,7 @@ fn found(mut input: Input, mut log: Log, row: &mut Rows<'_>) -> Result<Found> {
         seconds: 0.0,
         differing: 0,
         first: Vec::new(),
+        first_at: 0.0,
         creep: 0,
         apart: false,
         gaps: Series::new(1),
@@ -475,7 +480,7 @@ fn page(found: &Found, put: &mut Sink<'_>) -> Result<()> {
     creep_plot(found, put)?;
     if !found.first.is_empty() {
         put(
-            "<h3>The first blocks that differ</h3>\n<div class=\"scroll\"><table id=\"differing\"><thead><tr><th>Proved</th><th>Said</th><th>Creep</th></tr></thead><tbody>\n",
+            "<h3>The first blocks that differ</h3>\n<div class=\"scroll\"><table id=\"differing\" class=\"lines\"><thead><tr><th>Proved</th><th>Said</th><th>Creep</th></tr></thead><tbody>\n",
         )?;
         for differs in &found.first {
             put(&format!(
@@ -544,6 +549,13 @@ fn creep_plot(found: &Found, put: &mut Sink<'_>) -> Result<()> {
     for (index, (at, creep)) in points.iter().enumerate() {
         let how = if index == 0 { 'M' } else { 'L' };
         path += &format!("{how}{:.1} {:.1}", plot.x(*at), plot.y(*creep));
+    }
+    if !found.first.is_empty() {
+        plot.mark(
+            "first",
+            found.first_at,
+            "the first block that differs begins here",
+        );
     }
     plot.put(&format!("<path class=\"creep\" d=\"{path}\"/>"));
     put(&plot.done("how far the box is behind, over the evening"))

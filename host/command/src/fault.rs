@@ -1,6 +1,6 @@
 //! Why a run ended without what it was asked for: one sentence, and the exit status.
 
-use std::{fmt, io, process::ExitCode};
+use std::{fmt, io};
 
 /// A run that broke off.
 #[derive(Debug)]
@@ -36,11 +36,11 @@ impl Fault {
     }
 
     /// The exit status.
-    pub fn status(&self) -> ExitCode {
+    pub fn status(&self) -> u8 {
         match self {
-            Self::Usage(_) => ExitCode::from(2),
-            Self::Refused(_) => ExitCode::from(1),
-            Self::Closed => ExitCode::SUCCESS,
+            Self::Usage(_) => 2,
+            Self::Refused(_) => 1,
+            Self::Closed => 0,
         }
     }
 }

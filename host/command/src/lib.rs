@@ -18,24 +18,35 @@ mod salvage;
 mod settings;
 mod words;
 
-use std::{
-    ffi::OsString,
-    io::{self, Write},
-    process::ExitCode,
-};
+use std::{ffi::OsString, io::Write};
 
 use fault::{Fault, Result};
 use out::Out;
 use words::{Asked, HELP};
 
-/// Does what the words ask for, and tells how it ended.
-pub fn run(words: impl IntoIterator<Item = OsString>) -> ExitCode {
-    let mut out = Out::new(io::stdout().lock());
-    let done = obey(words, &mut out);
+/// Does what the words ask for, and tells the exit status: 0; 1 where a file was refused or an audit
+/// found a difference; 2 where the words mean nothing.
+pub fn run(
+    words: impl IntoIterator<Item = OsString>,
+    out: impl Write,
+    mut complaints: impl Write,
+) -> u8 {
+    let mut out = Out::new(out);
+    let mut complain = |fault: &Fault| {
+        // There is nowhere to say that it could not be said.
+        let _ = match fault {
+            Fault::Closed => Ok(()),
+            Fault::Refused(_) => writeln!(complaints, "cableowl: {fault}"),
+            Fault::Usage(_) => {
+                writeln!(complaints, "cableowl: {fault}; 'cableowl help' tells more")
+            }
+        };
+    };
+    let done = obey(words, &mut out, &mut complain);
     let flushed = out.flush();
     match done.and_then(|well| flushed.map(|()| well)) {
-        Ok(true) => ExitCode::SUCCESS,
-        Ok(false) => ExitCode::from(1),
+        Ok(true) => 0,
+        Ok(false) => 1,
         Err(fault) => {
             complain(&fault);
             fault.status()
@@ -43,20 +54,11 @@ pub fn run(words: impl IntoIterator<Item = OsString>) -> ExitCode {
     }
 }
 
-/// Says on standard error what is wrong, in one sentence.
-fn complain(fault: &Fault) {
-    // There is nowhere to say that it could not be said.
-    let _ = match fault {
-        Fault::Closed => Ok(()),
-        Fault::Refused(_) => writeln!(io::stderr(), "cableowl: {fault}"),
-        Fault::Usage(_) => writeln!(
-            io::stderr(),
-            "cableowl: {fault}; 'cableowl help' tells more"
-        ),
-    };
-}
-
-fn obey(words: impl IntoIterator<Item = OsString>, out: &mut Out<'_>) -> Result<bool> {
+fn obey(
+    words: impl IntoIterator<Item = OsString>,
+    out: &mut Out<'_>,
+    complain: &mut dyn FnMut(&Fault),
+) -> Result<bool> {
     match words::asked(words)? {
         Asked::Help => out.put(HELP).map(|()| true),
         Asked::Version => {
@@ -72,7 +74,7 @@ fn obey(words: impl IntoIterator<Item = OsString>, out: &mut Out<'_>) -> Result<
             rate,
             csv,
             page,
-        } => report::report(&logs, rate, csv, page.as_deref(), out, &mut complain),
+        } => report::report(&logs, rate, csv, page.as_deref(), out, complain),
         Asked::Audit {
             trace,
             log,

@@ -1,7 +1,8 @@
 //! The command `cableowl`.
 
-use std::{env, process::ExitCode};
+use std::{env, io, process::ExitCode};
 
 fn main() -> ExitCode {
-    command::run(env::args_os().skip(1))
+    let words = env::args_os().skip(1);
+    command::run(words, io::stdout().lock(), io::stderr()).into()
 }

@@ -7,7 +7,7 @@ use crate::{
     log::Form,
     out::PAGE_MARK,
     plot::{Plot, escaped, grouped, time},
-    report::{COLUMNS, Evening, Row, Told, minutes, refused, spaced},
+    report::{COLUMNS, Evening, Told, minutes, refused, spaced},
 };
 
 /// How the pages look.
@@ -26,7 +26,8 @@ p{margin:.35rem 0}
 table{border-collapse:collapse;font-size:.9rem;margin:.75rem 0;font-variant-numeric:tabular-nums}
 th,td{padding:.28rem .7rem;text-align:right;border-bottom:1px solid #e6eaef;white-space:nowrap}
 th{color:#57616e;font-weight:600;vertical-align:bottom;white-space:normal;min-width:4.2rem}
-th:first-child,td:first-child{text-align:left;max-width:22rem;overflow-wrap:anywhere;white-space:normal}
+th:first-child,td:first-child{text-align:left;min-width:9rem;max-width:22rem;overflow-wrap:anywhere;white-space:normal}
+.lines th,.lines td{text-align:left;white-space:normal}
 tr.total td{border-top:2px solid #9aa5b1;font-weight:600}
 tr.quantile td{color:#57616e}
 dl{display:grid;grid-template-columns:repeat(auto-fill,minmax(11rem,1fr));gap:.6rem 1.2rem;margin:.9rem 0}
@@ -95,15 +96,30 @@ pub fn report(evenings: &[Evening], rows: &[Told], rate: u32, put: &mut Sink<'_>
             "<p class=\"note\">Each evening has a section below. Quantiles are figures of one of the evenings each (nearest rank).</p>\n",
         )?;
     }
-    table(rows, put)?;
+    let folder = shared_folder(evenings);
+    table(rows, folder, put)?;
     for evening in evenings {
-        section(evening, rate, put)?;
+        section(evening, folder, rate, put)?;
     }
     foot(put)
 }
 
+/// The folder that all logs lie in, up to its slash; empty where they lie in several.
+fn shared_folder(evenings: &[Evening]) -> &str {
+    let folder = |evening: &'_ Evening| evening.name.rfind('/').map_or(0, |slash| slash + 1);
+    let Some(first) = evenings.first() else {
+        return "";
+    };
+    let shared = first.name.get(..folder(first)).unwrap_or_default();
+    let in_it = |evening: &Evening| evening.name.get(..folder(evening)) == Some(shared);
+    match evenings.iter().all(in_it) {
+        true => shared,
+        false => "",
+    }
+}
+
 /// All figures, a row for each log.
-fn table(rows: &[Told], put: &mut Sink<'_>) -> Result<()> {
+fn table(rows: &[Told], folder: &str, put: &mut Sink<'_>) -> Result<()> {
     put("<div class=\"scroll\"><table id=\"figures\">\n<thead><tr><th>Log</th><th>Form</th>")?;
     for (_, name) in COLUMNS {
         put(&format!("<th>{name}</th>"))?;
@@ -115,8 +131,9 @@ fn table(rows: &[Told], put: &mut Sink<'_>) -> Result<()> {
             .form
             .map_or(String::new(), |form| form.number().to_string());
         put(&format!(
-            "<tr class=\"{class}\"><td data-column=\"name\">{}</td><td data-column=\"form\">{form}</td>",
-            escaped(&told.name)
+            "<tr class=\"{class}\"><td data-column=\"name\" data-name=\"{}\">{}</td><td data-column=\"form\">{form}</td>",
+            escaped(&told.name),
+            escaped(told.name.strip_prefix(folder).unwrap_or(&told.name))
         ))?;
         for ((column, _), cell) in COLUMNS.iter().zip(&told.cells) {
             let says = cell.as_deref().map_or("–".into(), spaced);
@@ -127,15 +144,15 @@ fn table(rows: &[Told], put: &mut Sink<'_>) -> Result<()> {
     put(
         "</tbody></table></div>\n<p class=\"note\">– is not told: the log's lines do not say it. A log of form 2 tells times round the loop, seeks, restarts by hand and window counts.</p>\n",
     )?;
-    debug_assert!(rows.iter().any(|told| told.row == Row::Log));
     Ok(())
 }
 
-fn section(evening: &Evening, rate: u32, put: &mut Sink<'_>) -> Result<()> {
+fn section(evening: &Evening, folder: &str, rate: u32, put: &mut Sink<'_>) -> Result<()> {
     let figures = &evening.figures;
     let told = |number: Option<u64>| number.map_or("not told".into(), grouped);
     let time = |frames| format!("{} min", spaced(&minutes(frames, rate)));
-    put(&format!("<h2>{}</h2>\n<dl>\n", escaped(&evening.name)))?;
+    let name = evening.name.strip_prefix(folder).unwrap_or(&evening.name);
+    put(&format!("<h2>{}</h2>\n<dl>\n", escaped(name)))?;
     let facts = [
         ("Played", time(figures.played)),
         ("Paused", time(figures.paused)),

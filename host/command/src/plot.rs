@@ -9,6 +9,9 @@ const RIGHT: f64 = 16.0;
 const TOP: f64 = 12.0;
 const BOTTOM: f64 = 34.0;
 
+/// No axis has more marks.
+const MARKS: u32 = 40;
+
 /// A plot over time.
 pub struct Plot {
     height: f64,
@@ -23,7 +26,10 @@ impl Plot {
     pub fn new(height: f64, seconds: f64, from: f64, until: f64) -> Self {
         Self {
             height,
-            seconds: if seconds > 0.0 { seconds } else { 1.0 },
+            seconds: match seconds.is_finite() && seconds > 0.0 {
+                true => seconds,
+                false => 1.0,
+            },
             from,
             until: if until > from { until } else { from + 1.0 },
             drawn: String::new(),
@@ -69,6 +75,16 @@ impl Plot {
         self.put(&element);
     }
 
+    /// A line upward at a time.
+    pub fn mark(&mut self, class: &str, seconds: f64, says: &str) {
+        let (x, top, base) = (self.x(seconds), TOP, self.height - BOTTOM);
+        let title = title(says);
+        let element = format!(
+            r#"<line class="{class}" x1="{x:.1}" x2="{x:.1}" y1="{top:.1}" y2="{base:.1}">{title}</line>"#
+        );
+        self.put(&element);
+    }
+
     /// A row's name, left of the plot.
     pub fn name_row(&mut self, number: f64, name: &str) {
         let (x, y) = (LEFT - 8.0, self.y(number) + 4.0);
@@ -80,16 +96,18 @@ impl Plot {
 
     /// The numbers' axis: lines at round numbers.
     pub fn numbers(&mut self) {
-        let step = round_step(self.until - self.from, 4.0, 1.0);
-        let mut number = (self.from / step).ceil() * step;
-        while number <= self.until {
+        let step = round_step(self.until - self.from, self.height / 40.0, 1.0);
+        let first = (self.from / step).ceil();
+        for number in (0..MARKS).map(|index| (first + f64::from(index)) * step) {
+            if number > self.until {
+                break;
+            }
             let y = self.y(number);
             let right = WIDTH - RIGHT;
             let line =
                 format!(r#"<line class="grid" x1="{LEFT}" x2="{right}" y1="{y:.1}" y2="{y:.1}"/>"#);
             self.put(&line);
             self.name_row(number, &grouped_signed(number));
-            number += step;
         }
     }
 
@@ -102,8 +120,10 @@ impl Plot {
         );
         self.put(&axis);
         let step = time_step(self.seconds);
-        let mut at = 0.0;
-        while at <= self.seconds * 1.000_001 {
+        for at in (0..MARKS).map(|index| f64::from(index) * step) {
+            if at > self.seconds * 1.000_001 {
+                break;
+            }
             let (x, tick, below) = (self.x(at), base + 5.0, base + 20.0);
             let anchor = if x > right - 20.0 { "end" } else { "middle" };
             let time = time(at, step);
@@ -111,7 +131,6 @@ impl Plot {
                 r#"<line class="axis" x1="{x:.1}" x2="{x:.1}" y1="{base:.1}" y2="{tick:.1}"/><text class="tick" x="{x:.1}" y="{below:.1}" text-anchor="{anchor}">{time}</text>"#
             );
             self.put(&mark);
-            at += step;
         }
         let (height, says) = (self.height, escaped(says));
         let mut plot = format!(
@@ -241,6 +260,8 @@ mod tests {
             1e9,
             1e300,
             f64::MAX,
+            f64::INFINITY,
+            f64::NAN,
         ] {
             for until in [0.0, 1.0, 1e19] {
                 let mut plot = Plot::new(200.0, seconds, 0.0, until);

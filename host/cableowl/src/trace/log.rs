@@ -67,26 +67,29 @@ impl Log {
         self.begun = true;
     }
 
+    /// A seek was obeyed, and whether the student started over by it.
+    pub fn seeked(&mut self, restart: bool) {
+        raise(&mut self.since.seeks, 1);
+        raise(&mut self.since.restarts, restart.into());
+    }
+
     /// A command set was obeyed: the voice's states before it and after it.
     pub fn commanded(&mut self, commands: &Commands, before: &State, after: &State) {
-        raise(&mut self.since.seeks, commands.seek_by.is_some().into());
-        raise(&mut self.since.seeks, commands.seek_to.is_some().into());
+        if commands.seek_by.is_some() {
+            self.seeked(false);
+        }
         let went_back = match after.playback_rate.is_sign_negative() != after.reverse {
             true => after.position > before.position,
             false => after.position < before.position,
         };
-        let restarted = commands.seek_to.is_some() && went_back;
-        raise(&mut self.since.restarts, restarted.into());
+        if commands.seek_to.is_some() {
+            self.seeked(went_back);
+        }
     }
 
     /// A line of the first form with what the second tells beside: `voice` is the voice after the
     /// block, `lowest_count` the block's answer. Without a voice every number is 0.
-    pub fn line(
-        &mut self,
-        line: Line,
-        voice: Option<&StaticSound>,
-        lowest_count: u32,
-    ) -> LogLine {
+    pub fn line(&mut self, line: Line, voice: Option<&StaticSound>, lowest_count: u32) -> LogLine {
         let state = voice.map(StaticSound::state).unwrap_or_default();
         LogLine {
             line,
