@@ -285,3 +285,42 @@ pub fn all_kinds() -> Vec<u8> {
     }
     bytes
 }
+
+/// A part of a long trace: a creation of 64 frames that loop, a command set, and so many blocks of as many
+/// frames as are said.
+///
+/// # Panics
+///
+/// Where the page's writer refuses one of them.
+pub fn long(part: &mut Vec<u8>, blocks: u32, frames: u64) {
+    part.clear();
+    let one: u64 = 1.0_f32.to_bits().into();
+    let frame = u64::from(0.5_f32.to_bits()) << 32 | u64::from(0.25_f32.to_bits());
+    let mut record = |kind, numbers: &[u64]| {
+        let mut values = [0; 80];
+        values[..numbers.len()].copy_from_slice(numbers);
+        part.extend(page::bytes(kind, &values).expect("lawful"));
+    };
+    let double = f64::to_bits;
+    let head = [48_000, 0, 0, 0, 0, 0, 1, 0, 0, 0, double(1.0), 0, 64];
+    record(1, &[&head[..], &[frame; 64]].concat());
+    record(2, &[0, 0, 0, 0, 0, 0, 0, 0, 1, double(-0.0001)]);
+    for block in 0..blocks {
+        let rate = double(0.5 + f64::from(block) / f64::from(blocks));
+        let step = double(1.0 / 48_000.0);
+        record(3, &[frames, one, one, one, one, rate, step]);
+    }
+}
+
+/// Creations of the greatest length, one in each 80 bytes, that are refused at their end alone: what a
+/// salvage needs longest for.
+#[must_use]
+pub fn false_creations(length: usize) -> Vec<u8> {
+    let mut bytes = vec![0; length / 80 * 80];
+    for head in bytes.chunks_mut(80) {
+        // Every tag that follows is 0 but the count of frames.
+        head[..5].copy_from_slice(&[0xa5, 0x1d, 1, 0x3a, 2]);
+        head[30] = 63;
+    }
+    bytes
+}

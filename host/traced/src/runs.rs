@@ -91,7 +91,8 @@ pub fn compare_read(bytes: &[u8], at: usize) -> Result<u64, String> {
 pub fn reads(seed: u64, count: u64) -> Run {
     let (mut random, mut tally) = (Random::new(seed), Tally::default());
     while tally.calls < count {
-        let bytes = make::damaged(&mut random, 4, 3);
+        // Boxed: not a byte more than they are, for a memory checker.
+        let bytes = make::damaged(&mut random, 4, 3).into_boxed_slice();
         let mut at = 0;
         while at <= bytes.len() {
             let refusal = compare_read(&bytes, at)?;
@@ -202,7 +203,7 @@ pub fn compare_salvages(bytes: &[u8], room: usize) -> Result<u64, String> {
 pub fn salvages(seed: u64, count: u64) -> Run {
     let (mut random, mut tally) = (Random::new(seed), Tally::default());
     while tally.calls < count {
-        let bytes = make::damaged(&mut random, 8, 6);
+        let bytes = make::damaged(&mut random, 8, 6).into_boxed_slice();
         let room = match random.one_in(16) {
             true => random.below(bytes.len() + 1),
             false => bytes.len() + random.below(4),
