@@ -4,7 +4,7 @@
 //! - `traced trace [--megabytes N] [--blocks N] [--frames N]`: a long trace on standard output, a creation before
 //!   so many blocks of so many frames, again and again
 //! - `traced print`: what the library prints of a trace on standard input
-//! - `traced holes [--megabytes N]`: what the salvage of a long trace with holes takes
+//! - `traced holes|heads [--megabytes N]`: how long a salvage takes, of a long trace with holes and of what is none
 
 use std::{
     env,
@@ -14,9 +14,13 @@ use std::{
 };
 
 use cableowl::trace;
-use traced::{make, program::Program, runs};
+use traced::{
+    make,
+    program::Program,
+    runs::{self, COMPILED},
+};
 
-const USAGE: &str = "usage: traced reads|writes|salvages|prints|trace|print|holes [--seed N] [--count N] [--megabytes N] [--blocks N] [--frames N]";
+const USAGE: &str = "usage: traced reads|writes|salvages|prints|trace|print|holes|heads [--seed N] [--count N] [--megabytes N] [--blocks N] [--frames N]";
 
 fn main() -> ExitCode {
     match run() {
@@ -54,9 +58,9 @@ fn run() -> Result<String, String> {
     let (blocks, frames) = (number("--blocks", 1_000)? as u32, number("--frames", 512)?);
     let started = Instant::now();
     let tally = match what {
-        Some("reads") => runs::reads(seed, count),
-        Some("writes") => runs::writes(seed, count),
-        Some("salvages") => runs::salvages(seed, count),
+        Some("reads") => COMPILED.reads(seed, count),
+        Some("writes") => COMPILED.writes(seed, count),
+        Some("salvages") => COMPILED.salvages(seed, count),
         Some("prints") => {
             let program =
                 Program::find().ok_or("no target/bin/replay, or no kit: `rt check replay`")?;
@@ -64,7 +68,8 @@ fn run() -> Result<String, String> {
         }
         Some("trace") => return long_trace(megabytes, blocks, frames),
         Some("print") => return print(),
-        Some("holes") => return holes(megabytes),
+        Some("holes") => return salvaged(holes(megabytes)),
+        Some("heads") => return salvaged(heads(megabytes)),
         _ => return Err(USAGE.to_owned()),
     }?;
     let seconds = started.elapsed().as_secs_f64();
@@ -93,8 +98,11 @@ fn print() -> Result<String, String> {
     Ok(format!("{refused:?}, {seconds:.2} s"))
 }
 
-/// Salvages a long trace with a hole in each 100,000 bytes, and what takes longest.
-fn holes(megabytes: usize) -> Result<String, String> {
+/// An input by its name.
+type Input = (&'static str, Vec<u8>);
+
+/// A long trace with a hole in each 100,000 bytes, and what is nothing but holes.
+fn holes(megabytes: usize) -> Vec<Input> {
     let length = megabytes * 1_000_000;
     let (mut damaged, mut chunk) = (Vec::new(), Vec::new());
     while damaged.len() < length {
@@ -106,28 +114,33 @@ fn holes(megabytes: usize) -> Result<String, String> {
         let to = hole.len().min(from + 4_096);
         hole[from..to].fill(0xff);
     }
-    let inputs = [
+    vec![
         ("a trace with holes", damaged),
-        ("FF alone", vec![0xff; length]),
-        ("marks alone", [0xa5, 0x1d].repeat(length / 2)),
-        ("heads alone", [0xa5, 0x1d, 1, 0x3a, 2].repeat(length / 5)),
-        (
-            "creations that fail at their end",
-            make::false_creations(length),
-        ),
-    ];
-    let mut said = String::new();
+        ("FF", vec![0xff; length]),
+        ("marks", [0xa5, 0x1d].repeat(length / 2)),
+    ]
+}
+
+/// False records, which take longest.
+fn heads(megabytes: usize) -> Vec<Input> {
+    let length = megabytes * 1_000_000;
+    vec![
+        ("heads", [0xa5, 0x1d, 1, 0x3a, 2].repeat(length / 5)),
+        ("false creations", make::false_creations(length)),
+    ]
+}
+
+fn salvaged(inputs: Vec<Input>) -> Result<String, String> {
+    let count = inputs.len();
     for (name, input) in inputs {
         let mut out = vec![0; input.len()];
         let started = Instant::now();
         let salvaged = trace::salvage(&input, &mut out).map_err(|refusal| refusal.to_string())?;
         let seconds = started.elapsed().as_secs_f64();
-        let line = format!(
-            "{} bytes of {name}: {seconds:.2} s, {salvaged:?}\n",
+        eprintln!(
+            "{} bytes of {name}: {seconds:.2} s, {salvaged:?}",
             input.len()
         );
-        eprint!("{line}");
-        said += &line;
     }
-    Ok(format!("{} inputs", said.lines().count()))
+    Ok(format!("{count} inputs"))
 }

@@ -2,10 +2,13 @@
 
 use std::thread;
 
-use traced::{make, page, runs};
+use traced::{
+    make, page,
+    runs::{self, COMPILED},
+};
 
 fn compare(bytes: &[u8]) {
-    runs::compare_entry(bytes, 0).unwrap();
+    COMPILED.compare_read(bytes, 0).unwrap();
 }
 
 #[test]
@@ -47,13 +50,15 @@ fn every_change_of_one_byte_and_every_cut() {
         let next = page::read(&trace, at as u64).next as usize;
         assert!(next > at);
         for place in at..next {
-            runs::compare_read(&trace[..place], at).unwrap();
+            COMPILED.compare_read(&trace[..place], at as u64).unwrap();
+            runs::compare_record(&trace[..place], at).unwrap();
             let right = trace[place];
             for byte in 0..=255 {
                 trace[place] = byte;
-                runs::compare_read(&trace, at).unwrap();
+                COMPILED.compare_read(&trace, at as u64).unwrap();
+                runs::compare_record(&trace, at).unwrap();
                 // The same with nothing behind the record.
-                runs::compare_entry(&trace[..next], at).unwrap();
+                COMPILED.compare_read(&trace[..next], at as u64).unwrap();
             }
             trace[place] = right;
         }
@@ -90,7 +95,7 @@ fn every_cut_of_a_trace_is_printed() {
 
 #[test]
 fn random_traces_with_faults() {
-    let tally = runs::reads(104, 60_000).unwrap();
+    let tally = COMPILED.reads(104, 60_000).unwrap();
     println!("{tally}");
     for refusal in [0, 15, 16, 17, 18] {
         assert!(tally.refused[refusal] > 100, "{tally}");
