@@ -77,6 +77,28 @@ fn a_cut_block_prints_the_same_sum_and_position() {
     assert!(cuts > 3_000 && sums > 1_000, "{cuts}, {sums}");
 }
 
+/// The smallest case of a voice that has stopped by the cut: the three-frame example stops in its fourth frame.
+#[test]
+fn a_voice_that_has_stopped_by_the_cut_makes_fewer_steps() {
+    let sound = ShortSound::new(&[1.0, 1.0, 2.0, 2.0, 3.0, 3.0]).unwrap();
+    let settings = Settings::new(1);
+    for (at, steps) in [
+        (0, [0, 6]),
+        (3, [3, 3]),
+        (4, [4, 0]),
+        (5, [5, 0]),
+        (6, [6, 0]),
+    ] {
+        let mut replay = Replay::new();
+        replay.play(&Record::Creation { settings, sound });
+        let told = cut(Block::new(6, 1.0), at).map(|part| match replay.play(&part) {
+            Some(Line::Block { steps, .. }) => steps,
+            line => panic!("{line:?}"),
+        });
+        assert_eq!(told, steps, "cut after {at}");
+    }
+}
+
 /// A record made by hand may say what no trace holds.
 #[test]
 fn no_record_makes_a_replay_panic() {
