@@ -7,7 +7,7 @@
 //! - `traced holes|heads [--megabytes N]`: how long a salvage takes, of a long trace with holes and of what is none
 
 use std::{
-    env,
+    env, fs,
     io::{self, BufWriter, Write},
     process::ExitCode,
     time::Instant,
@@ -91,11 +91,11 @@ fn long_trace(megabytes: usize, blocks: u32, frames: u64) -> Result<String, Stri
 
 /// Prints a trace from standard input by the library.
 fn print() -> Result<String, String> {
-    let started = Instant::now();
+    let started = processor_seconds();
     let out = BufWriter::new(io::stdout().lock());
     let refused = trace::replay(io::stdin().lock(), out).map_err(|error| error.to_string())?;
-    let seconds = started.elapsed().as_secs_f64();
-    Ok(format!("{refused:?}, {seconds:.2} s"))
+    let seconds = processor_seconds() - started;
+    Ok(format!("{refused:?}, {seconds:.2} s of processor time"))
 }
 
 /// An input by its name.
@@ -130,15 +130,22 @@ fn heads(megabytes: usize) -> Vec<Input> {
     ]
 }
 
+/// The processor's seconds of this thread, where Linux tells them: others may be at work beside it.
+fn processor_seconds() -> f64 {
+    let told = fs::read_to_string("/proc/thread-self/schedstat").unwrap_or_default();
+    let nanoseconds = told.split(' ').next().and_then(|word| word.parse().ok());
+    nanoseconds.unwrap_or(0.0) / 1e9
+}
+
 fn salvaged(inputs: Vec<Input>) -> Result<String, String> {
     let count = inputs.len();
     for (name, input) in inputs {
         let mut out = vec![0; input.len()];
-        let started = Instant::now();
+        let started = processor_seconds();
         let salvaged = trace::salvage(&input, &mut out).map_err(|refusal| refusal.to_string())?;
-        let seconds = started.elapsed().as_secs_f64();
+        let seconds = processor_seconds() - started;
         eprintln!(
-            "{} bytes of {name}: {seconds:.2} s, {salvaged:?}",
+            "{} bytes of {name}: {seconds:.2} s of processor time, {salvaged:?}",
             input.len()
         );
     }

@@ -1,7 +1,11 @@
 //! The compiled reader against the page: short inputs exhaustively, then changed, cut and random ones.
 
-use std::thread;
+use std::{
+    io::{self, Read},
+    thread,
+};
 
+use cableowl::trace::{TraceReader, replay};
 use traced::{
     make, page,
     runs::{self, COMPILED},
@@ -100,4 +104,36 @@ fn random_traces_with_faults() {
     for refusal in [0, 15, 16, 17, 18] {
         assert!(tally.refused[refusal] > 100, "{tally}");
     }
+}
+
+/// Past what is held at once, places go on; what cannot be read ends the records, and is said.
+#[test]
+fn a_trace_longer_than_what_is_held() {
+    let (mut trace, mut part) = (Vec::new(), Vec::new());
+    for _ in 0..3 {
+        make::long(&mut part, 1_000, 1);
+        trace.extend_from_slice(&part);
+    }
+    let length = trace.len();
+    assert!(length > 100_000);
+    trace.push(b'\n');
+    let printed = String::from_utf8(runs::library_prints(&trace).unwrap()).unwrap();
+    assert!(printed.ends_with(&format!("\nrefused=15 at={length}\n")));
+    assert_eq!(printed.lines().count(), 3_001);
+
+    struct Broken<'a>(&'a [u8]);
+    impl Read for Broken<'_> {
+        fn read(&mut self, into: &mut [u8]) -> io::Result<usize> {
+            match self.0.read(into)? {
+                0 => Err(io::ErrorKind::TimedOut.into()),
+                got => Ok(got),
+            }
+        }
+    }
+    let mut records = TraceReader::new(Broken(&trace[..70_000]));
+    let read = records.by_ref().take_while(Result::is_ok).count();
+    assert!((1_000..2_000).contains(&read), "{read}");
+    assert!(records.next().is_none());
+    let failed = replay(Broken(&trace[..70_000]), io::sink());
+    assert_eq!(failed.unwrap_err().kind(), io::ErrorKind::TimedOut);
 }
