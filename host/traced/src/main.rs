@@ -4,6 +4,7 @@
 //! - `traced trace [--megabytes N] [--blocks N] [--frames N]`: a long trace on standard output, a creation before
 //!   so many blocks of so many frames, again and again
 //! - `traced print`: what the library prints of a trace on standard input
+//! - `traced recording`: what recording adds to a block
 //! - `traced holes|heads [--megabytes N]`: how long a salvage takes, of a long trace with holes and of what is none
 
 use std::{
@@ -13,14 +14,17 @@ use std::{
     time::Instant,
 };
 
-use cableowl::trace;
+use cableowl::{
+    Lanes, Refusal, Settings, Signals, StaticSound,
+    trace::{self, Recorder},
+};
 use traced::{
     make,
     program::Program,
     runs::{self, COMPILED},
 };
 
-const USAGE: &str = "usage: traced reads|writes|salvages|prints|trace|print|holes|heads [--seed N] [--count N] [--megabytes N] [--blocks N] [--frames N]";
+const USAGE: &str = "usage: traced reads|writes|salvages|prints|trace|print|recording|holes|heads [--seed N] [--count N] [--megabytes N] [--blocks N] [--frames N]";
 
 fn main() -> ExitCode {
     match run() {
@@ -70,6 +74,7 @@ fn run() -> Result<String, String> {
         Some("print") => return print(),
         Some("holes") => return salvaged(holes(megabytes)),
         Some("heads") => return salvaged(heads(megabytes)),
+        Some("recording") => return recording().map_err(|refusal| refusal.to_string()),
         _ => return Err(USAGE.to_owned()),
     }?;
     let seconds = started.elapsed().as_secs_f64();
@@ -96,6 +101,41 @@ fn print() -> Result<String, String> {
     let refused = trace::replay(io::stdin().lock(), out).map_err(|error| error.to_string())?;
     let seconds = processor_seconds() - started;
     Ok(format!("{refused:?}, {seconds:.2} s of processor time"))
+}
+
+/// What a block of 64 frames takes, played, played and recorded, and played again from its record.
+fn recording() -> Result<String, Refusal> {
+    const BLOCKS: u32 = 200_000;
+    let (sound, mut lanes, mut out) = ([0.5; 128], Lanes::new(), [0.0; 128]);
+    let settings = Settings::new(48_000).loop_region(0..);
+    let (step, signals) = (1.0 / 48_000.0, Signals::new());
+    let a_block = |seconds: f64| 1e9 * seconds / f64::from(BLOCKS);
+
+    let started = processor_seconds();
+    let mut voice = StaticSound::new(settings, &sound)?;
+    for _ in 0..BLOCKS {
+        voice.process(&sound, lanes.frames(64).rate(0.93), step, signals, &mut out)?;
+    }
+    let played = a_block(processor_seconds() - started);
+
+    let started = processor_seconds();
+    let mut buffer = vec![0; 42 * BLOCKS as usize + 1_000];
+    let mut recorder = Recorder::new(&mut buffer);
+    recorder.create(settings, &sound).recorded?;
+    for _ in 0..BLOCKS {
+        let block = lanes.frames(64).rate(0.93);
+        let block = recorder.process(&sound, block, step, signals, &mut out);
+        block.recorded?;
+        block.answer?;
+    }
+    let recorded = a_block(processor_seconds() - started);
+
+    let started = processor_seconds();
+    let lines = trace::lines(recorder.bytes()).count();
+    let again = a_block(processor_seconds() - started);
+    Ok(format!(
+        "{lines} blocks of 64 frames, nanoseconds of processor time each: played {played:.0}, and recorded {recorded:.0}, played again from the trace {again:.0}"
+    ))
 }
 
 /// An input by its name.
