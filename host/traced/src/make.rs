@@ -33,33 +33,28 @@ fn amplitude(random: &mut Random) -> u64 {
     }
 }
 
-/// A frame number, or seconds, as the tag says.
-fn place(random: &mut Random, is_frames: bool, frames: usize) -> u64 {
-    match (is_frames, random.one_in(10)) {
+/// A frame's number, or its seconds, at times any.
+fn place(random: &mut Random, is_frames: bool, frame: usize, sample_rate: u64) -> u64 {
+    match (is_frames, random.one_in(16)) {
         (true, true) => random.word() >> random.below(64),
-        (true, false) => random.below(frames + 2) as u64,
+        (true, false) => frame as u64,
         (false, true) => double(random),
-        (false, false) => (random.unit() * (frames + 1) as f64).to_bits(),
+        (false, false) => (frame as f64 / sample_rate as f64).to_bits(),
     }
 }
 
-/// A region's three numbers; `tag` is 0 to 6.
-fn region(random: &mut Random, tag: u64, frames: usize) -> [u64; 3] {
-    let start = tag > 0;
-    let end = tag >= 3;
-    [
-        tag,
-        if start {
-            place(random, tag % 2 == 1, frames)
-        } else {
-            0
-        },
-        if end {
-            place(random, tag < 5, frames)
-        } else {
-            0
-        },
-    ]
+/// A region's three numbers, mostly within so many frames; `tag` is 0 to 6.
+fn region(random: &mut Random, tag: u64, frames: usize, sample_rate: u64) -> [u64; 3] {
+    let start = random.below(frames.max(1));
+    let end = start + 1 + random.below(frames.saturating_sub(start).max(1));
+    let mut numbers = [tag, 0, 0];
+    if tag >= 1 {
+        numbers[1] = place(random, tag % 2 == 1, start, sample_rate);
+    }
+    if tag >= 3 {
+        numbers[2] = place(random, tag < 5, end, sample_rate);
+    }
+    numbers
 }
 
 fn creation(random: &mut Random) -> Values {
@@ -72,19 +67,27 @@ fn creation(random: &mut Random) -> Values {
     values[0] = match random.below(12) {
         0 => random.word() as u32,
         1 => [0, 768_000, 768_001, u32::MAX][random.below(4)],
-        _ => [1, 2, 3, 48_000][random.below(4)],
+        2 => 48_000,
+        _ => 1 + random.below(3) as u32,
     }
     .into();
+    let sample_rate = values[0];
     // Seldom: most slices and loops of any numbers are refused.
     let slice = if random.one_in(4) { random.below(7) } else { 0 };
-    values[1..4].copy_from_slice(&region(random, slice as u64, frames));
+    values[1..4].copy_from_slice(&region(random, slice as u64, frames, sample_rate));
     values[4] = random.below(2) as u64;
-    values[5] = match random.coin() {
-        true => 0,
-        false => place(random, values[4] == 0, frames / 2),
-    };
+    if random.one_in(3) {
+        let frame = random.below(frames + 1);
+        values[5] = place(random, values[4] == 0, frame, sample_rate);
+    }
     let looped = if random.coin() { random.below(7) } else { 0 };
-    values[6..9].copy_from_slice(&region(random, looped as u64, frames));
+    // Mostly within any slice there is.
+    let within = if slice > 0 && !random.one_in(8) {
+        1
+    } else {
+        frames
+    };
+    values[6..9].copy_from_slice(&region(random, looped as u64, within, sample_rate));
     values[9] = random.below(2) as u64;
     values[10] = if random.one_in(12) {
         double(random)
@@ -110,7 +113,7 @@ fn commands(random: &mut Random) -> Values {
     given(random, &mut values, 0, 4);
     if random.one_in(3) {
         let looped = random.below(8) as u64;
-        let region = region(random, looped.saturating_sub(1), 10);
+        let region = region(random, looped.saturating_sub(1), 4, 1);
         values[2] = looped;
         if looped > 1 {
             values[3..5].copy_from_slice(&region[1..]);
@@ -279,6 +282,45 @@ pub fn all_kinds() -> Vec<u8> {
         let numbers = numbers.concat();
         values[..numbers.len()].copy_from_slice(&numbers);
         bytes.extend(page::bytes(kind, &values).expect("lawful"));
+    }
+    bytes
+}
+
+/// A part of a long trace: a creation of 64 frames that loop, a command set, and so many blocks of as many
+/// frames as are said.
+///
+/// # Panics
+///
+/// Where the page's writer refuses one of them.
+pub fn long(part: &mut Vec<u8>, blocks: u32, frames: u64) {
+    part.clear();
+    let one: u64 = 1.0_f32.to_bits().into();
+    let frame = u64::from(0.5_f32.to_bits()) << 32 | u64::from(0.25_f32.to_bits());
+    let mut record = |kind, numbers: &[u64]| {
+        let mut values = [0; 80];
+        values[..numbers.len()].copy_from_slice(numbers);
+        part.extend(page::bytes(kind, &values).expect("lawful"));
+    };
+    let double = f64::to_bits;
+    let head = [48_000, 0, 0, 0, 0, 0, 1, 0, 0, 0, double(1.0), 0, 64];
+    record(1, &[&head[..], &[frame; 64]].concat());
+    record(2, &[0, 0, 0, 0, 0, 0, 0, 0, 1, double(-0.0001)]);
+    for block in 0..blocks {
+        let rate = double(0.5 + f64::from(block) / f64::from(blocks));
+        let step = double(1.0 / 48_000.0);
+        record(3, &[frames, one, one, one, one, rate, step]);
+    }
+}
+
+/// Creations of the greatest length, one in each 80 bytes, that are refused at their end alone: what a
+/// salvage needs longest for.
+#[must_use]
+pub fn false_creations(length: usize) -> Vec<u8> {
+    let mut bytes = vec![0; length / 80 * 80];
+    for head in bytes.chunks_mut(80) {
+        // Every tag that follows is 0 but the count of frames.
+        head[..5].copy_from_slice(&[0xa5, 0x1d, 1, 0x3a, 2]);
+        head[30] = 63;
     }
     bytes
 }
