@@ -386,6 +386,6 @@ fn a_player_takes_any_command_and_any_length() {
         let most = if random.one_in(50) { 20_001 } else { 40 };
         let samples = random.below(most + 1);
         let answer = player.process(&sound, &mut out[..samples]);
-        assert_eq!(answer.is_ok(), samples % 2 == 0, "{answer:?}");
+        assert_eq!(answer.is_ok(), samples.is_multiple_of(2), "{answer:?}");
     }
 }
