@@ -11,6 +11,9 @@ use std::{
     time::{Duration, Instant},
 };
 
+#[path = "evening/recorded.rs"]
+mod recorded;
+
 use cableowl::{Level, MAX_BLOCK_FRAMES, Player, Processed, Refusal, Settings, State, Tween};
 use random::Random;
 
@@ -327,5 +330,20 @@ fn run() -> Result<ExitCode, Refusal> {
     println!("All {all} agree: steps, position, state, and each of {samples} samples by its bits.");
     println!("The operator is right: in Cableowl the block size changes nothing that is heard.");
     println!("{}", verdict(&drifts));
+    recorded_evening()
+}
+
+/// The evening on a short sound, recorded, and played again from its trace.
+fn recorded_evening() -> Result<ExitCode, Refusal> {
+    let (live, trace) = recorded::live(DEVICE_RATE)?;
+    let again = recorded::again(&trace);
+    let [blocks, bytes] = [live.lines.len(), trace.len()].map(|count| grouped(count as u64));
+    if again != live {
+        println!("Its trace prints another evening, and must not: a fault in Cableowl.");
+        return Ok(ExitCode::FAILURE);
+    }
+    println!(
+        "\nRecorded on a sound of 64 frames it is {blocks} blocks in {bytes} bytes of trace, and played again\nit prints the same lines and sounds the same."
+    );
     Ok(ExitCode::SUCCESS)
 }

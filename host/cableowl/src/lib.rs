@@ -51,6 +51,7 @@ mod saved_settings;
 mod settings;
 mod state;
 mod static_sound;
+pub mod trace;
 
 pub use commands::{Commands, LoopCommand, ResumeCommand};
 pub use fades::{Level, MAX_RAMP_FRAMES, fade_ramp};

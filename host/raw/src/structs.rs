@@ -246,3 +246,41 @@ pub struct CableowlLoopFound {
     /// The refusal's number, or 0.
     pub refusal: u32,
 }
+
+/// A record of a trace.
+#[repr(C)]
+#[derive(Debug, Clone, Copy, PartialEq, Eq)]
+pub struct CableowlRecord {
+    /// The refusal's number, or 0.
+    pub refusal: u64,
+    /// Its kind; refused, 0.
+    pub kind: u64,
+    /// The place after it; refused, the given one.
+    pub next: u64,
+    /// Its numbers, then zeros.
+    pub values: [u64; 80],
+}
+
+/// The answer of a write of a record.
+#[repr(C)]
+#[derive(Debug, Clone, Copy, Default, PartialEq, Eq)]
+pub struct CableowlSent {
+    /// The refusal's number, or 0.
+    pub refusal: u64,
+    /// The place after the record; refused, the given one.
+    pub next: u64,
+}
+
+/// The answer of a salvage.
+#[repr(C)]
+#[derive(Debug, Clone, Copy, Default, PartialEq, Eq)]
+pub struct CableowlSaved {
+    /// The refusal's number, or 0.
+    pub refusal: u64,
+    /// The records kept.
+    pub records: u64,
+    /// The bytes skipped.
+    pub skipped: u64,
+    /// The place of the first of them, or the input's length.
+    pub first: u64,
+}
