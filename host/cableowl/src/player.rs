@@ -2,24 +2,27 @@
 
 mod block;
 mod command;
+mod recorded;
 mod shared;
 mod tween;
 
 use std::{f32::consts::SQRT_2, hint::black_box, sync::OnceLock};
 
 pub use command::{Command, Ticks};
+pub use recorded::RecordedPlayer;
 pub use shared::SharedPlayer;
 pub use tween::Tween;
 
 use self::{
     block::Given,
     command::{judge_loop, judge_seek_by, judge_seek_to},
+    recorded::Watch,
     tween::Parameter,
 };
 use crate::{
     Commands, Lane, Lanes, Level, LoopCommand, MAX_BLOCK_FRAMES, PlaybackState, Processed, Refusal,
     Region, ResumeCommand, Settings, Signals, StartAnswer, State, StaticSound, fade_ramp,
-    float_mode, refusal,
+    float_mode, refusal, trace::MAX_TRACED_FRAMES,
 };
 
 /// A voice that fades, slows and pans by itself: what kira's users know, in kira's words, and no
@@ -328,7 +331,7 @@ impl Player {
     /// Refusal 1 where the sound is not the one it was created with, by its length; then 9 where the
     /// samples are odd in number. Nothing is changed or written.
     pub fn process(&mut self, sound: &[f32], out: &mut [f32]) -> Result<Processed, Refusal> {
-        float_mode::plain(|| black_box(&mut *self).cut(sound, black_box(&mut *out), Place::Out))
+        self.run(sound, out, Place::Out, &mut ())
     }
 
     /// The same, added to what stands there.
@@ -337,7 +340,7 @@ impl Player {
     ///
     /// As [`Player::process`].
     pub fn mix(&mut self, sound: &[f32], out: &mut [f32]) -> Result<Processed, Refusal> {
-        float_mode::plain(|| black_box(&mut *self).cut(sound, black_box(&mut *out), Place::Mix))
+        self.run(sound, out, Place::Mix, &mut ())
     }
 
     /// What it is doing.
@@ -409,9 +412,26 @@ impl Player {
         Ok(())
     }
 
+    /// A whole call, in the plain float mode.
+    fn run<W: Watch>(
+        &mut self,
+        sound: &[f32],
+        out: &mut [f32],
+        place: Place,
+        watch: &mut W,
+    ) -> Result<Processed, Refusal> {
+        float_mode::plain(|| black_box(self).cut(sound, black_box(out), place, watch))
+    }
+
     /// Judges a call, obeys what is to be heard with its first frame, and plays block after block.
     #[inline(never)]
-    fn cut(&mut self, sound: &[f32], out: &mut [f32], place: Place) -> Result<Processed, Refusal> {
+    fn cut<W: Watch>(
+        &mut self,
+        sound: &[f32],
+        out: &mut [f32],
+        place: Place,
+        watch: &mut W,
+    ) -> Result<Processed, Refusal> {
         if self.voice.stretch(sound).is_empty() {
             return Err(Refusal::State);
         }
@@ -420,8 +440,8 @@ impl Player {
         }
         let (mut counts, mut rest) = (Processed::NONE, out);
         while !rest.is_empty() {
-            self.obey(sound)?;
-            let (frames, block) = self.block(sound, rest, place)?;
+            self.obey(sound, watch)?;
+            let (frames, block) = self.block(sound, rest, place, watch)?;
             counts = counts.and(block);
             rest = rest.split_at_mut_checked(2 * frames).unwrap_or_default().1;
         }
@@ -430,7 +450,7 @@ impl Player {
     }
 
     /// Tells the voice its commands, and turns it round where the rate of the next frame has.
-    fn obey(&mut self, sound: &[f32]) -> Result<(), Refusal> {
+    fn obey<W: Watch>(&mut self, sound: &[f32], watch: &mut W) -> Result<(), Refusal> {
         let mut commands = std::mem::take(&mut self.commands);
         let rate = self.rate.at(self.clock);
         if rate.is_sign_negative() != self.voice.playback_rate().is_sign_negative() {
@@ -438,6 +458,7 @@ impl Player {
         }
         if commands != Commands::new() {
             self.voice.on_start_processing(sound, commands)?;
+            watch.told(commands);
         }
         if let Some(fade) = self.next_fade.take() {
             self.fade.set(tenths(fade.to), self.clock, fade.frames);
@@ -446,11 +467,12 @@ impl Player {
     }
 
     /// Plays one block at the beginning of `out`: told are its frames and its counts.
-    fn block(
+    fn block<W: Watch>(
         &mut self,
         sound: &[f32],
         out: &mut [f32],
         place: Place,
+        watch: &mut W,
     ) -> Result<(usize, Processed), Refusal> {
         let (clock, room) = (self.clock, &mut self.room);
         let frames = (out.len() / 2).min(MAX_BLOCK_FRAMES);
@@ -478,17 +500,25 @@ impl Player {
                 .finished(clock == self.fade.ends())
                 .start(start),
         };
-        let out = out.get_mut(..2 * frames).unwrap_or_default();
         let (voice, lanes) = (&mut self.voice, &mut room.lanes);
-        let counts = match place {
-            Place::Out => given.play_all(frames, voice, lanes, out)?.1,
+        let frames = match W::RECORDS {
+            true => given.constant_frames(frames, lanes).min(MAX_TRACED_FRAMES),
+            false => frames,
+        };
+        let out = out.get_mut(..2 * frames).unwrap_or_default();
+        let (frames, counts) = match place {
+            Place::Out => given.play_all(frames, voice, lanes, out)?,
             Place::Mix => {
                 let played = room.played.get_mut(..out.len()).unwrap_or_default();
-                let (_, counts) = given.play_all(frames, voice, lanes, played)?;
+                let (frames, counts) = given.play_all(frames, voice, lanes, played)?;
+                let played = played.get(..2 * frames).unwrap_or_default();
                 add(out, played);
-                counts
+                (frames, counts)
             }
         };
+        if W::RECORDS {
+            watch.played(given.record(frames, lanes), voice, counts);
+        }
         self.clock = clock.saturating_add(frames as u64);
         Ok((frames, counts))
     }
