@@ -1,6 +1,6 @@
 //! A player that is recorded as it plays: its constant stretches become the records of a trace.
 
-use super::{Command, Place, Player, Tween};
+use super::{Command, Player, Tween, playing::Place};
 use crate::{
     Commands, Processed, Refusal, Settings, StaticSound,
     trace::{Block, Line, Record, Recorded, ShortSound, write},
