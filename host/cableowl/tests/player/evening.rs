@@ -1,6 +1,6 @@
 // A random evening of a player: a sound, and commands at frames; and what it comes to, cut this way or that.
 
-use std::time::Duration;
+use std::{sync::OnceLock, time::Duration};
 
 use cableowl::{
     Command, Level, PlaybackPosition, Player, Processed, Refusal, Region, Settings, Ticks, Tween,
@@ -65,6 +65,15 @@ pub struct Outcome {
 
 /// How a host cuts time: the next block's frames.
 pub type Cut<'a> = &'a mut dyn FnMut() -> usize;
+
+/// The counts of no frames.
+pub fn no_counts() -> Processed {
+    static NONE: OnceLock<Processed> = OnceLock::new();
+    *NONE.get_or_init(|| {
+        let player = Player::play(Settings::new(1), 1, &[0.0; 2]);
+        player.unwrap().counts()
+    })
+}
 
 pub fn bits(samples: &[f32]) -> Vec<u32> {
     samples.iter().map(|sample| sample.to_bits()).collect()
