@@ -49,7 +49,10 @@ fn run(words: &[String]) -> Result<(), Box<dyn Error>> {
     print!("{table}");
     if let Some(folder) = option(words, "--write") {
         let folder = Path::new(folder);
-        fs::write(folder.join("BENCHMARK.md"), report::document(&rows))?;
+        fs::write(
+            folder.join("BENCHMARK.md"),
+            report::document(&rows, &players::table()),
+        )?;
         fs::write(folder.join("benchmark.svg"), report::plot(&rows))?;
     }
     Ok(())
