@@ -2,24 +2,28 @@
 
 mod block;
 mod command;
+mod playing;
+mod recorded;
+mod room;
 mod shared;
 mod tween;
 
-use std::{f32::consts::SQRT_2, hint::black_box, sync::OnceLock};
+use std::hint::black_box;
 
 pub use command::{Command, Ticks};
+pub use recorded::RecordedPlayer;
 pub use shared::SharedPlayer;
 pub use tween::Tween;
 
 use self::{
-    block::Given,
     command::{judge_loop, judge_seek_by, judge_seek_to},
+    playing::Place,
+    room::{Amplitudes, Room, amplitudes},
     tween::Parameter,
 };
 use crate::{
-    Commands, Lane, Lanes, Level, LoopCommand, MAX_BLOCK_FRAMES, PlaybackState, Processed, Refusal,
-    Region, ResumeCommand, Settings, Signals, StartAnswer, State, StaticSound, fade_ramp,
-    float_mode, refusal,
+    Commands, Level, LoopCommand, PlaybackState, Processed, Refusal, Region, ResumeCommand,
+    Settings, State, StaticSound, float_mode, refusal,
 };
 
 /// A voice that fades, slows and pans by itself: what kira's users know, in kira's words, and no
@@ -328,7 +332,7 @@ impl Player {
     /// Refusal 1 where the sound is not the one it was created with, by its length; then 9 where the
     /// samples are odd in number. Nothing is changed or written.
     pub fn process(&mut self, sound: &[f32], out: &mut [f32]) -> Result<Processed, Refusal> {
-        float_mode::plain(|| black_box(&mut *self).cut(sound, black_box(&mut *out), Place::Out))
+        self.run(sound, out, Place::Out, &mut ())
     }
 
     /// The same, added to what stands there.
@@ -337,7 +341,7 @@ impl Player {
     ///
     /// As [`Player::process`].
     pub fn mix(&mut self, sound: &[f32], out: &mut [f32]) -> Result<Processed, Refusal> {
-        float_mode::plain(|| black_box(&mut *self).cut(sound, black_box(&mut *out), Place::Mix))
+        self.run(sound, out, Place::Mix, &mut ())
     }
 
     /// What it is doing.
@@ -408,188 +412,9 @@ impl Player {
         (self.commands, self.next_fade) = (Commands::new(), None);
         Ok(())
     }
-
-    /// Judges a call, obeys what is to be heard with its first frame, and plays block after block.
-    #[inline(never)]
-    fn cut(&mut self, sound: &[f32], out: &mut [f32], place: Place) -> Result<Processed, Refusal> {
-        if self.voice.stretch(sound).is_empty() {
-            return Err(Refusal::State);
-        }
-        if !out.len().is_multiple_of(2) {
-            return Err(Refusal::Block);
-        }
-        let (mut counts, mut rest) = (Processed::NONE, out);
-        while !rest.is_empty() {
-            self.obey(sound)?;
-            let (frames, block) = self.block(sound, rest, place)?;
-            counts = counts.and(block);
-            rest = rest.split_at_mut_checked(2 * frames).unwrap_or_default().1;
-        }
-        self.counts = self.counts.and(counts);
-        Ok(counts)
-    }
-
-    /// Tells the voice its commands, and turns it round where the rate of the next frame has.
-    fn obey(&mut self, sound: &[f32]) -> Result<(), Refusal> {
-        let mut commands = std::mem::take(&mut self.commands);
-        let rate = self.rate.at(self.clock);
-        if rate.is_sign_negative() != self.voice.playback_rate().is_sign_negative() {
-            commands.playback_rate = Some(rate);
-        }
-        if commands != Commands::new() {
-            self.voice.on_start_processing(sound, commands)?;
-        }
-        if let Some(fade) = self.next_fade.take() {
-            self.fade.set(tenths(fade.to), self.clock, fade.frames);
-        }
-        Ok(())
-    }
-
-    /// Plays one block at the beginning of `out`: told are its frames and its counts.
-    fn block(
-        &mut self,
-        sound: &[f32],
-        out: &mut [f32],
-        place: Place,
-    ) -> Result<(usize, Processed), Refusal> {
-        let (clock, room) = (self.clock, &mut self.room);
-        let frames = (out.len() / 2).min(MAX_BLOCK_FRAMES);
-        let frames = until(clock, Some(self.fade.ends()), frames);
-        let frames = until(clock, self.starts_at, frames);
-        let rate = self.rate.lane(clock, frames, &mut room.rate, |rate| rate);
-        let frames = one_direction(rate).min(frames);
-
-        let amplitude = |tenths: u16| self.amplitudes.get(usize::from(tenths)).copied();
-        let amplitude = |tenths| amplitude(tenths).unwrap_or_default();
-        let start = match self.starts_at {
-            Some(frame) if frame <= clock => StartAnswer::Now,
-            _ => StartAnswer::Waiting,
-        };
-        let (left, right) = (|at| gains(at).0, |at| gains(at).1);
-        let given = Given {
-            sound,
-            fade: self.fade.lane(clock, frames, &mut room.fade, amplitude),
-            volume: self.volume.lane(clock, frames, &mut room.volume, amplitude),
-            left: self.panning.lane(clock, frames, &mut room.left, left),
-            right: self.panning.lane(clock, frames, &mut room.right, right),
-            rate,
-            time_step: self.time_step,
-            signals: Signals::new()
-                .finished(clock == self.fade.ends())
-                .start(start),
-        };
-        let out = out.get_mut(..2 * frames).unwrap_or_default();
-        let (voice, lanes) = (&mut self.voice, &mut room.lanes);
-        let counts = match place {
-            Place::Out => given.play_all(frames, voice, lanes, out)?.1,
-            Place::Mix => {
-                let played = room.played.get_mut(..out.len()).unwrap_or_default();
-                let (_, counts) = given.play_all(frames, voice, lanes, played)?;
-                add(out, played);
-                counts
-            }
-        };
-        self.clock = clock.saturating_add(frames as u64);
-        Ok((frames, counts))
-    }
-}
-
-/// Where a call's frames go.
-#[derive(Debug, Clone, Copy)]
-enum Place {
-    /// In place of what stands in the output.
-    Out,
-    /// Added to it.
-    Mix,
-}
-
-/// So many frames from the clock on, but none past a change that is still to come.
-fn until(clock: u64, change: Option<u64>, frames: usize) -> usize {
-    let to_go = change.and_then(|change| change.checked_sub(clock));
-    match to_go.and_then(|to_go| usize::try_from(to_go).ok()) {
-        None | Some(0) => frames,
-        Some(to_go) => frames.min(to_go),
-    }
-}
-
-/// How many frames from the first on go its way.
-fn one_direction(rate: Lane<f64>) -> usize {
-    match rate {
-        Lane::Constant(_) => usize::MAX,
-        Lane::PerFrame(rates) => {
-            let backward = rates.first().is_some_and(|rate| rate.is_sign_negative());
-            let same = |rate: &&f64| rate.is_sign_negative() == backward;
-            rates.iter().take_while(same).count()
-        }
-    }
-}
-
-/// The gains of a panning, as kira's `Frame::panned` has them.
-fn gains(panning: f64) -> (f32, f32) {
-    let panning = panning as f32;
-    if panning == 0.0 {
-        return (1.0, 1.0);
-    }
-    let right = (panning.clamp(-1.0, 1.0) + 1.0) * 0.5;
-    ((1.0 - right).sqrt() * SQRT_2, right.sqrt() * SQRT_2)
-}
-
-#[inline(never)]
-fn add(out: &mut [f32], played: &[f32]) {
-    for (out, played) in out.iter_mut().zip(played) {
-        *out += played;
-    }
 }
 
 /// A level as a parameter has it.
 fn tenths(level: Level) -> u16 {
     level.tenths() as u16
-}
-
-/// The amplitude of each level.
-type Amplitudes = [f32; 602];
-
-/// The table, made once for all players, when the first is created.
-fn amplitudes() -> &'static Amplitudes {
-    static TABLE: OnceLock<Amplitudes> = OnceLock::new();
-    TABLE.get_or_init(|| {
-        let mut table = [0.0; 602];
-        // A frame for each level, so each has its own; never refused.
-        let _ = fade_ramp(Level::FULL, Level::SILENCE, &mut table);
-        table
-    })
-}
-
-/// Room for a block's lanes and frames, made once.
-#[derive(Debug)]
-struct Room {
-    lanes: Lanes,
-    fade: Vec<f32>,
-    volume: Vec<f32>,
-    left: Vec<f32>,
-    right: Vec<f32>,
-    rate: Vec<f64>,
-    played: Vec<f32>,
-}
-
-impl Room {
-    fn new() -> Self {
-        let lane = || Vec::with_capacity(MAX_BLOCK_FRAMES);
-        Self {
-            lanes: Lanes::new(),
-            fade: lane(),
-            volume: lane(),
-            left: lane(),
-            right: lane(),
-            rate: Vec::with_capacity(MAX_BLOCK_FRAMES),
-            played: vec![0.0; 2 * MAX_BLOCK_FRAMES],
-        }
-    }
-}
-
-/// A clone has as much room; nothing in it lasts from block to block.
-impl Clone for Room {
-    fn clone(&self) -> Self {
-        Self::new()
-    }
 }

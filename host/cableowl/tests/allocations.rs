@@ -1,5 +1,5 @@
 // No call of a voice allocates, and no block does, with kept lanes and with cloned ones; nor does recording, reading or
-// playing a trace.
+// playing a trace, nor any call of a player.
 
 use std::{
     alloc::{GlobalAlloc, Layout, System},
@@ -7,7 +7,7 @@ use std::{
 };
 
 use cableowl::{
-    Commands, Lanes, Refusal, Settings, Signals, State, StaticSound,
+    Commands, Lanes, Level, Player, Refusal, Settings, Signals, State, StaticSound, Ticks, Tween,
     trace::{Recorder, Replay, Trace, salvage},
 };
 
@@ -135,4 +135,56 @@ fn no_recording_allocates() {
     let (mut room, mut out) = ([0; 2_048], [0; 2_048]);
     let (lines, allocations) = counted(|| recorded(&mut lanes, &mut replay, &mut room, &mut out));
     assert_eq!((lines, allocations), (8, 0));
+}
+
+/// Every call of a player, accepted and refused, outputs of each size, every parameter in motion and at rest.
+fn player_evening(player: &mut Player, sound: &[f32], out: &mut [f32]) -> Result<State, Refusal> {
+    player.start_at_tick(
+        3,
+        Ticks {
+            now: 0,
+            per_second: 1_000,
+        },
+    );
+    for samples in [0, 2, 200, 8_192, 40_000, 3] {
+        for tween in [Tween::AT_ONCE, Tween::default(), Tween::from_millis(700)] {
+            player.set_volume(Level::new(60)?, tween);
+            player.set_playback_rate(-0.7, tween)?;
+            player.set_panning(0.3, tween)?;
+            player.pause(tween);
+            let played = player.process(sound, &mut out[..samples]);
+            assert_eq!(played.is_ok(), samples.is_multiple_of(2));
+            player.resume(tween);
+            player.set_loop_region(0.001..0.01)?;
+            player.seek_by(0.25)?;
+            player.seek_to(0.5)?;
+            assert!(player.seek_to(f64::NAN).is_err() && player.set_loop_region(4..4).is_err());
+            assert!(player.set_playback_rate(1.0e9, tween).is_err());
+            player.set_playback_rate(1.5, tween)?;
+            let played = player.mix(sound, &mut out[..samples]);
+            assert_eq!(played.is_ok(), samples.is_multiple_of(2));
+            player.clear_loop_region();
+        }
+    }
+    // Past the sound's end: it stops within a block.
+    player.process(sound, out)?;
+    let (state, _) = (player.voice().state(), player.position());
+    player.restore(state, sound)?;
+    player.stop(Tween::default());
+    Ok(state)
+}
+
+#[test]
+fn no_call_of_a_player_allocates() {
+    let sound = vec![0.25; 2 * 48_000];
+    let mut out = vec![0.0; 2 * 60_000];
+    let settings = Settings::new(48_000).start_waits(true);
+    let mut first = Player::play(settings, 44_100, &sound).unwrap();
+    let mut cloned = first.clone();
+    let (answer, allocations) = counted(|| player_evening(&mut first, &sound, &mut out));
+    assert_eq!(allocations, 0);
+    assert!(first.voice().finished());
+    let (again, allocations) = counted(|| player_evening(&mut cloned, &sound, &mut out));
+    assert_eq!(allocations, 0);
+    assert_eq!(answer.unwrap(), again.unwrap());
 }

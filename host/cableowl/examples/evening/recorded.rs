@@ -1,43 +1,39 @@
 //! The evening of `make` on a sound short enough to be recorded, and played again from its trace: what support does.
 
-use std::iter;
-
 use cableowl::{
-    Commands, Lanes, Level, Refusal, Settings, Signals, fade_ramp,
-    trace::{Line, MAX_RECORD_BYTES, MAX_SOUND_FRAMES, Recorder, Replay, Trace},
+    Command, Level, RecordedPlayer, Refusal, Region, Settings, Tween,
+    trace::{Line, MAX_SOUND_FRAMES, Replay, Trace},
 };
 
 /// The sound is as long as a lesson, 32 seconds, at two frames a second.
 const SOUND_RATE: u32 = 2;
 
-/// Frames of a block, before it is cut.
-const BLOCK: u64 = 512;
+/// Frames of a call; the player cuts them where a lane changes, since a record holds constant lanes.
+const CALL: u64 = 512;
 
-/// How long a fade takes, in seconds.
-const FADE: f64 = 0.25;
+/// Room for a call: each frame of a rate in motion is a record, of 42 bytes.
+const ROOM: usize = 32 * 1_024;
 
-const EVENING: u32 = 300;
+const EVENING: u64 = 300;
 
-/// What a student does, in order: the second, the command, and where the rate (over so many seconds) or the fade goes.
-fn script() -> [(u32, Commands, Goes); 8] {
-    let set = Commands::new();
+/// What a student does, at which second.
+fn script() -> [(u64, Command); 9] {
+    let fade = Tween::from_millis(250);
+    let volume = Level::new(19).unwrap_or(Level::FULL);
     [
-        (8, set.set_loop_region(6.2..10.9), Goes::Nowhere),
-        (40, set.set_playback_rate(0.7), Goes::Rate(0.7, 2.0)),
-        (150, set.pause(), Goes::Fade(Level::SILENCE)),
-        (170, set.seek_by(-1.5), Goes::Nowhere),
-        (172, set.resume(), Goes::Fade(Level::FULL)),
-        (240, set.set_playback_rate(1.0), Goes::Rate(1.0, 1.0)),
-        (280, set.clear_loop_region(), Goes::Nowhere),
-        (298, set.stop(), Goes::Fade(Level::SILENCE)),
+        (0, Command::SetVolume(volume, Tween::AT_ONCE)),
+        (8, Command::SetLoopRegion(Region::from(6.2..10.9))),
+        (40, Command::SetPlaybackRate(0.7, Tween::from_millis(2_000))),
+        (150, Command::Pause(fade)),
+        (170, Command::SeekBy(-1.5)),
+        (172, Command::Resume(fade)),
+        (
+            240,
+            Command::SetPlaybackRate(1.0, Tween::from_millis(1_000)),
+        ),
+        (280, Command::ClearLoopRegion),
+        (298, Command::Stop(fade)),
     ]
-}
-
-#[derive(Clone, Copy)]
-enum Goes {
-    Nowhere,
-    Rate(f64, f64),
-    Fade(Level),
 }
 
 /// An evening, live or from its trace: a line for each block, and a digest of what was heard.
@@ -63,147 +59,32 @@ impl Evening {
     }
 }
 
-/// The recorded voice, and the host's own numbers at a frame of the evening.
-struct Host<'a> {
-    recorder: Recorder<'a>,
-    file: Vec<u8>,
-    sound: Vec<f32>,
-    rate: (f64, f64),
-    rate_moves: (u64, u64),
-    ramp: Vec<f32>,
-    fade_starts: u64,
-    rests_at: Level,
-    lanes: Lanes,
-    clock: u64,
-    frame: f64,
-}
-
-impl Host<'_> {
-    fn frames(&self, seconds: f64) -> u64 {
-        (seconds / self.frame).round() as u64
-    }
-
-    fn rate_at(&self, clock: u64) -> f64 {
-        let (starts, ends) = self.rate_moves;
-        let (from, to) = self.rate;
-        if clock >= ends {
-            return to;
-        }
-        from + (to - from) * ((clock - starts) as f64 / (ends - starts) as f64)
-    }
-
-    fn fade_at(&self, clock: u64) -> f32 {
-        let place = (clock - self.fade_starts) as usize;
-        let rests = || self.rests_at.amplitude();
-        self.ramp.get(place).copied().unwrap_or_else(rests)
-    }
-
-    fn act(&mut self, commands: Commands, goes: Goes) -> Result<(), Refusal> {
-        match goes {
-            Goes::Nowhere => {}
-            Goes::Rate(to, seconds) => {
-                self.rate = (self.rate_at(self.clock), to);
-                self.rate_moves = (self.clock, self.clock + self.frames(seconds));
-            }
-            Goes::Fade(to) => {
-                self.ramp = vec![0.0; self.frames(FADE) as usize];
-                fade_ramp(self.rests_at, to, &mut self.ramp)?;
-                (self.fade_starts, self.rests_at) = (self.clock, to);
-            }
-        }
-        self.empty();
-        let told = self.recorder.on_start_processing(&self.sound, commands);
-        told.recorded?;
-        told.answer?;
-        Ok(())
-    }
-
-    /// Keeps what is recorded before the buffer is full.
-    fn empty(&mut self) {
-        if self.recorder.room() < MAX_RECORD_BYTES {
-            self.file.extend_from_slice(self.recorder.bytes());
-            self.recorder.clear();
-        }
-    }
-
-    /// Plays a block up to a frame of the evening at most. A record holds constant lanes, so the block is cut where a lane
-    /// changes: that changes nothing that is heard.
-    fn play(&mut self, until: u64, evening: &mut Evening) -> Result<(), Refusal> {
-        let fade_ends = self.fade_starts + self.ramp.len() as u64;
-        let until = until.min(self.clock + BLOCK);
-        let until = match fade_ends > self.clock {
-            true => until.min(fade_ends),
-            false => until,
-        };
-        let frames = self.clock..until;
-        let fade: Vec<f32> = frames.clone().map(|clock| self.fade_at(clock)).collect();
-        let rate: Vec<f64> = frames.map(|clock| self.rate_at(clock)).collect();
-        let mut out = vec![0.0; 2 * fade.len()];
-        let mut from = 0;
-        while from < fade.len() {
-            let rest = self.lanes.frames(fade.len() - from);
-            let to = from
-                + rest
-                    .fade(&fade[from..])
-                    .rate(&rate[from..])
-                    .constant_frames();
-            self.empty();
-            let lanes = self.lanes.frames(to - from).volume(0.8).left(0.9);
-            let lanes = lanes.fade(&fade[from..to]).rate(&rate[from..to]);
-            // Signals go with the first part.
-            let finished = from == 0 && self.clock == fade_ends;
-            let signals = Signals::new().finished(finished);
-            let part = &mut out[2 * from..2 * to];
-            let played = self
-                .recorder
-                .process(&self.sound, lanes, self.frame, signals, part);
-            played.recorded?;
-            played.answer?;
-            evening.lines.extend(self.recorder.line());
-            from = to;
-        }
-        evening.hear(&out);
-        self.clock = until;
-        Ok(())
-    }
-}
-
 /// Plays the evening on a device of so many frames a second, and records it.
 pub fn live(device_rate: u32) -> Result<(Evening, Vec<u8>), Refusal> {
-    let mut buffer = [0; 16 * 1_024];
     let triangle = |frame: usize| 1.0 - (frame % 16) as f32 / 8.0;
-    let mut host = Host {
-        recorder: Recorder::new(&mut buffer),
-        file: Vec::new(),
-        sound: (0..2 * MAX_SOUND_FRAMES).map(triangle).collect(),
-        rate: (1.0, 1.0),
-        rate_moves: (0, 0),
-        ramp: Vec::new(),
-        fade_starts: 0,
-        rests_at: Level::FULL,
-        lanes: Lanes::new(),
-        clock: 0,
-        frame: 1.0 / f64::from(device_rate),
-    };
-    let mut evening = Evening::new();
-    let created = host.recorder.create(Settings::new(SOUND_RATE), &host.sound);
-    created.recorded?;
-    created.answer?;
+    let sound: Vec<f32> = (0..2 * MAX_SOUND_FRAMES).map(triangle).collect();
+    let mut buffer = vec![0; ROOM];
+    let settings = Settings::new(SOUND_RATE);
+    let mut player = RecordedPlayer::play(settings, device_rate, &sound, &mut buffer)?;
+    let (mut evening, mut file) = (Evening::new(), Vec::new());
+    let mut out = [0.0; 2 * CALL as usize];
     let script = script();
-    let ends = script.iter().map(|(second, ..)| *second).chain([EVENING]);
-    let acts = script.iter().map(|(_, commands, goes)| (*commands, *goes));
-    let acts = iter::once(None).chain(acts.map(Some));
-    for (act, end) in acts.zip(ends) {
-        if let Some((commands, goes)) = act {
-            host.act(commands, goes)?;
-        }
-        let end = u64::from(end) * u64::from(device_rate);
-        while host.clock < end {
-            host.play(end, &mut evening)?;
+    let ends = script.iter().map(|(second, _)| *second).skip(1);
+    for ((_, command), end) in script.iter().zip(ends.chain([EVENING])) {
+        player.command(*command)?;
+        let end = end * u64::from(device_rate);
+        while player.player().frames() < end {
+            let frames = CALL.min(end - player.player().frames());
+            let out = &mut out[..2 * frames as usize];
+            let played = player.process(out, |line| evening.lines.push(line));
+            played.answer?;
+            played.recorded?;
+            evening.hear(out);
+            file.extend_from_slice(player.bytes());
+            player.clear();
         }
     }
-    host.file.extend_from_slice(host.recorder.bytes());
-    Ok((evening, host.file))
+    Ok((evening, file))
 }
 
 /// Plays a trace again.

@@ -2,7 +2,7 @@
 
 use std::ops::Range;
 
-use crate::{Lane, Lanes, Processed, Refusal, Signals, StaticSound};
+use crate::{BlockLanes, Lane, Lanes, Processed, Refusal, Signals, StaticSound, trace::Block};
 
 /// What a voice is given for a block.
 #[derive(Debug, Clone, Copy)]
@@ -31,24 +31,45 @@ impl Given<'_> {
             0 => self.signals,
             _ => Signals::new(),
         };
-        let frames = part.len();
-        let out = out.get_mut(2 * part.start..2 * part.end);
-        let lanes = lanes
-            .frames(frames)
+        // The output has room for the block: its caller cut it so.
+        let out = out
+            .get_mut(2 * part.start..2 * part.end)
+            .unwrap_or_default();
+        voice.process(
+            self.sound,
+            self.lanes(part, lanes),
+            self.time_step,
+            signals,
+            out,
+        )
+    }
+
+    /// The lanes of a part of the block.
+    fn lanes<'l>(&'l self, part: Range<usize>, lanes: &'l mut Lanes) -> BlockLanes<'l> {
+        lanes
+            .frames(part.len())
             .fade(cut(self.fade, &part))
             .volume(cut(self.volume, &part))
             .left(cut(self.left, &part))
             .right(cut(self.right, &part))
-            .rate(cut(self.rate, &part));
-        // The output has room for the block: its caller cut it so.
-        let out = out.unwrap_or_default();
-        voice.process(self.sound, lanes, self.time_step, signals, out)
+            .rate(cut(self.rate, &part))
     }
 
-    /// Plays the whole block. **A voice that runs off its sound's end inside it stops in that very
-    /// frame**: what a voice does after that, until its block ends, depends on where the block ends
-    /// (docs/RULES.md, "Creation, commands, block"), so its state and counts are those of that frame.
-    /// Told are how many frames led there, all of them where it does not stop, and their counts.
+    /// How many of its first frames have the same numbers in every lane.
+    pub fn constant_frames(&self, frames: usize, lanes: &mut Lanes) -> usize {
+        self.lanes(0..frames, lanes).constant_frames()
+    }
+
+    /// The record of its first frames, if one can hold them.
+    pub fn record(&self, frames: usize, lanes: &mut Lanes) -> Result<Block, Refusal> {
+        self.lanes(0..frames, lanes)
+            .block(self.time_step, self.signals)
+    }
+
+    /// Plays the whole block, or as much as there is of it until the voice runs off its sound's end:
+    /// **the block ends with the frame in which the voice stops**, since what a voice does after that
+    /// depends on where its block ends (docs/RULES.md, "Creation, commands, block"). Told are the
+    /// frames played and their counts.
     pub fn play_all(
         &self,
         frames: usize,

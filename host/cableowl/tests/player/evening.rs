@@ -1,6 +1,6 @@
 // A random evening of a player: a sound, and commands at frames; and what it comes to, cut this way or that.
 
-use std::time::Duration;
+use std::{sync::OnceLock, time::Duration};
 
 use cableowl::{
     Command, Level, PlaybackPosition, Player, Processed, Refusal, Region, Settings, Ticks, Tween,
@@ -66,6 +66,15 @@ pub struct Outcome {
 /// How a host cuts time: the next block's frames.
 pub type Cut<'a> = &'a mut dyn FnMut() -> usize;
 
+/// The counts of no frames.
+pub fn no_counts() -> Processed {
+    static NONE: OnceLock<Processed> = OnceLock::new();
+    *NONE.get_or_init(|| {
+        let player = Player::play(Settings::new(1), 1, &[0.0; 2]);
+        player.unwrap().counts()
+    })
+}
+
 pub fn bits(samples: &[f32]) -> Vec<u32> {
     samples.iter().map(|sample| sample.to_bits()).collect()
 }
@@ -100,6 +109,10 @@ impl Evening {
                 let counts = player.process(&self.sound, out).unwrap();
                 (steps, lowest) = (steps + counts.steps, lowest.min(counts.lowest_count));
                 clock += frames;
+            }
+            // Some hosts call with no frames, also between two commands at one frame.
+            if cut() == 0 {
+                player.process(&self.sound, &mut []).unwrap();
             }
             outcome.told.push(player.told());
             outcome
@@ -259,7 +272,9 @@ pub fn shrunk(mut evening: Evening, fails: impl Fn(&Evening) -> bool) -> Evening
             }
         };
         for place in 0..evening.commands.len() {
-            with(&|other| drop(other.commands.remove(place)));
+            with(&|other| {
+                other.commands.remove(place);
+            });
             with(&|other| other.commands[place].0 /= 2);
         }
         for frames in [evening.frames / 2, evening.frames - 1] {

@@ -4,6 +4,7 @@ mod cuts;
 mod evening;
 mod modes;
 mod per_block;
+mod traces;
 mod words;
 
 #[path = "../mode/mod.rs"]

@@ -1,13 +1,13 @@
-// kira's way with parameters, one update a block and a straight line across it: it differs by how time is cut, and the
-// player is what it comes to with blocks of one frame.
+// kira's way with parameters, one update a block and a straight line across it, over kira's own text: it differs by how time
+// is cut, and the player is what it comes to with blocks of one frame.
 
 use cableowl::{
-    Command, Commands, Lanes, Level, Player, Processed, Refusal, Settings, Signals, StaticSound,
-    Tween,
+    Command, Commands, Lanes, Level, LoopCommand, Player, Processed, Refusal, ResumeCommand,
+    Settings, Signals, StaticSound, Tween,
 };
 use random::Random;
 
-use crate::evening::{Evening, Plays, shrunk};
+use crate::evening::{Evening, Plays, no_counts, shrunk};
 
 /// A parameter that is updated once a block.
 #[derive(Clone, Copy)]
@@ -92,9 +92,157 @@ fn gains(panning: f64) -> (f32, f32) {
     ((1.0 - mix).sqrt() * root_2, mix.sqrt() * root_2)
 }
 
+/// The lanes of a block.
+struct Numbers {
+    fade: Vec<f32>,
+    volume: Vec<f32>,
+    left: Vec<f32>,
+    right: Vec<f32>,
+    rate: Vec<f64>,
+}
+
+/// A voice below the parameters: ours, or kira's own text.
+trait Voice {
+    fn create(evening: &Evening) -> Self;
+    fn held_rate(&self) -> f64;
+    fn obey(&mut self, sound: &[f32], commands: Commands);
+    fn block(
+        &mut self,
+        sound: &[f32],
+        lanes: &Numbers,
+        step: f64,
+        finished: bool,
+        out: &mut [f32],
+    ) -> Processed;
+    fn told(&self) -> Vec<u8>;
+}
+
+/// Ours, with room for its lanes.
+struct Ours(StaticSound, Lanes);
+
+impl Voice for Ours {
+    fn create(evening: &Evening) -> Self {
+        let voice = StaticSound::new(evening.settings, &evening.sound).unwrap();
+        Self(voice, Lanes::new())
+    }
+
+    fn held_rate(&self) -> f64 {
+        self.0.state().playback_rate
+    }
+
+    fn obey(&mut self, sound: &[f32], commands: Commands) {
+        self.0.on_start_processing(sound, commands).unwrap();
+    }
+
+    fn block(
+        &mut self,
+        sound: &[f32],
+        lanes: &Numbers,
+        step: f64,
+        finished: bool,
+        out: &mut [f32],
+    ) -> Processed {
+        let block = self
+            .1
+            .frames(out.len() / 2)
+            .fade(&lanes.fade)
+            .volume(&lanes.volume);
+        let block = block
+            .left(&lanes.left)
+            .right(&lanes.right)
+            .rate(&lanes.rate);
+        let signals = Signals::new().finished(finished);
+        self.0.process(sound, block, step, signals, out).unwrap()
+    }
+
+    fn told(&self) -> Vec<u8> {
+        self.0.state().to_bytes()
+    }
+}
+
+fn kiras(place: cableowl::PlaybackPosition) -> oracle::PlaybackPosition {
+    match place {
+        cableowl::PlaybackPosition::Seconds(at) => oracle::PlaybackPosition::Seconds(at),
+        cableowl::PlaybackPosition::Samples(at) => oracle::PlaybackPosition::Samples(at),
+    }
+}
+
+fn kiras_region(region: cableowl::Region) -> oracle::Region {
+    oracle::Region {
+        start: kiras(region.start),
+        end: match region.end {
+            cableowl::EndPosition::EndOfAudio => oracle::EndPosition::EndOfAudio,
+            cableowl::EndPosition::Custom(place) => oracle::EndPosition::Custom(kiras(place)),
+        },
+    }
+}
+
+impl Voice for oracle::Oracle {
+    fn create(evening: &Evening) -> Self {
+        let settings = oracle::Settings {
+            start: kiras(evening.settings.start_position),
+            loop_region: evening.settings.loop_region.map(kiras_region),
+            reverse: evening.settings.reverse,
+            rate: evening.settings.playback_rate,
+            ..oracle::Settings::new(evening.settings.sample_rate)
+        };
+        Self::create(&settings, &evening.sound)
+    }
+
+    fn held_rate(&self) -> f64 {
+        self.state().rate
+    }
+
+    fn obey(&mut self, _: &[f32], commands: Commands) {
+        let commands = oracle::Commands {
+            rate: commands.playback_rate,
+            loop_region: match commands.loop_region {
+                LoopCommand::Keep => None,
+                LoopCommand::Clear => Some(None),
+                LoopCommand::Set(region) => Some(Some(kiras_region(region))),
+            },
+            pause: commands.pause,
+            resume: (commands.resume != ResumeCommand::No).then_some(false),
+            stop: commands.stop,
+            seek_by: commands.seek_by,
+            seek_to: commands.seek_to,
+        };
+        self.command(&commands).unwrap();
+    }
+
+    fn block(
+        &mut self,
+        _: &[f32],
+        lanes: &Numbers,
+        step: f64,
+        finished: bool,
+        out: &mut [f32],
+    ) -> Processed {
+        let lanes = oracle::Lanes {
+            fade: &lanes.fade,
+            volume: &lanes.volume,
+            left: &lanes.left,
+            right: &lanes.right,
+            rate: &lanes.rate,
+        };
+        let signals = oracle::Signals {
+            finished,
+            ..oracle::Signals::default()
+        };
+        let reported = self.block(&lanes, step, signals, out);
+        let mut counts = no_counts();
+        (counts.steps, counts.lowest_count) = (reported.steps, reported.lowest_count);
+        counts
+    }
+
+    fn told(&self) -> Vec<u8> {
+        format!("{:?}", self.state()).into()
+    }
+}
+
 /// A player as kira's `sound.rs` shows it: `update` for the whole block, then `interpolated_value` of each frame.
-struct PerBlock {
-    voice: StaticSound,
+struct PerBlock<V> {
+    voice: V,
     output_rate: u32,
     volume: Parameter,
     fade: Parameter,
@@ -104,7 +252,7 @@ struct PerBlock {
     fades: [Option<(f64, u64)>; 3],
 }
 
-impl PerBlock {
+impl<V: Voice> PerBlock<V> {
     fn new(evening: &Evening) -> Self {
         let mut fade = Parameter::new(0.0, true);
         if let Some(tween) = evening.fade_in {
@@ -112,7 +260,7 @@ impl PerBlock {
             fade.set(0.0, frames(tween, evening.output_rate));
         }
         Self {
-            voice: StaticSound::new(evening.settings, &evening.sound).unwrap(),
+            voice: V::create(evening),
             output_rate: evening.output_rate,
             volume: Parameter::new(0.0, true),
             fade,
@@ -129,7 +277,7 @@ fn frames(tween: Tween, output_rate: u32) -> u64 {
     (product / 1_000_000_000) as u64
 }
 
-impl Plays for PerBlock {
+impl<V: Voice> Plays for PerBlock<V> {
     fn command(&mut self, command: Command) -> Result<(), Refusal> {
         let over = |tween| frames(tween, self.output_rate);
         match command {
@@ -161,8 +309,10 @@ impl Plays for PerBlock {
 
     fn process(&mut self, sound: &[f32], out: &mut [f32]) -> Result<Processed, Refusal> {
         let n = out.len() / 2;
-        let commands = std::mem::take(&mut self.commands);
-        self.voice.on_start_processing(sound, commands)?;
+        if n == 0 {
+            return Ok(no_counts());
+        }
+        self.voice.obey(sound, std::mem::take(&mut self.commands));
         for fade in &mut self.fades {
             if let Some((to, frames)) = fade.take() {
                 self.fade.set(to, frames);
@@ -172,34 +322,33 @@ impl Plays for PerBlock {
         self.rate.update(n as u64);
         self.panning.update(n as u64);
         let finished = self.fade.update(n as u64);
-        let held = self.voice.state().playback_rate;
-        if held.is_sign_negative() != self.rate.value.is_sign_negative() {
-            let turned = Commands::new().set_playback_rate(self.rate.value);
-            self.voice.on_start_processing(sound, turned)?;
+        let rate = self.rate.value;
+        if self.voice.held_rate().is_sign_negative() != rate.is_sign_negative() {
+            self.voice
+                .obey(sound, Commands::new().set_playback_rate(rate));
         }
-        let amounts: Vec<f64> = (1..=n).map(|i| i as f64 / n as f64).collect();
-        let amounts = amounts.iter();
-        let level = |parameter: Parameter| -> Vec<f32> {
+        let amounts = (1..=n).map(|i| i as f64 / n as f64);
+        let level = |parameter: Parameter| {
             let amounts = amounts.clone();
             amounts
-                .map(|at| amplitude(parameter.interpolated(*at)))
+                .map(|at| amplitude(parameter.interpolated(at)))
                 .collect()
         };
-        let (fade, volume) = (level(self.fade), level(self.volume));
-        let panning = self.panning;
-        let gains = amounts.clone().map(|at| gains(panning.interpolated(*at)));
-        let (left, right): (Vec<f32>, Vec<f32>) = gains.unzip();
-        let rate: Vec<f64> = amounts.map(|at| self.rate.interpolated(*at)).collect();
-        let mut lanes = Lanes::new();
-        let lanes = lanes.frames(n).fade(&fade).volume(&volume).rate(&rate);
-        let lanes = lanes.left(&left).right(&right);
-        let signals = Signals::new().finished(finished);
-        let time_step = 1.0 / f64::from(self.output_rate);
-        self.voice.process(sound, lanes, time_step, signals, out)
+        let panning = amounts.clone().map(|at| self.panning.interpolated(at));
+        let (left, right) = panning.map(gains).unzip();
+        let lanes = Numbers {
+            fade: level(self.fade),
+            volume: level(self.volume),
+            left,
+            right,
+            rate: amounts.map(|at| self.rate.interpolated(at)).collect(),
+        };
+        let step = 1.0 / f64::from(self.output_rate);
+        Ok(self.voice.block(sound, &lanes, step, finished, out))
     }
 
     fn told(&self) -> Vec<u8> {
-        self.voice.state().to_bytes()
+        self.voice.told()
     }
 }
 
@@ -242,7 +391,10 @@ fn small_evenings() -> impl Iterator<Item = Evening> {
 
 #[test]
 fn the_smallest_evenings_that_tell_a_parameter_updated_once_a_block() {
-    let per_block = |evening: &Evening| differs(evening, || Box::new(PerBlock::new(evening)));
+    let per_block = |evening: &Evening| {
+        let new = || PerBlock::<oracle::Oracle>::new(evening);
+        differs(evening, || Box::new(new()))
+    };
     let found: Vec<Evening> = small_evenings()
         .filter(|evening| per_block(evening))
         .collect();
@@ -281,13 +433,13 @@ fn plain(random: &mut Random) -> Evening {
     evening
 }
 
-#[test]
-fn the_player_is_what_a_parameter_updated_once_a_block_comes_to_with_blocks_of_one_frame() {
-    let (mut differ, rounds) = (0, 2_000);
+/// Rounds of random evenings, all as the player plays them when the other has blocks of one frame.
+fn limit_of<V: Voice>(rounds: u64) {
+    let (mut differ, mut frames) = (0, 0);
     for seed in 0..rounds {
         let evening = plain(&mut Random::new(seed));
         let other = |evening: &Evening, frames| {
-            let outcome = evening.played(&mut PerBlock::new(evening), &mut || frames);
+            let outcome = evening.played(&mut PerBlock::<V>::new(evening), &mut || frames);
             (outcome.samples, outcome.counts)
         };
         let ours = |evening: &Evening| {
@@ -298,8 +450,19 @@ fn the_player_is_what_a_parameter_updated_once_a_block_comes_to_with_blocks_of_o
             let least = shrunk(evening, |evening| other(evening, 1) != ours(evening));
             panic!("seed {seed}\n{least:#?}");
         }
-        differ += usize::from(other(&evening, 64) != ours(&evening));
+        differ += u64::from(other(&evening, 64) != ours(&evening));
+        frames += evening.frames;
     }
-    println!("{differ} of {rounds} evenings differ in blocks of 64");
-    assert!(differ > rounds as usize / 4);
+    println!("{frames} frames; in blocks of 64 {differ} of {rounds} evenings differ");
+    assert!(differ > rounds / 4);
+}
+
+#[test]
+fn the_player_is_kiras_text_with_blocks_of_one_frame() {
+    limit_of::<oracle::Oracle>(1_000);
+}
+
+#[test]
+fn the_player_is_a_voice_with_parameters_updated_each_frame() {
+    limit_of::<Ours>(500);
 }
