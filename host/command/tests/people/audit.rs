@@ -11,7 +11,7 @@ use crate::{
 };
 
 /// An evening of blocks over a loop of a whole short sound, at these rates.
-fn evening(blocks: usize) -> Vec<Record> {
+pub fn evening(blocks: usize) -> Vec<Record> {
     let sound = creation(Settings::new(44_100).loop_region(0..64), 64);
     let block = |rate| {
         Record::Block(Block {
@@ -27,7 +27,7 @@ fn evening(blocks: usize) -> Vec<Record> {
 }
 
 /// What a box says that clears its fraction at block edges: the plausible slip.
-fn creeping(records: &[Record]) -> String {
+pub fn creeping(records: &[Record]) -> String {
     let mut told = String::new();
     let (mut lanes, mut out) = (Lanes::new(), [0.0; 2_048]);
     let (mut voice, mut sound, mut number) = (None, ShortSound::EMPTY, 0);

@@ -123,11 +123,11 @@ fn any_bytes_are_answered_in_one_sentence() {
     let page = room.0.join("page.html");
     let mut random = Random::new(104);
     let (mut good, mut refused) = (0, 0);
-    for round in 0..20_000 {
+    for round in 0..8_000 {
         let bytes = any(&mut random);
         fs::write(&path, &bytes).unwrap();
         let mut words = vec!["report".into()];
-        if round % 8 == 0 {
+        if round % 100 == 0 {
             words.extend(["--html".into(), page.clone().into_os_string()]);
         }
         words.push(path.clone().into_os_string());
@@ -151,6 +151,6 @@ fn any_bytes_are_answered_in_one_sentence() {
             }
         }
     }
-    assert!(good > 1_000 && refused > 10_000, "{good} and {refused}");
-    eprintln!("20,000 logs of any bytes: {good} read, {refused} refused in one sentence");
+    assert!(good > 500 && refused > 4_000, "{good} and {refused}");
+    eprintln!("8,000 logs of any bytes: {good} read, {refused} refused in one sentence");
 }

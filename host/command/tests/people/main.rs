@@ -9,3 +9,4 @@ mod report;
 mod room;
 mod salvage;
 mod settings;
+mod tools;
