@@ -1,11 +1,18 @@
 //! The compiled reader against the page: short inputs exhaustively, then changed, cut and random ones.
 
-use std::thread;
+use std::{
+    io::{self, Read},
+    thread,
+};
 
-use traced::{make, page, runs};
+use cableowl::trace::{TraceReader, replay};
+use traced::{
+    make, page,
+    runs::{self, COMPILED},
+};
 
 fn compare(bytes: &[u8]) {
-    runs::compare_entry(bytes, 0).unwrap();
+    COMPILED.compare_read(bytes, 0).unwrap();
 }
 
 #[test]
@@ -47,13 +54,15 @@ fn every_change_of_one_byte_and_every_cut() {
         let next = page::read(&trace, at as u64).next as usize;
         assert!(next > at);
         for place in at..next {
-            runs::compare_read(&trace[..place], at).unwrap();
+            COMPILED.compare_read(&trace[..place], at as u64).unwrap();
+            runs::compare_record(&trace[..place], at).unwrap();
             let right = trace[place];
             for byte in 0..=255 {
                 trace[place] = byte;
-                runs::compare_read(&trace, at).unwrap();
+                COMPILED.compare_read(&trace, at as u64).unwrap();
+                runs::compare_record(&trace, at).unwrap();
                 // The same with nothing behind the record.
-                runs::compare_entry(&trace[..next], at).unwrap();
+                COMPILED.compare_read(&trace[..next], at as u64).unwrap();
             }
             trace[place] = right;
         }
@@ -90,9 +99,41 @@ fn every_cut_of_a_trace_is_printed() {
 
 #[test]
 fn random_traces_with_faults() {
-    let tally = runs::reads(104, 60_000).unwrap();
+    let tally = COMPILED.reads(104, 60_000).unwrap();
     println!("{tally}");
     for refusal in [0, 15, 16, 17, 18] {
         assert!(tally.refused[refusal] > 100, "{tally}");
     }
+}
+
+/// Past what is held at once, places go on; what cannot be read ends the records, and is said.
+#[test]
+fn a_trace_longer_than_what_is_held() {
+    let (mut trace, mut part) = (Vec::new(), Vec::new());
+    for _ in 0..3 {
+        make::long(&mut part, 1_000, 1);
+        trace.extend_from_slice(&part);
+    }
+    let length = trace.len();
+    assert!(length > 100_000);
+    trace.push(b'\n');
+    let printed = String::from_utf8(runs::library_prints(&trace).unwrap()).unwrap();
+    assert!(printed.ends_with(&format!("\nrefused=15 at={length}\n")));
+    assert_eq!(printed.lines().count(), 3_001);
+
+    struct Broken<'a>(&'a [u8]);
+    impl Read for Broken<'_> {
+        fn read(&mut self, into: &mut [u8]) -> io::Result<usize> {
+            match self.0.read(into)? {
+                0 => Err(io::ErrorKind::TimedOut.into()),
+                got => Ok(got),
+            }
+        }
+    }
+    let mut records = TraceReader::new(Broken(&trace[..70_000]));
+    let read = records.by_ref().take_while(Result::is_ok).count();
+    assert!((1_000..2_000).contains(&read), "{read}");
+    assert!(records.next().is_none());
+    let failed = replay(Broken(&trace[..70_000]), io::sink());
+    assert_eq!(failed.unwrap_err().kind(), io::ErrorKind::TimedOut);
 }

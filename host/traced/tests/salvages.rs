@@ -2,27 +2,29 @@
 
 use cableowl::{Refusal, trace};
 use random::Random;
-use traced::{make, runs};
+use traced::{make, runs::COMPILED};
 
 #[test]
 fn every_fault_of_one_byte() {
     let trace = make::all_kinds();
-    runs::compare_salvages(&trace, trace.len()).unwrap();
+    COMPILED.compare_salvages(&trace, trace.len()).unwrap();
     for place in 0..trace.len() {
         let mut damaged = trace.clone();
         for byte in 0..=255 {
             damaged[place] = byte;
-            runs::compare_salvage(&damaged, damaged.len()).unwrap();
+            COMPILED.compare_salvage(&damaged, damaged.len()).unwrap();
         }
         damaged.remove(place);
-        runs::compare_salvages(&damaged, damaged.len()).unwrap();
+        COMPILED.compare_salvages(&damaged, damaged.len()).unwrap();
         for byte in [0, 0x1d, 0xa5] {
             let mut damaged = trace.clone();
             damaged.insert(place, byte);
-            runs::compare_salvages(&damaged, damaged.len()).unwrap();
+            COMPILED.compare_salvages(&damaged, damaged.len()).unwrap();
         }
-        runs::compare_salvage(&trace[..place], place).unwrap();
-        runs::compare_salvage(&trace[place..], trace.len()).unwrap();
+        COMPILED.compare_salvage(&trace[..place], place).unwrap();
+        COMPILED
+            .compare_salvage(&trace[place..], trace.len())
+            .unwrap();
     }
 }
 
@@ -30,7 +32,7 @@ fn every_fault_of_one_byte() {
 fn every_room() {
     let trace = [&[7][..], &make::all_kinds()].concat();
     for room in 0..trace.len() + 3 {
-        let refusal = runs::compare_salvages(&trace, room).unwrap();
+        let refusal = COMPILED.compare_salvages(&trace, room).unwrap();
         assert_eq!(refusal, if room < trace.len() { 25 } else { 0 });
     }
     // 25 even where the kept bytes would fit, and nothing written.
@@ -67,7 +69,7 @@ fn records_before_the_first_hole_are_kept() {
 
 #[test]
 fn random_faults() {
-    let tally = runs::salvages(114, 20_000).unwrap();
+    let tally = COMPILED.salvages(114, 20_000).unwrap();
     println!("{tally}");
     assert!(tally.refused[25] > 1_000, "{tally}");
 }

@@ -6,11 +6,11 @@ use cableowl::{
     trace::{self, Block, Record, ShortSound},
 };
 use random::Random;
-use traced::{Values, make, page, runs};
+use traced::{Values, make, page, runs::COMPILED};
 
 #[test]
 fn random_records_out_and_back() {
-    let tally = runs::writes(105, 60_000).unwrap();
+    let tally = COMPILED.writes(105, 60_000).unwrap();
     println!("{tally}");
     for refusal in [0, 16, 17, 19] {
         assert!(tally.refused[refusal] > 1_000, "{tally}");
