@@ -55,11 +55,6 @@ impl Given<'_> {
             .rate(cut(self.rate, &part))
     }
 
-    /// How many of its first frames have the same numbers in every lane.
-    pub fn constant_frames(&self, frames: usize, lanes: &mut Lanes) -> usize {
-        self.lanes(0..frames, lanes).constant_frames()
-    }
-
     /// The record of its first frames, if one can hold them.
     pub fn record(&self, frames: usize, lanes: &mut Lanes) -> Result<Block, Refusal> {
         self.lanes(0..frames, lanes)

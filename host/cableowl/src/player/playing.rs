@@ -82,13 +82,11 @@ impl Player {
         watch: &mut W,
     ) -> Result<(usize, Processed), Refusal> {
         let clock = self.clock;
-        let most = match W::RECORDS {
-            false => MAX_BLOCK_FRAMES,
-            true if clock >= self.rests_from() => MAX_TRACED_FRAMES,
-            // Its constant stretch is looked for in few frames, not in all that are asked for.
-            true => 32,
+        let frames = (out.len() / 2).min(MAX_BLOCK_FRAMES);
+        let frames = match W::RECORDS {
+            true => self.constant_frames(frames.min(MAX_TRACED_FRAMES)),
+            false => frames,
         };
-        let frames = (out.len() / 2).min(most);
         let frames = until(clock, Some(self.fade.ends()), frames);
         let frames = until(clock, self.starts_at, frames);
         let room = &mut self.room;
@@ -115,10 +113,6 @@ impl Player {
                 .start(start),
         };
         let (voice, lanes) = (&mut self.voice, &mut room.lanes);
-        let frames = match W::RECORDS {
-            true => given.constant_frames(frames, lanes),
-            false => frames,
-        };
         let out = out.get_mut(..2 * frames).unwrap_or_default();
         let (frames, counts) = match place {
             Place::Out => given.play_all(frames, voice, lanes, out)?,
@@ -137,10 +131,20 @@ impl Player {
         Ok((frames, counts))
     }
 
-    /// The first frame from which on no parameter moves.
-    fn rests_from(&self) -> u64 {
+    /// How many of the next frames, at most so many, have the same numbers in every lane.
+    fn constant_frames(&self, most: usize) -> usize {
         let levels = self.fade.ends().max(self.volume.ends());
-        levels.max(self.rate.ends()).max(self.panning.ends())
+        if self.clock >= levels.max(self.rate.ends()).max(self.panning.ends()) {
+            return most;
+        }
+        let numbers = |frame| {
+            let (rate, gains) = (self.rate.at(frame), gains(self.panning.at(frame)));
+            let levels = (self.fade.at(frame), self.volume.at(frame));
+            (rate.to_bits(), gains.0.to_bits(), gains.1.to_bits(), levels)
+        };
+        let first = numbers(self.clock);
+        let same = |frame: &u64| numbers(*frame) == first;
+        (self.clock..).take(most).take_while(same).count()
     }
 }
 

@@ -1,6 +1,6 @@
 //! What a player's blocks are made with: the table of levels, the gains of a panning, room for lanes and frames.
 
-use std::{f32::consts::SQRT_2, sync::OnceLock};
+use std::{f32::consts::SQRT_2, fmt, sync::OnceLock};
 
 use crate::{Lanes, Level, MAX_BLOCK_FRAMES, fade_ramp};
 
@@ -29,7 +29,6 @@ pub fn gains(panning: f64) -> (f32, f32) {
 }
 
 /// Room for a block's lanes and frames, made once.
-#[derive(Debug)]
 pub struct Room {
     pub lanes: Lanes,
     pub fade: Vec<f32>,
@@ -59,5 +58,12 @@ impl Room {
 impl Clone for Room {
     fn clone(&self) -> Self {
         Self::new()
+    }
+}
+
+/// What lies in it is of the last block.
+impl fmt::Debug for Room {
+    fn fmt(&self, f: &mut fmt::Formatter<'_>) -> fmt::Result {
+        f.write_str("Room")
     }
 }
