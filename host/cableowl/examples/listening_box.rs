@@ -5,97 +5,19 @@
 //! Beside Cableowl's player the same evening is played by one whose fraction is cleared at block
 //! edges.
 
-use std::{
-    fmt,
-    process::ExitCode,
-    time::{Duration, Instant},
-};
+use std::process::ExitCode;
 
 #[path = "evening/recorded.rs"]
 mod recorded;
+#[path = "evening/student.rs"]
+mod student;
 
 use cableowl::{Level, MAX_BLOCK_FRAMES, Player, Processed, Refusal, Settings, State, Tween};
 use random::Random;
 
-/// Frames a second of the lesson, and of the box's audio device.
-const LESSON_RATE: u32 = 44_100;
-const DEVICE_RATE: u32 = 48_000;
-
-/// The evening's length, in seconds.
-const EVENING: u32 = 300;
-
-/// How long a pause, a resume and a stop fade.
-const FADE: Tween = Tween::from_millis(250);
-
-/// What a student does.
-enum Act {
-    Loop(f64, f64),
-    Speed { rate: f64, seconds: u32 },
-    Pause,
-    StepBack(f64),
-    Resume,
-    LeaveLoop,
-    Stop,
-}
-
-impl fmt::Display for Act {
-    fn fmt(&self, f: &mut fmt::Formatter<'_>) -> fmt::Result {
-        match self {
-            Self::Loop(start, end) => write!(f, "loop the sentence from {start} s to {end} s"),
-            Self::Speed { rate, seconds } => write!(f, "set the speed to {rate}, over {seconds} s"),
-            Self::Pause => write!(f, "pause"),
-            Self::StepBack(seconds) => write!(f, "step back {seconds} s"),
-            Self::Resume => write!(f, "resume"),
-            Self::LeaveLoop => write!(f, "leave the loop"),
-            Self::Stop => write!(f, "stop"),
-        }
-    }
-}
-
-impl Act {
-    fn tell(&self, player: &mut Player) -> Result<(), Refusal> {
-        match *self {
-            Self::Loop(start, end) => player.set_loop_region(start..end)?,
-            Self::Speed { rate, seconds } => {
-                player.set_playback_rate(rate, Duration::from_secs(seconds.into()))?;
-            }
-            Self::Pause => player.pause(FADE),
-            Self::StepBack(seconds) => player.seek_by(-seconds)?,
-            Self::Resume => player.resume(FADE),
-            Self::LeaveLoop => player.clear_loop_region(),
-            Self::Stop => player.stop(FADE),
-        }
-        Ok(())
-    }
-}
-
-/// The evening: at which second the student does what.
-#[rustfmt::skip]
-const SCRIPT: [(u32, Act); 8] = [
-    (8, Act::Loop(6.2, 10.9)),
-    (40, Act::Speed { rate: 0.7, seconds: 2 }),
-    (150, Act::Pause),
-    (170, Act::StepBack(1.5)),
-    (172, Act::Resume),
-    (240, Act::Speed { rate: 1.0, seconds: 1 }),
-    (280, Act::LeaveLoop),
-    (298, Act::Stop),
-];
-
-/// How the host cuts time.
-enum Blocks {
-    Of(usize),
-    Random(Random),
-}
-
-impl Blocks {
-    fn next(&mut self) -> usize {
-        match self {
-            Self::Of(frames) => *frames,
-            Self::Random(random) => 1 + random.below(MAX_BLOCK_FRAMES),
-        }
-    }
-}
+use student::{
+    Blocks, DEVICE_RATE, EVENING, LESSON, LESSON_RATE, Progress, SCRIPT, digested, grouped, lesson,
+};
 
 /// What an evening came to.
 #[derive(PartialEq)]
@@ -165,8 +87,7 @@ fn evening(
                     player.restore(state, sound)?;
                 }
             }
-            let seconds = player.frames() as f64 / f64::from(DEVICE_RATE);
-            progress.at(seconds / f64::from(EVENING));
+            progress.at(player.frames());
         }
     }
     listener.into_iter().for_each(Heard::end);
@@ -175,60 +96,6 @@ fn evening(
         digest,
         state: player.voice().state(),
     })
-}
-
-/// One sample more in a digest of samples, bit for bit.
-fn digested(digest: u64, sample: &f32) -> u64 {
-    let mixed = (digest ^ u64::from(sample.to_bits())).wrapping_mul(0x9e37_79b9_7f4a_7c15);
-    mixed ^ (mixed >> 32)
-}
-
-/// Half a minute that goes up and down like speech: two triangle waves under syllables.
-fn lesson() -> Vec<f32> {
-    let triangle = |clock: u64, hertz: u64| {
-        let phase = (clock * hertz % u64::from(LESSON_RATE)) as f32 / LESSON_RATE as f32;
-        4.0 * (phase - 0.5).abs() - 1.0
-    };
-    (0..30 * u64::from(LESSON_RATE))
-        .flat_map(|clock| {
-            let syllable = 0.5 + 0.5 * triangle(clock, 4);
-            let tone = |hertz| 0.6 * triangle(clock, hertz) + 0.3 * triangle(clock, 7 * hertz);
-            [syllable * tone(140), syllable * tone(141)]
-        })
-        .collect()
-}
-
-/// Says how far a step is, every two seconds that it takes.
-struct Progress<'a> {
-    name: &'a str,
-    said: Instant,
-}
-
-impl<'a> Progress<'a> {
-    fn new(name: &'a str) -> Self {
-        let said = Instant::now();
-        Self { name, said }
-    }
-
-    fn at(&mut self, part: f64) {
-        if self.said.elapsed() > Duration::from_secs(2) {
-            self.said = Instant::now();
-            eprintln!("  ... {}: {:.0} % of the evening", self.name, 100.0 * part);
-        }
-    }
-}
-
-/// A whole number with a comma after each three digits.
-fn grouped(number: u64) -> String {
-    let digits = number.to_string();
-    let mut text = String::new();
-    for (index, digit) in digits.chars().enumerate() {
-        if index > 0 && (digits.len() - index).is_multiple_of(3) {
-            text.push(',');
-        }
-        text.push(digit);
-    }
-    text
 }
 
 fn at(seconds: u32) -> String {
@@ -296,7 +163,7 @@ fn main() -> ExitCode {
 }
 
 fn run() -> Result<ExitCode, Refusal> {
-    let sound = lesson();
+    let sound = lesson((LESSON * LESSON_RATE) as usize);
     print_script();
     println!("{HEADING}");
     let mut heard = Heard::default();

@@ -8,16 +8,17 @@
 use std::{
     error::Error,
     ffi::OsString,
-    fmt,
     fs::{self, File},
     io::{BufWriter, Write},
     path::{Path, PathBuf},
     process::ExitCode,
-    time::{Duration, Instant},
 };
 
+#[path = "../../cableowl/examples/evening/student.rs"]
+mod student;
+
 use cableowl::{
-    Commands, Lanes, MAX_BLOCK_FRAMES, Player, Refusal, Settings, StaticSound,
+    Commands, Lanes, Level, MAX_BLOCK_FRAMES, Player, Refusal, Settings, StaticSound, Tween,
     trace::{
         Block, LOG_HEAD, Line, Log, MAX_RECORD_BYTES, MAX_SOUND_FRAMES, MAX_TRACED_FRAMES, Record,
         Recorder, ShortSound,
@@ -25,79 +26,16 @@ use cableowl::{
 };
 use random::Random;
 
-/// Frames a second of the lesson, and of the box's audio device.
-const LESSON_RATE: u32 = 44_100;
-const DEVICE_RATE: u32 = 48_000;
-
-/// The lesson's length and the evening's, in seconds.
-const LESSON: u32 = 30;
-const EVENING: u32 = 300;
-
-/// How long a pause, a resume and a stop fade.
-const FADE: Duration = Duration::from_millis(250);
-
-/// What a student does; seconds are the lesson's.
-#[derive(Clone, Copy)]
-enum Act {
-    Loop(f64, f64),
-    Speed(f64, u64),
-    Pause,
-    StepBack(f64),
-    Resume,
-    StartOver(f64),
-    LeaveLoop,
-    Stop,
-}
-
-impl fmt::Display for Act {
-    fn fmt(&self, f: &mut fmt::Formatter<'_>) -> fmt::Result {
-        match self {
-            Self::Loop(start, end) => write!(f, "loop the sentence from {start} s to {end} s"),
-            Self::Speed(rate, seconds) => write!(f, "set the speed to {rate}, over {seconds} s"),
-            Self::Pause => write!(f, "pause"),
-            Self::StepBack(seconds) => write!(f, "step back {seconds} s"),
-            Self::Resume => write!(f, "resume"),
-            Self::StartOver(_) => write!(f, "start the sentence over"),
-            Self::LeaveLoop => write!(f, "leave the loop"),
-            Self::Stop => write!(f, "stop"),
-        }
-    }
-}
-
-/// The evening: at which second the student does what.
-const SCRIPT: [(u32, Act); 9] = [
-    (8, Act::Loop(6.2, 10.9)),
-    (40, Act::Speed(0.7, 2)),
-    (150, Act::Pause),
-    (170, Act::StepBack(1.5)),
-    (172, Act::Resume),
-    (210, Act::StartOver(6.2)),
-    (240, Act::Speed(1.0, 1)),
-    (280, Act::LeaveLoop),
-    (298, Act::Stop),
-];
+use student::{
+    Act, Blocks, DEVICE_RATE, EVENING, LESSON, LESSON_RATE, Progress, SCRIPT, digested, grouped,
+    lesson,
+};
 
 /// The evening's acts, each with the frame it comes before, and its last frame.
-fn acts() -> impl Iterator<Item = (u64, Option<Act>)> {
+fn acts() -> impl Iterator<Item = (u64, Option<&'static Act>)> {
     let frame = |seconds: u32| u64::from(seconds) * u64::from(DEVICE_RATE);
-    let acts = SCRIPT.map(|(at, act)| (frame(at), Some(act)));
-    acts.into_iter().chain([(frame(EVENING), None)])
-}
-
-/// How the host cuts time.
-#[derive(Clone)]
-enum Blocks {
-    Of(usize),
-    Random(Random),
-}
-
-impl Blocks {
-    fn next(&mut self) -> usize {
-        match self {
-            Self::Of(frames) => *frames,
-            Self::Random(random) => 1 + random.below(MAX_BLOCK_FRAMES),
-        }
-    }
+    let acts = SCRIPT.iter().map(move |(at, act)| (frame(*at), Some(act)));
+    acts.chain([(frame(EVENING), None)])
 }
 
 /// What an evening of the lesson came to.
@@ -114,9 +52,12 @@ fn play(
     mut blocks: Blocks,
     slip: bool,
     mut log: Option<&mut dyn Write>,
-    progress: &mut Progress,
+    name: &str,
 ) -> Result<Outcome, Box<dyn Error>> {
     let mut player = Player::play(Settings::new(LESSON_RATE), DEVICE_RATE, sound)?;
+    player.set_volume(Level::new(19)?, Tween::AT_ONCE);
+    player.set_panning(0.1, Tween::AT_ONCE)?;
+    let mut progress = Progress::new(name);
     let mut teller = Log::new();
     teller.created();
     let mut out = vec![0.0; 2 * MAX_BLOCK_FRAMES];
@@ -144,24 +85,13 @@ fn play(
             }
             progress.at(player.frames());
         }
-        match act {
-            Some(Act::Loop(start, end)) => player.set_loop_region(start..end)?,
-            Some(Act::Speed(rate, seconds)) => {
-                player.set_playback_rate(rate, Duration::from_secs(seconds))?;
+        if let Some(act) = act {
+            act.tell(&mut player)?;
+            match act {
+                Act::StepBack(_) => teller.seeked(false),
+                Act::StartOver(_) => teller.seeked(true),
+                _ => {}
             }
-            Some(Act::Pause) => player.pause(FADE),
-            Some(Act::StepBack(seconds)) => {
-                player.seek_by(-seconds)?;
-                teller.seeked(false);
-            }
-            Some(Act::Resume) => player.resume(FADE),
-            Some(Act::StartOver(seconds)) => {
-                player.seek_to(seconds)?;
-                teller.seeked(true);
-            }
-            Some(Act::LeaveLoop) => player.clear_loop_region(),
-            Some(Act::Stop) => player.stop(FADE),
-            None => {}
         }
     }
     Ok(Outcome {
@@ -169,27 +99,6 @@ fn play(
         position: player.voice().state().position,
         digest,
     })
-}
-
-/// One sample more in a digest of samples, bit for bit.
-fn digested(digest: u64, sample: &f32) -> u64 {
-    let mixed = (digest ^ u64::from(sample.to_bits())).wrapping_mul(0x9e37_79b9_7f4a_7c15);
-    mixed ^ (mixed >> 32)
-}
-
-/// Half a minute that goes up and down like speech, or as much of it as so many frames hold.
-fn lesson(frames: usize) -> Vec<f32> {
-    let triangle = |clock: u64, hertz: u64| {
-        let phase = (clock * hertz % u64::from(LESSON_RATE)) as f32 / LESSON_RATE as f32;
-        4.0 * (phase - 0.5).abs() - 1.0
-    };
-    (0..frames as u64)
-        .flat_map(|clock| {
-            let syllable = 0.5 + 0.5 * triangle(clock, 4);
-            let tone = |hertz| 0.6 * triangle(clock, hertz) + 0.3 * triangle(clock, 7 * hertz);
-            [syllable * tone(140), syllable * tone(141)]
-        })
-        .collect()
 }
 
 /// The same evening as the records of a trace: the lesson is 64 frames long, its places as far along
@@ -216,21 +125,23 @@ fn records() -> Result<Vec<Record>, Refusal> {
             finished = false;
         }
         let commands = Commands::new();
-        let commands = match act {
-            Some(Act::Loop(start, end)) => commands.set_loop_region(frame(start)..frame(end)),
-            Some(Act::Speed(speed, _)) => {
+        let Some(act) = act else {
+            continue;
+        };
+        let commands = match *act {
+            Act::Loop(start, end) => commands.set_loop_region(frame(start)..frame(end)),
+            Act::Speed { rate: speed, .. } => {
                 rate = speed;
                 commands.set_playback_rate(speed)
             }
-            Some(Act::Pause) => commands.pause(),
-            Some(Act::StepBack(seconds)) => commands.seek_by(-seconds * short),
-            Some(Act::Resume) => commands.resume(),
-            Some(Act::StartOver(seconds)) => commands.seek_to(seconds * short),
-            Some(Act::LeaveLoop) => commands.set_loop_region(0..MAX_SOUND_FRAMES),
-            Some(Act::Stop) => commands.stop(),
-            None => continue,
+            Act::Pause => commands.pause(),
+            Act::StepBack(seconds) => commands.seek_by(-seconds * short),
+            Act::Resume => commands.resume(),
+            Act::StartOver(seconds) => commands.seek_to(seconds * short),
+            Act::LeaveLoop => commands.set_loop_region(0..MAX_SOUND_FRAMES),
+            Act::Stop => commands.stop(),
         };
-        finished = matches!(act, Some(Act::Pause | Act::Resume | Act::Stop));
+        finished = matches!(act, Act::Pause | Act::Resume | Act::Stop);
         records.push(Record::Commands(commands));
     }
     Ok(records)
@@ -345,40 +256,6 @@ fn creep(records: &[Record], log: &mut dyn Write) -> Result<(), Box<dyn Error>> 
     Ok(())
 }
 
-/// Says how far a step is, every two seconds that it takes.
-struct Progress {
-    name: String,
-    said: Instant,
-}
-
-impl Progress {
-    fn new(name: String) -> Self {
-        let said = Instant::now();
-        Self { name, said }
-    }
-
-    fn at(&mut self, frames: u64) {
-        if self.said.elapsed() > Duration::from_secs(2) {
-            self.said = Instant::now();
-            let part = frames * 100 / (u64::from(EVENING) * u64::from(DEVICE_RATE));
-            eprintln!("  ... {}: {part} % of the evening", self.name);
-        }
-    }
-}
-
-/// A whole number with a comma after each three digits.
-fn grouped(number: u64) -> String {
-    let digits = number.to_string();
-    let mut text = String::new();
-    for (index, digit) in digits.chars().enumerate() {
-        if index > 0 && (digits.len() - index).is_multiple_of(3) {
-            text.push(',');
-        }
-        text.push(digit);
-    }
-    text
-}
-
 /// The ways to cut time, by the names of their logs.
 fn cuts() -> [(&'static str, Blocks); 4] {
     [
@@ -431,7 +308,10 @@ fn run(folder: &Path) -> Result<(), Box<dyn Error>> {
     let create =
         |name: &str| Ok::<_, std::io::Error>(BufWriter::new(File::create(folder.join(name))?));
     println!("A student's evening on the listening box: {EVENING} seconds, a lesson of {LESSON}");
-    let acts = SCRIPT.map(|(at, act)| format!("{}:{:02} {act}", at / 60, at % 60));
+    let acts: Vec<String> = SCRIPT
+        .iter()
+        .map(|(at, act)| format!("{}:{:02} {act}", at / 60, at % 60))
+        .collect();
     for acts in acts.chunks(3) {
         println!("  {}", acts.join("; "));
     }
@@ -446,11 +326,11 @@ fn run(folder: &Path) -> Result<(), Box<dyn Error>> {
     let mut outcomes = Vec::new();
     for (name, blocks) in cuts() {
         let mut log = create(&format!("blocks-of-{name}.log"))?;
-        let mut progress = Progress::new(format!("blocks of {name}, Cableowl"));
-        let ours = play(&sound, blocks.clone(), false, Some(&mut log), &mut progress)?;
+        let said = format!("blocks of {name}, Cableowl");
+        let ours = play(&sound, blocks.clone(), false, Some(&mut log), &said)?;
         log.flush()?;
-        let mut progress = Progress::new(format!("blocks of {name}, the other player"));
-        let other = play(&sound, blocks, true, None, &mut progress)?;
+        let said = format!("blocks of {name}, the other player");
+        let other = play(&sound, blocks, true, None, &said)?;
         let drift = (ours.steps as f64 - other.steps as f64) * 3_600.0 / f64::from(EVENING);
         let way = if drift < 0.0 { "ahead" } else { "behind" };
         println!(

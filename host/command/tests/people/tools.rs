@@ -38,7 +38,10 @@ impl Script {
     fn until(&mut self, second: usize) {
         while self.clock < second * RATE {
             let frames = 1_024.min(second * RATE - self.clock);
-            let block = Block { frames, ..self.next };
+            let block = Block {
+                frames,
+                ..self.next
+            };
             self.records.push(Record::Block(block));
             self.clock += frames;
             self.next.finished = false;
@@ -144,7 +147,11 @@ fn shell(room: &Room, words: &str) -> String {
         all += &ran.err;
         status = ran.status;
     }
-    let told = if tells { format!("{status}\n") } else { String::new() };
+    let told = if tells {
+        format!("{status}\n")
+    } else {
+        String::new()
+    };
     input + &all + &told
 }
 
