@@ -35,6 +35,10 @@ unfoldable pub stepped : Course → Transport → Transport
 unfolding forward backward
 stepped c t = cond (c .backwards) (backward t) (forward (c .«num_frames») t)
 
+-- no wrap counted yet
+abbrev pub uncounted : Wraps
+uncounted = record { forward = 0; backward = 0 }
+
 -- one more where it is asked for; a count stands still at 4,294,967,295
 abbrev pub raised : Bool → ℕ → ℕ
 raised more n = cond (more && ltb n 4294967295) (n + 1) n
@@ -46,7 +50,7 @@ counted c t k =
     let w = wraps (c .backwards) t in
     record { forward = raised (w && not (c .backwards)) (k .forward); backward = raised (w && c .backwards) (k .backward) }
 
--- push the frame at the position, count, step the transport, and if it is not playing and the count is 0, become Stopped
+-- push the frame at the position, step the transport and count its wrap, and if it is not playing and the count is 0, become Stopped
 unfoldable pub updated : List Float → Course → Moving → Moving
 unfolding pushed stepped counted
 updated snd c m =

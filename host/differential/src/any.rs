@@ -4,7 +4,7 @@ use std::sync::Arc;
 
 use oracle::{
     Answer, Commands, EndPosition, Entry, LIMIT, LaneBuffers, PlaybackPosition, PlaybackState,
-    Region, Settings, Signals, State,
+    Region, Settings, Signals, State, Wraps,
 };
 use random::Random;
 use rules::{Document, Rules};
@@ -172,6 +172,20 @@ pub fn state(random: &mut Random, total: usize) -> State {
         playing,
         window,
         count,
+        wraps: Wraps {
+            forward: wraps(random),
+            backward: wraps(random),
+        },
+    }
+}
+
+/// A count of wraps: mostly small, else at its limit or a few below.
+fn wraps(random: &mut Random) -> u32 {
+    let few = random.below(4) as u32;
+    if random.one_in(3) {
+        u32::MAX - few
+    } else {
+        few
     }
 }
 

@@ -50,10 +50,14 @@ pub struct CableowlState {
     pub fraction: f64,
     /// The window of four.
     pub window: [CableowlEntry; 4],
+    /// Forward steps that took the wrap.
+    pub forward_wraps: u32,
+    /// Backward steps that took the wrap.
+    pub backward_wraps: u32,
 }
 
 /// The bytes of a state: it has no padding.
-pub const STATE_BYTES: usize = 160;
+pub const STATE_BYTES: usize = 168;
 
 impl CableowlState {
     /// Its bytes.
