@@ -94,8 +94,8 @@ impl Log {
         LogLine {
             line,
             lowest: lowest_count,
-            forward: 0,
-            backward: 0,
+            forward: state.wraps.forward,
+            backward: state.wraps.backward,
             started: state.started,
             since: std::mem::take(&mut self.since),
         }
