@@ -1,11 +1,15 @@
-# make: the main job, a student's evening on the listening box. make test: the gate, the same as .ci/run.
-# make archive: the archive that C links, for the processor at hand.
-.PHONY: all archive test
+# make: the main job, a student's evening: played, recorded, played again, audited, reported. make test: the gate, the same
+# as .ci/run. make command: the command that people run. make archive: the archive that C links, for the processor at hand.
+.PHONY: all archive command test
 cargo = cd host && CABLEOWL_PROGRESS=/proc/$$$$/fd/2 cargo
 
 # The build script of host/cableowl has rt prove the crates; where a proof fails it says which, and nothing is played.
 all:
-	@$(cargo) run --release --offline -p cableowl --example listening_box
+	@$(cargo) run --release --offline -p command --example evening
+
+command:
+	@$(cargo) build --release --offline -p command
+	@ls $(CURDIR)/host/target/release/cableowl
 
 archive:
 	@$(cargo) build --release --offline -p cableowl

@@ -21,6 +21,9 @@
  * 13  a level above 601
  * 14  a ramp's count 0 or above 65,536, or not its lane's length
  * 15  bytes that do not begin with the mark of a record
+ * 16  a record of a trace of no known kind
+ * 17  a record of a trace: a length that its kind cannot have, a tag or a limit wrong, or fields that do not end
+ *     where the length says; in writing, a field beyond its limit
  * 18  bytes that end inside a record
  * 19  a buffer without room for a record
  * 20  loop table: slot above 15
@@ -28,10 +31,12 @@
  * 22  loop table: a read of an empty slot
  * 23  saved settings of a version that the reader does not know
  * 24  a field of saved settings wrong, or their length
+ * 25  salvage: an output shorter than the input
  *
  * The lowest number wins. Creation uses 2 to 7, a command set 1 and 6 to 8, a block 1 and 9 to 12,
  * a fade ramp 13 and 14; of a loop table a write 1, 6, 20, 21, a clear 1, 20, 21, a read 1, 20, 22;
- * storing settings 24, then 19, loading them 15, 23, 24 for the length, 18, 24 for a field, in this order.
+ * storing settings 24, then 19, loading them 15, 23, 24 for the length, 18, 24 for a field, in this order;
+ * of a trace a read 15 to 18, byte by byte in reading order, a write 16, 17, 19, a salvage 25.
  *
  * The float mode. What is promised of frames and refusals is promised in the mode that a program
  * begins with: rounding to nearest, subnormals kept (x86-64: neither FTZ nor DAZ; Arm: no FZ),
@@ -64,7 +69,8 @@ extern "C" {
 #endif
 
 /* The version of this interface, which cableowl_version() answers. Since 1: CableowlProcessed has
- * lowest_count; CableowlSignals has due and now, and a start of 3 is due at a tick. */
+ * lowest_count; CableowlSignals has due and now, and a start of 3 is due at a tick; CableowlState has
+ * forward_wraps and backward_wraps. */
 #define CABLEOWL_VERSION 2
 
 /* The limits. */
@@ -92,13 +98,16 @@ enum {
     CABLEOWL_REFUSAL_LEVEL = 13,
     CABLEOWL_REFUSAL_RAMP = 14,
     CABLEOWL_REFUSAL_MARK = 15,
+    CABLEOWL_REFUSAL_KIND = 16,
+    CABLEOWL_REFUSAL_RECORD = 17,
     CABLEOWL_REFUSAL_TRUNCATED = 18,
     CABLEOWL_REFUSAL_ROOM = 19,
     CABLEOWL_REFUSAL_LOOP_SLOT = 20,
     CABLEOWL_REFUSAL_OTHER_HALL = 21,
     CABLEOWL_REFUSAL_EMPTY_SLOT = 22,
     CABLEOWL_REFUSAL_VERSION = 23,
-    CABLEOWL_REFUSAL_SAVED_FIELD = 24
+    CABLEOWL_REFUSAL_SAVED_FIELD = 24,
+    CABLEOWL_REFUSAL_OUTPUT = 25
 };
 
 /* What a voice is doing: CableowlState's state. */
@@ -149,6 +158,11 @@ typedef struct CableowlState {
     double playback_rate;
     double fraction;
     CableowlEntry window[4];
+    /* Steps that took the loop's wrap, one each however many lengths it wraps, creation's own three among
+     * them; seeks do not count and no command clears them. Each stands still at 4,294,967,295; any are well
+     * formed. The direction is the position's: reverse at rate 1 counts backward. */
+    uint32_t forward_wraps;
+    uint32_t backward_wraps;
 } CableowlState;
 
 /* A place in a sound. The number that the kind does not name is ignored. */
@@ -271,6 +285,33 @@ typedef struct CableowlSavedSettings {
     uint64_t version; /* 1 or 2 */
 } CableowlSavedSettings;
 
+/* CableowlRecord's kind: docs/TRACE.md. */
+enum { CABLEOWL_KIND_CREATION = 1, CABLEOWL_KIND_COMMANDS = 2, CABLEOWL_KIND_BLOCK = 3 };
+
+/* A record of a trace. Its numbers stand in the order of docs/TRACE.md, floats by their bits, one place for each field, also
+ * for one that is absent, which is 0: a creation has 77 (13, then the 64 frames of the sound, the left sample in the low half), a
+ * command set 12, a block 10. What comes after them is 0. */
+typedef struct CableowlRecord {
+    uint64_t refusal;
+    uint64_t kind;       /* refused: 0 */
+    uint64_t next;       /* the place after the record, where the next one is read; refused: the given place */
+    uint64_t values[80]; /* refused: all 0 */
+} CableowlRecord;
+
+/* What a write of a record answers. */
+typedef struct CableowlSent {
+    uint64_t refusal;
+    uint64_t next; /* the place after the record, where the next one goes; refused: the given place */
+} CableowlSent;
+
+/* What salvage answers; refused: all numbers but the refusal are 0. */
+typedef struct CableowlSaved {
+    uint64_t refusal;
+    uint64_t records; /* kept; their bytes are bytes_len - skipped, at the output's start */
+    uint64_t skipped; /* bytes that belong to no kept record */
+    uint64_t first;   /* the place of the first byte skipped; bytes_len if none */
+} CableowlSaved;
+
 /* This interface's version. */
 uint32_t cableowl_version(void);
 
@@ -332,6 +373,19 @@ uint32_t cableowl_load_settings(uint32_t reader, const uint8_t *bytes, size_t by
  * the pitch, rounded once; a NaN, which creation refuses, where the rate is not finite or the pitch not -24 to 24. The
  * version is not read. */
 CableowlSettings cableowl_settings_of(const CableowlSavedSettings *saved, uint32_t sample_rate);
+
+/* Reads the record at a place of a trace: docs/TRACE.md. At the trace's end, and beyond it, there is none: 18. A record has at most
+ * 575 bytes, so the next 575 of a longer trace, or all that is left, are enough. */
+CableowlRecord cableowl_read_record(const uint8_t *bytes, size_t bytes_len, uint64_t at);
+
+/* Writes a record of the kind at a place of the buffer, for cableowl_read_record to read; `values` has 80 numbers, of which those
+ * of the kind are read. Answers 0, or 16 an unknown kind, 17 a field beyond its limit or an absent one that is not 0, 19 too little
+ * room from that place on, and writes nothing. */
+CableowlSent cableowl_write_record(uint8_t *buffer, size_t buffer_len, uint64_t at, uint64_t kind, const uint64_t *values);
+
+/* Copies the complete records of a damaged trace to the output's start, and skips any other byte, one at a time; the rest of the
+ * output stays. Answers 0, or 25 where the output is shorter than the bytes, and writes nothing. */
+CableowlSaved cableowl_salvage(const uint8_t *bytes, size_t bytes_len, uint8_t *out, size_t out_len);
 
 /* The mode that floats were in, given back after the calls. */
 typedef uint64_t CableowlFloatMode;

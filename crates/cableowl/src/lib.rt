@@ -8,6 +8,7 @@ ghost use Rattle.cableowl.specs.Entries.{after, createdC, commandedC, an
 mod fades;
 mod loops;
 mod saved;
+mod traces;
 
 use inputs::CableowlCommands;
 use inputs::CableowlSettings;

@@ -18,6 +18,7 @@ pub struct Turn {
 }
 
 // What salvage answers: 0 or a refusal, the records kept, the bytes skipped, the place of the first of them.
+#[repr(C)]
 pub struct Saved {
     pub refusal: u64,
     pub records: usize,

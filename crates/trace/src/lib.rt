@@ -21,6 +21,7 @@ pub use writes::write;
 
 // A record by value: its kind, its numbers in the layout's order and then zeros, and the place after it. Where a record is
 // refused, the number; then every other number is 0 and the place is the record's own.
+#[repr(C)]
 pub struct Record {
     pub refusal: u64,
     pub kind: u64,

@@ -13,6 +13,7 @@ use crate::tables::CREATION;
 use crate::tables::HEAD;
 
 // What a write answers: 0 or a refusal, and the place after the record, or its own.
+#[repr(C)]
 pub struct Sent {
     pub refusal: u64,
     pub next: usize,

@@ -2,12 +2,14 @@
 //   benches [--write DIR]
 //   benches --modes                                                         (what the float mode costs a call)
 //   benches --budget                                                        (voices a core by block size and steps a frame)
+//   benches --players                                                       (64 players into one buffer, against bare voices)
 //   benches --play ours|safe|kira|none --rate R --block N --looped long|3|subnormal --start N --frames N
 //                                                                          (one workload, to be counted)
 
 mod budget;
 mod measure;
 mod modes;
+mod players;
 mod report;
 mod workload;
 
@@ -38,12 +40,19 @@ fn run(words: &[String]) -> Result<(), Box<dyn Error>> {
         print!("{}", budget::table());
         return Ok(());
     }
+    if words.iter().any(|word| word == "--players") {
+        print!("{}", players::table());
+        return Ok(());
+    }
     let rows = measure::all();
     let table = report::table(&rows);
     print!("{table}");
     if let Some(folder) = option(words, "--write") {
         let folder = Path::new(folder);
-        fs::write(folder.join("BENCHMARK.md"), report::document(&rows))?;
+        fs::write(
+            folder.join("BENCHMARK.md"),
+            report::document(&rows, &players::table()),
+        )?;
         fs::write(folder.join("benchmark.svg"), report::plot(&rows))?;
     }
     Ok(())

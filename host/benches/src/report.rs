@@ -34,9 +34,9 @@ pub fn table(rows: &[Row]) -> String {
     text
 }
 
-/// The page.
+/// The page, with the players' table at its end.
 #[must_use]
-pub fn document(rows: &[Row]) -> String {
+pub fn document(rows: &[Row], players: &str) -> String {
     format!(
         "# Benchmark
 
@@ -47,15 +47,31 @@ Measured on {}.
 ```
 cd host && cargo run --release --offline -p benches -- --write ../docs    # writes this page and the plot
 cd host && cargo run --release --offline -p benches -- --modes            # what the float mode costs a call
+cd host && cargo run --release --offline -p benches -- --players          # many players into one buffer, below
 tools/instructions                                                        # instructions a frame, by callgrind
 tools/divisions                                                           # divisions in a loop of 3 frames, by callgrind
 ```
 
 ![Nanoseconds a frame, ours and kira's text](benchmark.svg)
 
+{}
 {}",
         machine(),
-        table(rows)
+        table(rows),
+        players_section(players)
+    )
+}
+
+fn players_section(table: &str) -> String {
+    format!(
+        "## Many players into one buffer
+
+64 voices a call, loops of a second at rate 0.93, each added to one buffer: voices a core at 48 kHz, and nanoseconds a frame of one voice, the least of 60 repetitions of 4,096 frames, in turns. A bare voice has constant lanes and is played into a buffer of its own, then added. A player at rest is `Player::mix` with no parameter in motion; in motion, fade, volume, rate and panning all go on for hours, so that every lane has a number for each frame.
+
+Measured on {}.
+
+{table}",
+        machine()
     )
 }
 

@@ -32,6 +32,8 @@ pub struct State {
     pub playback_rate: f64,
     pub fraction: f64,
     pub window: [Entry; 4],
+    pub forward_wraps: u32,
+    pub backward_wraps: u32,
 }
 
 /// A place in a sound: kind 0 seconds, 1 samples, and for an end 2 the end of audio.
@@ -410,4 +412,58 @@ pub fn load_settings(reader: u32, bytes: &[u8], saved: &mut SavedSettings) -> u3
 
 pub fn settings_of(saved: &SavedSettings, sample_rate: u32) -> Settings {
     unsafe { cableowl_settings_of(saved, sample_rate) }
+}
+
+/// A record of a trace: its kind and its numbers in the order of docs/TRACE.md.
+#[repr(C)]
+#[derive(Debug, Clone, Copy, PartialEq, Eq)]
+pub struct Record {
+    pub refusal: u64,
+    pub kind: u64,
+    pub next: u64,
+    pub values: [u64; 80],
+}
+
+/// What a write of a record answers.
+#[repr(C)]
+#[derive(Debug, Clone, Copy, PartialEq, Eq)]
+pub struct Sent {
+    pub refusal: u64,
+    pub next: u64,
+}
+
+/// What salvage answers.
+#[repr(C)]
+#[derive(Debug, Clone, Copy, PartialEq, Eq)]
+pub struct Saved {
+    pub refusal: u64,
+    pub records: u64,
+    pub skipped: u64,
+    pub first: u64,
+}
+
+unsafe extern "C" {
+    fn cableowl_read_record(bytes: *const u8, bytes_len: usize, at: u64) -> Record;
+
+    fn cableowl_write_record(
+        buffer: *mut u8,
+        buffer_len: usize,
+        at: u64,
+        kind: u64,
+        values: *const u64,
+    ) -> Sent;
+
+    fn cableowl_salvage(bytes: *const u8, bytes_len: usize, out: *mut u8, out_len: usize) -> Saved;
+}
+
+pub fn read_record(bytes: &[u8], at: u64) -> Record {
+    unsafe { cableowl_read_record(bytes.as_ptr(), bytes.len(), at) }
+}
+
+pub fn write_record(buffer: &mut [u8], at: u64, kind: u64, values: &[u64; 80]) -> Sent {
+    unsafe { cableowl_write_record(buffer.as_mut_ptr(), buffer.len(), at, kind, values.as_ptr()) }
+}
+
+pub fn salvage(bytes: &[u8], out: &mut [u8]) -> Saved {
+    unsafe { cableowl_salvage(bytes.as_ptr(), bytes.len(), out.as_mut_ptr(), out.len()) }
 }

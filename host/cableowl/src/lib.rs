@@ -3,16 +3,33 @@
 //! A voice plays a lent sound in blocks. What is heard does not depend on how the host cuts time
 //! into blocks: **block size may change when a command is heard, and nothing else.** Every call
 //! takes any input and refuses bad input by number ([`Refusal`]); a refused call changes nothing.
-//! No call of a voice panics, allocates, waits or keeps what it was lent, and none depends on the
-//! thread's float mode: a host may flush subnormals to zero on its audio thread.
+//! No call of a voice or a player panics, allocates, waits or keeps what it was lent, and none
+//! depends on the thread's float mode: a host may flush subnormals to zero on its audio thread.
 //!
-//! Tweens, parameters and the audio device are the host's: it brings each block the numbers of
+//! A [`Player`] has volume, rate, panning and fades with tweens of its own, by kira's words, and plays
+//! outputs of any length:
+//!
+//! ```
+//! use std::time::Duration;
+//!
+//! use cableowl::{Player, Settings};
+//!
+//! // Interleaved samples, left then right: a second at 48 kHz, its middle half looped.
+//! let sound: Vec<f32> = (0..96_000).map(|i| (i / 2 % 100) as f32 / 100.0).collect();
+//! let mut player = Player::play(Settings::new(48_000).loop_region(0.25..0.75), 48_000, &sound)?;
+//! player.set_playback_rate(0.5, Duration::from_millis(100))?;
+//! let mut out = vec![0.0; 2 * 10_000];
+//! player.process(&sound, &mut out)?;
+//! assert_eq!(player.playback_rate(), 0.5);
+//! # Ok::<(), cableowl::Refusal>(())
+//! ```
+//!
+//! Below it is the voice, for a host with parameters of its own: it brings each block the numbers of
 //! every output frame in [`Lanes`], and learns what it needs from the answers.
 //!
 //! ```
 //! use cableowl::{Commands, Lanes, Settings, Signals, StaticSound};
 //!
-//! // Interleaved samples, left then right: a second at 48 kHz, its middle half looped.
 //! let sound: Vec<f32> = (0..96_000).map(|i| (i / 2 % 100) as f32 / 100.0).collect();
 //! let mut voice = StaticSound::new(Settings::new(48_000).loop_region(0.25..0.75), &sound)?;
 //!
@@ -29,6 +46,8 @@
 //! # Ok::<(), cableowl::Refusal>(())
 //! ```
 //!
+//! What a host does with a voice can be recorded, and played again from its bytes: [`trace`].
+//!
 //! docs/RULES.md states the exact rules; the definitions of the crates below
 //! `crates/` say them, and the proofs hold the compiled code to them.
 #![deny(missing_docs)]
@@ -44,12 +63,14 @@ mod lanes;
 mod loop_table;
 mod playback_position;
 mod playback_state;
+mod player;
 mod refusal;
 mod saved;
 mod saved_settings;
 mod settings;
 mod state;
 mod static_sound;
+pub mod trace;
 
 pub use commands::{Commands, LoopCommand, ResumeCommand};
 pub use fades::{Level, MAX_RAMP_FRAMES, fade_ramp};
@@ -57,11 +78,12 @@ pub use lanes::{BlockLanes, Lane, Lanes};
 pub use loop_table::{Hall, LoopTable};
 pub use playback_position::{EndPosition, PlaybackPosition, Region};
 pub use playback_state::{PlaybackState, Signals, StartAnswer, StartSignal};
+pub use player::{Command, Player, RecordedPlayer, SharedPlayer, Ticks, Tween};
 pub use refusal::{LaneName, Refusal};
 pub use saved::Unreadable;
 pub use saved_settings::{SavedSettings, SettingsVersion};
 pub use settings::Settings;
-pub use state::{Frame, RecentFrame, State};
+pub use state::{Frame, RecentFrame, State, Wraps};
 pub use static_sound::{Processed, StaticSound};
 
 /// The examples of README.md, tried with the others.

@@ -33,7 +33,8 @@ impl fmt::Display for LaneName {
 
 /// Why a call was refused: its number, and a sentence to act on.
 ///
-/// Of 1 to 12 the lowest number wins over the whole input; 13 comes before 14. A refused call
+/// Of 1 to 12 the lowest number wins over the whole input; 13 comes before 14; 15 to 18 are judged
+/// byte by byte. A refused call
 /// changes nothing.
 ///
 /// ```
@@ -85,6 +86,10 @@ pub enum Refusal {
     Ramp,
     /// 15: the mark that a record begins with.
     Mark,
+    /// 16: the kind of a record.
+    Kind,
+    /// 17: a record's length, a tag or a limit in it.
+    Record,
     /// 18: bytes that end inside a record.
     Truncated,
     /// 19: the room for a record.
@@ -99,6 +104,8 @@ pub enum Refusal {
     Version,
     /// 24: a field of saved settings, or the length of their record.
     SavedField,
+    /// 25: a salvage's output.
+    Output,
 }
 
 impl Refusal {
@@ -121,6 +128,8 @@ impl Refusal {
             Self::Level => 13,
             Self::Ramp => 14,
             Self::Mark => 15,
+            Self::Kind => 16,
+            Self::Record => 17,
             Self::Truncated => 18,
             Self::Room => 19,
             Self::LoopSlot => 20,
@@ -128,6 +137,7 @@ impl Refusal {
             Self::EmptySlot => 22,
             Self::Version => 23,
             Self::SavedField => 24,
+            Self::Output => 25,
         }
     }
 
@@ -146,6 +156,8 @@ impl Refusal {
         Self::Level,
         Self::Ramp,
         Self::Mark,
+        Self::Kind,
+        Self::Record,
         Self::Truncated,
         Self::Room,
         Self::LoopSlot,
@@ -153,6 +165,7 @@ impl Refusal {
         Self::EmptySlot,
         Self::Version,
         Self::SavedField,
+        Self::Output,
     ];
 
     /// What the library's answer to a creation or a command set says: 0 is no refusal.
@@ -163,6 +176,11 @@ impl Refusal {
         let named = |refusal: &&Self| refusal.number() == number;
         // The library has no other number.
         Err(*Self::PLAIN.iter().find(named).unwrap_or(&Self::State))
+    }
+
+    /// The same of an answer whose numbers have 64 bits.
+    pub(crate) fn check_word(number: u64) -> Result<(), Self> {
+        Self::check(u32::try_from(number).unwrap_or(u32::MAX))
     }
 
     /// The same of a block: refusals 11 and 12 are told their place, which is looked for only then.
@@ -222,17 +240,28 @@ impl Refusal {
             Self::Level => {
                 "a level is 0 to 600 tenths of a decibel below full level, or 601 for silence"
             }
-            Self::Mark => "this is no record of saved settings: one begins with the bytes 5E 71",
-            Self::Truncated => {
-                "the bytes end inside the record: read the rest of it, then load again"
+            Self::Mark => {
+                "no record begins here: saved settings begin with the bytes 5E 71, a record of a trace with A5 1D"
             }
-            Self::Room => "the buffer is too short: a record has 25 bytes, or 26 with a pitch",
+            Self::Kind => {
+                "a record of a trace is of kind 1, a creation, 2, a command set, or 3, a block: salvage the trace, or read it with a newer reader"
+            }
+            Self::Record => {
+                "a record of a trace holds a sound of at most 64 frames, or a block of at most 1,024 with constant lanes: cut the block at the limit or at the change; if the record was read, its bytes are damaged: salvage the trace"
+            }
+            Self::Truncated => {
+                "the bytes end inside the record: give the rest of it, then read again"
+            }
+            Self::Room => {
+                "the buffer is too short: saved settings have 25 bytes, or 26 with a pitch, a record of a trace at most 575"
+            }
             Self::Version => {
                 "the record is of a version that this reader does not know: load it with a newer reader"
             }
             Self::SavedField => {
                 "saved settings need a loop that starts before it ends, a finite rate, a pitch of -24 to 24 (0 in version 1), and in bytes the length of their version, 21 or 22"
             }
+            Self::Output => "the output of a salvage must be at least as long as the trace",
             Self::Ramp => {
                 "a ramp has 1 to 65,536 frames, and its lane as many: cut a longer fade into several ramps"
             }
@@ -289,9 +318,14 @@ fn first_unlawful(lanes: ffi::Lanes) -> Refusal {
 
 /// The first frame that refusal 12 is given for.
 fn first_too_far(sample_rate: u32, dt: f64, rate: &[f64]) -> usize {
-    let too_far = |rate: &f64| f64::from(sample_rate) * rate.abs() * dt > 256.0;
+    let too_far = |rate: &f64| too_far(sample_rate, dt, *rate);
     // Hidden from the optimizer, so that no product is made before the mode is set.
     let first = || black_box(black_box(rate).iter().position(too_far));
     // There is one: the library gives 12 exactly then, by the same products in the same mode.
     float_mode::plain(first).unwrap_or_default()
+}
+
+/// Whether an advance is above 256, in the float mode of the thread.
+pub fn too_far(sample_rate: u32, dt: f64, rate: f64) -> bool {
+    f64::from(sample_rate) * rate.abs() * dt > 256.0
 }

@@ -1,7 +1,7 @@
 //! The voice: docs/RULES.md, "Creation, commands, block".
 
 use crate::{
-    BlockLanes, Commands, LoopTable, PlaybackState, Refusal, Settings, Signals, State, ffi,
+    BlockLanes, Commands, LoopTable, PlaybackState, Refusal, Settings, Signals, State, Wraps, ffi,
     float_mode,
 };
 
@@ -22,6 +22,22 @@ pub struct Processed {
     /// For a block cut in two it is the smaller of the two, unless the voice had stopped by the cut:
     /// over a sound of one frame, three frames report 0, but two and then one report 1 and 4.
     pub lowest_count: u32,
+}
+
+impl Processed {
+    /// What a block of no frames reports.
+    pub(crate) const NONE: Self = Self {
+        steps: 0,
+        lowest_count: 4,
+    };
+
+    /// Of two parts, one after the other.
+    pub(crate) fn and(self, next: Self) -> Self {
+        Self {
+            steps: self.steps.saturating_add(next.steps),
+            lowest_count: self.lowest_count.min(next.lowest_count),
+        }
+    }
 }
 
 /// A voice: one sound being played.
@@ -218,13 +234,43 @@ impl StaticSound {
     /// What the voice is doing.
     #[must_use]
     pub fn playback_state(&self) -> PlaybackState {
-        self.state().playback_state
+        // The library answers with 0 to 6 alone.
+        PlaybackState::from_number(self.state.state).unwrap_or(PlaybackState::Stopped)
+    }
+
+    pub(crate) fn sample_rate(&self) -> u32 {
+        self.state.sample_rate
+    }
+
+    /// The held rate.
+    pub(crate) fn playback_rate(&self) -> f64 {
+        self.state.playback_rate
     }
 
     /// Whether the voice is stopped, and so silent for ever.
     #[must_use]
     pub fn finished(&self) -> bool {
         self.playback_state() == PlaybackState::Stopped
+    }
+
+    /// How often the voice has gone round its loop, forward and backward: its steps that took the
+    /// wrap, creation's own three among them. [`Wraps`] says what is counted.
+    ///
+    /// ```
+    /// use cableowl::{Lanes, Settings, Signals, StaticSound};
+    ///
+    /// let sound = [0.5; 20];
+    /// let mut voice = StaticSound::new(Settings::new(1).loop_region(2..5), &sound)?;
+    /// let before = voice.wraps();
+    /// let mut lanes = Lanes::new();
+    /// voice.process(&sound, lanes.frames(30), 1.0, Signals::default(), &mut [0.0; 60])?;
+    /// assert_eq!(voice.wraps().forward - before.forward, 10);
+    /// assert_eq!(voice.wraps().backward, 0);
+    /// # Ok::<(), cableowl::Refusal>(())
+    /// ```
+    #[must_use]
+    pub fn wraps(&self) -> Wraps {
+        self.state().wraps
     }
 
     /// Everything the voice is, to save it or to look at it.

@@ -1,11 +1,16 @@
-// No call of a voice allocates, and no block does, with kept lanes and with cloned ones.
+// No call of a voice allocates, and no block does, with kept lanes and with cloned ones; no call of a player does; nor does
+// recording, reading or playing a trace.
 
 use std::{
     alloc::{GlobalAlloc, Layout, System},
     cell::Cell,
 };
 
-use cableowl::{Commands, Lanes, Refusal, Settings, Signals, State, StaticSound};
+use cableowl::{
+    Command, Commands, Lanes, Level, Player, RecordedPlayer, Refusal, Settings, Signals, State,
+    StaticSound, Ticks, Tween,
+    trace::{Recorder, Replay, Trace, salvage},
+};
 
 thread_local! {
     static ALLOCATIONS: Cell<usize> = const { Cell::new(0) };
@@ -96,4 +101,113 @@ fn no_call_allocates() {
     assert_eq!((answer.is_ok(), allocations), (true, 0));
     // The count counts.
     assert_eq!(counted(|| vec![0_u8; 100].len()).1, 1);
+}
+
+/// Every call of a player, accepted and refused, outputs of each size, every parameter in motion and at rest.
+fn player_evening(player: &mut Player, sound: &[f32], out: &mut [f32]) -> Result<State, Refusal> {
+    player.start_at_tick(
+        3,
+        Ticks {
+            now: 0,
+            per_second: 1_000,
+        },
+    );
+    for samples in [0, 2, 200, 8_192, 40_000, 3] {
+        for tween in [Tween::AT_ONCE, Tween::default(), Tween::from_millis(700)] {
+            player.set_volume(Level::new(60)?, tween);
+            player.set_playback_rate(-0.7, tween)?;
+            player.set_panning(0.3, tween)?;
+            player.pause(tween);
+            let played = player.process(sound, &mut out[..samples]);
+            assert_eq!(played.is_ok(), samples.is_multiple_of(2));
+            player.resume(tween);
+            player.set_loop_region(0.001..0.01)?;
+            player.seek_by(0.25)?;
+            player.seek_to(0.5)?;
+            assert!(player.seek_to(f64::NAN).is_err() && player.set_loop_region(4..4).is_err());
+            assert!(player.set_playback_rate(1.0e9, tween).is_err());
+            player.set_playback_rate(1.5, tween)?;
+            let played = player.mix(sound, &mut out[..samples]);
+            assert_eq!(played.is_ok(), samples.is_multiple_of(2));
+            player.clear_loop_region();
+        }
+    }
+    // Past the sound's end: it stops within a block.
+    player.process(sound, out)?;
+    let (state, _) = (player.voice().state(), player.position());
+    player.restore(state, sound)?;
+    player.stop(Tween::default());
+    Ok(state)
+}
+
+#[test]
+fn no_call_of_a_player_allocates() {
+    let sound = vec![0.25; 2 * 48_000];
+    let mut out = vec![0.0; 2 * 60_000];
+    let settings = Settings::new(48_000).start_waits(true);
+    let mut first = Player::play(settings, 44_100, &sound).unwrap();
+    let mut cloned = first.clone();
+    let (answer, allocations) = counted(|| player_evening(&mut first, &sound, &mut out));
+    assert_eq!(allocations, 0);
+    assert!(first.voice().finished());
+    let (again, allocations) = counted(|| player_evening(&mut cloned, &sound, &mut out));
+    assert_eq!(allocations, 0);
+    assert_eq!(answer.unwrap(), again.unwrap());
+}
+
+/// Every call of a recorder, held by its trace and not, then the trace salvaged, read and played again.
+fn recorded(lanes: &mut Lanes, replay: &mut Replay, room: &mut [u8], out: &mut [u8]) -> usize {
+    let (sound, long) = ([0.25; 16], [0.25; 200]);
+    let mut recorder = Recorder::new(room);
+    let _ = recorder.create(Settings::new(1).loop_region(0..), &sound);
+    for frames in [0, 1, 8, 1_024] {
+        let _ = recorder.on_start_processing(&sound, Commands::new().seek_by(0.5));
+        let mut samples = [0.0; 2 * 1_024];
+        let block = lanes.frames(frames).rate(0.7);
+        let part = &mut samples[..2 * frames];
+        let _ = recorder.process(&sound, block, 1.0, Signals::new(), part);
+        let block = lanes.frames(1).volume(f32::NAN);
+        let _ = recorder.process_into(&sound, block, 1.0, Signals::new(), &mut samples, 3);
+    }
+    let held = recorder.bytes().len();
+    let _ = recorder.create(Settings::new(1), &long);
+    let refused = recorder.on_start_processing(&long, Commands::new());
+    assert_eq!(refused.recorded, Err(Refusal::Record));
+    assert_eq!(recorder.bytes().len(), held);
+    let trace = recorder.bytes();
+    assert_eq!(salvage(trace, out).unwrap().kept, held);
+    let records = Trace::new(trace).map_while(Result::ok);
+    records
+        .filter_map(|(_, record)| replay.play(&record))
+        .count()
+}
+
+#[test]
+fn no_recording_allocates() {
+    let (mut lanes, mut replay) = (Lanes::new(), Replay::new());
+    let (mut room, mut out) = ([0; 2_048], [0; 2_048]);
+    let (lines, allocations) = counted(|| recorded(&mut lanes, &mut replay, &mut room, &mut out));
+    assert_eq!((lines, allocations), (8, 0));
+}
+
+#[test]
+fn no_recorded_player_allocates() {
+    let (mut room, mut out, sound) = (vec![0; 60_000], [0.0; 2_000], [0.25; 16]);
+    let settings = Settings::new(48_000).loop_region(..);
+    let mut player = RecordedPlayer::play(settings, 48_000, &sound, &mut room).unwrap();
+    let (lines, allocations) = counted(|| {
+        let mut lines = 0;
+        for tween in [Tween::from_millis(5), Tween::default(), Tween::AT_ONCE] {
+            player
+                .command(Command::SetPlaybackRate(-0.5, tween))
+                .unwrap();
+            player.command(Command::Pause(tween)).unwrap();
+            let _ = player.process(&mut out, |_| lines += 1);
+            player.command(Command::Resume(tween)).unwrap();
+            let _ = player.mix(&mut out, |_| lines += 1);
+        }
+        lines
+    });
+    assert_eq!(allocations, 0);
+    assert!(lines > 700, "{lines}");
 }

@@ -58,7 +58,7 @@ fn played(
 }
 
 /// The refusals, from number 1 on.
-const ALL: [Refusal; 22] = [
+const ALL: [Refusal; 25] = [
     Refusal::State,
     Refusal::SampleRate,
     Refusal::FrameCount,
@@ -74,6 +74,8 @@ const ALL: [Refusal; 22] = [
     Refusal::Level,
     Refusal::Ramp,
     Refusal::Mark,
+    Refusal::Kind,
+    Refusal::Record,
     Refusal::Truncated,
     Refusal::Room,
     Refusal::LoopSlot,
@@ -81,6 +83,7 @@ const ALL: [Refusal; 22] = [
     Refusal::EmptySlot,
     Refusal::Version,
     Refusal::SavedField,
+    Refusal::Output,
 ];
 
 const fn at(lane: LaneName, frame: usize) -> Refusal {
@@ -89,7 +92,7 @@ const fn at(lane: LaneName, frame: usize) -> Refusal {
 
 #[test]
 fn numbers_and_sentences() {
-    for (number, refusal) in (1..=15).chain(18..=24).zip(ALL) {
+    for (number, refusal) in (1..=25).zip(ALL) {
         assert_eq!(refusal.number(), number);
         let said = refusal.to_string();
         assert!(said.starts_with(&format!("refusal {number}: ")), "{said}");

@@ -106,6 +106,27 @@ pub mod entries {
             sound: *const f32,
             sound_length: usize,
         ) -> CableowlCommanded;
+        /// A record of a trace, read.
+        pub fn cableowl_read_record(
+            bytes: *const u8,
+            bytes_length: usize,
+            at: u64,
+        ) -> CableowlRecord;
+        /// A record of a trace, written.
+        pub fn cableowl_write_record(
+            buffer: *mut u8,
+            buffer_length: usize,
+            at: u64,
+            kind: u64,
+            values: *const u64,
+        ) -> CableowlSent;
+        /// The complete records of a trace.
+        pub fn cableowl_salvage(
+            bytes: *const u8,
+            bytes_length: usize,
+            out: *mut u8,
+            out_length: usize,
+        ) -> CableowlSaved;
     }
 }
 
@@ -226,4 +247,27 @@ pub fn take_loop(
 ) -> CableowlCommanded {
     // SAFETY: pointer and length are those of a lent slice.
     unsafe { entries::cableowl_take_loop(table, slot, state, sound.as_ptr(), sound.len()) }
+}
+
+/// A record of a trace, read at a place.
+#[must_use]
+pub fn read_record(bytes: &[u8], at: u64) -> CableowlRecord {
+    // SAFETY: pointer and length are those of a lent slice.
+    unsafe { entries::cableowl_read_record(bytes.as_ptr(), bytes.len(), at) }
+}
+
+/// A record of a trace, written at a place.
+#[must_use]
+pub fn write_record(buffer: &mut [u8], at: u64, kind: u64, values: &[u64; 80]) -> CableowlSent {
+    // SAFETY: pointer and length are those of a slice lent for writing; the values are as many as are read.
+    unsafe {
+        entries::cableowl_write_record(buffer.as_mut_ptr(), buffer.len(), at, kind, values.as_ptr())
+    }
+}
+
+/// The complete records of a trace, copied.
+#[must_use]
+pub fn salvage(bytes: &[u8], out: &mut [u8]) -> CableowlSaved {
+    // SAFETY: each pointer and length are those of a lent slice, the second lent for writing.
+    unsafe { entries::cableowl_salvage(bytes.as_ptr(), bytes.len(), out.as_mut_ptr(), out.len()) }
 }

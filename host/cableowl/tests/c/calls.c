@@ -114,6 +114,33 @@ int main(void) {
     const CableowlCreated again = cableowl_new(raised, sound, 6);
     expect(again.refusal == 0 && again.state.loop_end == 3 && again.state.reverse == 1, "settings_of: creation");
 
+    uint64_t values[80] = {0};
+    uint8_t trace[60];
+    memset(trace, 9, sizeof trace);
+    values[0] = 1025;
+    expect(cableowl_write_record(trace, 60, 3, 4, values).refusal == 16, "write_record: a kind");
+    expect(cableowl_write_record(trace, 60, 61, CABLEOWL_KIND_BLOCK, values).refusal == 17, "write_record: a limit");
+    values[0] = 6;
+    const CableowlSent full = cableowl_write_record(trace, 44, 3, CABLEOWL_KIND_BLOCK, values);
+    expect(full.refusal == 19 && full.next == 3 && trace[3] == 9, "write_record: room");
+    const CableowlSent sent = cableowl_write_record(trace, 45, 3, CABLEOWL_KIND_BLOCK, values);
+    expect(sent.refusal == 0 && sent.next == 45, "write_record");
+    expect(trace[2] == 9 && trace[3] == 0xa5 && trace[6] == 37 && trace[8] == 6 && trace[45] == 9, "write_record: bytes");
+    const CableowlRecord found = cableowl_read_record(trace, 60, 3);
+    expect(found.refusal == 0 && found.kind == CABLEOWL_KIND_BLOCK && found.next == 45, "read_record");
+    expect(memcmp(found.values, values, sizeof values) == 0, "read_record: numbers");
+    const CableowlRecord cut = cableowl_read_record(trace, 44, 3);
+    expect(cut.refusal == 18 && cut.kind == 0 && cut.next == 3 && cut.values[0] == 0, "read_record: cut");
+    expect(cableowl_read_record(trace, 60, 0).refusal == 15, "read_record: no mark");
+    expect(cableowl_read_record(trace, 60, 61).refusal == 18, "read_record: past the end");
+    uint8_t mended[61];
+    memset(mended, 7, sizeof mended);
+    expect(cableowl_salvage(trace, 60, mended, 59).refusal == 25 && mended[0] == 7, "salvage: room");
+    const CableowlSaved kept_records = cableowl_salvage(trace, 60, mended, 61);
+    expect(kept_records.refusal == 0 && kept_records.records == 1, "salvage: records");
+    expect(kept_records.skipped == 18 && kept_records.first == 0, "salvage: skipped");
+    expect(memcmp(mended, trace + 3, 42) == 0 && mended[42] == 7 && mended[60] == 7, "salvage: bytes");
+
     printf("%d differ\n", faults);
     return faults == 0 ? 0 : 1;
 }

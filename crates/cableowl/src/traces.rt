@@ -1,0 +1,36 @@
+// The C ABI of traces: crates trace and salvage, a record as its kind and its numbers.
+ghost use mathlib.Core.Path.{_≡_};
+ghost use lib.ListN.{take};
+ghost use Rattle.trace.specs.Tables.{fields};
+ghost use Rattle.trace.specs.Records.{recordAt};
+ghost use Rattle.trace.specs.Writes.{sentOf, writeRecord};
+ghost use Rattle.salvage.specs.Salvage.{savedOf, salvageOf};
+use salvage::Saved;
+use trace::Record;
+use trace::Sent;
+
+#[no_mangle]
+pub extern "C" fn cableowl_read_record(bytes: &[u8], at: u64) -> Record
+    ensures { λ r. ⌜ r ≡ recordAt (now (bytes .entry)) at ⌝ }
+{
+    trace::read(bytes, at as usize)
+}
+
+#[no_mangle]
+pub extern "C" fn cableowl_write_record(
+    buffer: &mut [u8],
+    at: u64,
+    kind: u64,
+    values: &[u64; 80],
+) -> Sent
+    ensures { λ r. ⌜ sentOf r (now (buffer .exit)) ≡ writeRecord (now (buffer .entry)) at kind (take (fields kind) (now (values .entry))) ⌝ }
+{
+    trace::write(buffer, at as usize, kind, *values)
+}
+
+#[no_mangle]
+pub extern "C" fn cableowl_salvage(bytes: &[u8], out: &mut [u8]) -> Saved
+    ensures { λ r. ⌜ savedOf r (now (out .exit)) ≡ salvageOf (now (bytes .entry)) (now (out .entry)) ⌝ }
+{
+    salvage::salvage(bytes, out)
+}

@@ -1,0 +1,124 @@
+// Many players into one buffer: bare voices, players whose parameters rest, and players all of whose parameters move.
+
+use std::{fmt::Write, time::Instant};
+
+use cableowl::{Lanes, Level, Player, Settings, Signals, StaticSound, Tween};
+
+use crate::workload::{HZ, Looped};
+
+/// The voices that play at once.
+const VOICES: usize = 64;
+/// The calls of the table, in frames.
+const BLOCKS: [usize; 4] = [64, 256, 1_024, 4_096];
+const REPETITIONS: usize = 60;
+/// Frames of one repetition, a voice.
+const FRAMES: usize = 4_096;
+
+/// Someone who adds a block of all voices to a buffer.
+trait Mixes {
+    fn mix(&mut self, sound: &[f32], out: &mut [f32]);
+}
+
+/// Voices with constant lanes, each played into a buffer of its own and added.
+struct Bare {
+    voices: Vec<StaticSound>,
+    lanes: Lanes,
+    played: Vec<f32>,
+}
+
+impl Mixes for Bare {
+    fn mix(&mut self, sound: &[f32], out: &mut [f32]) {
+        let (frames, step) = (out.len() / 2, 1.0 / f64::from(HZ));
+        let played = &mut self.played[..out.len()];
+        for voice in &mut self.voices {
+            let lanes = self.lanes.frames(frames).volume(0.5).rate(0.93);
+            let answer = voice.process(sound, lanes, step, Signals::new(), played);
+            debug_assert!(answer.is_ok());
+            for (out, played) in out.iter_mut().zip(&*played) {
+                *out += played;
+            }
+        }
+    }
+}
+
+impl Mixes for Vec<Player> {
+    fn mix(&mut self, sound: &[f32], out: &mut [f32]) {
+        for player in self {
+            let answer = player.mix(sound, out);
+            debug_assert!(answer.is_ok());
+        }
+    }
+}
+
+fn settings(voice: usize) -> Settings {
+    let all = Settings::new(HZ).loop_region(0..);
+    all.start_position(701 * voice).playback_rate(0.93)
+}
+
+/// Players; those that move go on moving for the whole measurement.
+fn players(sound: &[f32], moving: bool) -> Vec<Player> {
+    let level = Level::new(60).expect("a level");
+    let tween = |hours: u64| match moving {
+        true => Tween::from_millis(hours * 3_600_000),
+        false => Tween::AT_ONCE,
+    };
+    let player = |voice| {
+        let mut player = Player::play(settings(voice), HZ, sound).expect("accepted settings");
+        player.set_volume(level, tween(1));
+        if moving {
+            let rate = player.set_playback_rate(0.94, tween(2));
+            let panning = player.set_panning(0.5, tween(3));
+            rate.and(panning).expect("accepted numbers");
+            player.resume(tween(4));
+        }
+        player
+    };
+    (0..VOICES).map(player).collect()
+}
+
+/// Nanoseconds a frame of one voice, the least of all repetitions, of each in turns.
+fn least(block: usize, sound: &[f32]) -> [f64; 3] {
+    let voice = |voice| StaticSound::new(settings(voice), sound).expect("accepted settings");
+    let mut bare = Bare {
+        voices: (0..VOICES).map(voice).collect(),
+        lanes: Lanes::new(),
+        played: vec![0.0; 2 * block],
+    };
+    let (mut resting, mut moving) = (players(sound, false), players(sound, true));
+    let mut out = vec![0.0; 2 * block];
+    let mut least = [f64::INFINITY; 3];
+    for _ in 0..REPETITIONS {
+        let all: [&mut dyn Mixes; 3] = [&mut bare, &mut resting, &mut moving];
+        for (least, mixes) in least.iter_mut().zip(all) {
+            let begun = Instant::now();
+            for _ in 0..FRAMES / block {
+                out.fill(0.0);
+                mixes.mix(sound, &mut out);
+            }
+            let time = begun.elapsed().as_nanos() as f64 / (FRAMES * VOICES) as f64;
+            *least = least.min(time);
+        }
+    }
+    least
+}
+
+/// The table: a line a size of the call.
+#[must_use]
+pub fn table() -> String {
+    let mut text = String::from(
+        "| call | bare voice | player at rest | player in motion | rest / bare | motion / bare |\n|---|---|---|---|---|---|\n",
+    );
+    let sound = Looped::Long.sound();
+    for block in BLOCKS {
+        let times = least(block, &sound);
+        write!(text, "| {block} |").expect("a string takes all");
+        for time in times {
+            let voices = 1e9 / (time * f64::from(HZ));
+            write!(text, " {voices:.0} ({time:.1} ns) |").expect("a string takes all");
+        }
+        let [bare, rest, motion] = times;
+        let ratios = (rest / bare, motion / bare);
+        writeln!(text, " {:.2} | {:.2} |", ratios.0, ratios.1).expect("a string takes all");
+    }
+    text
+}

@@ -1,0 +1,165 @@
+//! A host shaped like an audio callback: interleaved f32 output of any length, commands from another thread by a bounded
+//! channel, and nothing in the callback that waits or allocates, which a counting allocator shows.
+//!
+//! The callback notes at which frame it heard each command. Afterwards the evening is played again in one piece, the same
+//! commands at the same frames, and must be the same samples: when a command is heard is the host's, all else is not.
+//!
+//! `cd host && cargo run --release --offline -p cableowl --example audio_callback`
+
+use std::{
+    alloc::{GlobalAlloc, Layout, System},
+    cell::Cell,
+    error::Error,
+    sync::{
+        Arc,
+        mpsc::{self, Receiver, SyncSender, TrySendError},
+    },
+    thread,
+    time::Duration,
+};
+
+use cableowl::{Command, Level, Region, Settings, SharedPlayer, Tween};
+use random::Random;
+
+const OUTPUT_RATE: u32 = 48_000;
+/// Ten seconds of output.
+const FRAMES: usize = 10 * OUTPUT_RATE as usize;
+/// The largest output that the device asks for, in frames.
+const MOST: usize = 6_000;
+
+thread_local! {
+    static CALLS: Cell<usize> = const { Cell::new(0) };
+}
+
+/// The system's allocator; each thread counts its calls, to free as well.
+struct Counting;
+
+// SAFETY: every call goes on to the system's allocator as it came.
+unsafe impl GlobalAlloc for Counting {
+    unsafe fn alloc(&self, layout: Layout) -> *mut u8 {
+        CALLS.set(CALLS.get() + 1);
+        unsafe { System.alloc(layout) }
+    }
+
+    unsafe fn dealloc(&self, pointer: *mut u8, layout: Layout) {
+        CALLS.set(CALLS.get() + 1);
+        unsafe { System.dealloc(pointer, layout) }
+    }
+}
+
+#[global_allocator]
+static ALLOCATOR: Counting = Counting;
+
+/// What the audio thread owns.
+struct Audio {
+    player: SharedPlayer,
+    commands: Receiver<Command>,
+    /// What was heard when; its room is made beforehand.
+    heard: Vec<(u64, Command)>,
+    refused: usize,
+}
+
+impl Audio {
+    /// The callback: the commands that have come, then the frames that are asked for.
+    fn callback(&mut self, out: &mut [f32]) {
+        // A note must have its room; what does not fit waits for a later call.
+        while self.heard.len() < self.heard.capacity() {
+            let Ok(command) = self.commands.try_recv() else {
+                break;
+            };
+            match self.player.command(command) {
+                Ok(()) => self.heard.push((self.player.frames(), command)),
+                Err(_) => self.refused += 1,
+            }
+        }
+        if self.player.process(out).is_err() {
+            out.fill(0.0);
+        }
+    }
+}
+
+/// What the student does, as long as the device plays. A full channel is tried again, not waited at: nobody has to be woken
+/// by the callback.
+fn student(commands: &SyncSender<Command>, plays: impl Fn() -> bool) {
+    let fade = Tween::from_millis(40);
+    let evening = [
+        Command::SetVolume(Level::FULL, fade),
+        Command::SetLoopRegion(Region::from(0.5..1.25)),
+        Command::SetPlaybackRate(0.7, Tween::from_millis(300)),
+        Command::Pause(fade),
+        Command::SeekBy(-0.25),
+        Command::Resume(fade),
+        Command::SetPanning(-0.4, Tween::from_millis(500)),
+        Command::SeekTo(f64::NAN),
+        Command::SetPlaybackRate(-1.0, Tween::from_millis(200)),
+        Command::SetPlaybackRate(1.0, Tween::AT_ONCE),
+    ];
+    for command in evening.into_iter().cycle().take(60) {
+        while plays() && matches!(commands.try_send(command), Err(TrySendError::Full(_))) {
+            thread::sleep(Duration::from_micros(50));
+        }
+        thread::sleep(Duration::from_micros(200));
+    }
+}
+
+/// A device that asks for outputs of any length, and how often its callback called the allocator.
+fn device(mut audio: Audio) -> (Audio, Vec<f32>, usize) {
+    let mut samples = vec![0.0; 2 * FRAMES];
+    let (mut rest, mut random) = (samples.as_mut_slice(), Random::new(27));
+    let mut calls = 0;
+    while !rest.is_empty() {
+        let asked = 2 * (1 + random.below(MOST));
+        let (out, later) = rest.split_at_mut(asked.min(rest.len()));
+        let before = CALLS.get();
+        audio.callback(out);
+        calls += CALLS.get() - before;
+        rest = later;
+        // No card sets the pace here.
+        thread::sleep(Duration::from_micros(100));
+    }
+    (audio, samples, calls)
+}
+
+/// The evening, then the same in one piece.
+pub fn main() -> Result<(), Box<dyn Error>> {
+    let sound: Arc<[f32]> = (0..2 * 88_200)
+        .map(|i| (i / 2 % 101) as f32 / 101.0 - 0.5)
+        .collect();
+    let settings = Settings::new(44_100).loop_region(..);
+    let player = SharedPlayer::play(settings, OUTPUT_RATE, Arc::clone(&sound))?;
+    let mut again = player.clone();
+    let (sender, commands) = mpsc::sync_channel(4);
+    let audio = Audio {
+        player,
+        commands,
+        heard: Vec::with_capacity(100),
+        refused: 0,
+    };
+    let audio = thread::spawn(move || device(audio));
+    student(&sender, || !audio.is_finished());
+    let (audio, samples, calls) = audio.join().map_err(|_| "the audio thread broke off")?;
+
+    let mut whole = vec![0.0; samples.len()];
+    let mut rest = whole.as_mut_slice();
+    for (frame, command) in &audio.heard {
+        let until = 2 * (frame - again.frames()) as usize;
+        let (out, later) = rest.split_at_mut(until);
+        again.process(out)?;
+        again.command(*command)?;
+        rest = later;
+    }
+    again.process(rest)?;
+    let differ = samples.iter().zip(&whole);
+    let differ = differ.filter(|(a, b)| a.to_bits() != b.to_bits()).count();
+
+    let (heard, refused) = (audio.heard.len(), audio.refused);
+    println!(
+        "{FRAMES} frames in outputs of 1 to {MOST}; {heard} commands heard, {refused} refused"
+    );
+    println!("{calls} calls of the allocator in the callback");
+    println!("{differ} samples differ from the same evening in one piece");
+    match (calls, differ, heard) {
+        (0, 0, 1..) => Ok(()),
+        _ => Err("a callback allocated, or its cuts are heard".into()),
+    }
+}

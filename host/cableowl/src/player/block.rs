@@ -1,0 +1,106 @@
+//! One block of a player: what its voice is given, and the frame in which it stops.
+
+use std::ops::Range;
+
+use crate::{BlockLanes, Lane, Lanes, Processed, Refusal, Signals, StaticSound, trace::Block};
+
+/// What a voice is given for a block.
+#[derive(Debug, Clone, Copy)]
+pub struct Given<'a> {
+    pub sound: &'a [f32],
+    pub fade: Lane<'a, f32>,
+    pub volume: Lane<'a, f32>,
+    pub left: Lane<'a, f32>,
+    pub right: Lane<'a, f32>,
+    pub rate: Lane<'a, f64>,
+    pub time_step: f64,
+    pub signals: Signals,
+}
+
+impl Given<'_> {
+    /// Plays a part of the block into its place of the block's output; the part at its beginning
+    /// takes the signals.
+    pub fn play(
+        &self,
+        part: Range<usize>,
+        voice: &mut StaticSound,
+        lanes: &mut Lanes,
+        out: &mut [f32],
+    ) -> Result<Processed, Refusal> {
+        let signals = match part.start {
+            0 => self.signals,
+            _ => Signals::new(),
+        };
+        // The output has room for the block: its caller cut it so.
+        let out = out
+            .get_mut(2 * part.start..2 * part.end)
+            .unwrap_or_default();
+        voice.process(
+            self.sound,
+            self.lanes(part, lanes),
+            self.time_step,
+            signals,
+            out,
+        )
+    }
+
+    /// The lanes of a part of the block.
+    fn lanes<'l>(&'l self, part: Range<usize>, lanes: &'l mut Lanes) -> BlockLanes<'l> {
+        lanes
+            .frames(part.len())
+            .fade(cut(self.fade, &part))
+            .volume(cut(self.volume, &part))
+            .left(cut(self.left, &part))
+            .right(cut(self.right, &part))
+            .rate(cut(self.rate, &part))
+    }
+
+    /// The record of its first frames, if one can hold them.
+    pub fn record(&self, frames: usize, lanes: &mut Lanes) -> Result<Block, Refusal> {
+        self.lanes(0..frames, lanes)
+            .block(self.time_step, self.signals)
+    }
+
+    /// Plays the whole block, or as much as there is of it until the voice runs off its sound's end:
+    /// **the block ends with the frame in which the voice stops**, since what a voice does after that
+    /// depends on where its block ends (docs/RULES.md, "Creation, commands, block"). Told are the
+    /// frames played and their counts.
+    pub fn play_all(
+        &self,
+        frames: usize,
+        voice: &mut StaticSound,
+        lanes: &mut Lanes,
+        out: &mut [f32],
+    ) -> Result<(usize, Processed), Refusal> {
+        let mut before = voice.clone();
+        let all = self.play(0..frames, voice, lanes, out)?;
+        // Without a step nothing ran off: it was silent, or has stopped by its signals.
+        if !voice.finished() || all.steps == 0 {
+            return Ok((frames, all));
+        }
+        // It stops after more than `low` frames, at most `high`. The frames that are played again are
+        // the same frames.
+        let (mut low, mut high, mut counts) = (0, frames, Processed::NONE);
+        while high - low > 1 {
+            let middle = low + (high - low) / 2;
+            let mut tried = before.clone();
+            let part = self.play(low..middle, &mut tried, lanes, out)?;
+            if tried.finished() {
+                high = middle;
+            } else {
+                (low, before, counts) = (middle, tried, counts.and(part));
+            }
+        }
+        let last = self.play(low..high, &mut before, lanes, out)?;
+        *voice = before;
+        Ok((high, counts.and(last)))
+    }
+}
+
+/// The lane of a part of a block.
+fn cut<'a, T: Copy>(lane: Lane<'a, T>, part: &Range<usize>) -> Lane<'a, T> {
+    match lane {
+        Lane::Constant(number) => Lane::Constant(number),
+        Lane::PerFrame(numbers) => Lane::PerFrame(numbers.get(part.clone()).unwrap_or_default()),
+    }
+}

@@ -1,0 +1,69 @@
+//! What a player's blocks are made with: the table of levels, the gains of a panning, room for lanes and frames.
+
+use std::{f32::consts::SQRT_2, fmt, sync::OnceLock};
+
+use crate::{Lanes, Level, MAX_BLOCK_FRAMES, fade_ramp};
+
+/// The amplitude of each level.
+pub type Amplitudes = [f32; 602];
+
+/// The table, made once for all players, when the first is created.
+pub fn amplitudes() -> &'static Amplitudes {
+    static TABLE: OnceLock<Amplitudes> = OnceLock::new();
+    TABLE.get_or_init(|| {
+        let mut table = [0.0; 602];
+        // A frame for each level, so each has its own; never refused.
+        let _ = fade_ramp(Level::FULL, Level::SILENCE, &mut table);
+        table
+    })
+}
+
+/// The gains of a panning, as kira's `Frame::panned` has them.
+pub fn gains(panning: f64) -> (f32, f32) {
+    let panning = panning as f32;
+    if panning == 0.0 {
+        return (1.0, 1.0);
+    }
+    let right = (panning.clamp(-1.0, 1.0) + 1.0) * 0.5;
+    ((1.0 - right).sqrt() * SQRT_2, right.sqrt() * SQRT_2)
+}
+
+/// Room for a block's lanes and frames, made once.
+pub struct Room {
+    pub lanes: Lanes,
+    pub fade: Vec<f32>,
+    pub volume: Vec<f32>,
+    pub left: Vec<f32>,
+    pub right: Vec<f32>,
+    pub rate: Vec<f64>,
+    pub played: Vec<f32>,
+}
+
+impl Room {
+    pub fn new() -> Self {
+        let lane = || Vec::with_capacity(MAX_BLOCK_FRAMES);
+        Self {
+            lanes: Lanes::new(),
+            fade: lane(),
+            volume: lane(),
+            left: lane(),
+            right: lane(),
+            rate: Vec::with_capacity(MAX_BLOCK_FRAMES),
+            played: vec![0.0; 2 * MAX_BLOCK_FRAMES],
+        }
+    }
+}
+
+/// A clone has as much room; nothing in it lasts from block to block.
+impl Clone for Room {
+    fn clone(&self) -> Self {
+        Self::new()
+    }
+}
+
+/// What lies in it is of the last block.
+impl fmt::Debug for Room {
+    fn fmt(&self, f: &mut fmt::Formatter<'_>) -> fmt::Result {
+        f.write_str("Room")
+    }
+}

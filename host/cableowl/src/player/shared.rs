@@ -1,0 +1,87 @@
+//! A player and its sound as one value.
+
+use std::{
+    ops::{Deref, DerefMut},
+    sync::Arc,
+};
+
+use crate::{Player, Processed, Refusal, Settings};
+
+/// A [`Player`] bound to a shared sound: one value to send to the audio thread. It is a player by
+/// `Deref`, for the commands; its own [`process`](SharedPlayer::process()) and
+/// [`mix`](SharedPlayer::mix()) need no sound.
+///
+/// The sound is freed with the last value that holds it: a host that keeps an `Arc` of its own frees
+/// it outside the audio thread.
+///
+/// ```
+/// use std::{sync::Arc, thread};
+///
+/// use cableowl::{Settings, SharedPlayer, Tween};
+///
+/// let sound: Arc<[f32]> = vec![0.25; 2_000].into();
+/// let mut player = SharedPlayer::play(Settings::new(48_000), 48_000, Arc::clone(&sound))?;
+/// player.pause(Tween::from_millis(5));
+/// let audio = thread::spawn(move || {
+///     let mut out = [0.0; 600];
+///     player.process(&mut out).map(|_| out)
+/// });
+/// let out = audio.join().unwrap()?;
+/// assert!(out[0] > out[400] && out[599] == 0.0);
+/// # Ok::<(), cableowl::Refusal>(())
+/// ```
+#[derive(Debug, Clone)]
+pub struct SharedPlayer {
+    player: Player,
+    sound: Arc<[f32]>,
+}
+
+impl SharedPlayer {
+    /// Plays a shared sound, as [`Player::play`].
+    ///
+    /// # Errors
+    ///
+    /// As [`Player::play`].
+    pub fn play(settings: Settings, output_rate: u32, sound: Arc<[f32]>) -> Result<Self, Refusal> {
+        let player = Player::play(settings, output_rate, &sound)?;
+        Ok(Self { player, sound })
+    }
+
+    /// As [`Player::process`].
+    ///
+    /// # Errors
+    ///
+    /// Refusal 9 where the samples are odd in number.
+    pub fn process(&mut self, out: &mut [f32]) -> Result<Processed, Refusal> {
+        self.player.process(&self.sound, out)
+    }
+
+    /// As [`Player::mix`].
+    ///
+    /// # Errors
+    ///
+    /// Refusal 9 where the samples are odd in number.
+    pub fn mix(&mut self, out: &mut [f32]) -> Result<Processed, Refusal> {
+        self.player.mix(&self.sound, out)
+    }
+
+    /// The sound.
+    #[must_use]
+    pub fn sound(&self) -> &Arc<[f32]> {
+        &self.sound
+    }
+}
+
+impl Deref for SharedPlayer {
+    type Target = Player;
+
+    fn deref(&self) -> &Player {
+        &self.player
+    }
+}
+
+impl DerefMut for SharedPlayer {
+    fn deref_mut(&mut self) -> &mut Player {
+        &mut self.player
+    }
+}

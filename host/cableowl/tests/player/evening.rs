@@ -1,0 +1,296 @@
+// A random evening of a player: a sound, and commands at frames; and what it comes to, cut this way or that.
+
+use std::{sync::OnceLock, time::Duration};
+
+use cableowl::{
+    Command, Level, PlaybackPosition, Player, Processed, Refusal, Region, Settings, Ticks, Tween,
+};
+use random::Random;
+
+/// Someone who plays an evening.
+pub trait Plays {
+    fn command(&mut self, command: Command) -> Result<(), Refusal>;
+    fn process(&mut self, sound: &[f32], out: &mut [f32]) -> Result<Processed, Refusal>;
+    /// All that it says of itself, by bits.
+    fn told(&self) -> Vec<u8>;
+}
+
+impl Plays for Player {
+    fn command(&mut self, command: Command) -> Result<(), Refusal> {
+        self.command(command)
+    }
+
+    fn process(&mut self, sound: &[f32], out: &mut [f32]) -> Result<Processed, Refusal> {
+        self.process(sound, out)
+    }
+
+    fn told(&self) -> Vec<u8> {
+        let mut told = self.voice().state().to_bytes();
+        let numbers = [
+            self.position().to_bits(),
+            self.playback_rate().to_bits(),
+            self.panning().to_bits().into(),
+            self.volume().tenths().into(),
+            self.frames(),
+            self.counts().steps,
+            self.counts().lowest_count.into(),
+            self.state().number().into(),
+        ];
+        told.extend(numbers.iter().flat_map(|number| number.to_le_bytes()));
+        told
+    }
+}
+
+/// What is played, and what is done when.
+#[derive(Debug, Clone, PartialEq)]
+pub struct Evening {
+    pub sound: Vec<f32>,
+    pub settings: Settings,
+    pub output_rate: u32,
+    pub fade_in: Option<Tween>,
+    /// Sorted by frame.
+    pub commands: Vec<(usize, Command)>,
+    pub frames: usize,
+}
+
+/// What an evening came to.
+#[derive(Debug, Clone, PartialEq)]
+pub struct Outcome {
+    pub samples: Vec<u32>,
+    pub answers: Vec<Result<(), Refusal>>,
+    /// What it says of itself before each command's frame and at the end.
+    pub told: Vec<Vec<u8>>,
+    pub counts: Processed,
+}
+
+/// How a host cuts time: the next block's frames.
+pub type Cut<'a> = &'a mut dyn FnMut() -> usize;
+
+/// The counts of no frames.
+pub fn no_counts() -> Processed {
+    static NONE: OnceLock<Processed> = OnceLock::new();
+    *NONE.get_or_init(|| {
+        let player = Player::play(Settings::new(1), 1, &[0.0; 2]);
+        player.unwrap().counts()
+    })
+}
+
+pub fn bits(samples: &[f32]) -> Vec<u32> {
+    samples.iter().map(|sample| sample.to_bits()).collect()
+}
+
+impl Evening {
+    pub fn player(&self) -> Player {
+        let player = Player::play(self.settings, self.output_rate, &self.sound).unwrap();
+        match self.fade_in {
+            Some(tween) => player.fade_in_tween(tween),
+            None => player,
+        }
+    }
+
+    /// Plays it, each command at its frame, and all between cut as the host cuts.
+    pub fn played(&self, player: &mut dyn Plays, cut: Cut) -> Outcome {
+        let mut samples = vec![f32::NAN; 2 * self.frames];
+        let mut outcome = Outcome {
+            samples: Vec::new(),
+            answers: Vec::new(),
+            told: Vec::new(),
+            counts: Player::play(Settings::new(1), 1, &[0.0; 2])
+                .unwrap()
+                .counts(),
+        };
+        let (mut clock, mut steps, mut lowest) = (0, 0, 4);
+        let ends = self.commands.iter().map(|(frame, _)| *frame);
+        let mut commands = self.commands.iter().map(|(_, command)| *command);
+        for end in ends.chain([self.frames]) {
+            while clock < end {
+                let frames = cut().min(end - clock);
+                let out = &mut samples[2 * clock..2 * (clock + frames)];
+                let counts = player.process(&self.sound, out).unwrap();
+                (steps, lowest) = (steps + counts.steps, lowest.min(counts.lowest_count));
+                clock += frames;
+            }
+            // Some hosts call with no frames, also between two commands at one frame.
+            if cut() == 0 {
+                player.process(&self.sound, &mut []).unwrap();
+            }
+            outcome.told.push(player.told());
+            outcome
+                .answers
+                .extend(commands.next().map(|command| player.command(command)));
+        }
+        outcome.counts.steps = steps;
+        outcome.counts.lowest_count = lowest;
+        outcome.samples = bits(&samples);
+        outcome
+    }
+
+    /// A random one.
+    pub fn any(random: &mut Random) -> Self {
+        let most = [4, 40, 400][random.below(3)];
+        let frames_of_sound = 1 + random.below(most);
+        let rates = [48_000, 44_100, 8_000, 1_000, 7, 1];
+        let sample_rate = rates[random.below(6)];
+        // As fast as the sound or nearly, so that it is heard to move.
+        let output_rate = match random.below(3) {
+            0 => sample_rate,
+            1 => (sample_rate / 2).max(1),
+            _ => sample_rate * 3,
+        };
+        let mut settings = Settings::new(sample_rate)
+            .reverse(random.one_in(4))
+            .playback_rate(any_rate(random))
+            .start_position(random.below(frames_of_sound))
+            .start_waits(random.one_in(5));
+        if random.coin() {
+            settings = settings.loop_region(any_range(random, frames_of_sound));
+        }
+        let sample = |_| (random.unit() * 2.0 - 1.0) as f32;
+        let sound = (0..2 * frames_of_sound).map(sample).collect();
+        let most = [20, 200, 600, 600, 600, 9_000][random.below(6)];
+        let frames = 1 + random.below(most);
+        let mut evening = Self {
+            sound,
+            settings,
+            output_rate,
+            fade_in: None,
+            commands: Vec::new(),
+            frames,
+        };
+        if random.one_in(4) {
+            evening.fade_in = Some(evening.any_tween(random));
+        }
+        for _ in 0..random.below(10) {
+            let last = evening.commands.last().map(|(frame, _)| *frame);
+            let frame = match last {
+                Some(last) if random.one_in(3) => last,
+                _ => random.below(frames),
+            };
+            let command = evening.any_command(random, frames_of_sound);
+            evening.commands.push((frame, command));
+        }
+        evening.commands.sort_by_key(|(frame, _)| *frame);
+        evening
+    }
+
+    /// A tween of about so many frames as the evening has, or few, or none.
+    fn any_tween(&self, random: &mut Random) -> Tween {
+        let most = [1, 4, 50, self.frames + 1][random.below(4)];
+        let frames = random.below(most + 1) as u64;
+        Tween {
+            duration: Duration::from_nanos(frames * 1_000_000_000 / u64::from(self.output_rate)),
+        }
+    }
+
+    fn any_command(&self, random: &mut Random, frames: usize) -> Command {
+        let tween = self.any_tween(random);
+        let seconds = frames as f64 / f64::from(self.settings.sample_rate);
+        match random.below(15) {
+            0 | 1 => Command::Pause(tween),
+            2 | 3 => Command::Resume(tween),
+            4 => Command::Stop(tween),
+            5 | 6 => Command::SetPlaybackRate(any_rate(random), tween),
+            7 => Command::SetVolume(Level::new(random.below(602) as u32).unwrap(), tween),
+            8 => Command::SetPanning(any_panning(random), tween),
+            9 => Command::SetLoopRegion(any_range(random, frames).into()),
+            10 => Command::ClearLoopRegion,
+            11 => Command::SeekBy((random.unit() * 2.0 - 1.0) * seconds),
+            12 => Command::SeekTo(random.unit() * 1.2 * seconds),
+            13 => any_bad(random, tween),
+            _ => {
+                let now = any_tick(random);
+                let per_second = match random.below(3) {
+                    0 => random.below(1 << 32) as u32,
+                    _ => self.output_rate / (1 + random.below(9) as u32),
+                };
+                let due = now.wrapping_add(random.below(40) as u32).wrapping_sub(5);
+                Command::StartAtTick(due, Ticks { now, per_second })
+            }
+        }
+    }
+}
+
+fn any_tick(random: &mut Random) -> u32 {
+    match random.below(3) {
+        0 => 0,
+        1 => u32::MAX - random.below(10) as u32,
+        _ => random.below(1 << 32) as u32,
+    }
+}
+
+fn any_rate(random: &mut Random) -> f64 {
+    match random.below(9) {
+        0 => 0.0,
+        1 => -0.0,
+        2 => 1.0,
+        3 => -1.0,
+        4 => random.unit() * 40.0,
+        _ => random.unit() * 4.0 - 2.0,
+    }
+}
+
+fn any_panning(random: &mut Random) -> f32 {
+    [
+        0.0,
+        -0.0,
+        -1.0,
+        1.0,
+        5.0,
+        random.unit() as f32,
+        -random.unit() as f32,
+    ][random.below(7)]
+}
+
+fn any_range(random: &mut Random, frames: usize) -> std::ops::Range<usize> {
+    let start = random.below(frames);
+    start..start + 1 + random.below(frames - start)
+}
+
+/// What is refused.
+fn any_bad(random: &mut Random, tween: Tween) -> Command {
+    let number = [f64::NAN, f64::INFINITY, f64::NEG_INFINITY, 1.0e300][random.below(4)];
+    match random.below(5) {
+        0 => Command::SetPlaybackRate(number, tween),
+        1 => Command::SetPanning(number as f32, tween),
+        2 => Command::SeekBy(number),
+        3 => Command::SeekTo(number),
+        _ => Command::SetLoopRegion(Region::from(
+            PlaybackPosition::Seconds(number)..PlaybackPosition::Samples(1),
+        )),
+    }
+}
+
+/// A smaller evening that still fails, as far as taking something away leads.
+pub fn shrunk(mut evening: Evening, fails: impl Fn(&Evening) -> bool) -> Evening {
+    let smaller = |evening: &Evening| {
+        let mut smaller = Vec::new();
+        let mut with = |change: &dyn Fn(&mut Evening)| {
+            let mut other = evening.clone();
+            change(&mut other);
+            if other != *evening && other.frames > 0 {
+                smaller.push(other);
+            }
+        };
+        for place in 0..evening.commands.len() {
+            with(&|other| {
+                other.commands.remove(place);
+            });
+            with(&|other| other.commands[place].0 /= 2);
+        }
+        for frames in [evening.frames / 2, evening.frames - 1] {
+            with(&|other| {
+                other.frames = frames;
+                other.commands.retain(|(frame, _)| *frame < frames);
+            });
+        }
+        with(&|other| other.fade_in = None);
+        with(&|other| other.settings.loop_region = None);
+        with(&|other| other.settings.reverse = false);
+        with(&|other| other.settings.playback_rate = 1.0);
+        smaller
+    };
+    while let Some(found) = smaller(&evening).into_iter().find(&fails) {
+        evening = found;
+    }
+    evening
+}

@@ -1,0 +1,11 @@
+// The player: its words, what it refuses, and that no cutting of time changes what it does.
+
+mod cuts;
+mod evening;
+mod modes;
+mod per_block;
+mod traces;
+mod words;
+
+#[path = "../mode/mod.rs"]
+mod mode;

@@ -1,0 +1,468 @@
+// kira's way with parameters, one update a block and a straight line across it, over kira's own text: it differs by how time
+// is cut, and the player is what it comes to with blocks of one frame.
+
+use cableowl::{
+    Command, Commands, Lanes, Level, LoopCommand, Player, Processed, Refusal, ResumeCommand,
+    Settings, Signals, StaticSound, Tween,
+};
+use random::Random;
+
+use crate::evening::{Evening, Plays, no_counts, shrunk};
+
+/// A parameter that is updated once a block.
+#[derive(Clone, Copy)]
+struct Parameter {
+    from: f64,
+    to: f64,
+    passed: u64,
+    frames: u64,
+    /// The value before the block, and at its end.
+    previous: f64,
+    value: f64,
+    is_level: bool,
+}
+
+impl Parameter {
+    fn new(value: f64, is_level: bool) -> Self {
+        Self {
+            from: value,
+            to: value,
+            passed: u64::MAX,
+            frames: 0,
+            previous: value,
+            value,
+            is_level,
+        }
+    }
+
+    fn set(&mut self, to: f64, frames: u64) {
+        (self.from, self.to, self.passed, self.frames) = (self.value, to, 0, frames);
+    }
+
+    /// Says whether its tween has ended with this block.
+    fn update(&mut self, frames: u64) -> bool {
+        self.previous = self.value;
+        if self.passed == u64::MAX || frames == 0 {
+            return false;
+        }
+        self.passed += frames;
+        if self.passed >= self.frames {
+            (self.value, self.passed) = (self.to, u64::MAX);
+            return true;
+        }
+        let (passed, all) = (self.passed as f64, self.frames as f64);
+        self.value = match self.is_level {
+            true => ((self.from * (all - passed) + self.to * passed) / all).floor(),
+            false => {
+                let value = self.from + (self.to - self.from) * (passed / all);
+                let ends = [self.from, self.to];
+                // As the player has it: never past an end.
+                match ends[0] <= ends[1] {
+                    true if value < ends[0] => ends[0],
+                    true if value > ends[1] => ends[1],
+                    false if value < ends[1] => ends[1],
+                    false if value > ends[0] => ends[0],
+                    _ => value,
+                }
+            }
+        };
+        false
+    }
+
+    /// kira's `interpolated_value`.
+    fn interpolated(&self, amount: f64) -> f64 {
+        match amount == 1.0 {
+            true => self.value,
+            false => self.previous + (self.value - self.previous) * amount,
+        }
+    }
+}
+
+fn amplitude(level: f64) -> f32 {
+    Level::new(level as u32).unwrap().amplitude()
+}
+
+fn gains(panning: f64) -> (f32, f32) {
+    let panning = panning as f32;
+    if panning == 0.0 {
+        return (1.0, 1.0);
+    }
+    let mix = (panning.clamp(-1.0, 1.0) + 1.0) * 0.5;
+    let root_2 = std::f32::consts::SQRT_2;
+    ((1.0 - mix).sqrt() * root_2, mix.sqrt() * root_2)
+}
+
+/// The lanes of a block.
+struct Numbers {
+    fade: Vec<f32>,
+    volume: Vec<f32>,
+    left: Vec<f32>,
+    right: Vec<f32>,
+    rate: Vec<f64>,
+}
+
+/// A voice below the parameters: ours, or kira's own text.
+trait Voice {
+    fn create(evening: &Evening) -> Self;
+    fn held_rate(&self) -> f64;
+    fn obey(&mut self, sound: &[f32], commands: Commands);
+    fn block(
+        &mut self,
+        sound: &[f32],
+        lanes: &Numbers,
+        step: f64,
+        finished: bool,
+        out: &mut [f32],
+    ) -> Processed;
+    fn told(&self) -> Vec<u8>;
+}
+
+/// Ours, with room for its lanes.
+struct Ours(StaticSound, Lanes);
+
+impl Voice for Ours {
+    fn create(evening: &Evening) -> Self {
+        let voice = StaticSound::new(evening.settings, &evening.sound).unwrap();
+        Self(voice, Lanes::new())
+    }
+
+    fn held_rate(&self) -> f64 {
+        self.0.state().playback_rate
+    }
+
+    fn obey(&mut self, sound: &[f32], commands: Commands) {
+        self.0.on_start_processing(sound, commands).unwrap();
+    }
+
+    fn block(
+        &mut self,
+        sound: &[f32],
+        lanes: &Numbers,
+        step: f64,
+        finished: bool,
+        out: &mut [f32],
+    ) -> Processed {
+        let block = self
+            .1
+            .frames(out.len() / 2)
+            .fade(&lanes.fade)
+            .volume(&lanes.volume);
+        let block = block
+            .left(&lanes.left)
+            .right(&lanes.right)
+            .rate(&lanes.rate);
+        let signals = Signals::new().finished(finished);
+        self.0.process(sound, block, step, signals, out).unwrap()
+    }
+
+    fn told(&self) -> Vec<u8> {
+        self.0.state().to_bytes()
+    }
+}
+
+fn kiras(place: cableowl::PlaybackPosition) -> oracle::PlaybackPosition {
+    match place {
+        cableowl::PlaybackPosition::Seconds(at) => oracle::PlaybackPosition::Seconds(at),
+        cableowl::PlaybackPosition::Samples(at) => oracle::PlaybackPosition::Samples(at),
+    }
+}
+
+fn kiras_region(region: cableowl::Region) -> oracle::Region {
+    oracle::Region {
+        start: kiras(region.start),
+        end: match region.end {
+            cableowl::EndPosition::EndOfAudio => oracle::EndPosition::EndOfAudio,
+            cableowl::EndPosition::Custom(place) => oracle::EndPosition::Custom(kiras(place)),
+        },
+    }
+}
+
+impl Voice for oracle::Oracle {
+    fn create(evening: &Evening) -> Self {
+        let settings = oracle::Settings {
+            start: kiras(evening.settings.start_position),
+            loop_region: evening.settings.loop_region.map(kiras_region),
+            reverse: evening.settings.reverse,
+            rate: evening.settings.playback_rate,
+            ..oracle::Settings::new(evening.settings.sample_rate)
+        };
+        Self::create(&settings, &evening.sound)
+    }
+
+    fn held_rate(&self) -> f64 {
+        self.state().rate
+    }
+
+    fn obey(&mut self, _: &[f32], commands: Commands) {
+        let commands = oracle::Commands {
+            rate: commands.playback_rate,
+            loop_region: match commands.loop_region {
+                LoopCommand::Keep => None,
+                LoopCommand::Clear => Some(None),
+                LoopCommand::Set(region) => Some(Some(kiras_region(region))),
+            },
+            pause: commands.pause,
+            resume: (commands.resume != ResumeCommand::No).then_some(false),
+            stop: commands.stop,
+            seek_by: commands.seek_by,
+            seek_to: commands.seek_to,
+        };
+        self.command(&commands).unwrap();
+    }
+
+    fn block(
+        &mut self,
+        _: &[f32],
+        lanes: &Numbers,
+        step: f64,
+        finished: bool,
+        out: &mut [f32],
+    ) -> Processed {
+        let lanes = oracle::Lanes {
+            fade: &lanes.fade,
+            volume: &lanes.volume,
+            left: &lanes.left,
+            right: &lanes.right,
+            rate: &lanes.rate,
+        };
+        let signals = oracle::Signals {
+            finished,
+            ..oracle::Signals::default()
+        };
+        let reported = self.block(&lanes, step, signals, out);
+        let mut counts = no_counts();
+        (counts.steps, counts.lowest_count) = (reported.steps, reported.lowest_count);
+        counts
+    }
+
+    fn told(&self) -> Vec<u8> {
+        format!("{:?}", self.state()).into()
+    }
+}
+
+/// A player as kira's `sound.rs` shows it: `update` for the whole block, then `interpolated_value` of each frame.
+struct PerBlock<V> {
+    voice: V,
+    output_rate: u32,
+    volume: Parameter,
+    fade: Parameter,
+    rate: Parameter,
+    panning: Parameter,
+    commands: Commands,
+    fades: [Option<(f64, u64)>; 3],
+}
+
+impl<V: Voice> PerBlock<V> {
+    fn new(evening: &Evening) -> Self {
+        let mut fade = Parameter::new(0.0, true);
+        if let Some(tween) = evening.fade_in {
+            fade = Parameter::new(601.0, true);
+            fade.set(0.0, frames(tween, evening.output_rate));
+        }
+        Self {
+            voice: V::create(evening),
+            output_rate: evening.output_rate,
+            volume: Parameter::new(0.0, true),
+            fade,
+            rate: Parameter::new(evening.settings.playback_rate, false),
+            panning: Parameter::new(0.0, false),
+            commands: Commands::new(),
+            fades: [None; 3],
+        }
+    }
+}
+
+fn frames(tween: Tween, output_rate: u32) -> u64 {
+    let product = tween.duration.as_nanos() * u128::from(output_rate) + 500_000_000;
+    (product / 1_000_000_000) as u64
+}
+
+impl<V: Voice> Plays for PerBlock<V> {
+    fn command(&mut self, command: Command) -> Result<(), Refusal> {
+        let over = |tween| frames(tween, self.output_rate);
+        match command {
+            Command::Pause(tween) => {
+                self.commands.pause = true;
+                self.fades[0] = Some((601.0, over(tween)));
+            }
+            Command::Resume(tween) => {
+                self.commands = self.commands.resume();
+                self.fades[1] = Some((0.0, over(tween)));
+            }
+            Command::Stop(tween) => {
+                self.commands.stop = true;
+                self.fades[2] = Some((601.0, over(tween)));
+            }
+            Command::SetPlaybackRate(rate, tween) => self.rate.set(rate, over(tween)),
+            Command::SetVolume(level, tween) => {
+                self.volume.set(level.tenths().into(), over(tween));
+            }
+            Command::SetPanning(panning, tween) => self.panning.set(panning.into(), over(tween)),
+            Command::SetLoopRegion(region) => self.commands = self.commands.set_loop_region(region),
+            Command::ClearLoopRegion => self.commands = self.commands.clear_loop_region(),
+            Command::SeekBy(seconds) => self.commands.seek_by = Some(seconds),
+            Command::SeekTo(seconds) => self.commands.seek_to = Some(seconds),
+            _ => unreachable!("no ticks here"),
+        }
+        Ok(())
+    }
+
+    fn process(&mut self, sound: &[f32], out: &mut [f32]) -> Result<Processed, Refusal> {
+        let n = out.len() / 2;
+        if n == 0 {
+            return Ok(no_counts());
+        }
+        self.voice.obey(sound, std::mem::take(&mut self.commands));
+        for fade in &mut self.fades {
+            if let Some((to, frames)) = fade.take() {
+                self.fade.set(to, frames);
+            }
+        }
+        self.volume.update(n as u64);
+        self.rate.update(n as u64);
+        self.panning.update(n as u64);
+        let finished = self.fade.update(n as u64);
+        let rate = self.rate.value;
+        if self.voice.held_rate().is_sign_negative() != rate.is_sign_negative() {
+            self.voice
+                .obey(sound, Commands::new().set_playback_rate(rate));
+        }
+        let amounts = (1..=n).map(|i| i as f64 / n as f64);
+        let level = |parameter: Parameter| {
+            let amounts = amounts.clone();
+            amounts
+                .map(|at| amplitude(parameter.interpolated(at)))
+                .collect()
+        };
+        let panning = amounts.clone().map(|at| self.panning.interpolated(at));
+        let (left, right) = panning.map(gains).unzip();
+        let lanes = Numbers {
+            fade: level(self.fade),
+            volume: level(self.volume),
+            left,
+            right,
+            rate: amounts.map(|at| self.rate.interpolated(at)).collect(),
+        };
+        let step = 1.0 / f64::from(self.output_rate);
+        Ok(self.voice.block(sound, &lanes, step, finished, out))
+    }
+
+    fn told(&self) -> Vec<u8> {
+        self.voice.told()
+    }
+}
+
+fn one_command(command: Command, frames: usize) -> Evening {
+    Evening {
+        sound: (0..40).map(|i| i as f32).collect(),
+        settings: Settings::new(1_000).start_position(4),
+        output_rate: 1_000,
+        fade_in: None,
+        commands: vec![(0, command)],
+        frames,
+    }
+}
+
+/// Whether one block plays another evening than blocks of one frame, by these two.
+fn differs(evening: &Evening, new: impl Fn() -> Box<dyn Plays>) -> bool {
+    let one = evening.played(new().as_mut(), &mut || usize::MAX);
+    let ones = evening.played(new().as_mut(), &mut || 1);
+    (one.samples, one.told.last()) != (ones.samples, ones.told.last())
+}
+
+/// Every evening of one command, few frames first, then short tweens.
+fn small_evenings() -> impl Iterator<Item = Evening> {
+    (1..=4).flat_map(|frames| {
+        (0..=4).flat_map(move |millis| {
+            let tween = Tween::from_millis(millis);
+            let level = Level::new(60).unwrap();
+            let commands = [
+                Command::Pause(tween),
+                Command::Stop(tween),
+                Command::SetPlaybackRate(0.5, tween),
+                Command::SetPlaybackRate(-1.0, tween),
+                Command::SetVolume(level, tween),
+                Command::SetPanning(-1.0, tween),
+            ];
+            commands.map(|command| one_command(command, frames))
+        })
+    })
+}
+
+#[test]
+fn the_smallest_evenings_that_tell_a_parameter_updated_once_a_block() {
+    let per_block = |evening: &Evening| {
+        let new = || PerBlock::<oracle::Oracle>::new(evening);
+        differs(evening, || Box::new(new()))
+    };
+    let found: Vec<Evening> = small_evenings()
+        .filter(|evening| per_block(evening))
+        .collect();
+    let first_of = |wanted: fn(&Command) -> bool| {
+        let evening = found.iter().find(|evening| wanted(&evening.commands[0].1));
+        let evening = evening.expect("one that differs");
+        println!("{} frames: {:?}", evening.frames, evening.commands[0].1);
+        (evening.frames, evening.commands[0].1)
+    };
+    // A volume set at once: kira spreads it over the block, whatever its length.
+    let (two, at_once) = (2, Tween::AT_ONCE);
+    let level = Level::new(60).unwrap();
+    let volume = first_of(|command| matches!(command, Command::SetVolume(..)));
+    assert_eq!(volume, (two, Command::SetVolume(level, at_once)));
+    let rate = first_of(|command| matches!(command, Command::SetPlaybackRate(..)));
+    assert_eq!(rate, (two, Command::SetPlaybackRate(0.5, at_once)));
+    let panning = first_of(|command| matches!(command, Command::SetPanning(..)));
+    assert_eq!(panning, (two, Command::SetPanning(-1.0, at_once)));
+    // A pause over two frames: in one block kira has ended it before its first frame, so nothing of the fade is heard.
+    let pause = first_of(|command| matches!(command, Command::Pause(..)));
+    assert_eq!(pause, (two, Command::Pause(Tween::from_millis(2))));
+    // The player keeps them all.
+    for evening in small_evenings() {
+        assert!(!differs(&evening, || Box::new(evening.player())));
+    }
+}
+
+/// A random evening without ticks and refusals, which the variant does not have.
+fn plain(random: &mut Random) -> Evening {
+    let mut evening = Evening::any(random);
+    evening.settings.start_waits = false;
+    let mut judge: Player = evening.player();
+    evening.commands.retain(|(_, command)| {
+        !matches!(command, Command::StartAtTick(..)) && judge.command(*command).is_ok()
+    });
+    evening
+}
+
+/// Rounds of random evenings, all as the player plays them when the other has blocks of one frame.
+fn limit_of<V: Voice>(rounds: u64) {
+    let (mut differ, mut frames) = (0, 0);
+    for seed in 0..rounds {
+        let evening = plain(&mut Random::new(seed));
+        let other = |evening: &Evening, frames| {
+            let outcome = evening.played(&mut PerBlock::<V>::new(evening), &mut || frames);
+            (outcome.samples, outcome.counts)
+        };
+        let ours = |evening: &Evening| {
+            let outcome = evening.played(&mut evening.player(), &mut || 4_096);
+            (outcome.samples, outcome.counts)
+        };
+        if other(&evening, 1) != ours(&evening) {
+            let least = shrunk(evening, |evening| other(evening, 1) != ours(evening));
+            panic!("seed {seed}\n{least:#?}");
+        }
+        differ += u64::from(other(&evening, 64) != ours(&evening));
+        frames += evening.frames;
+    }
+    println!("{frames} frames; in blocks of 64 {differ} of {rounds} evenings differ");
+    assert!(differ > rounds / 4);
+}
+
+#[test]
+fn the_player_is_kiras_text_with_blocks_of_one_frame() {
+    limit_of::<oracle::Oracle>(1_000);
+}
+
+#[test]
+fn the_player_is_a_voice_with_parameters_updated_each_frame() {
+    limit_of::<Ours>(500);
+}

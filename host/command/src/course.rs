@@ -1,0 +1,234 @@
+//! The course of an evening, for the plots: at most so many stretches of time, whatever its length.
+
+use crate::figures::{Kind, REFUSALS, Told};
+
+/// How many stretches are held; where there are more, neighbours are joined.
+pub const STRETCHES: usize = 480;
+
+/// How many loops are held.
+const LOOPS: usize = 200;
+
+/// The refusals' rows: each of `REFUSALS`, and all others.
+pub const ROWS: usize = REFUSALS.len() + 1;
+
+/// Numbers over stretches of equal length, which double as time goes on.
+#[derive(Debug, Clone)]
+pub struct Series<T> {
+    /// The frames of a stretch.
+    pub width: u64,
+    /// The stretches.
+    pub held: Vec<T>,
+}
+
+impl<T: Default + Join> Series<T> {
+    /// Begins with stretches of so many frames.
+    pub fn new(width: u64) -> Self {
+        Self {
+            width: width.max(1),
+            held: Vec::new(),
+        }
+    }
+
+    /// The stretch of this frame.
+    pub fn at(&mut self, clock: u64) -> Option<&mut T> {
+        while clock / self.width >= STRETCHES as u64 {
+            self.halve();
+        }
+        let index = (clock / self.width) as usize;
+        if self.held.len() <= index {
+            self.held.resize_with(index + 1, T::default);
+        }
+        self.held.get_mut(index)
+    }
+
+    fn halve(&mut self) {
+        self.width = self.width.saturating_mul(2);
+        let mut joined = Vec::with_capacity(STRETCHES);
+        let mut held = std::mem::take(&mut self.held).into_iter();
+        while let Some(mut first) = held.next() {
+            if let Some(second) = held.next() {
+                first.join(second);
+            }
+            joined.push(first);
+        }
+        self.held = joined;
+    }
+}
+
+/// Two neighbours become one.
+pub trait Join {
+    /// Takes in what comes after it.
+    fn join(&mut self, later: Self);
+}
+
+/// What is drawn of a stretch.
+#[derive(Debug, Clone, Copy, PartialEq, Eq, Default)]
+pub struct Stretch {
+    /// The lowest place, the highest and the last, where there was one.
+    pub places: Option<(u64, u64, u64)>,
+    /// Whether the place leapt: round a loop, by a seek, with a new voice.
+    pub leapt: bool,
+    /// Frames that were paused, and silent.
+    pub paused: u64,
+    /// Frames that were silent.
+    pub silent: u64,
+    /// All frames.
+    pub frames: u64,
+    /// Seeks.
+    pub seeks: u64,
+    /// The lowest window count.
+    pub lowest: Option<u8>,
+    /// Refused blocks, by row.
+    pub refused: [u64; ROWS],
+}
+
+impl Join for Stretch {
+    fn join(&mut self, later: Self) {
+        self.places = match (self.places, later.places) {
+            (Some((low, high, _)), Some((l, h, last))) => Some((low.min(l), high.max(h), last)),
+            (one, other) => other.or(one),
+        };
+        self.leapt |= later.leapt;
+        self.paused = self.paused.saturating_add(later.paused);
+        self.silent = self.silent.saturating_add(later.silent);
+        self.frames = self.frames.saturating_add(later.frames);
+        self.seeks = self.seeks.saturating_add(later.seeks);
+        self.lowest = lower(self.lowest, later.lowest);
+        for (sum, more) in self.refused.iter_mut().zip(later.refused) {
+            *sum = sum.saturating_add(more);
+        }
+    }
+}
+
+impl Join for u64 {
+    fn join(&mut self, later: Self) {
+        *self = self.saturating_add(later);
+    }
+}
+
+fn lower(one: Option<u8>, other: Option<u8>) -> Option<u8> {
+    match (one, other) {
+        (Some(one), Some(other)) => Some(one.min(other)),
+        (one, other) => one.or(other),
+    }
+}
+
+/// A loop that was gone round.
+#[derive(Debug, Clone, Copy, PartialEq, Eq)]
+pub struct Loop {
+    /// The frame at which the block of its first turn begins.
+    pub from: u64,
+    /// The frame after the block of its last turn.
+    pub until: u64,
+    /// The highest place that was told at its turns.
+    pub high: u64,
+    /// Its length in frames of the sound.
+    pub length: u64,
+    /// Times round.
+    pub rounds: u64,
+}
+
+/// The course so far.
+#[derive(Debug, Clone)]
+pub struct Course {
+    /// The stretches.
+    pub stretches: Series<Stretch>,
+    /// Times round, minute by minute.
+    pub rounds: Series<u64>,
+    /// The loops, in their order; the first of them alone where there are very many.
+    pub loops: Vec<Loop>,
+    /// The frames so far.
+    pub frames: u64,
+    /// The highest place.
+    pub highest: u64,
+    last: Option<u64>,
+}
+
+impl Course {
+    /// Nothing yet; a box of so many frames a second.
+    pub fn new(rate: u32) -> Self {
+        Self {
+            stretches: Series::new(1),
+            rounds: Series::new(60 * u64::from(rate)),
+            loops: Vec::new(),
+            frames: 0,
+            highest: 0,
+            last: None,
+        }
+    }
+
+    /// One line more.
+    pub fn add(&mut self, told: &Told) {
+        let leapt = told.jumped || told.rounds > 0 || told.seeks > 0;
+        if let Some(stretch) = self.stretches.at(told.clock) {
+            stretch.join(Stretch {
+                places: told.position.map(|place| (place, place, place)),
+                leapt,
+                paused: if told.kind == Kind::Paused {
+                    told.frames
+                } else {
+                    0
+                },
+                silent: if told.kind == Kind::Silent {
+                    told.frames
+                } else {
+                    0
+                },
+                frames: told.frames,
+                seeks: told.seeks,
+                lowest: told.lowest,
+                refused: refusals(told.refusal),
+            });
+        }
+        if let Some(rounds) = self.rounds.at(told.clock) {
+            rounds.join(told.rounds);
+        }
+        self.frames = told.clock.saturating_add(told.frames);
+        let Some(place) = told.position else {
+            return;
+        };
+        self.highest = self.highest.max(place);
+        if told.rounds > 0 {
+            self.turn(told, place);
+        }
+        self.last = Some(place);
+    }
+
+    /// A turn belongs to the loop before it where the length is the same.
+    fn turn(&mut self, told: &Told, place: u64) {
+        let high = self.last.unwrap_or_default().max(place);
+        if let Some(last) = self.loops.last_mut()
+            && told.length.is_none_or(|length| length == last.length)
+        {
+            // The first turn may come from beyond the loop.
+            last.high = if last.rounds == 1 {
+                high
+            } else {
+                last.high.max(high)
+            };
+            last.until = self.frames;
+            last.rounds = last.rounds.saturating_add(told.rounds);
+            return;
+        }
+        if let Some(length) = told.length
+            && self.loops.len() < LOOPS
+        {
+            self.loops.push(Loop {
+                from: told.clock,
+                until: self.frames,
+                high,
+                length,
+                rounds: told.rounds,
+            });
+        }
+    }
+}
+
+fn refusals(refusal: Option<u8>) -> [u64; ROWS] {
+    let mut rows = [0; ROWS];
+    if let Some(refusal) = refusal {
+        let row = REFUSALS.iter().position(|number| *number == refusal);
+        rows[row.unwrap_or(ROWS - 1)] = 1;
+    }
+    rows
+}

@@ -1,0 +1,331 @@
+//! The figures of an evening, taken from its log line by line; docs/TOOLS.md says how each is told.
+
+use crate::log::{Before, Block, Form, Line};
+
+/// The refusals that a block may have, each with a column of its own.
+pub const REFUSALS: [u8; 5] = [1, 9, 10, 11, 12];
+
+/// The figures of one log, or of several together. What the lines cannot tell is `None`.
+#[derive(Debug, Clone, Copy, PartialEq, Eq, Default)]
+pub struct Figures {
+    /// Blocks, the refused ones too.
+    pub blocks: u64,
+    /// Frames of the accepted blocks.
+    pub frames: u64,
+    /// Of these: in blocks that played.
+    pub played: u64,
+    /// In blocks that were paused, or waited to resume.
+    pub paused: u64,
+    /// In blocks that were silent: not started, or stopped.
+    pub silent: u64,
+    /// In blocks that played by their state, but without a step.
+    pub still: u64,
+    /// Frames of the sound that were stepped over.
+    pub steps: u64,
+    /// Blocks in which the place moved further than their steps.
+    pub jumps: u64,
+    /// Times round the loop, forward and backward.
+    pub rounds: Option<u64>,
+    /// Seeks.
+    pub seeks: Option<u64>,
+    /// Restarts by hand.
+    pub restarts: Option<u64>,
+    /// The lowest window count.
+    pub lowest: Option<u64>,
+    /// Refused blocks: one count for each of `REFUSALS`.
+    pub refused: [u64; REFUSALS.len()],
+    /// Blocks that were refused with another number.
+    pub refused_otherwise: u64,
+    /// The refusal of the record where the run ended, and its first byte.
+    pub broken: Option<(u8, u64)>,
+}
+
+impl Figures {
+    /// All refused blocks.
+    pub fn all_refused(&self) -> u64 {
+        let named = self.refused.iter().copied();
+        named
+            .chain([self.refused_otherwise])
+            .fold(0, u64::saturating_add)
+    }
+}
+
+/// What one line adds, for the plots.
+#[derive(Debug, Clone, Copy, PartialEq, Eq)]
+pub struct Told {
+    /// The frames before this line.
+    pub clock: u64,
+    /// The frames of this line.
+    pub frames: u64,
+    /// The place after it, if it moved.
+    pub position: Option<u64>,
+    /// What the voice did.
+    pub kind: Kind,
+    /// Times round the loop.
+    pub rounds: u64,
+    /// The loop's length, where a round tells it.
+    pub length: Option<u64>,
+    /// Whether the place moved further than the steps.
+    pub jumped: bool,
+    /// Seeks before it.
+    pub seeks: u64,
+    /// The lowest window count.
+    pub lowest: Option<u8>,
+    /// The refusal, if it has one.
+    pub refusal: Option<u8>,
+}
+
+/// What a voice did in a block.
+#[derive(Debug, Clone, Copy, PartialEq, Eq)]
+pub enum Kind {
+    /// It played.
+    Played,
+    /// It was paused, or waited to resume.
+    Paused,
+    /// It had not started, or was stopped.
+    Silent,
+    /// It was refused.
+    Refused,
+}
+
+/// The figures so far.
+#[derive(Debug, Clone)]
+pub struct Count {
+    figures: Figures,
+    position: Option<u64>,
+    turns: Option<(u32, u32)>,
+}
+
+impl Count {
+    /// No line yet.
+    pub fn new(form: Form) -> Self {
+        let second = (form == Form::Second).then_some(0);
+        Self {
+            figures: Figures {
+                rounds: second,
+                seeks: second,
+                restarts: second,
+                lowest: second.map(|_| 4),
+                ..Figures::default()
+            },
+            position: None,
+            turns: None,
+        }
+    }
+
+    /// The figures of all lines so far.
+    pub fn figures(&self) -> Figures {
+        self.figures
+    }
+
+    /// One line more.
+    pub fn add(&mut self, line: &Line) -> Option<Told> {
+        match *line {
+            Line::Broken { refusal, at } => {
+                self.figures.broken = Some((refusal, at));
+                None
+            }
+            Line::Refused {
+                refusal, before, ..
+            } => Some(self.refused(refusal, before)),
+            Line::Block(block) => Some(self.accepted(&block)),
+        }
+    }
+
+    fn refused(&mut self, refusal: u8, before: Option<Before>) -> Told {
+        let figures = &mut self.figures;
+        raise(&mut figures.blocks, 1);
+        match REFUSALS.iter().position(|number| *number == refusal) {
+            Some(column) => raise(&mut figures.refused[column], 1),
+            None => raise(&mut figures.refused_otherwise, 1),
+        }
+        Told {
+            clock: figures.frames,
+            frames: 0,
+            position: None,
+            kind: Kind::Refused,
+            rounds: 0,
+            length: None,
+            jumped: false,
+            seeks: self.before(before),
+            lowest: None,
+            refusal: Some(refusal),
+        }
+    }
+
+    fn accepted(&mut self, block: &Block) -> Told {
+        let kind = kind(block);
+        let before = block.more.map(|more| more.before);
+        let seeks = self.before(before);
+        let rounds = self.rounds(block);
+        let moved = self.position.map(|from| block.position.abs_diff(from));
+        let jumped = moved.is_some_and(|moved| moved > block.steps);
+        let undisturbed = before.is_some_and(|b| (b.created, b.seeks) == (0, 0));
+        let length = match undisturbed {
+            true => self.length(block, rounds),
+            false => None,
+        };
+        self.position = Some(block.position);
+        let figures = &mut self.figures;
+        let clock = figures.frames;
+        raise(&mut figures.blocks, 1);
+        raise(&mut figures.frames, block.frames);
+        raise(&mut figures.steps, block.steps);
+        raise(&mut figures.jumps, jumped.into());
+        match kind {
+            Kind::Played => raise(&mut figures.played, block.frames),
+            Kind::Paused => raise(&mut figures.paused, block.frames),
+            Kind::Silent | Kind::Refused => raise(&mut figures.silent, block.frames),
+        }
+        if kind == Kind::Played && block.steps == 0 {
+            raise(&mut figures.still, block.frames);
+        }
+        let lowest = block.more.map(|more| more.lowest);
+        figures.lowest = figures.lowest.min(lowest.map(u64::from));
+        Told {
+            clock,
+            frames: block.frames,
+            position: Some(block.position),
+            kind,
+            rounds: rounds.map_or(0, |(forward, backward)| forward + backward),
+            length,
+            jumped,
+            seeks,
+            lowest,
+            refusal: None,
+        }
+    }
+
+    /// What was done before a line; the seeks of it.
+    fn before(&mut self, before: Option<Before>) -> u64 {
+        let Some(before) = before else {
+            return 0;
+        };
+        let add = |sum: &mut Option<u64>, more| *sum = sum.map(|sum| sum.saturating_add(more));
+        add(&mut self.figures.seeks, before.seeks);
+        add(&mut self.figures.restarts, before.restarts);
+        if before.created > 0 {
+            self.turns = Some((0, 0));
+            self.position = None;
+        }
+        before.seeks
+    }
+
+    /// The turns of a block, forward and backward. A voice that is older than the log brings the
+    /// turns of its first line; of a count that stands at its limit nothing is told.
+    fn rounds(&mut self, block: &Block) -> Option<(u64, u64)> {
+        let more = block.more?;
+        let (forward, backward) = self.turns.unwrap_or((more.forward, more.backward));
+        self.turns = Some((more.forward, more.backward));
+        let forward = more.forward.saturating_sub(forward).into();
+        let backward = more.backward.saturating_sub(backward).into();
+        let full = [more.forward, more.backward].contains(&u32::MAX);
+        let sum = self.figures.rounds.filter(|_| !full);
+        self.figures.rounds = sum.map(|sum: u64| sum.saturating_add(forward + backward));
+        Some((forward, backward))
+    }
+
+    /// The loop's length: a voice that plays in its loop of L frames goes from p to p + steps - L *
+    /// turns, and backward to p - steps + L * turns.
+    fn length(&self, block: &Block, rounds: Option<(u64, u64)>) -> Option<u64> {
+        let from = self.position?;
+        let (way, turns) = match rounds? {
+            (0, 0) => return None,
+            (turns, 0) => (
+                from.checked_add(block.steps)?.checked_sub(block.position)?,
+                turns,
+            ),
+            (0, turns) => (
+                block.position.checked_add(block.steps)?.checked_sub(from)?,
+                turns,
+            ),
+            _ => return None,
+        };
+        way.is_multiple_of(turns).then(|| way / turns)
+    }
+}
+
+/// What the voice did in an accepted block: docs/TOOLS.md, "How each figure is told".
+fn kind(block: &Block) -> Kind {
+    let started = block.more.is_none_or(|more| more.started);
+    match block.state {
+        _ if !started => Kind::Silent,
+        2 | 3 => Kind::Paused,
+        6 if block.steps == 0 => Kind::Silent,
+        _ => Kind::Played,
+    }
+}
+
+fn raise(sum: &mut u64, more: u64) {
+    *sum = sum.saturating_add(more);
+}
+
+/// All logs together: a figure is told where each of them tells it.
+pub fn total(all: &[Figures]) -> Figures {
+    let sum = |of: fn(&Figures) -> u64| all.iter().map(of).fold(0, u64::saturating_add);
+    let told = |of: fn(&Figures) -> Option<u64>| {
+        let numbers: Option<Vec<u64>> = all.iter().map(of).collect();
+        numbers.map(|numbers| numbers.into_iter().fold(0, u64::saturating_add))
+    };
+    let mut refused = [0; REFUSALS.len()];
+    for (column, sum) in refused.iter_mut().enumerate() {
+        for figures in all {
+            raise(sum, figures.refused[column]);
+        }
+    }
+    let lowest: Option<Vec<u64>> = all.iter().map(|figures| figures.lowest).collect();
+    Figures {
+        blocks: sum(|f| f.blocks),
+        frames: sum(|f| f.frames),
+        played: sum(|f| f.played),
+        paused: sum(|f| f.paused),
+        silent: sum(|f| f.silent),
+        still: sum(|f| f.still),
+        steps: sum(|f| f.steps),
+        jumps: sum(|f| f.jumps),
+        rounds: told(|f| f.rounds),
+        seeks: told(|f| f.seeks),
+        restarts: told(|f| f.restarts),
+        lowest: lowest.and_then(|numbers| numbers.into_iter().min()),
+        refused,
+        refused_otherwise: sum(|f| f.refused_otherwise),
+        broken: None,
+    }
+}
+
+/// The five quantiles that are told, by their names: each in hundredths.
+pub const QUANTILES: [(&str, usize); 5] = [
+    ("lowest", 0),
+    ("quarter", 25),
+    ("median", 50),
+    ("three quarters", 75),
+    ("highest", 100),
+];
+
+/// A quantile by the nearest rank: the smallest of the numbers that at least so many hundredths of
+/// them do not exceed. It is always one of them; of none there is none.
+pub fn quantile(numbers: &[u64], hundredths: usize) -> Option<u64> {
+    let mut sorted = numbers.to_vec();
+    sorted.sort_unstable();
+    let rank = (sorted.len() * hundredths).div_ceil(100).max(1);
+    sorted.get(rank - 1).copied()
+}
+
+#[cfg(test)]
+mod tests {
+    use super::*;
+
+    #[test]
+    fn a_quantile_is_one_of_the_numbers() {
+        assert_eq!(quantile(&[], 50), None);
+        for (_, hundredths) in QUANTILES {
+            assert_eq!(quantile(&[7], hundredths), Some(7));
+        }
+        let four = [40, 10, 30, 20];
+        let told = QUANTILES.map(|(_, hundredths)| quantile(&four, hundredths));
+        assert_eq!(told, [10, 10, 20, 30, 40].map(Some));
+        let five = [5, 4, 3, 2, 1];
+        let told = QUANTILES.map(|(_, hundredths)| quantile(&five, hundredths));
+        assert_eq!(told, [1, 2, 3, 4, 5].map(Some));
+    }
+}

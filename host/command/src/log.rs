@@ -1,0 +1,455 @@
+//! A log, line by line: what a box said of one voice, one line a block (docs/TOOLS.md has the two
+//! forms). Any bytes are taken; what is no log is told in one sentence with its line.
+
+use std::{fmt, io::Read};
+
+use crate::{fault::Result, input::Input};
+
+/// Which of the two forms a log has.
+#[derive(Debug, Clone, Copy, PartialEq, Eq)]
+pub enum Form {
+    /// The lines that replay prints.
+    First,
+    /// `log=2`, then lines that tell more.
+    Second,
+}
+
+impl Form {
+    /// Its number.
+    pub fn number(self) -> u64 {
+        match self {
+            Self::First => 1,
+            Self::Second => 2,
+        }
+    }
+}
+
+/// A line of a log.
+#[derive(Debug, Clone, Copy, PartialEq, Eq)]
+pub enum Line {
+    /// An accepted block.
+    Block(Block),
+    /// A block that the player refused.
+    Refused {
+        /// Its number.
+        number: u64,
+        /// The refusal's.
+        refusal: u8,
+        /// What came before it; the second form alone.
+        before: Option<Before>,
+    },
+    /// A record that the reader refused, where the run ended.
+    Broken {
+        /// The refusal's number.
+        refusal: u8,
+        /// The record's first byte.
+        at: u64,
+    },
+}
+
+/// An accepted block.
+#[derive(Debug, Clone, Copy, PartialEq, Eq)]
+pub struct Block {
+    /// Its number, from 1.
+    pub number: u64,
+    /// Its frames.
+    pub frames: u64,
+    /// The frames of the sound that it stepped over.
+    pub steps: u64,
+    /// The state after it, 0 to 6.
+    pub state: u8,
+    /// The place after it.
+    pub position: u64,
+    /// What the second form tells beside.
+    pub more: Option<More>,
+}
+
+/// What the second form tells of an accepted block.
+#[derive(Debug, Clone, Copy, PartialEq, Eq)]
+pub struct More {
+    /// The lowest window count that it read, 0 to 4.
+    pub lowest: u8,
+    /// The voice's turns forward so far.
+    pub forward: u32,
+    /// The voice's turns backward so far.
+    pub backward: u32,
+    /// Whether the sound's own start has come.
+    pub started: bool,
+    /// What came before it.
+    pub before: Before,
+}
+
+/// What was done to the voice between the line before and this one.
+#[derive(Debug, Clone, Copy, PartialEq, Eq)]
+pub struct Before {
+    /// Voices created.
+    pub created: u64,
+    /// Seeks obeyed.
+    pub seeks: u64,
+    /// Of both, those that started over.
+    pub restarts: u64,
+}
+
+/// The longest line: the second form with every number at its longest has fewer bytes.
+const LONGEST: usize = 320;
+
+/// A line of this form, without its line feed.
+pub fn parse(text: &[u8], form: Form) -> std::result::Result<Line, Wrong> {
+    let mut words = Words { text, at: 0 };
+    if words.next_is(b"refused=") {
+        let refusal = words.number(b"refused=", 255)? as u8;
+        let at = words.number(b" at=", u64::MAX)?;
+        words.end()?;
+        return Ok(Line::Broken { refusal, at });
+    }
+    let number = words.number(b"block=", u64::MAX)?;
+    if words.next_is(b" refused=") {
+        let refusal = words.number(b" refused=", 255)? as u8;
+        let before = match form {
+            Form::First => None,
+            Form::Second => Some(words.before()?),
+        };
+        words.end()?;
+        return Ok(Line::Refused {
+            number,
+            refusal,
+            before,
+        });
+    }
+    let frames = words.number(b" frames=", u64::MAX)?;
+    let steps = words.number(b" steps=", u64::MAX)?;
+    let state = words.number(b" state=", 6)? as u8;
+    let position = words.number(b" position=", u64::MAX)?;
+    let more = match form {
+        Form::First => None,
+        Form::Second => Some(More {
+            lowest: words.number(b" lowest=", 4)? as u8,
+            forward: words.number(b" forward=", u32::MAX.into())? as u32,
+            backward: words.number(b" backward=", u32::MAX.into())? as u32,
+            started: words.number(b" started=", 1)? == 1,
+            before: words.before()?,
+        }),
+    };
+    words.end()?;
+    Ok(Line::Block(Block {
+        number,
+        frames,
+        steps,
+        state,
+        position,
+        more,
+    }))
+}
+
+/// Why a line is none, and at which of its bytes, from 1.
+#[derive(Debug, Clone, PartialEq, Eq)]
+pub struct Wrong {
+    column: usize,
+    words: String,
+}
+
+impl fmt::Display for Wrong {
+    fn fmt(&self, f: &mut fmt::Formatter<'_>) -> fmt::Result {
+        write!(f, "column {}: {}", self.column, self.words)
+    }
+}
+
+/// The words of a line, read from its start.
+struct Words<'a> {
+    text: &'a [u8],
+    at: usize,
+}
+
+impl Words<'_> {
+    fn rest(&self) -> &[u8] {
+        self.text.get(self.at..).unwrap_or_default()
+    }
+
+    fn next_is(&self, word: &[u8]) -> bool {
+        self.rest().starts_with(word)
+    }
+
+    fn wrong(&self, words: impl Into<String>) -> Wrong {
+        Wrong {
+            column: self.at + 1,
+            words: words.into(),
+        }
+    }
+
+    /// A word, and after it a number in decimal, of this size at most.
+    fn number(&mut self, word: &[u8], most: u64) -> std::result::Result<u64, Wrong> {
+        let named = String::from_utf8_lossy(word.trim_ascii_start()).into_owned();
+        if !self.next_is(word) {
+            return Err(self.wrong(format!("'{named}' must stand here")));
+        }
+        self.at += word.len();
+        let length = self.rest().iter().take_while(|byte| byte.is_ascii_digit());
+        let digits = self.rest().get(..length.count()).unwrap_or_default();
+        let number = match digits {
+            [] => return Err(self.wrong(format!("'{named}' has no number"))),
+            [b'0', _, ..] => {
+                return Err(self.wrong(format!("the number of '{named}' begins with 0")));
+            }
+            _ => std::str::from_utf8(digits)
+                .ok()
+                .and_then(|digits| digits.parse().ok())
+                .filter(|number| *number <= most),
+        };
+        let Some(number) = number else {
+            return Err(self.wrong(format!("the number of '{named}' is above {most}")));
+        };
+        self.at += digits.len();
+        Ok(number)
+    }
+
+    fn before(&mut self) -> std::result::Result<Before, Wrong> {
+        Ok(Before {
+            created: self.number(b" created=", u64::MAX)?,
+            seeks: self.number(b" seeks=", u64::MAX)?,
+            restarts: self.number(b" restarts=", u64::MAX)?,
+        })
+    }
+
+    fn end(&self) -> std::result::Result<(), Wrong> {
+        match self.rest() {
+            [] => Ok(()),
+            [b'\r'] => {
+                Err(self.wrong("a carriage return: a log's lines end with a line feed alone"))
+            }
+            _ => Err(self.wrong("the line must end here")),
+        }
+    }
+}
+
+/// A log that is being read; it holds one line at a time.
+pub struct Log {
+    input: Input,
+    form: Form,
+    room: Vec<u8>,
+    from: usize,
+    until: usize,
+    ended: bool,
+    /// The first line that is not read yet, from 1, and its first byte.
+    line: u64,
+    place: u64,
+    blocks: u64,
+    broken: bool,
+    counts: Option<(u32, u32)>,
+}
+
+impl Log {
+    /// Begins to read a log, and finds its form.
+    pub fn new(input: Input) -> Result<Self> {
+        let mut log = Self {
+            input,
+            form: Form::First,
+            room: vec![0; 1 << 16],
+            from: 0,
+            until: 0,
+            ended: false,
+            line: 1,
+            place: 0,
+            blocks: 0,
+            broken: false,
+            counts: None,
+        };
+        log.fill()?;
+        if log.held().starts_with(b"log=") {
+            let first = log.take()?;
+            if first != Some(b"log=2".as_slice()) {
+                let words = "this form of a log is not known: 'log=2' is, and replay's lines are";
+                return Err(log.input.wrong(format_args!("line 1: {words}")));
+            }
+            log.form = Form::Second;
+        }
+        Ok(log)
+    }
+
+    /// Its form.
+    pub fn form(&self) -> Form {
+        self.form
+    }
+
+    /// Its name, as it may be told.
+    pub fn name(&self) -> &str {
+        self.input.name()
+    }
+
+    /// The next line, or none at the log's end.
+    pub fn next_line(&mut self) -> Result<Option<Line>> {
+        let (number, place, form) = (self.line, self.place, self.form);
+        let wrong = |words: &dyn fmt::Display| format!("line {number} (byte {place}): {words}");
+        let Some(text) = self.take()? else {
+            return Ok(None);
+        };
+        let parsed = parse(text, form);
+        let line = parsed.map_err(|why| self.input.wrong(wrong(&why)))?;
+        if let Err(why) = self.follows(&line) {
+            return Err(self.input.wrong(wrong(&why)));
+        }
+        Ok(Some(line))
+    }
+
+    /// A line must follow from those before it.
+    fn follows(&mut self, line: &Line) -> std::result::Result<(), String> {
+        if self.broken {
+            return Err("a line after the one where the run ended".into());
+        }
+        let number = match *line {
+            Line::Broken { .. } => {
+                self.broken = true;
+                return Ok(());
+            }
+            Line::Block(Block { number, .. }) | Line::Refused { number, .. } => number,
+        };
+        if Some(number) != self.blocks.checked_add(1) {
+            let before = self.blocks;
+            return Err(match before {
+                0 => format!("block {number} is the first, and 1 must be: lines are missing"),
+                _ => format!(
+                    "block {number} follows block {before}: lines are missing or stand twice"
+                ),
+            });
+        }
+        self.blocks = number;
+        self.counts_follow(line)
+    }
+
+    /// Of one voice no count falls.
+    fn counts_follow(&mut self, line: &Line) -> std::result::Result<(), String> {
+        let before = match line {
+            Line::Block(Block { more: Some(m), .. }) => Some(m.before),
+            Line::Refused { before, .. } => *before,
+            _ => None,
+        };
+        if before.is_some_and(|before| before.created > 0) {
+            self.counts = None;
+        }
+        let Line::Block(Block { more: Some(m), .. }) = line else {
+            return Ok(());
+        };
+        if let Some((forward, backward)) = self.counts
+            && (m.forward < forward || m.backward < backward)
+        {
+            return Err("a count of turns is lower than before, and no voice was created".into());
+        }
+        self.counts = Some((m.forward, m.backward));
+        Ok(())
+    }
+
+    fn held(&self) -> &[u8] {
+        self.room.get(self.from..self.until).unwrap_or_default()
+    }
+
+    /// Moves what is held to the front, and reads until a longest line is held or the input ends.
+    fn fill(&mut self) -> Result<()> {
+        self.room.copy_within(self.from..self.until, 0);
+        (self.from, self.until) = (0, self.until - self.from);
+        while !self.ended && self.until <= LONGEST {
+            match self.input.read(&mut self.room[self.until..]) {
+                Ok(0) => self.ended = true,
+                Ok(read) => self.until += read,
+                Err(error) if error.kind() == std::io::ErrorKind::Interrupted => {}
+                Err(error) => return Err(self.input.unread(&error)),
+            }
+        }
+        Ok(())
+    }
+
+    /// The next line's bytes, without the line feed.
+    fn take(&mut self) -> Result<Option<&[u8]>> {
+        if self.until - self.from <= LONGEST && !self.ended {
+            self.fill()?;
+        }
+        let held = self.held();
+        if held.is_empty() {
+            return Ok(None);
+        }
+        let Some(length) = held
+            .iter()
+            .take(LONGEST + 1)
+            .position(|byte| *byte == b'\n')
+        else {
+            let words = match held.len() > LONGEST {
+                true => format!("no line of a log has more than {LONGEST} bytes: this is no log"),
+                false => "the last line has no line feed: the log was cut off here".into(),
+            };
+            let (line, place) = (self.line, self.place);
+            return Err(self
+                .input
+                .wrong(format_args!("line {line} (byte {place}): {words}")));
+        };
+        let from = self.from;
+        self.from += length + 1;
+        self.line += 1;
+        self.place += length as u64 + 1;
+        Ok(self.room.get(from..from + length))
+    }
+}
+
+#[cfg(test)]
+mod tests {
+    use super::*;
+
+    fn first(text: &str) -> std::result::Result<Line, String> {
+        parse(text.as_bytes(), Form::First).map_err(|wrong| wrong.to_string())
+    }
+
+    #[test]
+    fn the_three_lines_of_replay_are_read() {
+        let block = Block {
+            number: 1,
+            frames: 6,
+            steps: 6,
+            state: 6,
+            position: 3,
+            more: None,
+        };
+        assert_eq!(
+            first("block=1 frames=6 steps=6 state=6 position=3"),
+            Ok(Line::Block(block))
+        );
+        let refused = Line::Refused {
+            number: 1,
+            refusal: 12,
+            before: None,
+        };
+        assert_eq!(first("block=1 refused=12"), Ok(refused));
+        let broken = Line::Broken { refusal: 15, at: 0 };
+        assert_eq!(first("refused=15 at=0"), Ok(broken));
+    }
+
+    #[test]
+    fn what_is_no_line_is_told_by_its_column() {
+        for (text, told) in [
+            ("", "column 1: 'block=' must stand here"),
+            ("block=", "column 7: 'block=' has no number"),
+            (
+                "block=01 refused=1",
+                "column 7: the number of 'block=' begins with 0",
+            ),
+            ("block=-1 refused=1", "column 7: 'block=' has no number"),
+            ("block=1", "column 8: 'frames=' must stand here"),
+            ("block=1  refused=1", "column 8: 'frames=' must stand here"),
+            (
+                "block=1 refused=300",
+                "column 17: the number of 'refused=' is above 255",
+            ),
+            ("block=1 refused=12 ", "column 19: the line must end here"),
+            (
+                "block=1 refused=12\r",
+                "column 19: a carriage return: a log's lines end with a line feed alone",
+            ),
+            (
+                "block=18446744073709551616 refused=1",
+                "column 7: the number of 'block=' is above 18446744073709551615",
+            ),
+            (
+                "block=1 frames=6 steps=6 state=7 position=3",
+                "column 32: the number of 'state=' is above 6",
+            ),
+        ] {
+            assert_eq!(first(text), Err(told.into()), "{text:?}");
+        }
+    }
+}

@@ -1,0 +1,435 @@
+//! `cableowl report`: the figures of evenings, one row a log, and all of them together.
+
+use std::{
+    fs,
+    path::{Path, PathBuf},
+};
+
+use crate::{
+    course::Course,
+    fault::{Fault, Result},
+    figures::{Count, Figures, QUANTILES, REFUSALS, quantile, total},
+    input::Input,
+    log::{Form, Log},
+    out::{Fresh, Out, free_for_a_page, same},
+    page,
+    plot::grouped,
+};
+
+/// A log and its figures.
+pub struct Evening {
+    /// The log's name.
+    pub name: String,
+    /// Its form.
+    pub form: Form,
+    /// Its figures.
+    pub figures: Figures,
+    /// Its course.
+    pub course: Course,
+}
+
+/// A row of the report, by what it is.
+#[derive(Debug, Clone, Copy, PartialEq, Eq)]
+pub enum Row {
+    /// One log.
+    Log,
+    /// All of them.
+    Total,
+    /// Over all of them.
+    Quantile,
+}
+
+impl Row {
+    /// Its name.
+    pub fn name(self) -> &'static str {
+        match self {
+            Self::Log => "log",
+            Self::Total => "total",
+            Self::Quantile => "quantile",
+        }
+    }
+}
+
+/// The columns: the name in a table, and the words for people.
+pub const COLUMNS: [(&str, &str); 21] = [
+    ("blocks", "Blocks"),
+    ("frames", "Frames"),
+    ("minutes", "Minutes"),
+    ("minutes_played", "Minutes played"),
+    ("minutes_paused", "Minutes paused"),
+    ("minutes_silent", "Minutes silent"),
+    ("minutes_still", "Minutes without a step"),
+    ("steps", "Steps"),
+    ("jumps", "Jumps"),
+    ("rounds", "Times round the loop"),
+    ("seeks", "Seeks"),
+    ("restarts", "Restarts by hand"),
+    ("lowest_count", "Lowest window count"),
+    ("refused", "Refused blocks"),
+    ("refused_1", "Refused with 1"),
+    ("refused_9", "Refused with 9"),
+    ("refused_10", "Refused with 10"),
+    ("refused_11", "Refused with 11"),
+    ("refused_12", "Refused with 12"),
+    ("refused_other", "Refused otherwise"),
+    ("broken", "Broken records"),
+];
+
+/// The figures of a row, one for each column; `None` is not told.
+type Cells = [Option<u64>; COLUMNS.len()];
+
+fn cells(figures: &Figures) -> Cells {
+    let [one, nine, ten, eleven, twelve] = figures.refused.map(Some);
+    [
+        Some(figures.blocks),
+        Some(figures.frames),
+        Some(figures.frames),
+        Some(figures.played),
+        Some(figures.paused),
+        Some(figures.silent),
+        Some(figures.still),
+        Some(figures.steps),
+        Some(figures.jumps),
+        figures.rounds,
+        figures.seeks,
+        figures.restarts,
+        figures.lowest,
+        Some(figures.all_refused()),
+        one,
+        nine,
+        ten,
+        eleven,
+        twelve,
+        Some(figures.refused_otherwise),
+        Some(figures.broken.is_some().into()),
+    ]
+}
+
+/// A row as it is written: what it is, its name, its form, its figures.
+pub struct Told {
+    /// What it is.
+    pub row: Row,
+    /// Its name.
+    pub name: String,
+    /// The form of its log.
+    pub form: Option<Form>,
+    /// Its figures as text, minutes with three digits; `None` is not told.
+    pub cells: [Option<String>; COLUMNS.len()],
+}
+
+impl Told {
+    fn new(row: Row, name: &str, form: Option<Form>, cells: Cells, rate: u32) -> Self {
+        let mut index = 0;
+        let cells = cells.map(|cell| {
+            let (column, _) = COLUMNS[index];
+            index += 1;
+            let number = cell?;
+            Some(match column.starts_with("minutes") {
+                true => minutes(number, rate),
+                false => number.to_string(),
+            })
+        });
+        Self {
+            row,
+            name: name.into(),
+            form,
+            cells,
+        }
+    }
+}
+
+/// Minutes of so many frames, to a thousandth.
+pub fn minutes(frames: u64, rate: u32) -> String {
+    let whole = 60 * u128::from(rate);
+    let thousandths = (u128::from(frames) * 1_000 + whole / 2) / whole;
+    format!("{}.{:03}", thousandths / 1_000, thousandths % 1_000)
+}
+
+/// The rows: one for each log; where there are several, all of them together, and the quantiles.
+pub fn rows(evenings: &[Evening], rate: u32) -> Vec<Told> {
+    let all: Vec<Cells> = evenings
+        .iter()
+        .map(|evening| cells(&evening.figures))
+        .collect();
+    let each = evenings.iter().zip(&all);
+    let mut rows: Vec<Told> = each
+        .map(|(evening, cells)| {
+            Told::new(Row::Log, &evening.name, Some(evening.form), *cells, rate)
+        })
+        .collect();
+    if evenings.len() < 2 {
+        return rows;
+    }
+    let figures: Vec<Figures> = evenings.iter().map(|evening| evening.figures).collect();
+    let mut sum = cells(&total(&figures));
+    let broken = all
+        .iter()
+        .filter_map(|cells| cells[COLUMNS.len() - 1])
+        .sum();
+    sum[COLUMNS.len() - 1] = Some(broken);
+    rows.push(Told::new(Row::Total, "total", None, sum, rate));
+    for (name, hundredths) in QUANTILES {
+        let mut cells = Cells::default();
+        for (column, cell) in cells.iter_mut().enumerate() {
+            let numbers: Option<Vec<u64>> = all.iter().map(|cells| cells[column]).collect();
+            *cell = numbers.and_then(|numbers| quantile(&numbers, hundredths));
+        }
+        rows.push(Told::new(Row::Quantile, name, None, cells, rate));
+    }
+    rows
+}
+
+/// Reads a log to its end.
+fn read(path: &Path, rate: u32) -> Result<Evening> {
+    let mut log = Log::new(Input::open(path)?)?;
+    let mut count = Count::new(log.form());
+    let mut course = Course::new(rate);
+    while let Some(line) = log.next_line()? {
+        if let Some(told) = count.add(&line) {
+            course.add(&told);
+        }
+    }
+    Ok(Evening {
+        name: log.name().to_owned(),
+        form: log.form(),
+        figures: count.figures(),
+        course,
+    })
+}
+
+/// Reports on logs. A log that is refused is told by `complain` and left out.
+pub fn report(
+    logs: &[PathBuf],
+    rate: u32,
+    csv: bool,
+    to: Option<&Path>,
+    out: &mut Out<'_>,
+    complain: &mut dyn FnMut(&Fault),
+) -> Result<bool> {
+    if let Some(path) = to {
+        not_an_input(path, logs)?;
+        free_for_a_page(path)?;
+    }
+    let mut evenings = Vec::new();
+    for path in logs {
+        match read(path, rate) {
+            Ok(evening) => evenings.push(evening),
+            Err(fault) => complain(&fault),
+        }
+    }
+    let all_read = evenings.len() == logs.len();
+    if evenings.is_empty() {
+        return Ok(false);
+    }
+    let rows = rows(&evenings, rate);
+    match csv {
+        true => put_csv(&rows, rate, out)?,
+        false => put_text(&evenings, &rows, rate, out)?,
+    }
+    if let Some(path) = to {
+        let mut file = Fresh::begin(path)?;
+        page::report(&evenings, &rows, rate, &mut |text| {
+            file.put(text.as_bytes())
+        })?;
+        file.replace()?;
+    }
+    Ok(all_read)
+}
+
+/// A page does not take the place of what it is made from.
+pub fn not_an_input(page: &Path, inputs: &[PathBuf]) -> Result<()> {
+    let Ok(there) = fs::metadata(page) else {
+        return Ok(());
+    };
+    let is_it = |input: &&PathBuf| fs::metadata(input).is_ok_and(|input| same(&there, &input));
+    match inputs.iter().find(is_it) {
+        Some(_) => Err(Fault::usage("--html names a file that is read")),
+        None => Ok(()),
+    }
+}
+
+fn put_csv(rows: &[Told], rate: u32, out: &mut Out<'_>) -> Result<()> {
+    let columns = COLUMNS.map(|(column, _)| column).join(",");
+    out.put(format!("row,name,form,rate,{columns}\n"))?;
+    for told in rows {
+        let form = told
+            .form
+            .map_or(String::new(), |form| form.number().to_string());
+        let cells = told.cells.iter().map(|cell| cell.as_deref().unwrap_or(""));
+        let cells = cells.collect::<Vec<_>>().join(",");
+        let (row, name) = (told.row.name(), quoted(&told.name));
+        out.put(format!("{row},{name},{form},{rate},{cells}\n"))?;
+    }
+    Ok(())
+}
+
+/// A name in comma separated values.
+fn quoted(name: &str) -> String {
+    match name.contains([',', '"', '\n', '\r']) {
+        true => format!("\"{}\"", name.replace('"', "\"\"")),
+        false => name.to_owned(),
+    }
+}
+
+const NOT_TOLD: &str = "not told";
+
+fn put_text(evenings: &[Evening], rows: &[Told], rate: u32, out: &mut Out<'_>) -> Result<()> {
+    match evenings {
+        [evening] => put_one(evening, rate, out),
+        _ => put_table(rows, rate, out),
+    }
+}
+
+/// One log, a line for each figure.
+fn put_one(evening: &Evening, rate: u32, out: &mut Out<'_>) -> Result<()> {
+    let figures = &evening.figures;
+    let told = |number: Option<u64>| number.map_or(NOT_TOLD.into(), grouped);
+    let time = |frames| format!("{} minutes", minutes(frames, rate));
+    out.put(format!(
+        "{}: a log of form {}, read at {} frames a second\n",
+        evening.name,
+        evening.form.number(),
+        grouped(rate.into())
+    ))?;
+    let still = match figures.still {
+        0 => String::new(),
+        still => format!(", {} of them without a step", minutes(still, rate)),
+    };
+    let lines = [
+        ("blocks", grouped(figures.blocks)),
+        (
+            "frames",
+            format!("{}, {}", grouped(figures.frames), time(figures.frames)),
+        ),
+        ("played", format!("{}{still}", time(figures.played))),
+        ("paused", time(figures.paused)),
+        ("silent", time(figures.silent)),
+        ("steps", grouped(figures.steps)),
+        ("jumps", grouped(figures.jumps)),
+        ("times round the loop", told(figures.rounds)),
+        ("seeks", told(figures.seeks)),
+        ("restarts by hand", told(figures.restarts)),
+        ("lowest window count", told(figures.lowest)),
+        ("refused blocks", refused(figures)),
+    ];
+    for (name, says) in lines {
+        out.put(format!("  {name:<21}{says}\n"))?;
+    }
+    if let Some((refusal, at)) = figures.broken {
+        out.put(format!(
+            "  the run ended at a record that was refused with {refusal}, at byte {at}\n"
+        ))?;
+    }
+    Ok(())
+}
+
+/// The refused blocks by number.
+pub fn refused(figures: &Figures) -> String {
+    let named = REFUSALS.iter().zip(figures.refused);
+    let named = named.map(|(number, count)| (format!("with {number}"), count));
+    let others = ("otherwise".to_owned(), figures.refused_otherwise);
+    let parts: Vec<String> = named
+        .chain([others])
+        .filter(|(_, count)| *count > 0)
+        .map(|(how, count)| format!("{} {how}", grouped(count)))
+        .collect();
+    match parts.is_empty() {
+        true => "none".into(),
+        false => parts.join(", "),
+    }
+}
+
+/// The columns of the table that a terminal has room for.
+const SHORT: [(&str, &str); 11] = [
+    ("blocks", "blocks"),
+    ("minutes", "minutes"),
+    ("minutes_played", "played"),
+    ("minutes_paused", "paused"),
+    ("minutes_silent", "silent"),
+    ("steps", "steps"),
+    ("rounds", "rounds"),
+    ("seeks", "seeks"),
+    ("restarts", "restarts"),
+    ("refused", "refused"),
+    ("lowest_count", "lowest"),
+];
+
+/// Several logs, a row each.
+fn put_table(rows: &[Told], rate: u32, out: &mut Out<'_>) -> Result<()> {
+    let logs = rows.iter().filter(|told| told.row == Row::Log).count();
+    out.put(format!(
+        "{} logs, read at {} frames a second; - is not told\n",
+        grouped(logs as u64),
+        grouped(rate.into())
+    ))?;
+    let mut table = vec![
+        ["log".to_owned()]
+            .into_iter()
+            .chain(SHORT.map(|(_, name)| name.to_owned()))
+            .collect(),
+    ];
+    for told in rows {
+        let cell = |column: &str| {
+            let index = COLUMNS.iter().position(|(name, _)| *name == column)?;
+            told.cells.get(index)?.clone()
+        };
+        let cells = SHORT
+            .iter()
+            .map(|(column, _)| cell(column).map_or("-".into(), |cell| spaced(&cell)));
+        let row: Vec<String> = [told.name.clone()].into_iter().chain(cells).collect();
+        table.push(row);
+    }
+    let width = |column: usize| {
+        let cells = table.iter().filter_map(|row| row.get(column));
+        cells.map(|cell| cell.chars().count()).max().unwrap_or(0)
+    };
+    let widths: Vec<usize> = (0..=SHORT.len()).map(width).collect();
+    for (index, row) in table.iter().enumerate() {
+        if index == logs + 1 {
+            out.put("\n")?;
+        }
+        let mut line = String::new();
+        for (column, (cell, width)) in row.iter().zip(&widths).enumerate() {
+            match column {
+                0 => line += &format!("{cell:<width$}"),
+                _ => line += &format!("  {cell:>width$}"),
+            }
+        }
+        out.put(line.trim_end())?;
+        out.put("\n")?;
+    }
+    Ok(())
+}
+
+/// A figure with a comma after each three digits of its whole part.
+pub fn spaced(cell: &str) -> String {
+    let (whole, rest) = match cell.split_once('.') {
+        Some((whole, rest)) => (whole, format!(".{rest}")),
+        None => (cell, String::new()),
+    };
+    match whole.parse() {
+        Ok(number) => grouped(number) + &rest,
+        Err(_) => cell.to_owned(),
+    }
+}
+
+#[cfg(test)]
+mod tests {
+    use super::*;
+
+    #[test]
+    fn minutes_are_rounded_once() {
+        assert_eq!(minutes(0, 48_000), "0.000");
+        assert_eq!(minutes(48_000 * 60, 48_000), "1.000");
+        assert_eq!(minutes(6, 1), "0.100");
+        assert_eq!(minutes(1_439, 48_000), "0.000");
+        assert_eq!(minutes(1_440, 48_000), "0.001");
+        assert_eq!(minutes(u64::MAX, 1), "307445734561825860.250");
+    }
+
+    #[test]
+    fn names_are_quoted() {
+        assert_eq!(quoted("a.log"), "a.log");
+        assert_eq!(quoted("a, \"b\""), "\"a, \"\"b\"\"\"");
+    }
+}

@@ -1,0 +1,267 @@
+//! Files that cannot be read or written, wrong words, a reader that goes.
+
+use std::{
+    fs::{self, File, OpenOptions},
+    io::{Read, Write},
+    os::unix::{fs::PermissionsExt, process::CommandExt},
+    process::{Command, Stdio},
+    time::Duration,
+};
+
+use crate::room::{CABLEOWL, Room, three};
+
+/// Each command that reads a file, with words that read this one.
+fn readers(file: &str) -> [Vec<String>; 6] {
+    let words = |text: &str| {
+        text.split(' ')
+            .map(|word| word.replace("FILE", file))
+            .collect()
+    };
+    [
+        words("replay FILE"),
+        words("salvage FILE new"),
+        words("settings show FILE"),
+        words("report FILE"),
+        words("audit FILE good.log"),
+        words("audit good.trace FILE"),
+    ]
+}
+
+fn room(name: &str) -> Room {
+    let room = Room::new(name);
+    room.put("good.trace", three());
+    room.put("good.log", "block=1 frames=6 steps=6 state=6 position=3\n");
+    room
+}
+
+fn refused(room: &Room, file: &str, sentence: &str) {
+    for words in readers(file) {
+        let words: Vec<&str> = words.iter().map(String::as_str).collect();
+        let ran = room.run(&words);
+        assert_eq!(ran.err, format!("cableowl: {sentence}\n"), "{words:?}");
+        assert_eq!((ran.status, &*ran.out), (1, ""), "{words:?}");
+    }
+}
+
+#[test]
+fn a_directory_and_a_missing_file() {
+    let room = room("unreadable");
+    fs::create_dir(room.0.join("folder")).unwrap();
+    refused(&room, "folder", "folder: cannot be read: it is a directory");
+    refused(
+        &room,
+        "gone",
+        "gone: cannot be read: no such file or directory",
+    );
+    refused(
+        &room,
+        "good.log/x",
+        "good.log/x: cannot be read: not a directory",
+    );
+}
+
+/// The user and group nobody.
+const NOBODY: u32 = 65_534;
+
+#[test]
+fn a_file_without_permission() {
+    let room = Room::new("forbidden");
+    // Root reads everything, so a copy of the command is run as nobody, from where nobody comes.
+    let folder = std::env::temp_dir().join(format!("cableowl-forbidden-{}", std::process::id()));
+    let _ = fs::remove_dir_all(&folder);
+    fs::create_dir(&folder).unwrap();
+    fs::set_permissions(&folder, fs::Permissions::from_mode(0o755)).unwrap();
+    let (command, secret) = (folder.join("cableowl"), folder.join("secret"));
+    fs::copy(CABLEOWL, &command).unwrap();
+    fs::write(&secret, three()).unwrap();
+    fs::set_permissions(&secret, fs::Permissions::from_mode(0o000)).unwrap();
+    let readable = File::open(&secret).is_ok();
+    for words in readers("secret") {
+        let mut run = Command::new(&command);
+        run.args(&words).current_dir(&folder);
+        if readable {
+            run.uid(NOBODY).gid(NOBODY);
+        }
+        if words[0] == "audit" {
+            continue;
+        }
+        let output = match run.output() {
+            Ok(output) => output,
+            Err(error) => {
+                eprintln!("SKIPPED: the command cannot be run as nobody here: {error}");
+                break;
+            }
+        };
+        let told = String::from_utf8_lossy(&output.stderr).into_owned();
+        assert_eq!(
+            told, "cableowl: secret: cannot be read: permission denied\n",
+            "{words:?}"
+        );
+        assert_eq!(output.status.code(), Some(1));
+    }
+    fs::remove_dir_all(folder).unwrap();
+    drop(room);
+}
+
+#[test]
+fn a_disk_that_is_full() {
+    let room = room("full");
+    for words in [
+        &["replay", "good.trace"][..],
+        &["report", "good.log"],
+        &["help"],
+    ] {
+        let full = OpenOptions::new().write(true).open("/dev/full").unwrap();
+        let output = room.command(words).stdout(full).output().unwrap();
+        let told = String::from_utf8_lossy(&output.stderr).into_owned();
+        assert_eq!(
+            told,
+            "cableowl: standard output: cannot be written: no space left on device\n"
+        );
+        assert_eq!(output.status.code(), Some(1));
+    }
+}
+
+#[test]
+fn a_reader_that_goes() {
+    let room = Room::new("closed");
+    let block = three()[55..].to_vec();
+    let mut trace = three();
+    trace.extend(block.repeat(100_000));
+    room.put("long.trace", trace);
+    let mut child = room
+        .command(&["replay", "long.trace"])
+        .stdout(Stdio::piped())
+        .stderr(Stdio::piped())
+        .spawn()
+        .unwrap();
+    let mut some = [0; 10];
+    child.stdout.take().unwrap().read_exact(&mut some).unwrap();
+    let output = child.wait_with_output().unwrap();
+    assert_eq!((output.status.code(), output.stderr.len()), (Some(0), 0));
+}
+
+#[test]
+fn an_audit_keeps_its_verdict_when_its_reader_goes() {
+    let room = Room::new("closed-audit");
+    let block = three()[55..].to_vec();
+    let mut trace = three();
+    trace.extend(block.repeat(20_000));
+    room.put("long.trace", trace);
+    let mut log = room.run(&["replay", "long.trace"]).out;
+    let last = log.trim_end().rfind('\n').unwrap();
+    log.replace_range(last + 1.., "block=20001 refused=1\n");
+    room.put("long.log", log);
+    let mut child = room
+        .command(&["audit", "--csv", "long.trace", "long.log"])
+        .stdout(Stdio::piped())
+        .stderr(Stdio::piped())
+        .spawn()
+        .unwrap();
+    let mut some = [0; 10];
+    child.stdout.take().unwrap().read_exact(&mut some).unwrap();
+    let output = child.wait_with_output().unwrap();
+    assert_eq!((output.status.code(), output.stderr.len()), (Some(1), 0));
+}
+
+#[test]
+fn wrong_words() {
+    let room = room("words");
+    for (words, told) in [
+        (
+            &[][..],
+            "say what to do: replay, salvage, settings, report or audit",
+        ),
+        (
+            &["listen"],
+            "'listen' is no command: replay, salvage, settings, report and audit are",
+        ),
+        (
+            &["replay"],
+            "replay takes one file, a trace, and 0 were given",
+        ),
+        (
+            &["salvage", "a"],
+            "salvage takes two files, a trace and the new file that its records go to, and 1 were given",
+        ),
+        (
+            &["audit", "-", "-"],
+            "standard input, '-', can be read only once",
+        ),
+        (
+            &["report", "--html", "good.log", "good.log"],
+            "--html names a file that is read",
+        ),
+        (
+            &["audit", "--html", "./good.trace", "good.trace", "good.log"],
+            "--html names a file that is read",
+        ),
+    ] {
+        room.run(words).is_no_use(told);
+    }
+    let help = room.run(&["help"]);
+    for words in [&["--help"][..], &["report", "--help"], &["-h"]] {
+        assert_eq!(room.run(words), help);
+    }
+    assert!(help.out.starts_with("cableowl: ") && help.status == 0);
+    assert!(room.run(&["version"]).out.starts_with("cableowl 0."));
+}
+
+#[test]
+fn progress_is_shown_on_a_terminal_alone() {
+    let room = Room::new("progress");
+    let slow =
+        "(printf 'block=1 refused=1\\n'; sleep 2.6; printf 'block=2 refused=1\\n'; sleep 0.4)";
+    let told = |command: &str| {
+        let output = Command::new("sh")
+            .args(["-c", command])
+            .current_dir(&room.0)
+            .stdin(Stdio::null())
+            .output();
+        let output = output.expect("a shell");
+        let all = [output.stdout, output.stderr].concat();
+        String::from_utf8_lossy(&all).into_owned()
+    };
+    let plain = told(&format!("{slow} | {CABLEOWL} report - >/dev/null"));
+    assert_eq!(plain, "");
+    if told("script --version").contains("script from") {
+        let within = format!("{slow} | {CABLEOWL} report - >/dev/null");
+        let shown = told(&format!(
+            "script -qec \"{}\" /dev/null",
+            within.replace('"', "\\\"")
+        ));
+        assert!(shown.contains("standard input: 0 MB read"), "{shown:?}");
+        assert!(
+            shown.trim_end().ends_with("\x1b[K"),
+            "it is taken away again: {shown:?}"
+        );
+    } else {
+        eprintln!("SKIPPED: no 'script' here, so progress on a terminal was not tried");
+    }
+    std::thread::sleep(Duration::ZERO);
+}
+
+#[test]
+fn a_page_takes_no_other_file_s_place() {
+    let room = room("page-names");
+    room.put("letter.html", "<!DOCTYPE html>\nDear tutor");
+    let told = "letter.html: exists already and is no page of this command, so it is not overwritten: name another file";
+    room.run(&["report", "--html", "letter.html", "good.log"])
+        .refuses(told);
+    assert_eq!(room.read("letter.html"), "<!DOCTYPE html>\nDear tutor");
+    for _ in 0..2 {
+        let ran = room.run(&["report", "--html", "page.html", "good.log"]);
+        assert_eq!((ran.status, &*ran.err), (0, ""));
+    }
+    let mut file = OpenOptions::new()
+        .append(true)
+        .open(room.0.join("page.html"))
+        .unwrap();
+    file.write_all(b"<!-- read by the tutor -->").unwrap();
+    room.run(&["audit", "--html", "page.html", "good.trace", "good.log"]);
+    assert!(!room.read("page.html").contains("tutor"));
+    assert_eq!(
+        room.names(),
+        ["good.log", "good.trace", "letter.html", "page.html"]
+    );
+}

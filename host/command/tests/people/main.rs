@@ -1,0 +1,12 @@
+//! The command as people run it: each of its words on good, empty, damaged, huge and unreadable files.
+
+mod audit;
+mod browser;
+mod files;
+mod log;
+mod replay;
+mod report;
+mod room;
+mod salvage;
+mod settings;
+mod tools;

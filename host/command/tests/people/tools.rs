@@ -1,0 +1,178 @@
+//! docs/TOOLS.md: each example on it is run, and prints what it says.
+
+use std::fs;
+
+use cableowl::{
+    Commands, ResumeCommand, SavedSettings, Settings, SettingsVersion,
+    trace::{Block, Record},
+};
+
+use crate::{
+    audit::{creeping, evening},
+    room::{Room, creation, trace},
+};
+
+const PAGE: &str = include_str!("../../../../docs/TOOLS.md");
+
+/// The box's frames a second.
+const RATE: usize = 48_000;
+
+/// An evening being made: its records, and how far it is.
+struct Script {
+    records: Vec<Record>,
+    clock: usize,
+    next: Block,
+}
+
+impl Script {
+    /// A lesson of eight seconds, eight frames a second.
+    fn new() -> Self {
+        Self {
+            records: vec![creation(Settings::new(8), 64)],
+            clock: 0,
+            next: Block::new(1_024, 1.0 / RATE as f64),
+        }
+    }
+
+    /// Plays up to this second.
+    fn until(&mut self, second: usize) {
+        while self.clock < second * RATE {
+            let frames = 1_024.min(second * RATE - self.clock);
+            let block = Block {
+                frames,
+                ..self.next
+            };
+            self.records.push(Record::Block(block));
+            self.clock += frames;
+            self.next.finished = false;
+        }
+    }
+
+    fn command(&mut self, commands: Commands) {
+        let resumes = commands.resume == ResumeCommand::AtOnce;
+        self.next.finished = commands.pause || commands.stop || resumes;
+        self.records.push(Record::Commands(commands));
+    }
+
+    /// Blocks that no player takes: a time step of 0.
+    fn refused(&mut self, blocks: usize) {
+        let block = Record::Block(Block::new(1_024, 0.0));
+        self.records.extend((0..blocks).map(|_| block));
+    }
+}
+
+/// A student loops a sentence, slows it, steps back, starts over, and lets the lesson end.
+fn monday() -> Vec<u8> {
+    let mut script = Script::new();
+    script.until(3);
+    script.command(Commands::new().set_loop_region(2.0..5.5));
+    script.until(60);
+    script.next.rate = 0.7;
+    script.until(75);
+    script.command(Commands::new().pause());
+    script.until(85);
+    script.command(Commands::new().seek_by(-1.0).resume());
+    script.until(100);
+    script.refused(3);
+    script.command(Commands::new().seek_to(2.0));
+    script.until(115);
+    script.command(Commands::new().clear_loop_region());
+    script.until(125);
+    trace(&script.records)
+}
+
+/// Another goes round more often and is called away.
+fn tuesday() -> Vec<u8> {
+    let mut script = Script::new();
+    script.command(Commands::new().set_loop_region(1.0..2.0));
+    script.until(50);
+    script.command(Commands::new().stop());
+    script.until(60);
+    trace(&script.records)
+}
+
+/// The files of the page's examples.
+fn files(room: &Room) {
+    let monday = monday();
+    room.put("monday.trace", &monday);
+    let log = |trace: &[u8], form| room.run_on(&["replay", "--log", form, "-"], trace).out;
+    room.put("monday.log", log(&monday, "2"));
+    room.put("tuesday.log", log(&tuesday(), "2"));
+    room.put("wednesday.log", log(&tuesday(), "1"));
+    let mut broken = monday;
+    broken[100_000..100_050].fill(0xff);
+    room.put("broken.trace", broken);
+    let records = evening(400);
+    room.put("box.trace", trace(&records));
+    room.put("box.log", log(&trace(&records), "1"));
+    room.put("creeping.log", creeping(&records));
+    let saved = SavedSettings {
+        start: 44_100,
+        loop_region: Some((273_420, 480_690)),
+        playback_rate: 0.75,
+        pitch: -2,
+        ..SavedSettings::default()
+    };
+    let mut record = [0; 26];
+    saved.store(SettingsVersion::Second, &mut record).unwrap();
+    room.put("lesson.settings", record);
+    room.put("cut.settings", &record[..20]);
+}
+
+/// The examples: the words after `$ cableowl`, and the lines below them up to the next or the end.
+fn examples() -> Vec<(String, String)> {
+    let mut found = Vec::new();
+    for block in PAGE.split("```").skip(1).step_by(2) {
+        for example in block.split("$ cableowl ").skip(1) {
+            let (words, says) = example.split_once('\n').expect("a line");
+            found.push((words.to_owned(), says.to_owned()));
+        }
+    }
+    found
+}
+
+/// What a shell does with the words: `| cableowl` sends the output on, `; echo $?` tells the status.
+fn shell(room: &Room, words: &str) -> String {
+    let (words, tells) = match words.strip_suffix("; echo $?") {
+        Some(words) => (words, true),
+        None => (words, false),
+    };
+    let mut input = String::new();
+    let mut all = String::new();
+    let mut status = 0;
+    for part in words.split(" | cableowl ") {
+        let words: Vec<&str> = part.split(' ').collect();
+        let ran = room.run_on(&words, input.as_bytes());
+        input = ran.out;
+        all += &ran.err;
+        status = ran.status;
+    }
+    let told = if tells {
+        format!("{status}\n")
+    } else {
+        String::new()
+    };
+    input + &all + &told
+}
+
+#[test]
+fn the_page_s_examples_print_what_it_says() {
+    let room = Room::new("tools");
+    files(&room);
+    let examples = examples();
+    assert!(examples.len() > 10, "only {} found", examples.len());
+    for (words, says) in &examples {
+        let said = shell(&room, words);
+        // Three dots stand for lines left out.
+        match says.split_once("...\n") {
+            Some((begins, ends)) => {
+                assert!(said.starts_with(begins), "{words}:\n{said}");
+                assert!(said.ends_with(ends), "{words}:\n{said}");
+            }
+            None => assert_eq!(&said, says, "{words}"),
+        }
+    }
+    for page in ["week.html", "creep.html"] {
+        assert!(fs::metadata(room.0.join(page)).is_ok(), "{page}");
+    }
+}
