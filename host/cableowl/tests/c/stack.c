@@ -1,9 +1,7 @@
-/* How much stack each entry uses, at most: a thread's stack is painted before it makes a call, and looked at right after it.
- * What the thread's own start paints over is counted too, what its end does is not. The figures go to standard error; one
- * above its limit is a difference. cc -pthread -I host/include stack.c libcableowl.a */
+/* How much stack each entry uses, at most: a thread's stack is painted before a call and looked at after it. The figures go
+ * to standard error; one above its limit is a difference. cc -pthread -I host/include stack.c libcableowl.a */
 #define _GNU_SOURCE
 #include <pthread.h>
-#include <stdint.h>
 #include <stdio.h>
 #include <stdlib.h>
 #include <string.h>
@@ -47,23 +45,16 @@ static void write_record(void) {
 static void salvage(void) { refusal = (uint32_t)cableowl_salvage(trace, sizeof trace, saved, sizeof saved).refusal; }
 static void stretch(void) { refusal = cableowl_stretch(voice, sound, SOUND).length == SOUND ? 0 : 1; }
 
-static unsigned char *stack;
-static size_t used_below;
-
 static void *run(void *call) {
-    unsigned char here = 0; /* the call's frames lie below this one */
     void (*entry)(void);
     memcpy(&entry, call, sizeof entry);
     entry();
-    size_t untouched = 0;
-    while (untouched < STACK && stack[untouched] == PAINT) untouched += 1;
-    used_below = (size_t)((uintptr_t)&here - (uintptr_t)(stack + untouched));
     return NULL;
 }
 
-/* The bytes below the frame of a thread that makes this call. */
+/* The bytes that a thread which makes this call leaves painted over. */
 static size_t used(void (*entry)(void)) {
-    stack = aligned_alloc(4096, STACK);
+    unsigned char *stack = aligned_alloc(4096, STACK);
     pthread_attr_t attributes;
     pthread_t thread;
     memset(stack, PAINT, STACK);
@@ -74,8 +65,10 @@ static size_t used(void (*entry)(void)) {
     }
     pthread_join(thread, NULL);
     pthread_attr_destroy(&attributes);
+    size_t untouched = 0;
+    while (untouched < STACK && stack[untouched] == PAINT) untouched += 1;
     free(stack);
-    return used_below;
+    return STACK - untouched;
 }
 
 int main(void) {
@@ -85,7 +78,6 @@ int main(void) {
         size_t limit;
         uint32_t refusal;
     } calls[] = {
-        {"nothing", nothing, PLAYER, 0},
         {"new", create, PLAYER, 0},
         {"on_start_processing", command, PLAYER, 0},
         {"process, advance 0.7", process_slow, PLAYER, 0},
@@ -126,9 +118,12 @@ int main(void) {
         printf("differs: the longest record\n");
         faults += 1;
     }
+    used(nothing); /* once before, so that what the linker does at a first thread is not counted */
+    const size_t thread = used(nothing);
     for (size_t i = 0; i < sizeof calls / sizeof calls[0]; i += 1) {
         used(calls[i].entry); /* once before, so that what the linker does at a first call is not counted */
-        const size_t bytes = used(calls[i].entry);
+        const size_t all = used(calls[i].entry);
+        const size_t bytes = all > thread ? all - thread : 0;
         fprintf(stderr, "%-26s %6zu bytes of stack\n", calls[i].name, bytes);
         if (bytes > calls[i].limit || refusal != calls[i].refusal) {
             printf("differs: %s\n", calls[i].name);
