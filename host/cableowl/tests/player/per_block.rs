@@ -7,7 +7,7 @@ use cableowl::{
 };
 use random::Random;
 
-use crate::evening::{Evening, Plays, no_counts, shrunk};
+use crate::evening::{Evening, Plays, no_counts, seeds, shrunk};
 
 /// A parameter that is updated once a block.
 #[derive(Clone, Copy)]
@@ -433,10 +433,11 @@ fn plain(random: &mut Random) -> Evening {
     evening
 }
 
-/// Rounds of random evenings, all as the player plays them when the other has blocks of one frame.
-fn limit_of<V: Voice>(rounds: u64) {
-    let (mut differ, mut frames) = (0, 0);
-    for seed in 0..rounds {
+/// Random evenings, all as the player plays them when the other has blocks of one frame.
+fn limit_of<V: Voice>(seeds: impl Iterator<Item = u64>) {
+    let (mut rounds, mut differ, mut frames) = (0, 0, 0);
+    for seed in seeds {
+        rounds += 1;
         let evening = plain(&mut Random::new(seed));
         let other = |evening: &Evening, frames| {
             let outcome = evening.played(&mut PerBlock::<V>::new(evening), &mut || frames);
@@ -450,7 +451,7 @@ fn limit_of<V: Voice>(rounds: u64) {
             let least = shrunk(evening, |evening| other(evening, 1) != ours(evening));
             panic!("seed {seed}\n{least:#?}");
         }
-        differ += u64::from(other(&evening, 64) != ours(&evening));
+        differ += usize::from(other(&evening, 64) != ours(&evening));
         frames += evening.frames;
     }
     println!("{frames} frames; in blocks of 64 {differ} of {rounds} evenings differ");
@@ -459,10 +460,10 @@ fn limit_of<V: Voice>(rounds: u64) {
 
 #[test]
 fn the_player_is_kiras_text_with_blocks_of_one_frame() {
-    limit_of::<oracle::Oracle>(1_000);
+    limit_of::<oracle::Oracle>(seeds(1_000));
 }
 
 #[test]
 fn the_player_is_a_voice_with_parameters_updated_each_frame() {
-    limit_of::<Ours>(500);
+    limit_of::<Ours>(seeds(500));
 }
