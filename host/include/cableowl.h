@@ -69,7 +69,8 @@ extern "C" {
 #endif
 
 /* The version of this interface, which cableowl_version() answers. Since 1: CableowlProcessed has
- * lowest_count; CableowlSignals has due and now, and a start of 3 is due at a tick. */
+ * lowest_count; CableowlSignals has due and now, and a start of 3 is due at a tick; CableowlState has
+ * forward_wraps and backward_wraps. */
 #define CABLEOWL_VERSION 2
 
 /* The limits. */
@@ -157,6 +158,11 @@ typedef struct CableowlState {
     double playback_rate;
     double fraction;
     CableowlEntry window[4];
+    /* Steps that took the loop's wrap, one each however many lengths it wraps, creation's own three among
+     * them. Seeks do not count and no command clears them. Each stands still at 4,294,967,295. Any are well
+     * formed. The direction is the position's: reverse at rate 1 counts backward. */
+    uint32_t forward_wraps;
+    uint32_t backward_wraps;
 } CableowlState;
 
 /* A place in a sound. The number that the kind does not name is ignored. */

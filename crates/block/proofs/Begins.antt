@@ -19,7 +19,7 @@ restated v b s =
       «playback_rate» = v .«playback_rate»;
       started = b;
       «fractional_position» = v .«fractional_position»;
-      moving = record { state = s; transport = v .moving .transport; resampler = v .moving .resampler };
+      moving = record { state = s; transport = v .moving .transport; resampler = v .moving .resampler; wraps = v .moving .wraps };
     }
 
 -- what the start answer leaves, once both are in hand

@@ -114,7 +114,7 @@ begun-quiet g v h =
       «playback_rate» = v .«playback_rate»;
       started = b;
       «fractional_position» = v .«fractional_position»;
-      moving = record { state = s; transport = v .moving .transport; resampler = v .moving .resampler };
+      moving = record { state = s; transport = v .moving .transport; resampler = v .moving .resampler; wraps = v .moving .wraps };
     })
     h
     (given-again (g .start) (v .started) (settled false Waiting (v .moving .state)) ∙ settled-quiet (v .moving .state))

@@ -49,6 +49,7 @@ begun g v =
         state = givenUp (answering (g .start)) (v .started) (settled (g .finished) (g .resume) (v .moving .state));
         transport = v .moving .transport;
         resampler = v .moving .resampler;
+        wraps = v .moving .wraps;
       };
     }
 

@@ -104,16 +104,17 @@ told c v =
         state = ordered c (v .moving .state);
         transport = record { position = v .moving .transport .position; «loop_region» = looped v (c .«loop_region»); playing = v .moving .transport .playing };
         resampler = v .moving .resampler;
+        wraps = v .moving .wraps;
       };
     }
 
 -- the moving parts once the transport has sought frame q
 abbrev pub jumped : StaticSound → ℕ → Moving
-jumped v q = record { state = v .moving .state; transport = seek (span (v .setup)) (v .moving .transport) q; resampler = v .moving .resampler }
+jumped v q = record { state = v .moving .state; transport = seek (span (v .setup)) (v .moving .transport) q; resampler = v .moving .resampler; wraps = v .moving .wraps }
 
 -- the same with one frame pushed, without the Stopped check
 abbrev pub refilled : List Float → Course → Moving → Moving
-refilled snd c m = record { state = m .state; transport = m .transport; resampler = pushed snd c m }
+refilled snd c m = record { state = m .state; transport = m .transport; resampler = pushed snd c m; wraps = m .wraps }
 
 -- a seek to frame q, which pushes one frame afterwards if the state advances
 unfoldable pub sought : List Float → StaticSound → ℕ → StaticSound

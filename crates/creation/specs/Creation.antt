@@ -18,7 +18,7 @@ use Rattle.voice.specs.declared.Setup.{Setup}
 use Rattle.voice.specs.declared.StaticSound.{StaticSound}
 use Rattle.voice.specs.Refusals.{unless}
 use Rattle.voice.specs.Voices.{span, courseOf, moved}
-use Rattle.moving.specs.Updates.{updates}
+use Rattle.moving.specs.Updates.{uncounted, updates}
 use Rattle.creation.specs.declared.OptionalRegion.{OptionalRegion}
 use Rattle.creation.specs.declared.OptionalRegion.the-variants as optional
 use Rattle.creation.specs.declared.Settings.{Settings}
@@ -61,7 +61,7 @@ opened k t rate waits =
       «playback_rate» = rate;
       started = not waits;
       «fractional_position» = positiveZero;
-      moving = record { state = state.Playing; transport = t; resampler = fresh (t .position) };
+      moving = record { state = state.Playing; transport = t; resampler = fresh (t .position); wraps = uncounted };
     }
 
 -- updated three times
@@ -88,7 +88,7 @@ blankSound =
       «playback_rate» = positiveZero;
       started = false;
       «fractional_position» = positiveZero;
-      moving = record { state = state.Stopped; transport = record { position = 0; «loop_region» = range.Absent; playing = false }; resampler = fresh 0 };
+      moving = record { state = state.Stopped; transport = record { position = 0; «loop_region» = range.Absent; playing = false }; resampler = fresh 0; wraps = uncounted };
     }
 
 -- creation, accepted and refused

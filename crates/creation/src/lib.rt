@@ -6,6 +6,7 @@ ghost use lib.Dec.{leb, ltb, eqb};
 ghost use lib.ListN.{length};
 ghost use Rattle.creation.specs.Creation.{ranged, allowed, setupOf, startable, refusedNew, opened, transportOf, made, blankSound, created};
 use moving::Moving;
+use moving::Wraps;
 use playback_position::FrameRange;
 use playback_position::PlaybackPosition;
 use playback_position::Region;
@@ -141,6 +142,10 @@ fn open(settings: Settings, samples: usize) -> StaticSound
         state: PlaybackState::Playing,
         transport,
         resampler,
+        wraps: Wraps {
+            forward: 0,
+            backward: 0,
+        },
     };
     StaticSound {
         setup,
@@ -184,6 +189,10 @@ pub fn blank() -> StaticSound
         state: PlaybackState::Stopped,
         transport,
         resampler: Resampler::new(0),
+        wraps: Wraps {
+            forward: 0,
+            backward: 0,
+        },
     };
     StaticSound {
         setup,

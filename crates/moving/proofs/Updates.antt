@@ -57,7 +57,7 @@ getD-blank l i = getD l i blank
 abbrev pub apart : FrameRange → Moving → Moving
 apart loop m =
     let e : ℕ → RecentFrame = getD-blank (m .resampler .frames) in
-    movingOf loop (m .state) (m .transport .position) (m .transport .playing) (e 0 .frame) (e 1 .frame) (e 2 .frame) (e 3 .frame) (e 0 .«frame_index») (e 1 .«frame_index») (e 2 .«frame_index») (e 3 .«frame_index»)
+    movingOf loop (m .state) (m .transport .position) (m .transport .playing) (m .wraps) (e 0 .frame) (e 1 .frame) (e 2 .frame) (e 3 .frame) (e 0 .«frame_index») (e 1 .«frame_index») (e 2 .«frame_index») (e 3 .«frame_index»)
     (m .resampler .«time_until_empty»)
 
 four : (l : List RecentFrame) → length l ≡ 4 → _≡_ {A = List RecentFrame} (getD-blank l 0 ∷ getD-blank l 1 ∷ getD-blank l 2 ∷ getD-blank l 3 ∷ []) l
@@ -90,6 +90,7 @@ together loop m e f =
       state = m .state;
       transport = record { position = m .transport .position; «loop_region» = r; playing = m .transport .playing };
       resampler = record { frames = l; «time_until_empty» = m .resampler .«time_until_empty» };
+      wraps = m .wraps;
     }) (sym e) (four (m .resampler .frames) f)
 
 -- an update has four frames, and the loop that it had

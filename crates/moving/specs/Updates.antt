@@ -2,6 +2,7 @@
 use Prim.Native.Nat.{ℕ, zero, suc, _+_, _*_, _≤_}
 use mathlib.Core.Bool.{Bool, not, _&&_, cond}
 use mathlib.Core.List.{List, [], _∷_}
+use lib.Dec.{ltb}
 use lib.ListN.{length}
 use lib.Ieee.{Float}
 use Rattle.frame.specs.declared.Frame.{Frame}
@@ -10,12 +11,13 @@ use Rattle.playback_position.specs.declared.FrameRange.{FrameRange}
 use Rattle.playback_state_manager.specs.declared.PlaybackState.{PlaybackState}
 use Rattle.playback_state_manager.specs.declared.PlaybackState.the-variants as state
 use Rattle.transport.specs.declared.Transport.{Transport}
-use Rattle.transport.specs.Moves.{forward, backward}
+use Rattle.transport.specs.Moves.{forward, backward, wraps}
 use Rattle.transport.specs.WellFormed.{FormedTransport}
 use Rattle.resampler.specs.declared.Resampler.{Resampler}
 use Rattle.resampler.specs.declared.MaybeFrame.{MaybeFrame}
 use Rattle.resampler.specs.declared.MaybeFrame.the-variants as maybe
 use Rattle.resampler.specs.Windows.{push, isEmpty}
+use Rattle.moving.specs.declared.Wraps.{Wraps}
 use Rattle.moving.specs.declared.Moving.{Moving}
 use Rattle.moving.specs.declared.Course.{Course}
 
@@ -33,13 +35,28 @@ unfoldable pub stepped : Course → Transport → Transport
 unfolding forward backward
 stepped c t = cond (c .backwards) (backward t) (forward (c .«num_frames») t)
 
--- push the frame at the position, step the transport, and if it is not playing and the count is 0, become Stopped
+-- no wrap counted yet
+abbrev pub uncounted : Wraps
+uncounted = record { forward = 0; backward = 0 }
+
+-- one more where it is asked for; a count stands still at 4,294,967,295
+abbrev pub raised : Bool → ℕ → ℕ
+raised more n = cond (more && ltb n 4294967295) (n + 1) n
+
+-- the counts after a step of t: one more for its direction where it takes the wrap, however many lengths it wraps
+unfoldable pub counted : Course → Transport → Wraps → Wraps
+unfolding wraps
+counted c t k =
+    let w = wraps (c .backwards) t in
+    record { forward = raised (w && not (c .backwards)) (k .forward); backward = raised (w && c .backwards) (k .backward) }
+
+-- push the frame at the position, step the transport and count its wrap, and if it is not playing and the count is 0, become Stopped
 unfoldable pub updated : List Float → Course → Moving → Moving
-unfolding pushed stepped
+unfolding pushed stepped counted
 updated snd c m =
     let t = stepped c (m .transport) in
     let w = pushed snd c m in
-    record { state = cond (not (t .playing) && isEmpty w) state.Stopped (m .state); transport = t; resampler = w }
+    record { state = cond (not (t .playing) && isEmpty w) state.Stopped (m .state); transport = t; resampler = w; wraps = counted c (m .transport) (m .wraps) }
 
 -- n updates, one after the other
 unfoldable pub updates : ℕ → List Float → Course → Moving → Moving
@@ -47,9 +64,9 @@ unfolding updated
 updates zero snd c m = m
 updates (suc n) snd c m = updates n snd c (updated snd c m)
 
--- what moves, from its parts: the loop, the state, the place, and the window's four frames with their numbers
-abbrev pub movingOf : FrameRange → PlaybackState → ℕ → Bool → Frame → Frame → Frame → Frame → ℕ → ℕ → ℕ → ℕ → ℕ → Moving
-movingOf loop s p playing a b c d na nb nc nd count =
+-- what moves, from its parts: the loop, the state, the place, the counts, and the window's four frames with their numbers
+abbrev pub movingOf : FrameRange → PlaybackState → ℕ → Bool → Wraps → Frame → Frame → Frame → Frame → ℕ → ℕ → ℕ → ℕ → ℕ → Moving
+movingOf loop s p playing k a b c d na nb nc nd count =
     record {
       state = s;
       transport = record { position = p; «loop_region» = loop; playing = playing };
@@ -57,6 +74,7 @@ movingOf loop s p playing a b c d na nb nc nd count =
         frames = record { frame = a; «frame_index» = na } ∷ record { frame = b; «frame_index» = nb } ∷ record { frame = c; «frame_index» = nc } ∷ record { frame = d; «frame_index» = nd } ∷ [];
         «time_until_empty» = count;
       };
+      wraps = k;
     }
 
 -- what an update asks: the transport formedTransport in its N frames, which lie in the sound

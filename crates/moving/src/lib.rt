@@ -5,7 +5,7 @@ ghost use Prim.Native.Nat.{_+_, _*_, _<_};
 ghost use lib.ListN.{length};
 ghost use Rattle.frame.specs.Frames.{frameOf};
 ghost use Rattle.transport.specs.WellFormed.{FormedTransport};
-ghost use Rattle.moving.specs.Updates.{sounding, pushed, stepped, updated, updates, movingOf, Able};
+ghost use Rattle.moving.specs.Updates.{sounding, pushed, stepped, raised, counted, updated, updates, movingOf, Able};
 use frame::Frame;
 use playback_position::FrameRange;
 use playback_state_manager::PlaybackState;
@@ -14,11 +14,18 @@ use resampler::RecentFrame;
 use resampler::Resampler;
 use transport::Transport;
 
+// How often the loop was wrapped: forward steps that took the wrap, and backward ones.
+pub struct Wraps {
+    pub forward: u32,
+    pub backward: u32,
+}
+
 // What an update changes.
 pub struct Moving {
     pub state: PlaybackState,
     pub transport: Transport,
     pub resampler: Resampler,
+    pub wraps: Wraps,
 }
 
 // What an update reads and leaves as it is.
@@ -61,6 +68,29 @@ fn step(transport: Transport, course: Course) -> Transport
     }
 }
 
+// One more; a count stands still at its limit.
+fn raise(count: u32, more: bool) -> u32
+    ensures { λ r. ⌜ r ≡ raised more count ⌝ }
+{
+    if more & (count < 4294967295) {
+        count + 1
+    } else {
+        count
+    }
+}
+
+// The counts after the next step.
+fn count(transport: Transport, course: Course, wraps: Wraps) -> Wraps
+    requires { ⌜ FormedTransport (course .«num_frames») transport ⌝ }
+    ensures { λ r. ⌜ r ≡ counted course transport wraps ⌝ }
+{
+    let wrapped = transport.wraps(course.backwards);
+    Wraps {
+        forward: raise(wraps.forward, wrapped & !course.backwards),
+        backward: raise(wraps.backward, wrapped & course.backwards),
+    }
+}
+
 impl Moving {
     // Pushes the frame at the position; none when the transport is not playing.
     pub fn push_frame_to_resampler(self, course: Course, sound: &[f32]) -> Resampler
@@ -80,19 +110,23 @@ impl Moving {
     {
         let state = self.state;
         let transport = self.transport;
+        let before = self.wraps;
         let resampler = self.push_frame_to_resampler(course, sound);
+        let wraps = count(transport, course, before);
         let transport = step(transport, course);
         if !transport.playing & resampler.empty() {
             return Moving {
                 state: PlaybackState::Stopped,
                 transport,
                 resampler,
+                wraps,
             };
         }
         Moving {
             state,
             transport,
             resampler,
+            wraps,
         }
     }
 
@@ -112,6 +146,7 @@ impl Moving {
         let mut state = self.state;
         let mut position = first.position;
         let mut playing = first.playing;
+        let mut wraps = self.wraps;
         let mut a = ea.frame;
         let mut b = eb.frame;
         let mut c = ec.frame;
@@ -128,6 +163,7 @@ impl Moving {
                 state,
                 position,
                 playing,
+                wraps,
                 a,
                 b,
                 c,
@@ -148,6 +184,7 @@ impl Moving {
             state = next.state;
             position = after.position;
             playing = after.playing;
+            wraps = next.wraps;
             a = ea.frame;
             b = eb.frame;
             c = ec.frame;
@@ -164,6 +201,7 @@ impl Moving {
             state,
             position,
             playing,
+            wraps,
             a,
             b,
             c,
@@ -177,12 +215,13 @@ impl Moving {
     }
 }
 
-// What moves, from its parts: the loop, the state, the place, and the window's four frames with their numbers.
+// What moves, from its parts: the loop, the state, the place, the counts, and the window's four frames with their numbers.
 pub fn moving_of(
     loop_region: FrameRange,
     state: PlaybackState,
     position: usize,
     playing: bool,
+    wraps: Wraps,
     a: Frame,
     b: Frame,
     c: Frame,
@@ -193,7 +232,7 @@ pub fn moving_of(
     nd: usize,
     time_until_empty: usize,
 ) -> Moving
-    ensures { λ r. ⌜ r ≡ movingOf «loop_region» state position playing a b c d na nb nc nd «time_until_empty» ⌝ }
+    ensures { λ r. ⌜ r ≡ movingOf «loop_region» state position playing wraps a b c d na nb nc nd «time_until_empty» ⌝ }
 {
     let transport = Transport {
         position,
@@ -225,5 +264,6 @@ pub fn moving_of(
         state,
         transport,
         resampler,
+        wraps,
     }
 }

@@ -109,6 +109,7 @@ pub fn play(
     let mut state = first.state;
     let mut position = opening.position;
     let mut playing = opening.playing;
+    let mut wraps = first.wraps;
     let mut a = ea.frame;
     let mut b = eb.frame;
     let mut c = ec.frame;
@@ -140,6 +141,7 @@ pub fn play(
             state,
             position,
             playing,
+            wraps,
             a,
             b,
             c,
@@ -171,6 +173,7 @@ pub fn play(
         state = after.state;
         position = landed.position;
         playing = landed.playing;
+        wraps = after.wraps;
         a = ea.frame;
         b = eb.frame;
         c = ec.frame;
@@ -189,6 +192,7 @@ pub fn play(
         state,
         position,
         playing,
+        wraps,
         a,
         b,
         c,

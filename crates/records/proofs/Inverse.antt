@@ -103,6 +103,7 @@ module _ (v : StaticSound) where
           state = s;
           transport = record { position = v .moving .transport .position; «loop_region» = l; playing = c };
           resampler = record { frames = fs; «time_until_empty» = v .moving .resampler .«time_until_empty» };
+          wraps = v .moving .wraps;
         };
       })
       v
@@ -225,6 +226,8 @@ module _ (c : CableowlState) where
         «playback_rate» = c .«playback_rate»;
         fraction = c .fraction;
         window = es;
+        «forward_wraps» = c .«forward_wraps»;
+        «backward_wraps» = c .«backward_wraps»;
       })
       c
   record-of state reverse started playing slice loop ss se ls le es e1 e2 e3 e4 e5 e6 e7 e8 e9 e10 e11 = rw (e1, e2, e3, e4, e5, e6, e7, e8, e9, e10, e11)

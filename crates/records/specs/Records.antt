@@ -79,6 +79,7 @@ stated c =
           playing = yes (c .playing);
         };
         resampler = windowOf (c .window) (c .count);
+        wraps = record { forward = c .«forward_wraps»; backward = c .«backward_wraps» };
       };
     }
 
@@ -123,4 +124,6 @@ encoded v =
       «playback_rate» = v .«playback_rate»;
       fraction = v .«fractional_position»;
       window = map entryOf (v .moving .resampler .frames);
+      «forward_wraps» = v .moving .wraps .forward;
+      «backward_wraps» = v .moving .wraps .backward;
     }

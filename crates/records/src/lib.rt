@@ -5,6 +5,7 @@ ghost use Prim.Native.Nat.{_≤_};
 ghost use Rattle.records.specs.Records.{yes, bit, lawfulRange, lawful, stateOf, rangeOf, recentOf, windowOf, decoded, given, startOf, endingOf, entryOf, encoded};
 use frame::Frame;
 use moving::Moving;
+use moving::Wraps;
 use playback_position::FrameRange;
 use playback_state_manager::PlaybackState;
 use resampler::RecentFrame;
@@ -41,6 +42,8 @@ pub struct CableowlState {
     pub playback_rate: f64,
     pub fraction: f64,
     pub window: [CableowlEntry; 4],
+    pub forward_wraps: u32,
+    pub backward_wraps: u32,
 }
 
 fn yes_of(n: u32) -> bool
@@ -153,6 +156,10 @@ pub fn decode(state: CableowlState) -> StaticSound
         state: state_of(state.state),
         transport,
         resampler: window_of(window, state.count),
+        wraps: Wraps {
+            forward: state.forward_wraps,
+            backward: state.backward_wraps,
+        },
     };
     StaticSound {
         setup,
@@ -223,6 +230,7 @@ pub fn encode(voice: StaticSound) -> CableowlState
     let loop_region = transport.loop_region;
     let resampler = moving.resampler;
     let frames = resampler.frames;
+    let wraps = moving.wraps;
     CableowlState {
         sample_rate: setup.sample_rate,
         state: state.number(),
@@ -241,5 +249,7 @@ pub fn encode(voice: StaticSound) -> CableowlState
         playback_rate: voice.playback_rate,
         fraction: voice.fractional_position,
         window: entries_of(frames),
+        forward_wraps: wraps.forward,
+        backward_wraps: wraps.backward,
     }
 }

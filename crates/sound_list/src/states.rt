@@ -2,6 +2,7 @@
 use crate::input;
 use frame::Frame;
 use moving::Moving;
+use moving::Wraps;
 use playback_position::FrameRange;
 use playback_state_manager::PlaybackState;
 use resampler::RecentFrame;
@@ -125,6 +126,19 @@ fn is_resampler(resampler: Resampler) -> bool {
         & input::is(resampler.time_until_empty as u64)
 }
 
+fn next_wraps() -> Wraps {
+    let forward = input::half();
+    let backward = input::half();
+    Wraps {
+        forward,
+        backward,
+    }
+}
+
+fn is_wraps(wraps: Wraps) -> bool {
+    input::is(wraps.forward as u64) & input::is(wraps.backward as u64)
+}
+
 pub(crate) fn next() -> StaticSound {
     let setup = next_setup();
     let playback_rate = input::double();
@@ -133,10 +147,12 @@ pub(crate) fn next() -> StaticSound {
     let state = playback_state(input::next());
     let transport = next_transport();
     let resampler = next_resampler();
+    let wraps = next_wraps();
     let moving = Moving {
         state,
         transport,
         resampler,
+        wraps,
     };
     StaticSound {
         setup,
@@ -159,4 +175,5 @@ pub(crate) fn are(voice: StaticSound) -> bool {
         & input::is(state.number() as u64)
         & is_transport(moving.transport)
         & is_resampler(moving.resampler)
+        & is_wraps(moving.wraps)
 }

@@ -1,13 +1,15 @@
--- The three moves case by case, as the code meets them: playing or not, a seek up or not, a step back at the loop's start or not.
+-- The three moves case by case, as the code meets them: playing or not, a seek up or not, a step back at the loop's start or not; and whether a step takes the wrap.
 -- By deciding each test of the definitions. Assumes nothing.
 use Prim.Native.Nat.{ℕ, _+_, _-_, _≤_, _<_}
-use mathlib.Core.Path.{_≡_, sym, ap, ap₂, _∙_}
+use mathlib.Core.Path.{_≡_, refl, sym, ap, ap₂, _∙_}
 use mathlib.Core.Bool.{Bool, true, false, not, cond, _&&_, and-true, and-false}
-use borrow.Author.Tests.{lt-ltb, le-ltb, eq-eqb, ne-eqb}
+use native.Mathlib.Omega.{arith}
+use lib.Dec.{leb}
+use borrow.Author.Tests.{lt-ltb, le-ltb, le-leb, lt-leb, leb-true, leb-false, eq-eqb, ne-eqb}
 use Rattle.playback_position.specs.declared.FrameRange.{FrameRange}
 use Rattle.playback_position.specs.declared.FrameRange.the-variants.{Absent, Frames}
 use Rattle.transport.specs.declared.Transport.{Transport}
-use Rattle.transport.specs.Moves.{under, over, back, first, landed, forward, backward, seek}
+use Rattle.transport.specs.Moves.{under, over, back, first, landed, forward, backward, edge, wraps, seek}
 
 -- the transport with its two numbers changed
 abbrev pub moved : Transport → ℕ → Bool → Transport
@@ -71,3 +73,25 @@ seek-up n t q h = ap (λ (b : Bool). landed n t (cond b (under (t .«loop_region
 pub seek-down : (n : ℕ) (t : Transport) (q : ℕ) → q ≤ t .position → seek n t q ≡ landed n t (over (t .«loop_region») q)
 unfolding seek
 seek-down n t q h = ap (λ (b : Bool). landed n t (cond b (under (t .«loop_region») q) (over (t .«loop_region») q))) (le-ltb (t .position) q h)
+
+-- ---- whether a step takes the wrap
+
+pub wraps-none : (b : Bool) (t : Transport) → t .«loop_region» ≡ Absent → wraps b t ≡ false
+unfolding wraps
+wraps-none b t l = ap (λ (r : FrameRange). t .playing && edge b r (t .position)) l ∙ and-false (t .playing)
+
+-- with its loop and its direction known
+pub wraps-looped : (b : Bool) (t : Transport) (s e : ℕ) (x : Bool) → t .«loop_region» ≡ Frames s e → edge b (Frames s e) (t .position) ≡ x → wraps b t ≡ (t .playing && x)
+unfolding wraps
+wraps-looped b t s e x l h = ap (λ (r : FrameRange). t .playing && edge b r (t .position)) l ∙ ap (λ (x : Bool). t .playing && x) h
+
+pub edge-back : (b : Bool) (s e p : ℕ) → b ≡ true → edge b (Frames s e) p ≡ leb p s
+edge-back b s e p h = ap (λ (b : Bool). cond b (leb p s) (leb e (p + 1))) h
+
+-- on to the end: p + 1 >= e is p >= e - 1
+pub edge-on : (b : Bool) (s e p : ℕ) → b ≡ false → s < e → edge b (Frames s e) p ≡ leb (e - 1) p
+edge-on b s e p h l = ap (λ (b : Bool). cond b (leb p s) (leb e (p + 1))) h ∙ go (leb (e - 1) p) refl
+  where
+    go : (x : Bool) → leb (e - 1) p ≡ x → leb e (p + 1) ≡ leb (e - 1) p
+    go true k = let q = leb-true (e - 1) p k in le-leb e (p + 1) (omega arith) ∙ sym k
+    go false k = let q = leb-false (e - 1) p k in lt-leb e (p + 1) (omega arith) ∙ sym k

@@ -45,6 +45,15 @@ backward t =
     (record { position = back (t .«loop_region») (t .position); «loop_region» = t .«loop_region»; playing = not (first (t .«loop_region») (t .position)) })
     t
 
+-- a step from p takes the wrap: forward onto the loop's end or past it, backward from its start or from before it
+abbrev pub edge : Bool → FrameRange → ℕ → Bool
+edge backwards Absent p = false
+edge backwards (Frames s e) p = cond backwards (leb p s) (leb e (p + 1))
+
+-- the next step, backwards or not, takes the wrap; a transport that does not play makes none
+unfoldable pub wraps : Bool → Transport → Bool
+wraps backwards t = t .playing && edge backwards (t .«loop_region») (t .position)
+
 -- a seek to q in n frames: up to the loop's end when it goes up, down to its start when not
 unfoldable pub seek : ℕ → Transport → ℕ → Transport
 seek n t q = landed n t (cond (ltb (t .position) q) (under (t .«loop_region») q) (over (t .«loop_region») q))

@@ -3,7 +3,7 @@ ghost use mathlib.Core.Path.{_≡_};
 ghost use Prim.Native.Nat.{_<_};
 ghost use lib.Dec.{T};
 ghost use Rattle.playback_position.specs.Positions.{ordered};
-ghost use Rattle.transport.specs.Moves.{under, over, landed, forward, backward, seek, reloop, begun};
+ghost use Rattle.transport.specs.Moves.{under, over, landed, forward, backward, wraps, seek, reloop, begun};
 ghost use Rattle.transport.specs.WellFormed.{FormedTransport};
 use playback_position::FrameRange;
 
@@ -128,6 +128,24 @@ impl Transport {
             }
         }
         self
+    }
+
+    // Whether the next step takes the wrap.
+    pub fn wraps(self, backwards: bool) -> bool
+        requires { ⌜ T (ordered (self .«loop_region»)) ⌝ }
+        ensures { λ r. ⌜ r ≡ wraps backwards self ⌝ }
+    {
+        let loop_region = self.loop_region;
+        match loop_region {
+            FrameRange::Absent => false,
+            FrameRange::Frames(start, end) => {
+                if backwards {
+                    self.playing & (self.position <= start)
+                } else {
+                    self.playing & (self.position >= end - 1)
+                }
+            }
+        }
     }
 
     pub fn seek_to(mut self, position: usize, num_frames: usize) -> Transport

@@ -32,6 +32,8 @@ pub struct State {
     pub playback_rate: f64,
     pub fraction: f64,
     pub window: [Entry; 4],
+    pub forward_wraps: u32,
+    pub backward_wraps: u32,
 }
 
 /// A place in a sound: kind 0 seconds, 1 samples, and for an end 2 the end of audio.

@@ -83,7 +83,7 @@ pub use refusal::{LaneName, Refusal};
 pub use saved::Unreadable;
 pub use saved_settings::{SavedSettings, SettingsVersion};
 pub use settings::Settings;
-pub use state::{Frame, RecentFrame, State};
+pub use state::{Frame, RecentFrame, State, Wraps};
 pub use static_sound::{Processed, StaticSound};
 
 /// The examples of README.md, tried with the others.

@@ -2,13 +2,16 @@
 
 use std::{error::Error, fmt};
 
-use crate::{Frame, PlaybackState, RecentFrame, Refusal, State};
+use crate::{Frame, PlaybackState, RecentFrame, Refusal, State, Wraps};
 
 /// What a saved state begins with.
 const MARK: [u8; 4] = *b"COwl";
-const VERSION: u8 = 1;
-/// Bytes of version 1 before its check.
-const BODY: usize = 144;
+/// The version that is written; version 1, which has no wraps, is read too.
+const VERSION: u8 = 2;
+const UNCOUNTED: u8 = 1;
+/// Bytes before the check, in version 2 and in version 1.
+const BODY: usize = 152;
+const UNCOUNTED_BODY: usize = 144;
 const CHECK: usize = 4;
 
 /// The yes-or-no fields, a bit each.
@@ -50,7 +53,7 @@ impl fmt::Display for Unreadable {
             Self::Mark => f.write_str("these bytes are not a saved state: they begin otherwise"),
             Self::Version(version) => write!(
                 f,
-                "this saved state is of version {version}, and this library reads version {VERSION}"
+                "this saved state is of version {version}, and this library reads versions {UNCOUNTED} and {VERSION}"
             ),
             Self::Length => f.write_str("this saved state is cut short or has bytes after its end"),
             Self::Check => {
@@ -75,7 +78,7 @@ impl State {
     /// | bytes | hold |
     /// |---|---|
     /// | 0 to 3 | the mark: `43 4F 77 6C`, "COwl" |
-    /// | 4 | the version: 1 |
+    /// | 4 | the version: 2 |
     /// | 5 | the playback state, 0 to 6 |
     /// | 6 | bit 0 reverse, 1 started, 2 playing, 3 a slice is given, 4 a loop is given; the others 0 |
     /// | 7 | 0 |
@@ -88,10 +91,11 @@ impl State {
     /// | 64 to 71 | the held rate |
     /// | 72 to 79 | the fraction |
     /// | 80 to 143 | the window's four entries, oldest first: left (4), right (4), frame number (8) |
-    /// | 144 to 147 | the check: CRC-32 of all bytes before it, as in zip and PNG |
+    /// | 144 to 151 | the wraps, forward and backward, 4 bytes each |
+    /// | 152 to 155 | the check: CRC-32 of all bytes before it, as in zip and PNG |
     ///
-    /// A later version adds fields before the check and raises the version; this layout stays
-    /// readable.
+    /// Version 1 has no wraps, and its check at 144 to 147; it is read with both counts 0. A later
+    /// version adds fields before the check and raises the version; this layout stays readable.
     ///
     /// ```
     /// use cableowl::{Settings, State, StaticSound};
@@ -140,6 +144,8 @@ impl State {
             bytes.extend(recent.frame.right.to_bits().to_le_bytes());
             bytes.extend((recent.frame_index as u64).to_le_bytes());
         }
+        bytes.extend(self.wraps.forward.to_le_bytes());
+        bytes.extend(self.wraps.backward.to_le_bytes());
         let check = crc_32(&bytes);
         bytes.extend(check.to_le_bytes());
         bytes
@@ -161,23 +167,24 @@ impl State {
     ///
     /// # Errors
     ///
-    /// Where the bytes are not what [`State::to_bytes`] writes, by refusal number 1 and the reason.
+    /// Where the bytes are not what [`State::to_bytes`] writes or wrote in version 1, by refusal number 1 and the reason.
     pub fn from_bytes(bytes: &[u8]) -> Result<Self, Unreadable> {
         let rest = bytes.strip_prefix(&MARK).ok_or(Unreadable::Mark)?;
-        match rest.first() {
+        let (length, counted) = match rest.first() {
             None => return Err(Unreadable::Length),
-            Some(&VERSION) => {}
+            Some(&UNCOUNTED) => (UNCOUNTED_BODY, false),
+            Some(&VERSION) => (BODY, true),
             Some(&version) => return Err(Unreadable::Version(version)),
-        }
+        };
         let (body, check) = bytes
-            .split_at_checked(BODY)
+            .split_at_checked(length)
             .filter(|(_, check)| check.len() == CHECK)
             .ok_or(Unreadable::Length)?;
         if crc_32(body).to_le_bytes() != check {
             return Err(Unreadable::Check);
         }
         Reader(&body[MARK.len() + 1..])
-            .state()
+            .state(counted)
             .ok_or(Unreadable::Value)
     }
 }
@@ -227,8 +234,19 @@ impl Reader<'_> {
         })
     }
 
+    /// The counts, where they are there.
+    fn wraps(&mut self, counted: bool) -> Option<Wraps> {
+        if !counted {
+            return Some(Wraps::default());
+        }
+        Some(Wraps {
+            forward: self.word()?,
+            backward: self.word()?,
+        })
+    }
+
     /// The state, from the byte after the version on; none where a byte means nothing.
-    fn state(&mut self) -> Option<State> {
+    fn state(&mut self, counted: bool) -> Option<State> {
         let playback_state = PlaybackState::from_number(self.byte()?.into())?;
         let flags = self.byte()?;
         if flags & !ALL_FLAGS != 0 || self.byte()? != 0 {
@@ -254,6 +272,7 @@ impl Reader<'_> {
                 self.recent_frame()?,
                 self.recent_frame()?,
             ],
+            wraps: self.wraps(counted)?,
         })
     }
 }

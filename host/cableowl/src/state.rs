@@ -20,6 +20,27 @@ pub struct RecentFrame {
     pub frame_index: usize,
 }
 
+/// How often a voice has gone round its loop: its steps that took the wrap, forward and backward.
+///
+/// One for each such step, however many lengths it wraps; also where it began outside the loop, as
+/// after a loop command. Creation's own three steps count, seeks do not, and no command clears a
+/// count: a host that wants the rounds of an evening, or of a loop, takes the difference of two
+/// readings. Each count stands still at 4,294,967,295. The direction is the position's: a sound in
+/// reverse at rate 1 counts backward.
+///
+/// What a difference means: in a block of a voice that plays inside its loop of `l` frames, forward,
+/// the position after it is the one before, plus the block's steps, less `l` times the wraps
+/// (backward: less the steps, plus `l` times the wraps), as long as the count has not reached its
+/// limit.
+#[derive(Debug, Clone, Copy, PartialEq, Eq, Hash, Default)]
+#[non_exhaustive]
+pub struct Wraps {
+    /// Forward steps that took the wrap.
+    pub forward: u32,
+    /// Backward steps that took the wrap.
+    pub backward: u32,
+}
+
 /// Everything a voice is between two calls. [`StaticSound::state`](crate::StaticSound::state) reads
 /// it out, [`StaticSound::from_state`](crate::StaticSound::from_state) judges it and takes it back;
 /// [`State::to_bytes`] and [`State::from_bytes`] save it. The default is the blank state, which no
@@ -53,6 +74,8 @@ pub struct State {
     pub window: [RecentFrame; 4],
     /// The window's count: how many frames may still be heard once the position has run off.
     pub time_until_empty: u32,
+    /// How often the loop was wrapped; any two counts are well formed.
+    pub wraps: Wraps,
 }
 
 impl Default for State {
@@ -72,6 +95,7 @@ impl Default for State {
             playing: false,
             window: [RecentFrame::default(); 4],
             time_until_empty: 0,
+            wraps: Wraps::default(),
         }
     }
 }
@@ -107,6 +131,8 @@ impl From<State> for ffi::State {
             playback_rate: state.playback_rate,
             fraction: state.fractional_position,
             window: state.window.map(Into::into),
+            forward_wraps: state.wraps.forward,
+            backward_wraps: state.wraps.backward,
         }
     }
 }
@@ -129,6 +155,10 @@ impl From<ffi::State> for State {
             playing: state.playing != 0,
             window: state.window.map(Into::into),
             time_until_empty: state.count,
+            wraps: Wraps {
+                forward: state.forward_wraps,
+                backward: state.backward_wraps,
+            },
         }
     }
 }

@@ -1,7 +1,7 @@
 //! The voice: docs/RULES.md, "Creation, commands, block".
 
 use crate::{
-    BlockLanes, Commands, LoopTable, PlaybackState, Refusal, Settings, Signals, State, ffi,
+    BlockLanes, Commands, LoopTable, PlaybackState, Refusal, Settings, Signals, State, Wraps, ffi,
     float_mode,
 };
 
@@ -251,6 +251,26 @@ impl StaticSound {
     #[must_use]
     pub fn finished(&self) -> bool {
         self.playback_state() == PlaybackState::Stopped
+    }
+
+    /// How often the voice has gone round its loop, forward and backward: its steps that took the
+    /// wrap, creation's own three among them. [`Wraps`] says what is counted.
+    ///
+    /// ```
+    /// use cableowl::{Lanes, Settings, Signals, StaticSound};
+    ///
+    /// let sound = [0.5; 20];
+    /// let mut voice = StaticSound::new(Settings::new(1).loop_region(2..5), &sound)?;
+    /// let before = voice.wraps();
+    /// let mut lanes = Lanes::new();
+    /// voice.process(&sound, lanes.frames(30), 1.0, Signals::default(), &mut [0.0; 60])?;
+    /// assert_eq!(voice.wraps().forward - before.forward, 10);
+    /// assert_eq!(voice.wraps().backward, 0);
+    /// # Ok::<(), cableowl::Refusal>(())
+    /// ```
+    #[must_use]
+    pub fn wraps(&self) -> Wraps {
+        self.state().wraps
     }
 
     /// Everything the voice is, to save it or to look at it.

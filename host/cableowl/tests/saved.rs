@@ -1,11 +1,16 @@
 // Saved states: bytes that are read back, and bytes that are refused.
 
-use cableowl::{Commands, Lanes, Refusal, Settings, Signals, State, StaticSound, Unreadable};
+use cableowl::{
+    Commands, Lanes, Refusal, Settings, Signals, State, StaticSound, Unreadable, Wraps,
+};
 
 const SOUND: [f32; 40] = [0.25; 40];
 
 fn state() -> State {
-    let settings = Settings::new(44_100).slice(1..19).loop_region(2..9);
+    let settings = Settings::new(44_100)
+        .slice(1..19)
+        .start_position(15)
+        .loop_region(2..9);
     let mut voice = StaticSound::new(settings.reverse(true), &SOUND).unwrap();
     let mut lanes = Lanes::new();
     let lanes = lanes.frames(5).rate(0.3);
@@ -42,9 +47,23 @@ fn crc_32(bytes: &[u8]) -> u32 {
 fn with(at: usize, byte: u8) -> Vec<u8> {
     let mut bytes = state().to_bytes();
     bytes[at] = byte;
-    let check = crc_32(&bytes[..144]).to_le_bytes();
-    bytes[144..].copy_from_slice(&check);
+    checked(bytes)
+}
+
+/// The bytes with their last four made the check of the others.
+fn checked(mut bytes: Vec<u8>) -> Vec<u8> {
+    let body = bytes.len() - 4;
+    let check = crc_32(&bytes[..body]).to_le_bytes();
+    bytes[body..].copy_from_slice(&check);
     bytes
+}
+
+/// The state as version 1 wrote it: without the counts.
+fn version_1(state: &State) -> Vec<u8> {
+    let mut bytes = state.to_bytes();
+    bytes.drain(144..152);
+    bytes[4] = 1;
+    checked(bytes)
 }
 
 #[test]
@@ -53,8 +72,8 @@ fn the_layout() {
     let bytes = state.to_bytes();
     let number = |at: usize| u64::from_le_bytes(bytes[at..at + 8].try_into().unwrap());
     let word = |at: usize| u32::from_le_bytes(bytes[at..at + 4].try_into().unwrap());
-    assert_eq!(bytes.len(), 148);
-    assert_eq!(bytes[..8], [0x43, 0x4f, 0x77, 0x6c, 1, 1, 0b11111, 0]);
+    assert_eq!(bytes.len(), 156);
+    assert_eq!(bytes[..8], [0x43, 0x4f, 0x77, 0x6c, 2, 1, 0b11111, 0]);
     assert_eq!((word(8), word(12)), (44_100, 4));
     assert_eq!(
         [16, 24, 32, 40].map(number),
@@ -68,7 +87,9 @@ fn the_layout() {
         assert_eq!([word(at), word(at + 4)], frame);
         assert_eq!(number(at + 8), recent.frame_index as u64);
     }
-    assert_eq!(word(144), crc_32(&bytes[..144]));
+    assert_eq!([word(144), word(148)], [0, state.wraps.backward]);
+    assert_ne!(state.wraps.backward, 0);
+    assert_eq!(word(152), crc_32(&bytes[..152]));
 }
 
 #[test]
@@ -80,6 +101,24 @@ fn read_back() {
     assert_eq!(
         State::from_bytes(&State::default().to_bytes()),
         Ok(State::default())
+    );
+}
+
+#[test]
+fn version_1_is_read_with_no_wraps() {
+    let mut state = state();
+    let saved = version_1(&state);
+    assert_eq!((saved.len(), saved[4]), (148, 1));
+    state.wraps = Wraps::default();
+    assert_eq!(State::from_bytes(&saved), Ok(state));
+    // Each version has its own length.
+    assert_eq!(State::from_bytes(&with(4, 1)), Err(Unreadable::Length));
+    assert_eq!(State::from_bytes(&saved[..147]), Err(Unreadable::Length));
+    let mut as_version_2 = saved;
+    as_version_2[4] = 2;
+    assert_eq!(
+        State::from_bytes(&checked(as_version_2)),
+        Err(Unreadable::Length)
     );
 }
 
@@ -113,7 +152,7 @@ fn other_lengths_and_values_are_refused() {
     }
     let longer = [bytes.as_slice(), &[0]].concat();
     assert_eq!(State::from_bytes(&longer), Err(Unreadable::Length));
-    assert_eq!(State::from_bytes(&with(4, 2)), Err(Unreadable::Version(2)));
+    assert_eq!(State::from_bytes(&with(4, 3)), Err(Unreadable::Version(3)));
     for (at, byte) in [(5, 7), (6, 32), (7, 1)] {
         assert_eq!(State::from_bytes(&with(at, byte)), Err(Unreadable::Value));
     }

@@ -4,7 +4,7 @@ use std::sync::Arc;
 
 use oracle::{
     Answer, Commands, EndPosition, Entry, LIMIT, LaneBuffers, PlaybackPosition, PlaybackState,
-    Region, Settings, Signals, State,
+    Region, Settings, Signals, State, Wraps,
 };
 use random::Random;
 use rules::{Document, Rules};
@@ -172,6 +172,20 @@ pub fn state(random: &mut Random, total: usize) -> State {
         playing,
         window,
         count,
+        wraps: Wraps {
+            forward: wraps(window[2].number),
+            backward: wraps(window[3].number),
+        },
+    }
+}
+
+/// A count of wraps by a number that was drawn: small, or at its limit or a few below.
+fn wraps(number: usize) -> u32 {
+    let few = (number / 3 % 4) as u32;
+    if number.is_multiple_of(3) {
+        u32::MAX - few
+    } else {
+        few
     }
 }
 

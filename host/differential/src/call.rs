@@ -6,8 +6,8 @@ use std::{
 };
 
 use oracle::{
-    Commands, Entry, Frame, LaneBuffers, Oracle, PlaybackState, Settings, Signals, State, same_f32,
-    same_f64,
+    Commands, Entry, Frame, LaneBuffers, Oracle, PlaybackState, Settings, Signals, State, Wraps,
+    same_f32, same_f64,
 };
 use rules::Rules;
 
@@ -293,6 +293,7 @@ pub fn blank() -> State {
         playing: false,
         window: [Entry::default(); 4],
         count: 0,
+        wraps: Wraps::default(),
     }
 }
 

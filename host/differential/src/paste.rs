@@ -9,7 +9,7 @@ pub use oracle::{
     Entry,
     PlaybackPosition::{Samples, Seconds},
     PlaybackState::{Paused, Pausing, Playing, Resuming, Stopped, Stopping, WaitingToResume},
-    Region, Settings, Signals, State,
+    Region, Settings, Signals, State, Wraps,
 };
 
 pub use crate::call::Place::{Mix, Whole};
@@ -176,7 +176,7 @@ fn of_state(state: &State) -> String {
         format!("entry({left}, {right}, {})", entry.number)
     });
     format!(
-        "State {{ sample_rate: {}, total_frames: {}, slice: {:?}, reverse: {}, rate: {}, started: {}, playback: {:?}, fraction: {}, position: {}, loop_region: {:?}, playing: {}, window: [{}], count: {} }}",
+        "State {{ sample_rate: {}, total_frames: {}, slice: {:?}, reverse: {}, rate: {}, started: {}, playback: {:?}, fraction: {}, position: {}, loop_region: {:?}, playing: {}, window: [{}], count: {}, wraps: Wraps {{ forward: {}, backward: {} }} }}",
         state.sample_rate,
         state.total_frames,
         state.slice,
@@ -190,6 +190,8 @@ fn of_state(state: &State) -> String {
         state.playing,
         entries.join(", "),
         state.count,
+        state.wraps.forward,
+        state.wraps.backward,
     )
 }
 

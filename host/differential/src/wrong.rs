@@ -1,7 +1,7 @@
 //! Deliberately wrong players: each makes one slip, and the harness must find it.
 
 use oracle::{
-    Answer, Entry, PlaybackPosition, PlaybackState, Region, Signals, State,
+    Answer, Entry, PlaybackPosition, PlaybackState, Region, Signals, State, Wraps,
     leaves::{Transport, Window},
 };
 use rules::{Document, Rules, refusals::MOST_ADVANCE};
@@ -61,6 +61,13 @@ fn by_rule() -> Vec<Box<dyn Player>> {
         Box::new(Model::new("minus zero is created forward", CreatedForward)),
         Box::new(Model::new("an empty push keeps the count", PushKeepsCount)),
         Box::new(Model::new("a resume waits for the fade", FinishedResumes)),
+        Box::new(Model::new("a count of wraps goes on from 0", CountTurns)),
+        Box::new(Model::new("a far wrap counts its lengths", CountsLengths)),
+        Box::new(Model::new(
+            "a turn to the edge is not counted",
+            EdgeUncounted,
+        )),
+        Box::new(Model::new("backward wraps count forward", CountsForward)),
     ]
 }
 
@@ -283,7 +290,68 @@ impl Rules for FinishedResumes {
     }
 }
 
-const BY_HAND: [Slip; 12] = [
+struct CountTurns;
+impl Rules for CountTurns {
+    fn counted(&self, given: Wraps, from: Transport, backward: bool) -> Wraps {
+        let more = Document.counted(Wraps::default(), from, backward);
+        Wraps {
+            forward: given.forward.wrapping_add(more.forward),
+            backward: given.backward.wrapping_add(more.backward),
+        }
+    }
+}
+
+struct CountsLengths;
+impl Rules for CountsLengths {
+    fn counted(&self, given: Wraps, from: Transport, backward: bool) -> Wraps {
+        let lengths = |(start, end): (usize, usize)| match backward {
+            true => (start - from.position.min(start)) / (end - start),
+            false => (from.position + 1 - end.min(from.position + 1)) / (end - start),
+        };
+        let once = Document.counted(given, from, backward);
+        let more = once != given;
+        let more = from.loop_region.filter(|_| more).map_or(0, lengths) as u32;
+        match backward {
+            true => Wraps {
+                backward: once.backward.saturating_add(more),
+                ..once
+            },
+            false => Wraps {
+                forward: once.forward.saturating_add(more),
+                ..once
+            },
+        }
+    }
+}
+
+struct EdgeUncounted;
+impl Rules for EdgeUncounted {
+    fn counted(&self, given: Wraps, from: Transport, backward: bool) -> Wraps {
+        let at_the_edge = |(start, end)| match backward {
+            true => from.position == start,
+            false => from.position + 1 == end,
+        };
+        match from.loop_region {
+            Some(held) if at_the_edge(held) => given,
+            _ => Document.counted(given, from, backward),
+        }
+    }
+}
+
+struct CountsForward;
+impl Rules for CountsForward {
+    fn counted(&self, given: Wraps, from: Transport, backward: bool) -> Wraps {
+        let counted = Document.counted(Wraps::default(), from, backward);
+        Wraps {
+            forward: given
+                .forward
+                .saturating_add(counted.forward + counted.backward),
+            ..given
+        }
+    }
+}
+
+const BY_HAND: [Slip; 15] = [
     Slip {
         name: "the fraction is cleared between blocks",
         answer: |call| {
@@ -413,6 +481,45 @@ const BY_HAND: [Slip; 12] = [
                 && outcome.refusal == 8
             {
                 state.playback = PlaybackState::Stopped;
+            }
+            outcome
+        },
+    },
+    Slip {
+        name: "creation's wraps do not count",
+        answer: |call| {
+            let mut outcome = judged(call);
+            if let (Ask::Create(..), Some(state)) = (&call.ask, &mut outcome.state) {
+                state.wraps = Wraps::default();
+            }
+            outcome
+        },
+    },
+    Slip {
+        name: "a seek that wraps is counted",
+        answer: |call| {
+            let mut outcome = judged(call);
+            if let (Ask::Command(_, commands), Some(state)) = (&call.ask, &mut outcome.state)
+                && let Some(seconds) = commands.seek_to
+                && outcome.refusal == 0
+                && let Some((_, end)) = state.loop_region
+                && seconds * f64::from(state.sample_rate) >= end as f64
+                && state.position < end
+            {
+                state.wraps.forward = state.wraps.forward.saturating_add(1);
+            }
+            outcome
+        },
+    },
+    Slip {
+        name: "a loop command clears the wraps",
+        answer: |call| {
+            let mut outcome = judged(call);
+            if let (Ask::Command(_, commands), Some(state)) = (&call.ask, &mut outcome.state)
+                && commands.loop_region.is_some()
+                && outcome.refusal == 0
+            {
+                state.wraps = Wraps::default();
             }
             outcome
         },

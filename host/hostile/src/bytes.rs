@@ -303,7 +303,15 @@ fn well_formed(random: &mut Random, frames: u64) -> CableowlState {
         playback_rate: [1.0, -1.0, 0.0, -0.0][random.below(4)],
         fraction: random.unit(),
         window,
+        forward_wraps: any_count(random),
+        backward_wraps: any_count(random),
     }
+}
+
+/// A count of wraps: small, or at its limit and a few below.
+fn any_count(random: &mut Random) -> u32 {
+    let few = random.below(4) as u32;
+    if random.coin() { few } else { u32::MAX - few }
 }
 
 /// No region, or one that fits so many frames.

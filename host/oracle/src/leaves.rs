@@ -2,7 +2,7 @@
 
 use crate::{
     Entry, Frame, PlaybackPosition, PlaybackState, Region, Signals, StartTime, TooManyTurns, Tween,
-    frame, playback_state_manager::PlaybackStateManager, sound::transport, turns,
+    Wraps, frame, playback_state_manager::PlaybackStateManager, sound::transport, turns,
 };
 
 pub use crate::sound::static_sound::{current_frame_index, empty, get, new_window, push_frame};
@@ -20,11 +20,13 @@ pub struct Transport {
 
 impl Transport {
     fn run(self, act: impl FnOnce(&mut transport::Transport)) -> Self {
-        let mut original = transport::Transport {
-            position: self.position,
-            loop_region: self.loop_region,
-            playing: self.playing,
-        };
+        let Self {
+            position,
+            loop_region,
+            playing,
+        } = self;
+        let mut original =
+            transport::Transport::found(position, loop_region, playing, Wraps::default());
         act(&mut original);
         Self::of(original)
     }

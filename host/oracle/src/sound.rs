@@ -10,11 +10,7 @@ mod playback_position {
 
 pub mod static_sound;
 
-pub mod transport {
-    // kira's sound/transport.rs, unchanged.
-    #![allow(clippy::all, dead_code, missing_docs)]
-    include!("../kira/src/sound/transport.rs");
-}
+pub mod transport;
 
 pub use playback_position::PlaybackPosition;
 

@@ -1,6 +1,6 @@
 // A voice's whole state, as plain numbers that can be compared bit by bit.
 
-use crate::{PlaybackState, leaves::Window};
+use crate::{PlaybackState, Wraps, leaves::Window};
 
 /// The largest position, window number and capped frame number: 2^32.
 pub const LIMIT: usize = 4_294_967_296;
@@ -59,6 +59,8 @@ pub struct State {
     pub window: [Entry; 4],
     /// The window's count.
     pub count: usize,
+    /// The steps that took the wrap.
+    pub wraps: Wraps,
 }
 
 impl State {
@@ -77,6 +79,7 @@ impl State {
             && self.loop_region == other.loop_region
             && self.playing == other.playing
             && self.window().same_bits(&other.window())
+            && self.wraps == other.wraps
     }
 
     /// The frames that can be played: the slice's, or all.

@@ -2,7 +2,7 @@
 
 use oracle::{
     Answer, Commands, EndPosition, Entry, PlaybackPosition, PlaybackState, Region, Settings,
-    Signals, State,
+    Signals, State, Wraps,
 };
 
 use crate::{
@@ -37,6 +37,8 @@ pub fn state_in(given: &State) -> CableowlState {
             right: entry.right,
             number: entry.number as u64,
         }),
+        forward_wraps: given.wraps.forward,
+        backward_wraps: given.wraps.backward,
     }
 }
 
@@ -61,6 +63,10 @@ pub fn state_out(given: &CableowlState) -> Option<State> {
             number: entry.number as usize,
         }),
         count: given.count as usize,
+        wraps: Wraps {
+            forward: given.forward_wraps,
+            backward: given.backward_wraps,
+        },
     })
 }
 

@@ -52,6 +52,6 @@ fn the_structs_have_the_sizes_of_the_header() {
         size_of::<CableowlCommanded>(),
         size_of::<CableowlProcessed>(),
     ];
-    assert_eq!(sizes, [160, 24, 48, 152, 104, 168, 176, 176]);
+    assert_eq!(sizes, [168, 24, 48, 152, 104, 176, 184, 184]);
     assert_eq!(version(), 2);
 }

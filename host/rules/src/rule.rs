@@ -2,7 +2,7 @@
 
 use oracle::{
     Answer, EndPosition, Entry, Frame, LIMIT, PlaybackPosition, PlaybackState, Region, Signals,
-    State,
+    State, Wraps,
     leaves::{Transport, Window},
 };
 
@@ -35,6 +35,24 @@ pub trait Rules {
                 position: p - 1,
                 ..given
             },
+        }
+    }
+
+    /// The counts after a step from `from`: one more for its direction where it takes the wrap, up to
+    /// the limit.
+    fn counted(&self, given: Wraps, from: Transport, backward: bool) -> Wraps {
+        let wrapped = match from.loop_region {
+            Some((start, _)) if backward => from.playing && from.position <= start,
+            Some((_, end)) => from.playing && from.position + 1 >= end,
+            None => false,
+        };
+        let Wraps {
+            forward: ahead,
+            backward: back,
+        } = given;
+        Wraps {
+            forward: ahead.saturating_add((wrapped && !backward).into()),
+            backward: back.saturating_add((wrapped && backward).into()),
         }
     }
 

@@ -1,7 +1,7 @@
 // A voice by the rules: a state and the sound it plays. It is given accepted input only.
 
 use oracle::{
-    Commands, Entry, Frame, Lanes, PlaybackState, Reported, Settings, Signals, State,
+    Commands, Entry, Frame, Lanes, PlaybackState, Reported, Settings, Signals, State, Wraps,
     leaves::Transport,
 };
 
@@ -47,6 +47,7 @@ impl<'a, R: Rules> Voice<'a, R> {
             playing: true,
             window: [empty; 4],
             count: 0,
+            wraps: Wraps::default(),
         };
         let mut voice = Self {
             rules,
@@ -137,11 +138,14 @@ impl<'a, R: Rules> Voice<'a, R> {
     fn update(&mut self, lane: Option<f64>) {
         self.push_one();
         let (held, reverse) = (self.state.rate, self.state.reverse);
-        let next = if self.rules.is_backward(held, lane, reverse) {
-            self.rules.backward(self.transport())
+        let given = self.transport();
+        let backward = self.rules.is_backward(held, lane, reverse);
+        self.state.wraps = self.rules.counted(self.state.wraps, given, backward);
+        let next = if backward {
+            self.rules.backward(given)
         } else {
             let n = self.state.num_frames();
-            self.rules.forward(self.transport(), n)
+            self.rules.forward(given, n)
         };
         self.move_to(next);
         if self.rules.has_stopped(&self.state) {

@@ -28,7 +28,7 @@ use Rattle.command_set.proofs.seek_to_index.Tie as tie
 
 -- the moving parts with another transport, and with another window besides
 abbrev with : StaticSound → Transport → Resampler → Moving
-with v t w = record { state = v .moving .state; transport = t; resampler = w }
+with v t w = record { state = v .moving .state; transport = t; resampler = w; wraps = v .moving .wraps }
 
 jumped-able : (snd : List Float) (v : StaticSound) (q : ℕ) (c : Course) (t : Transport) → T (ours (length snd) v) → q ≤ most
     → t ≡ seek (span (v .setup)) (v .moving .transport) q → c ≡ courseOf v → Able snd c (with v t (v .moving .resampler))
@@ -71,22 +71,22 @@ course-requires c κs = search needs
 
 push-frame-to-resampler-requires : tie.Need-push-frame-to-resampler-requires
 push-frame-to-resampler-requires c κs =
-    let l = c .before .before .before .before in
+    let l = c .before .before .before .before .before in
     let s = l .before .before .before .before .before .before in
     jumped-able _ (s .args .voice) (s .args .index) _ _ (s .pre .0) (s .pre .1) (lands l) (c .course .ensures)
 
 returns : tie.Need-returns
 returns c =
-    let p = c .before .before in
+    let p = c .before .before .before in
     let i = p .before .before in
-    let l = i .before .before .before in
+    let l = i .before .before .before .before in
     let s = l .before .before .before .before .before .before in
     sought-going _ (s .args .voice) (s .args .index) _ _ _ (sym (i .before .is-advancing .ensures) ∙ i .if1 .taken) (lands l) (p .before .course .ensures) (p .push-frame-to-resampler .ensures)
 
 returns-2 : tie.Need-returns-2
 returns-2 c =
     let i = c .before in
-    let l = i .before .before .before in
+    let l = i .before .before .before .before in
     let s = l .before .before .before .before .before .before in
     sought-still _ (s .args .voice) (s .args .index) _ (sym (i .before .is-advancing .ensures) ∙ i .if1 .left) (lands l)
 

@@ -22,7 +22,7 @@ told-by : (c : Commands) (v : StaticSound) (x : Float) (t : Transport) (p r s : 
       «playback_rate» = x;
       started = v .started;
       «fractional_position» = v .«fractional_position»;
-      moving = record { state = s; transport = t; resampler = v .moving .resampler };
+      moving = record { state = s; transport = t; resampler = v .moving .resampler; wraps = v .moving .wraps };
     })
     (told c v)
 unfolding told
@@ -45,7 +45,7 @@ stop-requires c κs = search needs
 
 returns : tie.Need-returns
 returns c =
-    let stopped = c .before .before in
+    let stopped = c .before .before .before in
     let resumed = stopped .before in
     let paused = resumed .before in
     let looped = paused .before in

@@ -12,6 +12,7 @@ use Rattle.transport.specs.declared.Transport.{Transport}
 use Rattle.transport.specs.Moves.{begun}
 use Rattle.resampler.specs.declared.Resampler.{Resampler}
 use Rattle.resampler.specs.Windows.{fresh}
+use Rattle.moving.specs.Updates.{uncounted}
 use Rattle.voice.specs.declared.Setup.{Setup}
 use Rattle.voice.specs.declared.StaticSound.{StaticSound}
 use Rattle.voice.specs.Voices.{span}
@@ -37,7 +38,7 @@ opened-with : (k j : Setup) (t u : Transport) (w : Resampler) (rate : Float) (wa
       «playback_rate» = rate;
       started = not waits;
       «fractional_position» = positiveZero;
-      moving = record { state = state.Playing; transport = t; resampler = w };
+      moving = record { state = state.Playing; transport = t; resampler = w; wraps = uncounted };
     })
     (opened j u rate waits)
 opened-with k j t u w rate waits e f g = rw (g, f, e)

@@ -41,17 +41,17 @@ record Sofar (snd : List Float) (dt : Float) (b : Lanes) (v : StaticSound) (i : 
   so-far : plays snd dt (take i (rows b)) v ≡ played (moved v f m) (take (2 * i) out) steps low
 
 abbrev Inv-loop : tie.InvT-loop
-Inv-loop voice sound fade volume left right rate dt out₀ course sample-rate loop-region state₀ position₀ playing₀ a₀ b₀ c₀ d₀ na₀ nb₀ nc₀ nd₀ count₀ fractional-position₀ steps₀ lowest-count₀ i₀ out state position playing a b c d na nb nc nd count fractional-position steps lowest-count i =
-    Sofar sound dt (five fade volume left right rate) voice i out₀ out (movingOf loop-region state position playing a b c d na nb nc nd count) fractional-position steps lowest-count
+Inv-loop voice sound fade volume left right rate dt out₀ course sample-rate loop-region state₀ position₀ playing₀ wraps₀ a₀ b₀ c₀ d₀ na₀ nb₀ nc₀ nd₀ count₀ fractional-position₀ steps₀ lowest-count₀ i₀ out state position playing wraps a b c d na nb nc nd count fractional-position steps lowest-count i =
+    Sofar sound dt (five fade volume left right rate) voice i out₀ out (movingOf loop-region state position playing wraps a b c d na nb nc nd count) fractional-position steps lowest-count
 
 abbrev μ-loop : tie.MeasureT-loop
-μ-loop voice sound fade volume left right rate dt out₀ course sample-rate loop-region state₀ position₀ playing₀ a₀ b₀ c₀ d₀ na₀ nb₀ nc₀ nd₀ count₀ fractional-position₀ steps₀ lowest-count₀ i₀ out state position playing a b c d na nb nc nd count fractional-position steps lowest-count i =
+μ-loop voice sound fade volume left right rate dt out₀ course sample-rate loop-region state₀ position₀ playing₀ wraps₀ a₀ b₀ c₀ d₀ na₀ nb₀ nc₀ nd₀ count₀ fractional-position₀ steps₀ lowest-count₀ i₀ out state position playing wraps a b c d na nb nc nd count fractional-position steps lowest-count i =
     length rate - i
 
 -- ---- the places
 
 abbrev start : tie.At-loop Inv-loop μ-loop → tie.Start Inv-loop μ-loop
-start c = c .before .before .before .before .before .before .before .before .before .before .before .before .before .before .before .before .before .before .before .before .before
+start c = c .before .before .before .before .before .before .before .before .before .before .before .before .before .before .before .before .before .before .before .before .before .before
 
 abbrev lent : tie.At-loop Inv-loop μ-loop → Lanes
 lent c = let a = start c .args in five (now (a .fade)) (now (a .volume)) (now (a .left)) (now (a .right)) (now (a .rate))
@@ -60,7 +60,7 @@ lent c = let a = start c .args in five (now (a .fade)) (now (a .volume)) (now (a
 abbrev moving : tie.At-loop Inv-loop μ-loop → Moving
 moving c =
     let l = c .loop in
-    movingOf (start c .args .voice .moving .transport .«loop_region») (l .state) (l .position) (l .playing) (l .a) (l .b) (l .c) (l .d) (l .na) (l .nb) (l .nc) (l .nd) (l .count)
+    movingOf (start c .args .voice .moving .transport .«loop_region») (l .state) (l .position) (l .playing) (l .wraps) (l .a) (l .b) (l .c) (l .d) (l .na) (l .nb) (l .nc) (l .nd) (l .count)
 
 -- the turn of the loop that a frame and its steps belong to
 abbrev after-turn : tie.After-turn Inv-loop μ-loop → tie.In-loop Inv-loop μ-loop
@@ -131,7 +131,7 @@ turn-is c =
     let a = start at .args in
     c .turn .ensures
     ∙ ap₂ (λ (k : Course) (m : Moving). turnOf (now (a .sound)) k (a .voice .setup .«sample_rate») (getD (now (a .rate)) (at .loop .i) nan) (a .dt) m (at .loop .fractional-position))
-    (at .before .before .before .before .before .before .before .before .before .before .before .before .before .course .ensures) (c .before .before .moving-of .ensures)
+    (at .before .before .before .before .before .before .before .before .before .before .before .before .before .before .course .ensures) (c .before .before .moving-of .ensures)
 
 -- the voice stays well formed
 on : (c : tie.After-turn Inv-loop μ-loop) → Formed (moved (start (after-turn c .before) .args .voice) (c .turn .result .«fractional_position») (c .turn .result .moving))
@@ -171,7 +171,7 @@ element-copy-out-ed c = search needs
 
 loop-holds : tie.Need-loop-holds Inv-loop μ-loop
 loop-holds c =
-    let st = c .before .before .before .before .before .before .before .before .before .before .before .before .before .before .before .before .before .before .before .before in
+    let st = c .before .before .before .before .before .before .before .before .before .before .before .before .before .before .before .before .before .before .before .before .before in
     let a = st .args in
     let b = five (now (a .fade)) (now (a .volume)) (now (a .left)) (now (a .right)) (now (a .rate)) in
     record {
@@ -226,7 +226,7 @@ shared-slice-read-turn c = omega (arith, numbers (c .before .before .before .bef
 turn-requires : tie.Need-turn-requires Inv-loop μ-loop
 turn-requires c κs =
     let l = c .before .before .before .before .before .before .before .before in
-    rw (l .before .before .before .before .before .before .before .before .before .before .before .before .before .before .course .ensures, c .before .moving-of .ensures) (turning l)
+    rw (l .before .before .before .before .before .before .before .before .before .before .before .before .before .before .before .course .ensures, c .before .moving-of .ensures) (turning l)
 
 mul-out : tie.Need-mul-out Inv-loop μ-loop
 mul-out c = omega (arith, numbers (after-turn c))
@@ -262,17 +262,17 @@ element-copy-out-ed-2 : tie.Need-element-copy-out-ed-2 Inv-loop μ-loop
 element-copy-out-ed-2 c = search needs
 
 add-steps : tie.Need-add-steps Inv-loop μ-loop
-add-steps c = omega (arith, numbers (after-turn (c .before .before .before .before .before .before .before .before .before .before .before .before)), few (c .before .before .before .before .before .before .before .before .before .before .before .before))
+add-steps c = omega (arith, numbers (after-turn (c .before .before .before .before .before .before .before .before .before .before .before .before .before)), few (c .before .before .before .before .before .before .before .before .before .before .before .before .before))
 
 add-i : tie.Need-add-i Inv-loop μ-loop
-add-i c = omega (arith, numbers (after-turn (c .before .before .before .before .before .before .before .before .before .before .before .before)))
+add-i c = omega (arith, numbers (after-turn (c .before .before .before .before .before .before .before .before .before .before .before .before .before)))
 
 loop-less : tie.Need-loop-less Inv-loop μ-loop
-loop-less c = omega (arith, numbers (after-turn (c .before .before .before .before .before .before .before .before .before .before .before .before)))
+loop-less c = omega (arith, numbers (after-turn (c .before .before .before .before .before .before .before .before .before .before .before .before .before)))
 
 loop-again : tie.Need-loop-again Inv-loop μ-loop
 loop-again c =
-    let a = c .before .before .before .before .before .before .before .before .before .before .before .before in
+    let a = c .before .before .before .before .before .before .before .before .before .before .before .before .before in
     let t = after-turn a in
     let v = start (t .before) .args .voice in
     let f = a .turn .result .«fractional_position» in

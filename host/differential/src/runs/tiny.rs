@@ -5,7 +5,7 @@ use std::sync::Arc;
 
 use oracle::{
     Answer, Commands, EndPosition, Entry, LaneBuffers, PlaybackPosition, PlaybackState, Region,
-    Settings, Signals, State,
+    Settings, Signals, State, Wraps,
 };
 
 use crate::{
@@ -65,6 +65,11 @@ pub fn transports(total: usize) -> impl Iterator<Item = State> {
             playing,
             window: window(4),
             count: 4,
+            // Above 0, and one wrap before the limit.
+            wraps: Wraps {
+                forward: 7,
+                backward: u32::MAX - 1,
+            },
         })
     })
 }

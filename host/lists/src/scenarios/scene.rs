@@ -1,7 +1,7 @@
 // A scenario as it is written: each record beside what the oracle answers, or the rules' refusal.
 
 use oracle::{
-    Commands, Entry, LaneBuffers, Oracle, PlaybackState, Reported, Settings, Signals, State,
+    Commands, Entry, LaneBuffers, Oracle, PlaybackState, Reported, Settings, Signals, State, Wraps,
 };
 
 use super::words::Words;
@@ -35,6 +35,10 @@ const BLANK: State = State {
         number: 0,
     }; 4],
     count: 0,
+    wraps: Wraps {
+        forward: 0,
+        backward: 0,
+    },
 };
 
 /// What a block is given.

@@ -66,6 +66,8 @@ impl Words {
             self.index(entry.number);
         }
         self.index(state.count);
+        self.number(state.wraps.forward.into());
+        self.number(state.wraps.backward.into());
     }
 
     pub fn settings(&mut self, settings: &Settings) {

@@ -13,13 +13,13 @@ use Rattle.moving.proofs.Moving.update_positions.Statement.{statement}
 use Rattle.moving.proofs.Moving.update_positions.Tie as tie
 
 abbrev Inv-loop : tie.InvT-loop
-Inv-loop course sound steps loop-region state₀ position₀ playing₀ a₀ b₀ c₀ d₀ na₀ nb₀ nc₀ nd₀ count₀ left₀ state position playing a b c d na nb nc nd count left =
-    Able sound course (movingOf loop-region state position playing a b c d na nb nc nd count)
-    × (updates left sound course (movingOf loop-region state position playing a b c d na nb nc nd count)
-    ≡ updates steps sound course (movingOf loop-region state₀ position₀ playing₀ a₀ b₀ c₀ d₀ na₀ nb₀ nc₀ nd₀ count₀))
+Inv-loop course sound steps loop-region state₀ position₀ playing₀ wraps₀ a₀ b₀ c₀ d₀ na₀ nb₀ nc₀ nd₀ count₀ left₀ state position playing wraps a b c d na nb nc nd count left =
+    Able sound course (movingOf loop-region state position playing wraps a b c d na nb nc nd count)
+    × (updates left sound course (movingOf loop-region state position playing wraps a b c d na nb nc nd count)
+    ≡ updates steps sound course (movingOf loop-region state₀ position₀ playing₀ wraps₀ a₀ b₀ c₀ d₀ na₀ nb₀ nc₀ nd₀ count₀))
 
 abbrev μ-loop : tie.MeasureT-loop
-μ-loop course sound steps loop-region state₀ position₀ playing₀ a₀ b₀ c₀ d₀ na₀ nb₀ nc₀ nd₀ count₀ left₀ state position playing a b c d na nb nc nd count left = left
+μ-loop course sound steps loop-region state₀ position₀ playing₀ wraps₀ a₀ b₀ c₀ d₀ na₀ nb₀ nc₀ nd₀ count₀ left₀ state position playing wraps a b c d na nb nc nd count left = left
 
 -- the window is an array of four
 begins : (c : tie.Start Inv-loop μ-loop) → apart (c .args .self .transport .«loop_region») (c .args .self) ≡ c .args .self
@@ -39,7 +39,7 @@ element-copy-out-ed c = search needs
 
 loop-holds : tie.Need-loop-holds Inv-loop μ-loop
 loop-holds c =
-    let s = c .before .before .before .before .before .before .before .before .before .before .before in
+    let s = c .before .before .before .before .before .before .before .before .before .before .before .before in
     (subst (Able _ _) (sym (begins s)) (s .pre), refl)
 
 moving-of-requires : tie.Need-moving-of-requires Inv-loop μ-loop
@@ -61,14 +61,14 @@ element-copy-out-ed-2 : tie.Need-element-copy-out-ed-2 Inv-loop μ-loop
 element-copy-out-ed-2 c = search needs
 
 sub-left : tie.Need-sub-left Inv-loop μ-loop
-sub-left c = omega (arith, c .before .before .before .before .before .before .before .before .before .before .before .before .loop-test .taken)
+sub-left c = omega (arith, c .before .before .before .before .before .before .before .before .before .before .before .before .before .loop-test .taken)
 
 loop-less : tie.Need-loop-less Inv-loop μ-loop
-loop-less c = omega (arith, c .before .before .before .before .before .before .before .before .before .before .before .before .loop-test .taken)
+loop-less c = omega (arith, c .before .before .before .before .before .before .before .before .before .before .before .before .before .loop-test .taken)
 
 loop-again : tie.Need-loop-again Inv-loop μ-loop
 loop-again c =
-    let u = c .before .before .before .before .before .before .before .before .before .before in
+    let u = c .before .before .before .before .before .before .before .before .before .before .before in
     let m = u .before in
     let at = m .before .before in
     rw (updated-apart _ _ _ _ _ _ (m .moving-of .ensures) (u .update-position .ensures) refl)
@@ -81,7 +81,7 @@ returns : tie.Need-returns Inv-loop μ-loop
 returns c =
     let l = c .before in
     let at = l .before in
-    let s = at .before .before .before .before .before .before .before .before .before .before .before .before in
+    let s = at .before .before .before .before .before .before .before .before .before .before .before .before .before in
     c .moving-of2 .ensures ∙ sym (updates-none (at .loop .left) _ _ _ (omega (arith, l .loop-test .left))) ∙ at .loop .inv .1
     ∙ ap (updates (s .args .steps) (now (s .args .sound)) (s .args .course)) (begins s)
 

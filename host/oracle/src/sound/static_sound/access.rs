@@ -24,11 +24,12 @@ impl StaticSound {
             playback_state_manager: PlaybackStateManager::in_state(state.playback),
             start_time: StartTime::of_sound(!state.started),
             resampler,
-            transport: Transport {
-                position: state.position,
-                loop_region: state.loop_region,
-                playing: state.playing,
-            },
+            transport: Transport::found(
+                state.position,
+                state.loop_region,
+                state.playing,
+                state.wraps,
+            ),
             fractional_position: state.fraction,
             volume: Parameter::new(crate::Value::Fixed(Decibels::IDENTITY), Decibels::IDENTITY),
             playback_rate: Parameter::new(
@@ -60,6 +61,7 @@ impl StaticSound {
             playing: self.transport.playing,
             window: window.entries,
             count: window.count,
+            wraps: self.transport.wraps,
         }
     }
 
