@@ -35,6 +35,8 @@ impl Plays for Player {
             self.counts().steps,
             self.counts().lowest_count.into(),
             self.state().number().into(),
+            self.wraps().forward.into(),
+            self.wraps().backward.into(),
         ];
         told.extend(numbers.iter().flat_map(|number| number.to_le_bytes()));
         told

@@ -115,6 +115,18 @@ trait Voice {
         out: &mut [f32],
     ) -> Processed;
     fn told(&self) -> Vec<u8>;
+    fn place(&self) -> Place;
+}
+
+/// Where a voice is: the state's number, the position, the fraction by its bits, the wraps forward and backward.
+type Place = (u32, usize, u64, u64, u64);
+
+fn our_place(voice: &StaticSound) -> Place {
+    let state = voice.state();
+    let wraps = (state.wraps.forward.into(), state.wraps.backward.into());
+    let fraction = state.fractional_position.to_bits();
+    let number = state.playback_state.number();
+    (number, state.position, fraction, wraps.0, wraps.1)
 }
 
 /// Ours, with room for its lanes.
@@ -157,6 +169,10 @@ impl Voice for Ours {
 
     fn told(&self) -> Vec<u8> {
         self.0.state().to_bytes()
+    }
+
+    fn place(&self) -> Place {
+        our_place(&self.0)
     }
 }
 
@@ -237,6 +253,19 @@ impl Voice for oracle::Oracle {
 
     fn told(&self) -> Vec<u8> {
         format!("{:?}", self.state()).into()
+    }
+
+    fn place(&self) -> Place {
+        let state = self.state();
+        let wraps = (state.wraps.forward.into(), state.wraps.backward.into());
+        let number = state.playback.number().into();
+        (
+            number,
+            state.position,
+            state.fraction.to_bits(),
+            wraps.0,
+            wraps.1,
+        )
     }
 }
 
@@ -440,12 +469,14 @@ fn limit_of<V: Voice>(seeds: impl Iterator<Item = u64>) {
         rounds += 1;
         let evening = plain(&mut Random::new(seed));
         let other = |evening: &Evening, frames| {
-            let outcome = evening.played(&mut PerBlock::<V>::new(evening), &mut || frames);
-            (outcome.samples, outcome.counts)
+            let mut player = PerBlock::<V>::new(evening);
+            let outcome = evening.played(&mut player, &mut || frames);
+            (outcome.samples, outcome.counts, player.voice.place())
         };
         let ours = |evening: &Evening| {
-            let outcome = evening.played(&mut evening.player(), &mut || 4_096);
-            (outcome.samples, outcome.counts)
+            let mut player = evening.player();
+            let outcome = evening.played(&mut player, &mut || 4_096);
+            (outcome.samples, outcome.counts, our_place(player.voice()))
         };
         if other(&evening, 1) != ours(&evening) {
             let least = shrunk(evening, |evening| other(evening, 1) != ours(evening));
