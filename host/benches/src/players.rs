@@ -4,7 +4,7 @@ use std::{fmt::Write, time::Instant};
 
 use cableowl::{Lanes, Level, Player, Settings, Signals, StaticSound, Tween};
 
-use crate::workload::{HZ, Looped};
+use crate::workload::{HZ, Looped, Voice, Workload};
 
 /// The voices that play at once.
 const VOICES: usize = 64;
@@ -74,6 +74,36 @@ fn players(sound: &[f32], moving: bool) -> Vec<Player> {
         player
     };
     (0..VOICES).map(player).collect()
+}
+
+/// One player that plays a workload's blocks, for its instructions to be counted.
+pub struct One<'a> {
+    player: Player,
+    sound: &'a [f32],
+    out: Vec<f32>,
+}
+
+impl<'a> One<'a> {
+    /// A player over the workload's sound, all parameters in motion or none.
+    #[must_use]
+    pub fn new(workload: &Workload, sound: &'a [f32], moving: bool) -> Self {
+        Self {
+            player: players(sound, moving).swap_remove(0),
+            sound,
+            out: vec![0.0; 2 * workload.block],
+        }
+    }
+}
+
+impl Voice for One<'_> {
+    fn block(&mut self) {
+        let answer = self.player.process(self.sound, &mut self.out);
+        debug_assert!(answer.is_ok());
+    }
+
+    fn heard(&self) -> Vec<u32> {
+        self.out.iter().map(|sample| sample.to_bits()).collect()
+    }
 }
 
 /// Nanoseconds a frame of one voice, the least of all repetitions, of each in turns.
