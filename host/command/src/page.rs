@@ -254,20 +254,23 @@ fn runs(course: &Course, rate: f64, holds: impl Fn(&Stretch) -> bool) -> Vec<(f6
 fn places(course: &Course, form: Form, rate: f64, put: &mut Sink<'_>) -> Result<()> {
     let all = seconds(course.frames, rate);
     let highest = course.highest as f64;
-    let mut plot = Plot::new(300.0, all, 0.0, highest);
+    // Room for a loop's label above the highest place.
+    let top = highest * 1.1;
+    let mut plot = Plot::new(300.0, all, 0.0, top);
     for (class, of) in [
         ("paused", (|s: &Stretch| s.paused) as fn(&Stretch) -> u64),
         ("silent", |s: &Stretch| s.silent),
     ] {
         for run in runs(course, rate, |stretch| 2 * of(stretch) > stretch.frames) {
-            plot.area(class, run, (0.0, highest), class);
+            plot.area(class, run, (0.0, top), class);
         }
     }
     plot.numbers();
     let mut labels = Vec::new();
     for round in &course.loops {
         let times = (seconds(round.from, rate), seconds(round.until, rate));
-        let (low, high) = (round.high.saturating_sub(round.length), round.high);
+        let (high, next) = (round.high, round.high.saturating_add(1));
+        let low = next.saturating_sub(round.length);
         let says = format!(
             "{} times round a loop of {} frames",
             grouped(round.rounds),
