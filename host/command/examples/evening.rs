@@ -385,3 +385,15 @@ fn run(folder: &Path) -> Result<(), Box<dyn Error>> {
     println!("The creep's page:  {}", folder.join("audit.html").display());
     Ok(())
 }
+
+#[cfg(test)]
+mod tests {
+    use super::*;
+
+    #[test]
+    fn the_whole_story() {
+        let folder = env::temp_dir().join(format!("cableowl-evening-{}", std::process::id()));
+        run(&folder).expect("an evening");
+        fs::remove_dir_all(folder).expect("its folder");
+    }
+}
