@@ -159,7 +159,7 @@ typedef struct CableowlState {
     double fraction;
     CableowlEntry window[4];
     /* Steps that took the loop's wrap, one each however many lengths it wraps, creation's own three among
-     * them; seeks do not count and no command clears them. Each stands still at 4,294,967,295; any are well
+     * them. Seeks do not count and no command clears them. Each stands still at 4,294,967,295. Any are well
      * formed. The direction is the position's: reverse at rate 1 counts backward. */
     uint32_t forward_wraps;
     uint32_t backward_wraps;

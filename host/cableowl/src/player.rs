@@ -23,7 +23,7 @@ use self::{
 };
 use crate::{
     Commands, Level, LoopCommand, PlaybackState, Processed, Refusal, Region, ResumeCommand,
-    Settings, State, StaticSound, float_mode, refusal,
+    Settings, State, StaticSound, Wraps, float_mode, refusal,
 };
 
 /// A voice that fades, slows and pans by itself: what kira's users know, in kira's words, and no
@@ -365,6 +365,12 @@ impl Player {
     #[must_use]
     pub fn counts(&self) -> Processed {
         self.counts
+    }
+
+    /// How often its voice has gone round its loop, forward and backward.
+    #[must_use]
+    pub fn wraps(&self) -> Wraps {
+        self.voice.wraps()
     }
 
     /// The frames of output so far, silent ones too.

@@ -1,16 +1,9 @@
 // The same commands at the same frames give the same samples, states and counts, bit for bit, for any cutting of time.
-// PLAYER_SEED and PLAYER_ROUNDS have it go on for longer.
-
-use std::env;
 
 use cableowl::Player;
 use random::Random;
 
-use crate::evening::{Evening, Outcome, bits, shrunk};
-
-fn number(name: &str, otherwise: u64) -> u64 {
-    env::var(name).map_or(otherwise, |word| word.parse().expect("a number"))
-}
+use crate::evening::{Evening, Outcome, bits, seeds, shrunk};
 
 /// As few blocks as there can be.
 fn whole(evening: &Evening) -> Outcome {
@@ -48,26 +41,23 @@ fn difference(evening: &Evening, seed: u64) -> Option<&'static str> {
 
 #[test]
 fn no_cutting_of_time_changes_anything() {
-    let (seed, rounds) = (number("PLAYER_SEED", 1), number("PLAYER_ROUNDS", 4_000));
-    let (mut frames, mut commands, mut stopped) = (0, 0, 0);
-    for round in 0..rounds {
-        let seed = seed.wrapping_mul(1 << 32).wrapping_add(round);
+    let (mut rounds, mut frames, mut commands, mut stopped) = (0, 0, 0, 0);
+    for seed in seeds(4_000) {
         let evening = Evening::any(&mut Random::new(seed));
         if difference(&evening, seed).is_some() {
             let least = shrunk(evening, |evening| difference(evening, seed).is_some());
             let what = difference(&least, seed);
             panic!("seed {seed}: {}\n{least:#?}", what.unwrap_or_default());
         }
+        rounds += 1;
         frames += 3 * evening.frames;
         commands += evening.commands.len();
         let mut player = evening.player();
         evening.played(&mut player, &mut || usize::MAX);
         stopped += usize::from(player.voice().finished());
     }
-    println!(
-        "seed {seed}: {rounds} evenings, {commands} commands, {frames} frames; {stopped} stopped"
-    );
-    assert!(stopped as u64 > rounds / 20 && (stopped as u64) < rounds);
+    println!("{rounds} evenings, {commands} commands, {frames} frames; {stopped} stopped");
+    assert!(stopped > rounds / 20 && stopped < rounds);
 }
 
 #[test]

@@ -1,6 +1,6 @@
 // A random evening of a player: a sound, and commands at frames; and what it comes to, cut this way or that.
 
-use std::{sync::OnceLock, time::Duration};
+use std::{env, sync::OnceLock, time::Duration};
 
 use cableowl::{
     Command, Level, PlaybackPosition, Player, Processed, Refusal, Region, Settings, Ticks, Tween,
@@ -35,6 +35,8 @@ impl Plays for Player {
             self.counts().steps,
             self.counts().lowest_count.into(),
             self.state().number().into(),
+            self.wraps().forward.into(),
+            self.wraps().backward.into(),
         ];
         told.extend(numbers.iter().flat_map(|number| number.to_le_bytes()));
         told
@@ -65,6 +67,16 @@ pub struct Outcome {
 
 /// How a host cuts time: the next block's frames.
 pub type Cut<'a> = &'a mut dyn FnMut() -> usize;
+
+/// The seeds of so many evenings; PLAYER_SEED and PLAYER_ROUNDS say others, and how many.
+pub fn seeds(rounds: u64) -> impl Iterator<Item = u64> {
+    let number = |name, otherwise| {
+        let word = env::var(name);
+        word.map_or(otherwise, |word| word.parse().expect("a number"))
+    };
+    let (seed, rounds) = (number("PLAYER_SEED", 1), number("PLAYER_ROUNDS", rounds));
+    (0..rounds).map(move |round| seed.wrapping_mul(1 << 32).wrapping_add(round))
+}
 
 /// The counts of no frames.
 pub fn no_counts() -> Processed {

@@ -7,7 +7,7 @@ use cableowl::{
 };
 use random::Random;
 
-use crate::evening::{Evening, Plays, no_counts, shrunk};
+use crate::evening::{Evening, Plays, no_counts, seeds, shrunk};
 
 /// A parameter that is updated once a block.
 #[derive(Clone, Copy)]
@@ -115,6 +115,18 @@ trait Voice {
         out: &mut [f32],
     ) -> Processed;
     fn told(&self) -> Vec<u8>;
+    fn place(&self) -> Place;
+}
+
+/// Where a voice is: the state's number, the position, the fraction by its bits, the wraps forward and backward.
+type Place = (u32, usize, u64, u64, u64);
+
+fn our_place(voice: &StaticSound) -> Place {
+    let state = voice.state();
+    let wraps = (state.wraps.forward.into(), state.wraps.backward.into());
+    let fraction = state.fractional_position.to_bits();
+    let number = state.playback_state.number();
+    (number, state.position, fraction, wraps.0, wraps.1)
 }
 
 /// Ours, with room for its lanes.
@@ -157,6 +169,10 @@ impl Voice for Ours {
 
     fn told(&self) -> Vec<u8> {
         self.0.state().to_bytes()
+    }
+
+    fn place(&self) -> Place {
+        our_place(&self.0)
     }
 }
 
@@ -237,6 +253,19 @@ impl Voice for oracle::Oracle {
 
     fn told(&self) -> Vec<u8> {
         format!("{:?}", self.state()).into()
+    }
+
+    fn place(&self) -> Place {
+        let state = self.state();
+        let wraps = (state.wraps.forward.into(), state.wraps.backward.into());
+        let number = state.playback.number().into();
+        (
+            number,
+            state.position,
+            state.fraction.to_bits(),
+            wraps.0,
+            wraps.1,
+        )
     }
 }
 
@@ -433,24 +462,27 @@ fn plain(random: &mut Random) -> Evening {
     evening
 }
 
-/// Rounds of random evenings, all as the player plays them when the other has blocks of one frame.
-fn limit_of<V: Voice>(rounds: u64) {
-    let (mut differ, mut frames) = (0, 0);
-    for seed in 0..rounds {
+/// Random evenings, all as the player plays them when the other has blocks of one frame.
+fn limit_of<V: Voice>(seeds: impl Iterator<Item = u64>) {
+    let (mut rounds, mut differ, mut frames) = (0, 0, 0);
+    for seed in seeds {
+        rounds += 1;
         let evening = plain(&mut Random::new(seed));
         let other = |evening: &Evening, frames| {
-            let outcome = evening.played(&mut PerBlock::<V>::new(evening), &mut || frames);
-            (outcome.samples, outcome.counts)
+            let mut player = PerBlock::<V>::new(evening);
+            let outcome = evening.played(&mut player, &mut || frames);
+            (outcome.samples, outcome.counts, player.voice.place())
         };
         let ours = |evening: &Evening| {
-            let outcome = evening.played(&mut evening.player(), &mut || 4_096);
-            (outcome.samples, outcome.counts)
+            let mut player = evening.player();
+            let outcome = evening.played(&mut player, &mut || 4_096);
+            (outcome.samples, outcome.counts, our_place(player.voice()))
         };
         if other(&evening, 1) != ours(&evening) {
             let least = shrunk(evening, |evening| other(evening, 1) != ours(evening));
             panic!("seed {seed}\n{least:#?}");
         }
-        differ += u64::from(other(&evening, 64) != ours(&evening));
+        differ += usize::from(other(&evening, 64) != ours(&evening));
         frames += evening.frames;
     }
     println!("{frames} frames; in blocks of 64 {differ} of {rounds} evenings differ");
@@ -459,10 +491,10 @@ fn limit_of<V: Voice>(rounds: u64) {
 
 #[test]
 fn the_player_is_kiras_text_with_blocks_of_one_frame() {
-    limit_of::<oracle::Oracle>(1_000);
+    limit_of::<oracle::Oracle>(seeds(1_000));
 }
 
 #[test]
 fn the_player_is_a_voice_with_parameters_updated_each_frame() {
-    limit_of::<Ours>(500);
+    limit_of::<Ours>(seeds(500));
 }

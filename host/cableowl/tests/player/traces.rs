@@ -6,7 +6,7 @@ use cableowl::{
 };
 use random::Random;
 
-use crate::evening::{Evening, bits};
+use crate::evening::{Evening, bits, seeds};
 
 /// A random evening over a sound that a record can hold.
 fn short(random: &mut Random) -> Evening {
@@ -20,8 +20,9 @@ fn short(random: &mut Random) -> Evening {
 
 #[test]
 fn a_trace_prints_the_lines_of_the_evening() {
-    let (mut frames, mut records, mut blocks) = (0, 0, 0);
-    for seed in 0..1_500 {
+    let (mut rounds, mut frames, mut records, mut blocks) = (0, 0, 0, 0);
+    for seed in seeds(1_500) {
+        rounds += 1;
         let random = &mut Random::new(seed);
         let evening = short(random);
         let (settings, rate) = (evening.settings, evening.output_rate);
@@ -65,7 +66,7 @@ fn a_trace_prints_the_lines_of_the_evening() {
         assert_eq!(bits(&heard), bits(&samples), "seed {seed}");
         (frames, blocks) = (frames + evening.frames, blocks + log.len());
     }
-    println!("1,500 evenings, {frames} frames: {records} records, {blocks} of them blocks");
+    println!("{rounds} evenings, {frames} frames: {records} records, {blocks} of them blocks");
 }
 
 #[test]

@@ -389,3 +389,37 @@ fn a_player_takes_any_command_and_any_length() {
         assert_eq!(answer.is_ok(), samples.is_multiple_of(2), "{answer:?}");
     }
 }
+
+#[test]
+fn a_player_takes_any_settings() {
+    let random = &mut Random::new(10);
+    let (mut accepted, mut out) = (0, [0.0; 64]);
+    for _ in 0..50_000 {
+        let sound = vec![0.5; random.below(40)];
+        let few = |random: &mut Random| [1, 2, 8, 48_000, 768_000, 768_001, 0][random.below(7)];
+        let mut settings = Settings::new(few(random))
+            .reverse(random.coin())
+            .start_waits(random.one_in(4))
+            .start_position(any_place(random, 10));
+        settings.playback_rate = match random.below(3) {
+            0 => f64::from_bits(random.word()),
+            _ => random.unit() * 8.0 - 4.0,
+        };
+        if random.one_in(3) {
+            settings = settings.slice(any_place(random, 10)..any_place(random, 20));
+        }
+        if random.one_in(3) {
+            settings = settings.loop_region(any_place(random, 10)..any_place(random, 20));
+        }
+        let output_rate = [few(random), random.below(1 << 32) as u32][random.below(2)];
+        let Ok(mut player) = Player::play(settings, output_rate, &sound) else {
+            continue;
+        };
+        accepted += 1;
+        assert!(StaticSound::new(settings, &sound).is_ok());
+        player.process(&sound, &mut out).unwrap();
+        player.stop(Tween::default());
+        player.mix(&sound, &mut out).unwrap();
+    }
+    assert!(accepted > 2_000, "{accepted}");
+}
