@@ -1,4 +1,4 @@
--- Kept and skipped bytes are all bytes; an undamaged trace is kept whole; what is kept is undamaged, so a second run changes nothing.
+-- Kept and skipped bytes are all bytes; what one turn makes of what is left.
 use mathlib.Core.Path.{_≡_, refl, sym, ap, _∙_}
 use Prim.Native.Nat.{ℕ, zero, suc, _+_, _-_, _*_, _≤_, _<_}
 use native.Mathlib.Omega.{arith}
@@ -9,15 +9,10 @@ use lib.ListN.{length, getD, take, drop, set, length-append, length-drop, drop-o
 use native.Mathlib.Numerals.{add-one}
 use lib.Seq.{take-at, drop-at, drop-cons, drop-drop, sets, length-sets, length-take-le}
 use Rattle.layout.proofs.Puts.{sets-append}
-use Rattle.layout.proofs.Numbers.{Small, small-drop}
 use Rattle.salvage.specs.declared.Turn.{Turn}
 use borrow.Author.Tests.{eqb-true, eqb-false, ne-eqb, eq-eqb, lt-ltb, le-ltb}
 use Rattle.trace.specs.declared.Record.{Record}
 use Rattle.trace.specs.Records.{Found, refused, found, readRecord, valued, recordAt}
-use Rattle.trace.specs.Writes.{recordOf}
-use Rattle.trace.specs.Promises.{Kept}
-use Rattle.trace.proofs.Rounds.{read-record, written-record}
-use Rattle.salvage.specs.Promises.{One, Whole, ended, more}
 use Rattle.salvage.specs.Salvage.{kept, skipped, records, first, sizeIn, sizeOf, placed, Turned, Salvaged, salvageOf}
 
 none : {A : Type 0} → ⊥ → A
@@ -60,86 +55,14 @@ module _ (size : List ℕ → ℕ) where
   placed-over at [] (suc k) h = none (omega arith)
   placed-over at (b ∷ bs) (suc k) h = let e : suc at + k ≡ at + suc k = omega arith in placed-over (suc at) bs k (omega arith) ∙ ap (λ (z : ℕ). first size z (drop k bs) 0) e
 
-  one-first : (r t : List ℕ) → One size r → (kept size (r ++ t) 0 ≡ r ++ kept size t 0) × (skipped size (r ++ t) 0 ≡ skipped size t 0)
-  unfolding kept skipped
-  one-first [] t o = let z = o .some in none (omega arith)
-  one-first (b ∷ r) t o =
-      let e = o .own t in
-      let n : eqb (size (b ∷ (r ++ t))) 0 ≡ false = ne-eqb (size (b ∷ (r ++ t))) 0 (λ z. omega (arith, e, z)) in
-      let f : size (b ∷ (r ++ t)) - 1 ≡ length r = omega (arith, e) in
-      let l : length r ≤ length (r ++ t) = omega (arith, length-append r t) in (
-        rw (n, f) (ap (λ (x : List ℕ). b ∷ x) (split (r ++ t) (length r) l ∙ rw (take-at r t (length r) refl, drop-at r t (length r) refl) refl)),
-        rw (n, f) (passed-over (r ++ t) (length r) l ∙ rw (drop-at r t (length r) refl) refl),
-      )
-
-  -- an undamaged trace comes out equal, with 0 skipped
-  pub whole-kept : (bs : List ℕ) → Whole size bs → (kept size bs 0 ≡ bs) × (skipped size bs 0 ≡ 0)
-  unfolding kept skipped
-  whole-kept _ ended = (refl, refl)
-  whole-kept _ (more r t o w) =
-      let f = one-first r t o in
-      let i = whole-kept t w in
-      (f .0 ∙ ap (λ (x : List ℕ). r ++ x) (i .0), f .1 ∙ i .1)
-
-  -- a size is that of a record which does not look past itself
-  module _ (Fine : List ℕ → Type 0) (fine-drop : (n : ℕ) (bs : List ℕ) → Fine bs → Fine (drop n bs))
-      (found : (bs : List ℕ) → Fine bs → 0 < size bs → (size bs ≤ length bs) × ((t : List ℕ) → size (take (size bs) bs ++ t) ≡ size bs)) where
-    one-turn : (n : ℕ) (bs : List ℕ) → length bs ≤ suc n → Fine bs → ((l : List ℕ) → length l ≤ n → Fine l → Whole size (kept size l 0)) → Whole size (kept size bs 0)
-    unfolding kept
-    one-turn n [] h f ih = ended
-    one-turn n (b ∷ bs) h f ih = go (eqb (size (b ∷ bs)) 0) refl (λ k. ih (drop k bs) (omega (arith, length-drop k bs)) (fine-drop (suc k) (b ∷ bs) f))
-      where
-        go : (t : Bool) → eqb (size (b ∷ bs)) 0 ≡ t → ((k : ℕ) → Whole size (kept size (drop k bs) 0)) → Whole size (cond t (kept size bs 0) (b ∷ kept size bs (size (b ∷ bs) - 1)))
-        go true e ih = ih 0
-        go false e ih =
-            let s = size (b ∷ bs) in
-            let p : 0 < s = omega (arith, eqb-false s 0 e) in
-            let g = found (b ∷ bs) f p in
-            let q : s ≡ suc (s - 1) = omega arith in
-            let x : take s (b ∷ bs) ≡ b ∷ take (s - 1) bs = ap (λ (k : ℕ). take k (b ∷ bs)) q in
-            let m : length (take s (b ∷ bs)) ≡ s = length-take-le s (b ∷ bs) (g .0) in
-            let y : b ∷ kept size bs (s - 1) ≡ take s (b ∷ bs) ++ kept size (drop (s - 1) bs) 0 = ap (λ (l : List ℕ). b ∷ l) (split bs (s - 1) (omega (arith, g .0))) ∙ ap (λ (l : List ℕ). l ++ kept size (drop (s - 1) bs) 0) (sym x) in
-            rw y (more (take s (b ∷ bs)) (kept size (drop (s - 1) bs) 0) (record { some = omega (arith, m); own = λ t. g .1 t ∙ sym m }) (ih (s - 1)))
-
-    no-bytes : (bs : List ℕ) → length bs ≤ 0 → Whole size (kept size bs 0)
-    unfolding kept
-    no-bytes [] h = ended
-    no-bytes (b ∷ bs) h = none (omega arith)
-
-    kept-whole : (n : ℕ) (bs : List ℕ) → length bs ≤ n → Fine bs → Whole size (kept size bs 0)
-    kept-whole zero bs h f = no-bytes bs h
-    kept-whole (suc n) bs h f = one-turn n bs h f (λ l g e. kept-whole n l g e)
-
-    -- running the tool on its own output changes nothing
-    pub again : (bs : List ℕ) → Fine bs → (kept size (kept size bs 0) 0 ≡ kept size bs 0) × (skipped size (kept size bs 0) 0 ≡ 0)
-    again bs f = whole-kept (kept size bs 0) (kept-whole (length bs) bs (omega arith) f)
-
--- the records of a trace do not look past themselves
-pub trace-found : (bs : List ℕ) → Small bs → 0 < sizeOf bs → (sizeOf bs ≤ length bs) × ((t : List ℕ) → sizeOf (take (sizeOf bs) bs ++ t) ≡ sizeOf bs)
-unfolding sizeOf sizeIn
-trace-found bs s h = go (readRecord bs) refl h
-  where
-    go : (d : Found) → readRecord bs ≡ d → 0 < sizeIn (length bs) d → (sizeIn (length bs) d ≤ length bs) × ((t : List ℕ) → sizeIn (length (take (sizeIn (length bs) d) bs ++ t)) (readRecord (take (sizeIn (length bs) d) bs ++ t)) ≡ sizeIn (length bs) d)
-    go (refused k) e p = (omega arith, λ t. let z : _≡_ {A = ℕ} 0 1 = omega arith in none (omega arith))
-    go (found k ws rest) e p =
-        let w = written-record bs k ws rest s e in
-        let r = recordOf k ws in
-        let n : length bs ≡ length r + length rest = ap length (w .same) ∙ length-append r rest in
-        let c : length bs - length rest ≡ length r = omega arith in
-        let x : take (length bs - length rest) bs ≡ r = ap (λ (z : ℕ). take z bs) c ∙ ap (λ (l : List ℕ). take (length r) l) (w .same) ∙ take-at r rest (length r) refl in
-        (omega arith, λ t. rw (x, read-record k ws t (w .kind) (w .takes)) (omega (arith, length-append r t, c)))
-
-pub trace-again : (bs : List ℕ) → Small bs → (kept sizeOf (kept sizeOf bs 0) 0 ≡ kept sizeOf bs 0) × (skipped sizeOf (kept sizeOf bs 0) 0 ≡ 0)
-trace-again bs s = again sizeOf Small (λ n l h. small-drop n l h) (λ l h p. trace-found l h p) bs s
-
 -- the turns of the code
-record Keep (size : List ℕ → ℕ) (at : ℕ) (bs : List ℕ) : Type 0 where
-  bytes : kept size bs 0 ≡ take (size bs) bs ++ kept size (drop (size bs) bs) 0
-  skips : skipped size bs 0 ≡ skipped size (drop (size bs) bs) 0
-  count : records size bs 0 ≡ suc (records size (drop (size bs) bs) 0)
-  place : first size at bs 0 ≡ first size (at + size bs) (drop (size bs) bs) 0
+pub record Keep (size : List ℕ → ℕ) (at : ℕ) (bs : List ℕ) : Type 0 where
+  pub bytes : kept size bs 0 ≡ take (size bs) bs ++ kept size (drop (size bs) bs) 0
+  pub skips : skipped size bs 0 ≡ skipped size (drop (size bs) bs) 0
+  pub count : records size bs 0 ≡ suc (records size (drop (size bs) bs) 0)
+  pub place : first size at bs 0 ≡ first size (at + size bs) (drop (size bs) bs) 0
 
-turn-keep : (size : List ℕ → ℕ) (at : ℕ) (bs : List ℕ) → 0 < size bs → size bs ≤ length bs → Keep size at bs
+pub turn-keep : (size : List ℕ → ℕ) (at : ℕ) (bs : List ℕ) → 0 < size bs → size bs ≤ length bs → Keep size at bs
 unfolding kept skipped records first
 turn-keep size at [] p h = none (omega arith)
 turn-keep size at (b ∷ bs) p h = go (size (b ∷ bs) - 1) (omega arith)
@@ -157,13 +80,13 @@ turn-keep size at (b ∷ bs) p h = go (size (b ∷ bs) - 1) (omega arith)
           place = rw (q, n, f) (placed-over size (suc at) bs k l ∙ ap (λ (z : ℕ). first size z (drop k bs) 0) m);
         }
 
-record Skip (size : List ℕ → ℕ) (at : ℕ) (bs : List ℕ) : Type 0 where
-  bytes : kept size bs 0 ≡ kept size (drop 1 bs) 0
-  skips : skipped size bs 0 ≡ suc (skipped size (drop 1 bs) 0)
-  count : records size bs 0 ≡ records size (drop 1 bs) 0
-  place : first size at bs 0 ≡ at
+pub record Skip (size : List ℕ → ℕ) (at : ℕ) (bs : List ℕ) : Type 0 where
+  pub bytes : kept size bs 0 ≡ kept size (drop 1 bs) 0
+  pub skips : skipped size bs 0 ≡ suc (skipped size (drop 1 bs) 0)
+  pub count : records size bs 0 ≡ records size (drop 1 bs) 0
+  pub place : first size at bs 0 ≡ at
 
-turn-skip : (size : List ℕ → ℕ) (at : ℕ) (bs : List ℕ) → 0 < length bs → size bs ≤ 0 → Skip size at bs
+pub turn-skip : (size : List ℕ → ℕ) (at : ℕ) (bs : List ℕ) → 0 < length bs → size bs ≤ 0 → Skip size at bs
 unfolding kept skipped records first
 turn-skip size at [] p h = none (omega arith)
 turn-skip size at (b ∷ bs) p h = let q : size (b ∷ bs) ≡ 0 = omega arith in record { bytes = rw q refl; skips = rw q refl; count = rw q refl; place = rw q refl }

@@ -1,3 +1,4 @@
 -- Laws of salvage.
 pub mod Keeps
+pub mod Mended
 pub mod Promises

@@ -1,21 +1,33 @@
--- What is promised of salvage beyond its contract (request #114): all bytes are kept or skipped, an undamaged trace comes out equal, and a second run changes nothing.
+-- What is promised of salvage beyond its contract (request #114): all bytes are kept or skipped, an undamaged trace comes out equal, a second run changes nothing,
+-- what comes out is a trace that is read to its end, and every record before the first hole is kept.
 use Prim.Native.Nat.{ℕ, _+_, _<_}
 use mathlib.Core.Path.{_≡_}
-use mathlib.Core.List.{List, [], _++_}
-use lib.ListN.{length, getD}
-use Rattle.salvage.specs.Salvage.{kept, skipped, sizeOf}
+use mathlib.Core.Bool.{true}
+use mathlib.Core.List.{List, _++_}
+use lib.ListN.{length, getD, take, drop}
+use Rattle.trace.specs.Traces.{readAll, entries, isWhole}
+use Rattle.salvage.specs.Salvage.{kept, skipped, records, first, sizeOf}
 
--- a record, whatever follows it
-pub record One (size : List ℕ → ℕ) (r : List ℕ) : Type 0 where
-  pub some : 0 < length r
-  pub own : (t : List ℕ) → size (r ++ t) ≡ length r
+-- an undamaged trace comes out equal, with nothing skipped
+pub record Same (bs : List ℕ) : Type 0 where
+  pub bytes : kept sizeOf bs 0 ≡ bs
+  pub none : skipped sizeOf bs 0 ≡ 0
+  pub place : first sizeOf 0 bs 0 ≡ length bs
 
--- an undamaged trace: records one after the other
-pub data Whole (size : List ℕ → ℕ) : List ℕ → Type 0 where
-  ended : Whole size []
-  more : (r t : List ℕ) → One size r → Whole size t → Whole size (r ++ t)
+-- what comes out is read to its end, and has as many records as are said to be kept
+pub record Mended (bs : List ℕ) : Type 0 where
+  pub to-the-end : isWhole (readAll 0 (kept sizeOf bs 0)) ≡ true
+  pub count : length (entries (readAll 0 (kept sizeOf bs 0))) ≡ records sizeOf bs 0
+
+-- up to the first byte skipped, at p, there are records alone, all that a reader finds before it is stopped, and they come out first, as they are
+pub record Before (bs : List ℕ) (p : ℕ) : Type 0 where
+  pub to-the-hole : isWhole (readAll 0 (take p bs)) ≡ true
+  pub all : entries (readAll 0 bs) ≡ entries (readAll 0 (take p bs))
+  pub kept-first : kept sizeOf bs 0 ≡ take p bs ++ kept sizeOf (drop p bs) 0
 
 pub record Promises : Type 0 where
   pub all-bytes : (bs : List ℕ) → length (kept sizeOf bs 0) + skipped sizeOf bs 0 ≡ length bs
-  pub whole-kept : (bs : List ℕ) → Whole sizeOf bs → (kept sizeOf bs 0 ≡ bs) × (skipped sizeOf bs 0 ≡ 0)
+  pub whole-kept : (bs : List ℕ) → ((i : ℕ) → getD bs i 0 < 256) → isWhole (readAll 0 bs) ≡ true → Same bs
   pub again : (bs : List ℕ) → ((i : ℕ) → getD bs i 0 < 256) → (kept sizeOf (kept sizeOf bs 0) 0 ≡ kept sizeOf bs 0) × (skipped sizeOf (kept sizeOf bs 0) 0 ≡ 0)
+  pub mended : (bs : List ℕ) → ((i : ℕ) → getD bs i 0 < 256) → Mended bs
+  pub before-the-hole : (bs : List ℕ) → ((i : ℕ) → getD bs i 0 < 256) → Before bs (first sizeOf 0 bs 0)

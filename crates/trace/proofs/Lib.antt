@@ -2,4 +2,6 @@
 pub mod Ways
 pub mod Rounds
 pub mod Sends
+pub mod Traces
+pub mod Windows
 pub mod Promises

@@ -44,7 +44,7 @@ lengths k = go (eqb k 1) (eqb k 2)
     go false true = command-rows
     go false false = block-rows
 
-body-sound : (k : ℕ) → sound (body k) ≡ true
+pub body-sound : (k : ℕ) → sound (body k) ≡ true
 unfolding creationRows commandRows blockRows
 body-sound k = go (eqb k 1) (eqb k 2)
   where
@@ -53,7 +53,7 @@ body-sound k = go (eqb k 1) (eqb k 2)
     go false true = command-sound
     go false false = block-sound
 
-longest-few : (k : ℕ) → longest k ≤ 570
+pub longest-few : (k : ℕ) → longest k ≤ 570
 longest-few k = go (eqb k 1) (eqb k 2)
   where
     go : (a b : Bool) → cond a 570 (cond b 47 37) ≤ 570
@@ -85,7 +85,7 @@ pub head-length : (k n : ℕ) → length (payload headRows [] (headOf k n)) ≡ 
 unfolding payload headRows rows rowAt headTable stands field bytes
 head-length k n = refl
 
-head-rows-sound : sound headRows ≡ true
+pub head-rows-sound : sound headRows ≡ true
 unfolding headRows
 head-rows-sound = head-sound
 
@@ -152,7 +152,7 @@ head-is (a ∷ b ∷ c ∷ d ∷ ws) e =
     no-more vs [] f = refl
     no-more vs (x ∷ ws) f = never f
 
-small-after : (xs ys : List ℕ) → Small (xs ++ ys) → Small ys
+pub small-after : (xs ys : List ℕ) → Small (xs ++ ys) → Small ys
 small-after [] ys h = h
 small-after (x ∷ xs) ys h = small-after xs ys (λ i. h (suc i))
 

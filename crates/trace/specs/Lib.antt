@@ -2,4 +2,5 @@
 pub mod Tables
 pub mod Records
 pub mod Writes
+pub mod Traces
 pub mod Promises

@@ -2,3 +2,4 @@
 pub mod Parts
 pub mod Answers
 pub mod Courses
+pub mod Steps

@@ -1,6 +1,6 @@
 -- A trace played again: docs/TRACE.md, "What is printed". The whole run is a function of the bytes.
 use Prim.Native.Nat.{ℕ, zero, suc, _+_, _-_, _*_}
-use mathlib.Core.Bool.{cond}
+use mathlib.Core.Bool.{Bool, true, false, cond}
 use mathlib.Core.List.{List, [], _∷_, _++_}
 use lib.Dec.{eqb, ltb}
 use lib.ListN.{take, replicate}
@@ -19,6 +19,7 @@ use Rattle.lines.specs.Lines.{blockLine, refusedBlockLine, refusedLine}
 use Rattle.trace.specs.declared.Record.{Record}
 use Rattle.trace.specs.Records.{recordAt}
 use Rattle.turns.specs.declared.Run.{Run}
+use Rattle.turns.specs.declared.Advanced.{Advanced}
 
 -- the run so far: the voice, its sound, the blocks counted
 pub record Course : Type 0 where
@@ -73,14 +74,37 @@ afterBlock c vs =
 unfoldable pub after : Course → ℕ → List ℕ → Turn
 after c k vs = cond (eqb k 1) (afterCreation c vs) (cond (eqb k 2) (afterCommands c vs) (afterBlock c vs))
 
--- all that is printed, from the offset `at` on, k bytes of the record in hand still to pass: each record's line, until one is refused
+-- what the record that bytes begin with makes of the run, at the offset `at`: the run after it, its line, its bytes, and whether the run is over
+pub record Step : Type 0 where
+  pub course : Course
+  pub line : List ℕ
+  pub size : ℕ
+  pub over : Bool
+
+-- a record that was read there: its own turn; a refused one ends the run
+unfoldable pub judged : Course → ℕ → Record → Step
+judged c at r =
+    let t = after c (r .kind) (r .values) in
+    cond (eqb (r .refusal) 0)
+    (record { course = t .course; line = t .line; size = r .next; over = false })
+    (record { course = c; line = refusedLine (r .refusal) at; size = 0; over = true })
+
+-- at the end the run is over, and nothing is printed
+unfoldable pub stepOf : Course → ℕ → List ℕ → Step
+stepOf c at [] = record { course = c; line = []; size = 0; over = true }
+stepOf c at (b ∷ bs) = judged c at (recordAt (b ∷ bs) 0)
+
+-- what the code answers of a record that it read at `at`, with the lent sound and the line
+abbrev pub advancedOf : Advanced → ℕ → List Float → List ℕ → Step
+advancedOf r at snd line = record { course = courseOf (r .run) snd; line = take (r .written) line; size = r .next - at; over = r .over }
+
+-- all that is printed, from the offset `at` on, k bytes of the record in hand still to pass: each record's line, until the run is over
 unfoldable pub printed : Course → ℕ → ℕ → List ℕ → List ℕ
 printed c at k [] = []
 printed c at (suc k) (b ∷ bs) = printed c (suc at) k bs
 printed c at zero (b ∷ bs) =
-    let r = recordAt (b ∷ bs) 0 in
-    let t = after c (r .kind) (r .values) in
-    cond (eqb (r .refusal) 0) (t .line ++ printed (t .course) (suc at) (r .next - 1) bs) (refusedLine (r .refusal) at)
+    let s = stepOf c at (b ∷ bs) in
+    s .line ++ cond (s .over) [] (printed (s .course) (suc at) (s .size - 1) bs)
 
 -- the whole run
 abbrev pub replayed : List ℕ → List ℕ

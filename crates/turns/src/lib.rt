@@ -2,9 +2,9 @@
 ghost use mathlib.Core.Path.{_≡_};
 ghost use Prim.Native.Nat.{_≤_};
 ghost use mathlib.Core.List.{[]};
-ghost use lib.ListN.{length, take, replicate};
+ghost use lib.ListN.{length, take, drop, replicate};
 ghost use Rattle.numbers.specs.Words.{positiveZero};
-ghost use Rattle.turns.specs.Runs.{blank, courseOf, more, answered, lineOf, afterCreation, afterCommands, afterBlock, after};
+ghost use Rattle.turns.specs.Runs.{blank, courseOf, more, answered, lineOf, afterCreation, afterCommands, afterBlock, after, advancedOf, stepOf};
 use playing::Processed;
 use recorded::Block;
 use voice::StaticSound;
@@ -20,6 +20,14 @@ pub struct Run {
 pub struct Turned {
     pub run: Run,
     pub written: usize,
+}
+
+// A run after the record at a place of the bytes: the place after it, how many bytes its line has, and whether the run is over.
+pub struct Advanced {
+    pub run: Run,
+    pub next: usize,
+    pub written: usize,
+    pub over: bool,
 }
 
 fn more_of(n: u64) -> u64
@@ -169,6 +177,47 @@ pub fn turn(run: Run, kind: u64, values: [u64; 80], sound: &mut [f32], line: &mu
         };
     }
     play(run, values, sound, line)
+}
+
+// The record at a place of the bytes, which is `place` in the whole trace: the run after it, and its line.
+pub fn advance(
+    run: Run,
+    bytes: &[u8],
+    at: usize,
+    place: u64,
+    sound: &mut [f32],
+    line: &mut [u8],
+) -> Advanced
+    requires { ⌜ (at ≤ length (now bytes)) × (128 ≤ length (now sound)) × (run .samples ≤ length (now sound)) × (139 ≤ length (now line)) ⌝ }
+    ensures { λ r. ⌜ (advancedOf r at (now (sound .exit)) (now (line .exit)) ≡ stepOf (courseOf run (now (sound .entry))) place (drop at (now (bytes .entry)))) × (r .next ≤ length (now (bytes .entry))) × (r .run .samples ≤ length (now (sound .exit))) × (r .written ≤ length (now (line .exit))) ⌝ }
+{
+    if at == bytes.len() {
+        return Advanced {
+            run,
+            next: at,
+            written: 0,
+            over: true,
+        };
+    }
+    let record = trace::read(bytes, at);
+    if record.refusal != 0 {
+        let written = lines::put_refused(line, record.refusal, place);
+        return Advanced {
+            run,
+            next: at,
+            written,
+            over: true,
+        };
+    }
+    let values = record.values;
+    let turned = turn(run, record.kind, values, sound, line);
+    let run = turned.run;
+    Advanced {
+        run,
+        next: record.next,
+        written: turned.written,
+        over: false,
+    }
 }
 
 // Before any record.

@@ -329,7 +329,7 @@ fn header_agrees_and_c_can_call_each_entry() {
 }
 
 #[test]
-fn a_call_needs_4_kilobytes_of_stack_at_most() {
+fn a_call_needs_4_kilobytes_of_stack_at_most_and_one_of_a_trace_12() {
     run_c("stack", "");
 }
 

@@ -24,7 +24,7 @@
 //!     }
 //! }
 //! assert_eq!(replay.heard(), [1.0, 1.0, 2.0, 2.0, 3.0, 3.0, 0.0, 0.0, 0.0, 0.0, 0.0, 0.0]);
-//! # Ok::<(), Box<dyn std::error::Error>>(())
+//! # Ok::<(), cableowl::Refusal>(())
 //! ```
 
 mod line;
@@ -71,6 +71,12 @@ impl fmt::Display for Refused {
 }
 
 impl Error for Refused {}
+
+impl From<Refused> for Refusal {
+    fn from(refused: Refused) -> Self {
+        refused.refusal
+    }
+}
 
 /// Reads the record at a place of the bytes, and tells the place after it.
 ///

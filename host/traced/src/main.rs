@@ -1,6 +1,7 @@
 //! Long runs against the page, the program against the library, and long traces.
 //!
 //! - `traced reads|writes|salvages|prints [--seed N] [--count N]`: random ones, compared
+//! - `traced cuts`: every cut of a short trace, and some changes of each byte, printed by the program and the library
 //! - `traced trace [--megabytes N] [--blocks N] [--frames N]`: a long trace on standard output, a creation before
 //!   so many blocks of so many frames, again and again
 //! - `traced print`: what the library prints of a trace on standard input
@@ -24,7 +25,7 @@ use traced::{
     runs::{self, COMPILED},
 };
 
-const USAGE: &str = "usage: traced reads|writes|salvages|prints|trace|print|recording|holes|heads [--seed N] [--count N] [--megabytes N] [--blocks N] [--frames N]";
+const USAGE: &str = "usage: traced reads|writes|salvages|prints|cuts|trace|print|recording|holes|heads [--seed N] [--count N] [--megabytes N] [--blocks N] [--frames N]";
 
 fn main() -> ExitCode {
     match run() {
@@ -65,11 +66,8 @@ fn run() -> Result<String, String> {
         Some("reads") => COMPILED.reads(seed, count),
         Some("writes") => COMPILED.writes(seed, count),
         Some("salvages") => COMPILED.salvages(seed, count),
-        Some("prints") => {
-            let program =
-                Program::find().ok_or("no target/bin/replay, or no kit: `rt check replay`")?;
-            runs::prints(&program, seed, count)
-        }
+        Some("prints") => runs::prints(&program()?, seed, count),
+        Some("cuts") => runs::print_cuts(&program()?),
         Some("trace") => return long_trace(megabytes, blocks, frames),
         Some("print") => return print(),
         Some("holes") => return salvaged(holes(megabytes)),
@@ -79,6 +77,10 @@ fn run() -> Result<String, String> {
     }?;
     let seconds = started.elapsed().as_secs_f64();
     Ok(format!("seed {seed}: {tally}; 0 differ, {seconds:.1} s"))
+}
+
+fn program() -> Result<Program, String> {
+    Program::find().ok_or_else(|| "no target/bin/replay, or no kit: `rt check replay`".to_owned())
 }
 
 /// Writes a trace to standard output.

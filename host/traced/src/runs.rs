@@ -326,3 +326,24 @@ pub fn prints(program: &Program, seed: u64, count: u64) -> Run {
     }
     Ok(tally)
 }
+
+/// Every cut of a short trace with all kinds, and each of its bytes raised by 1, and set to 0 and FF, printed by both.
+///
+/// # Errors
+///
+/// What differs.
+pub fn print_cuts(program: &Program) -> Run {
+    let (trace, mut tally) = (make::all_kinds(), Tally::default());
+    for place in 0..trace.len() {
+        let changed = [trace[place].wrapping_add(1), 0, 0xff].map(|byte| {
+            let mut changed = trace.clone();
+            changed[place] = byte;
+            changed
+        });
+        for bytes in [&trace[..place], &changed[0], &changed[1], &changed[2]] {
+            let printed = compare_print(program, bytes)?;
+            tally.call(0, printed.len());
+        }
+    }
+    Ok(tally)
+}

@@ -8,18 +8,27 @@ use traced::{entries, hex, page, runs};
 
 const PAGE: &str = include_str!("../../../docs/TRACE.md");
 
-/// The bytes of each block of code that begins with a mark: the words of two hex digits at a line's start.
-fn codes() -> Vec<Vec<u8>> {
+/// The bytes of each block of code in a part of the page: the words of two hex digits at a line's start.
+fn codes_of(part: &str) -> Vec<Vec<u8>> {
     let is_byte = |word: &&str| word.len() == 2 && u8::from_str_radix(word, 16).is_ok();
-    let blocks = PAGE.split("```").skip(1).step_by(2);
+    let blocks = part.split("```").skip(1).step_by(2);
     let bytes = blocks.map(|block| {
         let lines = block.lines();
         let words = lines.flat_map(|line| line.split_whitespace().take_while(is_byte));
         hex(&words.collect::<Vec<_>>().join(" "))
     });
-    bytes
-        .filter(|bytes| bytes.starts_with(&[0xa5, 0x1d]))
-        .collect()
+    bytes.collect()
+}
+
+/// What stands below a heading.
+fn below(heading: &str) -> &'static str {
+    let (_, part) = PAGE.split_once(heading).unwrap();
+    part.split("\n## ").next().unwrap()
+}
+
+/// A creation, a command set, a block, and the rules' three-frame example.
+fn codes() -> Vec<Vec<u8>> {
+    codes_of(below("\n## Examples\n"))
 }
 
 fn creation() -> Record {
@@ -32,7 +41,7 @@ fn creation() -> Record {
 #[test]
 fn its_records() {
     let codes = codes();
-    assert_eq!(codes.len(), 5);
+    assert_eq!(codes.len(), 4);
     let from_a_second_to_frame_3 = Region {
         start: PlaybackPosition::Seconds(1.0),
         ..Region::from(..3)
@@ -126,23 +135,24 @@ fn blocks_before_a_creation_and_after_a_refused_one() {
     );
 }
 
+/// Each example of a false record is salvaged as the page tells.
 #[test]
 fn false_records() {
-    // A mark inside a damaged payload is taken for a record.
-    let mut damaged = codes()[0].clone();
-    damaged[0] = 0;
-    let inside = hex("A5 1D 02 07 00 00 00 00 00 00 00 00");
-    damaged[31..43].copy_from_slice(&inside);
-    let mut out = vec![0; damaged.len()];
-    let salvaged = salvage(&damaged, &mut out).unwrap();
-    assert_eq!((salvaged.records, salvaged.first_skipped), (1, 0));
-    assert_eq!(out[..salvaged.kept], inside);
-    assert_eq!(read(&out, 0).unwrap().0, Record::Commands(Commands::new()));
-    // One that overlaps the next good record loses it.
-    let trace = [&hex("00 A5 1D 03 25 00 00 00")[..], &codes()[2]].concat();
-    let mut out = vec![0; trace.len()];
-    let salvaged = salvage(&trace, &mut out).unwrap();
-    assert_eq!(salvaged.records, 1);
-    assert_eq!(out[..salvaged.kept], codes()[4]);
-    assert_eq!(salvaged.kept, 42);
+    let part = below("\n## Salvage\n");
+    let told: Vec<&str> = part.split(" bytes skipped, the first at ").collect();
+    let examples = codes_of(part);
+    assert_eq!((told.len(), examples.len()), (3, 2));
+    for (words, bytes) in told.windows(2).zip(&examples) {
+        let mut out = vec![0; bytes.len()];
+        let salvaged = salvage(bytes, &mut out).unwrap();
+        let skipped = salvaged.skipped.to_string();
+        assert!(
+            words[0].ends_with(&format!(": 1 record, {skipped}")),
+            "{skipped}"
+        );
+        let first = format!("{}.", salvaged.first_skipped);
+        assert!(words[1].starts_with(&first), "{first}");
+        assert_eq!(salvaged.records, 1);
+        assert_eq!(read(&out, 0).unwrap().1, salvaged.kept);
+    }
 }

@@ -1,5 +1,5 @@
 /* How much stack each entry uses, at most: a thread's stack is painted before a call and looked at after it. The figures go
- * to standard error; one above LIMIT is a difference. cc -pthread -I host/include stack.c libcableowl.a */
+ * to standard error; one above its limit is a difference. cc -pthread -I host/include stack.c libcableowl.a */
 #define _GNU_SOURCE
 #include <pthread.h>
 #include <stdio.h>
@@ -8,7 +8,7 @@
 
 #include "cableowl.h"
 
-enum { STACK = 1 << 18, PAINT = 0xa5, LIMIT = 4096, SOUND = 2 * 4800, FRAMES = CABLEOWL_MAX_BLOCK_FRAMES };
+enum { STACK = 1 << 18, PAINT = 0xa5, PLAYER = 4096, TRACE = 12288, SOUND = 2 * 4800, FRAMES = CABLEOWL_MAX_BLOCK_FRAMES };
 
 static float sound[SOUND], ones[FRAMES], out[2 * FRAMES], mix[2 * FRAMES + 6];
 static double slow[FRAMES], fast[FRAMES];
@@ -36,6 +36,13 @@ static void process_into(void) {
                                     FRAMES, 1.0, none, mix, 2 * FRAMES + 6, 2)
                   .refusal;
 }
+static uint8_t trace[575], saved[575];
+static uint64_t numbers[80];
+static void read_record(void) { refusal = (uint32_t)cableowl_read_record(trace, sizeof trace, 0).refusal; }
+static void write_record(void) {
+    refusal = (uint32_t)cableowl_write_record(saved, sizeof saved, 0, CABLEOWL_KIND_CREATION, numbers).refusal;
+}
+static void salvage(void) { refusal = (uint32_t)cableowl_salvage(trace, sizeof trace, saved, sizeof saved).refusal; }
 static void stretch(void) { refusal = cableowl_stretch(voice, sound, SOUND).length == SOUND ? 0 : 1; }
 
 static void *run(void *call) {
@@ -68,15 +75,19 @@ int main(void) {
     const struct {
         const char *name;
         void (*entry)(void);
+        size_t limit;
         uint32_t refusal;
     } calls[] = {
-        {"new", create, 0},
-        {"on_start_processing", command, 0},
-        {"process, advance 0.7", process_slow, 0},
-        {"process, advance 256", process_fast, 0},
-        {"process, refused", process_refused, 1},
-        {"process_into, advance 256", process_into, 0},
-        {"stretch", stretch, 0},
+        {"new", create, PLAYER, 0},
+        {"on_start_processing", command, PLAYER, 0},
+        {"process, advance 0.7", process_slow, PLAYER, 0},
+        {"process, advance 256", process_fast, PLAYER, 0},
+        {"process, refused", process_refused, PLAYER, 1},
+        {"process_into, advance 256", process_into, PLAYER, 0},
+        {"stretch", stretch, PLAYER, 0},
+        {"read_record", read_record, TRACE, 0},
+        {"write_record", write_record, TRACE, 0},
+        {"salvage", salvage, TRACE, 0},
     };
     for (int i = 0; i < FRAMES; i += 1) {
         ones[i] = 1;
@@ -98,14 +109,23 @@ int main(void) {
     broken = voice;
     broken.count = 5;
 
+    /* The longest record there is. */
+    numbers[1] = numbers[6] = 3;
+    numbers[12] = 64;
+
     int faults = 0;
+    if (cableowl_write_record(trace, sizeof trace, 0, CABLEOWL_KIND_CREATION, numbers).next != sizeof trace) {
+        printf("differs: the longest record\n");
+        faults += 1;
+    }
     used(nothing); /* once before, so that what the linker does at a first thread is not counted */
     const size_t thread = used(nothing);
     for (size_t i = 0; i < sizeof calls / sizeof calls[0]; i += 1) {
         used(calls[i].entry); /* once before, so that what the linker does at a first call is not counted */
-        const size_t bytes = used(calls[i].entry) - thread;
+        const size_t all = used(calls[i].entry);
+        const size_t bytes = all > thread ? all - thread : 0;
         fprintf(stderr, "%-26s %6zu bytes of stack\n", calls[i].name, bytes);
-        if (bytes > LIMIT || refusal != calls[i].refusal) {
+        if (bytes > calls[i].limit || refusal != calls[i].refusal) {
             printf("differs: %s\n", calls[i].name);
             faults += 1;
         }
