@@ -3,7 +3,7 @@
 //   benches --modes                                                         (what the float mode costs a call)
 //   benches --budget                                                        (voices a core by block size and steps a frame)
 //   benches --players                                                       (64 players into one buffer, against bare voices)
-//   benches --play ours|safe|kira|none --rate R --block N --looped long|3|subnormal --start N --frames N
+//   benches --play ours|safe|kira|player|moving|none --rate R --block N --looped long|3|subnormal --start N --frames N
 //                                                                          (one workload, to be counted)
 
 mod budget;
@@ -15,6 +15,7 @@ mod workload;
 
 use std::{env, error::Error, fs, path::Path, process::ExitCode};
 
+use players::One;
 use workload::{Kira, Looped, Ours, Safe, Voice, Workload};
 
 fn main() -> ExitCode {
@@ -90,12 +91,19 @@ fn play(who: &str, words: &[String]) -> Result<(), Box<dyn Error>> {
     let mut ours = Ours::new(&workload, &sound);
     let mut safe = Safe::new(&workload, &sound);
     let mut kira = Kira::new(&workload, &sound);
+    let [mut player, mut moving] = [false, true].map(|moving| One::new(&workload, &sound, moving));
     let voice: Option<&mut dyn Voice> = match who {
         "ours" => Some(&mut ours),
         "safe" => Some(&mut safe),
         "kira" => Some(&mut kira),
+        // At the players' own rate, 0.93, in the long loop.
+        "player" => Some(&mut player),
+        "moving" => Some(&mut moving),
         "none" => None,
-        _ => return Err(format!("--play takes ours, safe, kira or none, not {who}").into()),
+        _ => {
+            let all = "ours, safe, kira, player, moving or none";
+            return Err(format!("--play takes {all}, not {who}").into());
+        }
     };
     if let Some(voice) = voice {
         (0..frames / workload.block).for_each(|_| voice.block());

@@ -4,15 +4,14 @@ use std::{fmt::Write, time::Instant};
 
 use cableowl::{Lanes, Level, Player, Settings, Signals, StaticSound, Tween};
 
-use crate::workload::{HZ, Looped};
+use crate::workload::{HZ, Looped, Voice, Workload};
 
 /// The voices that play at once.
 const VOICES: usize = 64;
 /// The calls of the table, in frames.
 const BLOCKS: [usize; 4] = [64, 256, 1_024, 4_096];
-const REPETITIONS: usize = 60;
-/// Frames of one repetition, a voice.
-const FRAMES: usize = 4_096;
+/// Frames of each voice, call after call; each call is timed by itself.
+const FRAMES: usize = 200 * 4_096;
 
 /// Someone who adds a block of all voices to a buffer.
 trait Mixes {
@@ -76,7 +75,37 @@ fn players(sound: &[f32], moving: bool) -> Vec<Player> {
     (0..VOICES).map(player).collect()
 }
 
-/// Nanoseconds a frame of one voice, the least of all repetitions, of each in turns.
+/// One player that plays a workload's blocks, for its instructions to be counted.
+pub struct One<'a> {
+    player: Player,
+    sound: &'a [f32],
+    out: Vec<f32>,
+}
+
+impl<'a> One<'a> {
+    /// A player over the workload's sound, all parameters in motion or none.
+    #[must_use]
+    pub fn new(workload: &Workload, sound: &'a [f32], moving: bool) -> Self {
+        Self {
+            player: players(sound, moving).swap_remove(0),
+            sound,
+            out: vec![0.0; 2 * workload.block],
+        }
+    }
+}
+
+impl Voice for One<'_> {
+    fn block(&mut self) {
+        let answer = self.player.process(self.sound, &mut self.out);
+        debug_assert!(answer.is_ok());
+    }
+
+    fn heard(&self) -> Vec<u32> {
+        self.out.iter().map(|sample| sample.to_bits()).collect()
+    }
+}
+
+/// Nanoseconds a frame of one voice, the least of all calls, of each in turns.
 fn least(block: usize, sound: &[f32]) -> [f64; 3] {
     let voice = |voice| StaticSound::new(settings(voice), sound).expect("accepted settings");
     let mut bare = Bare {
@@ -87,15 +116,13 @@ fn least(block: usize, sound: &[f32]) -> [f64; 3] {
     let (mut resting, mut moving) = (players(sound, false), players(sound, true));
     let mut out = vec![0.0; 2 * block];
     let mut least = [f64::INFINITY; 3];
-    for _ in 0..REPETITIONS {
+    for _ in 0..FRAMES / block {
         let all: [&mut dyn Mixes; 3] = [&mut bare, &mut resting, &mut moving];
         for (least, mixes) in least.iter_mut().zip(all) {
+            out.fill(0.0);
             let begun = Instant::now();
-            for _ in 0..FRAMES / block {
-                out.fill(0.0);
-                mixes.mix(sound, &mut out);
-            }
-            let time = begun.elapsed().as_nanos() as f64 / (FRAMES * VOICES) as f64;
+            mixes.mix(sound, &mut out);
+            let time = begun.elapsed().as_nanos() as f64 / (block * VOICES) as f64;
             *least = least.min(time);
         }
     }

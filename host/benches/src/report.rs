@@ -66,7 +66,7 @@ fn players_section(table: &str) -> String {
     format!(
         "## Many players into one buffer
 
-64 voices a call, loops of a second at rate 0.93, each added to one buffer: voices a core at 48 kHz, and nanoseconds a frame of one voice, the least of 60 repetitions of 4,096 frames, in turns. A bare voice has constant lanes and is played into a buffer of its own, then added. A player at rest is `Player::mix` with no parameter in motion; in motion, fade, volume, rate and panning all go on for hours, so that every lane has a number for each frame.
+64 voices a call, loops of a second at rate 0.93, each added to one buffer: voices a core at 48 kHz, and nanoseconds a frame of one voice, the least call of 819,200 frames a voice, in turns. A bare voice has constant lanes and is played into a buffer of its own, then added. A player at rest is `Player::mix` with no parameter in motion; in motion, fade, volume, rate and panning all go on for hours, so that every lane has a number for each frame.
 
 Measured on {}.
 

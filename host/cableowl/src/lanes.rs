@@ -245,6 +245,10 @@ impl<T: Number> Spread<T> {
     }
 
     fn spread(&mut self, number: T, frames: usize) -> &[T] {
+        // Most lanes are ones: all voices share them, and they stay in the cache.
+        if number.same_bits(T::ONES[0]) {
+            return &T::ONES[..frames];
+        }
         if self
             .held
             .first()
@@ -269,17 +273,24 @@ impl<T: Number> Clone for Spread<T> {
 }
 
 /// A number that is told from another by its bits: minus zero is refused where zero is not.
-trait Number: Copy {
+trait Number: Copy + 'static {
+    /// As many ones as are ever lent.
+    const ONES: &'static [Self];
+
     fn same_bits(self, other: Self) -> bool;
 }
 
 impl Number for f32 {
+    const ONES: &'static [Self] = &[1.0; MAX_BLOCK_FRAMES + 1];
+
     fn same_bits(self, other: Self) -> bool {
         self.to_bits() == other.to_bits()
     }
 }
 
 impl Number for f64 {
+    const ONES: &'static [Self] = &[1.0; MAX_BLOCK_FRAMES + 1];
+
     fn same_bits(self, other: Self) -> bool {
         self.to_bits() == other.to_bits()
     }
@@ -292,7 +303,16 @@ mod test {
     #[test]
     fn a_constant_is_spread_anew_when_it_changes() {
         let mut lanes = Lanes::new();
-        for (number, frames) in [(0.5, 3), (0.5, 2), (0.5, 5), (0.25, 4), (0.0, 4), (-0.0, 4)] {
+        for (number, frames) in [
+            (1.0, 3),
+            (0.5, 3),
+            (1.0, 4),
+            (0.5, 2),
+            (0.5, 5),
+            (0.25, 4),
+            (0.0, 4),
+            (-0.0, 4),
+        ] {
             let lent = lanes.frames(frames).fade(number).lend();
             assert_eq!(lent.fade.len(), frames);
             for held in lent.fade {
@@ -312,7 +332,7 @@ mod test {
     fn room_of(mut lanes: Lanes) {
         let room = lanes.rate.held.as_ptr();
         for frames in [0, 1, 4_096, usize::MAX] {
-            let lent = lanes.frames(frames).rate(frames as f64).lend();
+            let lent = lanes.frames(frames).rate(0.5 + frames as f64).lend();
             assert_eq!(lent.rate.len(), frames.min(4_097));
             assert_eq!(lent.rate.as_ptr(), room);
         }

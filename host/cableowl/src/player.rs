@@ -76,8 +76,8 @@ pub struct Player {
     rate: Parameter<f64>,
     panning: Parameter<f64>,
     amplitudes: &'static Amplitudes,
-    /// What the voice is told before the next frame.
-    commands: Commands,
+    /// What the voice is told before the next frame, if anything.
+    commands: Option<Commands>,
     /// The fade that goes with them.
     next_fade: Option<Fade>,
     /// The frame at which the sound's own start comes.
@@ -130,7 +130,7 @@ impl Player {
             rate: Parameter::new(settings.playback_rate),
             panning: Parameter::new(0.0),
             amplitudes: amplitudes(),
-            commands: Commands::new(),
+            commands: None,
             next_fade: None,
             starts_at: None,
             counts: Processed::NONE,
@@ -152,21 +152,25 @@ impl Player {
 
     /// Fades out, then pauses: `Pausing`, and `Paused` from the frame on where the fade ends.
     pub fn pause(&mut self, tween: impl Into<Tween>) {
-        self.commands.pause = true;
+        self.next_commands().pause = true;
         self.fade_next(Level::SILENCE, tween.into(), 0);
     }
 
     /// Resumes and fades in: `Resuming`, and `Playing` from the frame on where the fade ends.
     pub fn resume(&mut self, tween: impl Into<Tween>) {
-        self.commands.resume = ResumeCommand::AtOnce;
+        self.next_commands().resume = ResumeCommand::AtOnce;
         self.fade_next(Level::FULL, tween.into(), 1);
     }
 
     /// Fades out, then stops for ever: `Stopping`, and `Stopped` from the frame on where the fade
     /// ends.
     pub fn stop(&mut self, tween: impl Into<Tween>) {
-        self.commands.stop = true;
+        self.next_commands().stop = true;
         self.fade_next(Level::SILENCE, tween.into(), 2);
+    }
+
+    fn next_commands(&mut self) -> &mut Commands {
+        self.commands.get_or_insert_default()
     }
 
     fn fade_next(&mut self, to: Level, tween: Tween, order: u8) {
@@ -245,13 +249,13 @@ impl Player {
     pub fn set_loop_region(&mut self, loop_region: impl Into<Region>) -> Result<(), Refusal> {
         let loop_region = loop_region.into();
         judge_loop(&self.voice.state(), loop_region)?;
-        self.commands.loop_region = LoopCommand::Set(loop_region);
+        self.next_commands().loop_region = LoopCommand::Set(loop_region);
         Ok(())
     }
 
     /// Loops no more.
     pub fn clear_loop_region(&mut self) {
-        self.commands.loop_region = LoopCommand::Clear;
+        self.next_commands().loop_region = LoopCommand::Clear;
     }
 
     /// Moves by so many seconds.
@@ -261,7 +265,7 @@ impl Player {
     /// [`Refusal::Seek`].
     pub fn seek_by(&mut self, seconds: f64) -> Result<(), Refusal> {
         judge_seek_by(&self.voice.state(), seconds)?;
-        self.commands.seek_by = Some(seconds);
+        self.next_commands().seek_by = Some(seconds);
         Ok(())
     }
 
@@ -272,7 +276,7 @@ impl Player {
     /// [`Refusal::Seek`].
     pub fn seek_to(&mut self, seconds: f64) -> Result<(), Refusal> {
         judge_seek_to(&self.voice.state(), seconds)?;
-        self.commands.seek_to = Some(seconds);
+        self.next_commands().seek_to = Some(seconds);
         Ok(())
     }
 
@@ -415,7 +419,7 @@ impl Player {
             return Err(Refusal::State);
         }
         self.voice = StaticSound::from_state(state, sound)?;
-        (self.commands, self.next_fade) = (Commands::new(), None);
+        (self.commands, self.next_fade) = (None, None);
         Ok(())
     }
 }

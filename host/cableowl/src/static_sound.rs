@@ -238,6 +238,12 @@ impl StaticSound {
         PlaybackState::from_number(self.state.state).unwrap_or(PlaybackState::Stopped)
     }
 
+    /// Whether the sound has the recorded length. A voice's state is well formed, so this is all that
+    /// refusal 1 asks.
+    pub(crate) fn is_of(&self, sound: &[f32]) -> bool {
+        sound.len().is_multiple_of(2) && self.state.num_frames == sound.len() as u64 / 2
+    }
+
     pub(crate) fn sample_rate(&self) -> u32 {
         self.state.sample_rate
     }

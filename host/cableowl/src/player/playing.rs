@@ -4,7 +4,7 @@ use std::hint::black_box;
 
 use super::{Player, block::Given, recorded::Watch, room::gains};
 use crate::{
-    Commands, Lane, MAX_BLOCK_FRAMES, Processed, Refusal, Signals, StartAnswer, float_mode,
+    Lane, MAX_BLOCK_FRAMES, Processed, Refusal, Signals, StartAnswer, float_mode,
     trace::MAX_TRACED_FRAMES,
 };
 
@@ -38,7 +38,7 @@ impl Player {
         place: Place,
         watch: &mut W,
     ) -> Result<Processed, Refusal> {
-        if self.voice.stretch(sound).is_empty() {
+        if !self.voice.is_of(sound) {
             return Err(Refusal::State);
         }
         if !out.len().is_multiple_of(2) {
@@ -57,12 +57,11 @@ impl Player {
 
     /// Tells the voice its commands, and turns it round where the rate of the next frame has.
     fn obey<W: Watch>(&mut self, sound: &[f32], watch: &mut W) -> Result<(), Refusal> {
-        let mut commands = std::mem::take(&mut self.commands);
         let rate = self.rate.at(self.clock);
         if rate.is_sign_negative() != self.voice.playback_rate().is_sign_negative() {
-            commands.playback_rate = Some(rate);
+            self.commands.get_or_insert_default().playback_rate = Some(rate);
         }
-        if commands != Commands::new() {
+        if let Some(commands) = self.commands.take() {
             self.voice.on_start_processing(sound, commands)?;
             watch.told(commands);
         }
