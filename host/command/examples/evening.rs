@@ -6,10 +6,11 @@
 //! at block edges; two pages.
 
 use std::{
+    env,
     error::Error,
     ffi::OsString,
     fs::{self, File},
-    io::{BufWriter, Write},
+    io::{self, BufWriter, Write},
     path::{Path, PathBuf},
     process::ExitCode,
 };
@@ -266,22 +267,18 @@ fn cuts() -> [(&'static str, Blocks); 4] {
     ]
 }
 
-/// Runs the command in the folder, and shows it and the first lines that it prints.
-fn shown(folder: &Path, words: &str, expects: u8, lines: usize) -> Result<(), Box<dyn Error>> {
-    let at = |word: &str| match word.contains('.') {
-        true => folder.join(word).into_os_string(),
-        false => OsString::from(word),
-    };
+/// Runs the command, and shows it and the first lines that it prints.
+fn shown(words: &str, expects: u8, lines: usize) -> Result<(), Box<dyn Error>> {
     let (mut out, mut complaints) = (Vec::new(), Vec::new());
-    let status = command::run(words.split(' ').map(at), &mut out, &mut complaints);
-    let (out, complaints) = (
-        String::from_utf8_lossy(&out),
-        String::from_utf8_lossy(&complaints),
+    let status = command::run(
+        words.split(' ').map(OsString::from),
+        &mut out,
+        &mut complaints,
     );
+    let complaints = String::from_utf8_lossy(&complaints);
     println!("$ cableowl {words}");
-    let here = format!("{}/", folder.display());
-    for line in out.lines().take(lines) {
-        println!("{}", line.replace(&here, ""));
+    for line in String::from_utf8_lossy(&out).lines().take(lines) {
+        println!("{line}");
     }
     match status == expects {
         true => Ok(()),
@@ -290,9 +287,7 @@ fn shown(folder: &Path, words: &str, expects: u8, lines: usize) -> Result<(), Bo
 }
 
 fn main() -> ExitCode {
-    let folder = std::env::args_os()
-        .nth(1)
-        .unwrap_or("target/evening".into());
+    let folder = env::args_os().nth(1).unwrap_or("target/evening".into());
     match run(&PathBuf::from(folder)) {
         Ok(()) => ExitCode::SUCCESS,
         Err(error) => {
@@ -304,9 +299,9 @@ fn main() -> ExitCode {
 
 fn run(folder: &Path) -> Result<(), Box<dyn Error>> {
     fs::create_dir_all(folder)?;
-    let folder = &folder.canonicalize()?;
-    let create =
-        |name: &str| Ok::<_, std::io::Error>(BufWriter::new(File::create(folder.join(name))?));
+    let folder = folder.canonicalize()?;
+    env::set_current_dir(&folder)?;
+    let create = |name: &str| Ok::<_, io::Error>(BufWriter::new(File::create(name)?));
     println!("A student's evening on the listening box: {EVENING} seconds, a lesson of {LESSON}");
     let acts: Vec<String> = SCRIPT
         .iter()
@@ -361,13 +356,10 @@ fn run(folder: &Path) -> Result<(), Box<dyn Error>> {
         grouped(records.len() as u64),
         grouped(bytes)
     );
-    let words = [
-        "replay".into(),
-        folder.join("evening.trace").into_os_string(),
-    ];
+    let words = ["replay".into(), "evening.trace".into()];
     let mut replayed = Vec::new();
     let status = command::run(words, &mut replayed, Vec::new());
-    let live = fs::read(folder.join("evening.log"))?;
+    let live = fs::read("evening.log")?;
     if status != 0 || replayed != live {
         return Err("the trace, played again, prints other lines than the live voice".into());
     }
@@ -378,23 +370,30 @@ fn run(folder: &Path) -> Result<(), Box<dyn Error>> {
     );
 
     println!("\nAudited: did this box play as proved?");
-    shown(folder, "audit evening.trace evening.log", 0, 1)?;
-    shown(
-        folder,
-        "audit --html audit.html evening.trace creeping.log",
-        1,
-        12,
-    )?;
+    shown("audit evening.trace evening.log", 0, 1)?;
+    shown("audit --html audit.html evening.trace creeping.log", 1, 12)?;
 
     println!("\nReported:");
     let logs = cuts()
         .map(|(name, _)| format!("blocks-of-{name}.log"))
         .join(" ");
-    shown(folder, &format!("report --html report.html {logs}"), 0, 7)?;
+    shown(&format!("report --html report.html {logs}"), 0, 6)?;
     println!(
         "\nThe report's page: {}",
         folder.join("report.html").display()
     );
     println!("The creep's page:  {}", folder.join("audit.html").display());
     Ok(())
+}
+
+#[cfg(test)]
+mod tests {
+    use super::*;
+
+    #[test]
+    fn the_whole_story() {
+        let folder = env::temp_dir().join(format!("cableowl-evening-{}", std::process::id()));
+        run(&folder).expect("an evening");
+        fs::remove_dir_all(folder).expect("its folder");
+    }
 }

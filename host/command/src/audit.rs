@@ -69,15 +69,14 @@ impl Found {
 
     /// One block more, or what only one of the two has.
     fn compare(&mut self, proved: Option<Line>, said: Option<Line>) -> bool {
-        let (mut moved, mut apart) = ([0, 0], None);
-        for (side, line) in [proved, said].iter().enumerate() {
-            if let Some(Line::Block(block)) = line {
-                moved[side] = i128::from(block.steps);
-                let place = i128::from(block.position);
-                apart = Some(place - apart.unwrap_or(0));
-            }
+        let steps = |line: Option<Line>| match line {
+            Some(Line::Block(block)) => i128::from(block.steps),
+            _ => 0,
+        };
+        // What only one of them has tells nothing of how far the other came.
+        if proved.is_some() && said.is_some() {
+            self.creep = self.creep.saturating_add(steps(proved) - steps(said));
         }
-        self.creep = self.creep.saturating_add(moved[0] - moved[1]);
         let same = match (proved, said) {
             (Some(proved), Some(said)) => alike(&proved, &said),
             _ => false,
@@ -404,12 +403,12 @@ fn verdict(found: &Found) -> String {
 }
 
 fn put_text(found: &Found, out: &mut Out<'_>) -> Result<()> {
-    let (mark, end) = match (found.differing > 0, &found.ended) {
-        (true, _) => ("DIFFERS", ""),
-        (false, None) => ("AGREES", ""),
-        (false, Some(_)) => ("BROKEN OFF", ""),
+    let mark = match (found.differing > 0, &found.ended) {
+        (true, _) => "DIFFERS",
+        (false, None) => "AGREES",
+        (false, Some(_)) => "BROKEN OFF",
     };
-    out.put(format!("{mark}: {}{end}\n", verdict(found)))?;
+    out.put(format!("{mark}: {}\n", verdict(found)))?;
     let Some(first) = found.first.first() else {
         return Ok(());
     };

@@ -68,7 +68,7 @@ pub struct Stretch {
     pub places: Option<(u64, u64, u64)>,
     /// Whether the place leapt: round a loop, by a seek, with a new voice.
     pub leapt: bool,
-    /// Frames that were paused, and silent.
+    /// Frames that were paused.
     pub paused: u64,
     /// Frames that were silent.
     pub silent: u64,

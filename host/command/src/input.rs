@@ -4,6 +4,8 @@ use std::{
     fs::File,
     io::{self, IsTerminal, Read, Write},
     path::Path,
+    sync::mpsc::{self, RecvTimeoutError},
+    thread,
     time::{Duration, Instant},
 };
 
@@ -137,4 +139,32 @@ impl Drop for Progress {
             let _ = write!(io::stderr(), "\r\x1b[K");
         }
     }
+}
+
+/// Does work that takes its time without reading, and says on a terminal how long it has been at it.
+pub fn working<T>(name: &str, work: impl FnOnce() -> T) -> T {
+    if !io::stderr().is_terminal() {
+        return work();
+    }
+    thread::scope(|scope| {
+        let (done, ends) = mpsc::channel::<()>();
+        let began = Instant::now();
+        scope.spawn(move || {
+            let mut wait = PATIENCE;
+            while ends.recv_timeout(wait) == Err(RecvTimeoutError::Timeout) {
+                wait = EVERY;
+                let seconds = began.elapsed().as_secs();
+                let _ = write!(
+                    io::stderr(),
+                    "\r\x1b[K{name}: read, at work for {seconds} s"
+                );
+            }
+            if wait == EVERY {
+                let _ = write!(io::stderr(), "\r\x1b[K");
+            }
+        });
+        let worked = work();
+        drop(done);
+        worked
+    })
 }

@@ -91,18 +91,42 @@ pub fn report(evenings: &[Evening], rows: &[Told], rate: u32, put: &mut Sink<'_>
         spaced(&minutes(frames, rate)),
         grouped(rate.into())
     ))?;
+    let folder = shared_folder(evenings);
     if evenings.len() > 1 {
         put(
             "<p class=\"note\">Each evening has a section below. Quantiles are figures of one of the evenings each (nearest rank).</p>\n",
         )?;
+        table("evenings", &FEW, rows, folder, put)?;
+        put(NOT_TOLD)?;
     }
-    let folder = shared_folder(evenings);
-    table(rows, folder, put)?;
     for evening in evenings {
         section(evening, folder, rate, put)?;
     }
+    put("<h2>All figures</h2>\n")?;
+    table(
+        "figures",
+        &COLUMNS.map(|(column, _)| column),
+        rows,
+        folder,
+        put,
+    )?;
+    put(NOT_TOLD)?;
     foot(put)
 }
+
+/// The columns that a page begins with, where there are several evenings.
+const FEW: [&str; 8] = [
+    "minutes",
+    "minutes_played",
+    "minutes_paused",
+    "minutes_silent",
+    "rounds",
+    "seeks",
+    "restarts",
+    "refused",
+];
+
+const NOT_TOLD: &str = "<p class=\"note\">– is not told: the log's lines do not say it. A log of form 2 tells times round the loop, seeks, restarts by hand and window counts.</p>\n";
 
 /// The folder that all logs lie in, up to its slash; empty where they lie in several.
 fn shared_folder(evenings: &[Evening]) -> &str {
@@ -118,10 +142,22 @@ fn shared_folder(evenings: &[Evening]) -> &str {
     }
 }
 
-/// All figures, a row for each log.
-fn table(rows: &[Told], folder: &str, put: &mut Sink<'_>) -> Result<()> {
-    put("<div class=\"scroll\"><table id=\"figures\">\n<thead><tr><th>Log</th><th>Form</th>")?;
-    for (_, name) in COLUMNS {
+/// A table of these columns, a row for each log.
+fn table(
+    id: &str,
+    columns: &[&str],
+    rows: &[Told],
+    folder: &str,
+    put: &mut Sink<'_>,
+) -> Result<()> {
+    put(&format!(
+        "<div class=\"scroll\"><table id=\"{id}\">\n<thead><tr><th>Log</th><th>Form</th>"
+    ))?;
+    let held = COLUMNS.iter().enumerate();
+    let held: Vec<_> = held
+        .filter(|(_, (column, _))| columns.contains(column))
+        .collect();
+    for (_, (_, name)) in &held {
         put(&format!("<th>{name}</th>"))?;
     }
     put("</tr></thead>\n<tbody>\n")?;
@@ -135,16 +171,14 @@ fn table(rows: &[Told], folder: &str, put: &mut Sink<'_>) -> Result<()> {
             escaped(&told.name),
             escaped(told.name.strip_prefix(folder).unwrap_or(&told.name))
         ))?;
-        for ((column, _), cell) in COLUMNS.iter().zip(&told.cells) {
-            let says = cell.as_deref().map_or("–".into(), spaced);
+        for (index, (column, _)) in &held {
+            let cell = told.cells.get(*index).and_then(Option::as_deref);
+            let says = cell.map_or("–".into(), spaced);
             put(&format!("<td data-column=\"{column}\">{says}</td>"))?;
         }
         put("</tr>\n")?;
     }
-    put(
-        "</tbody></table></div>\n<p class=\"note\">– is not told: the log's lines do not say it. A log of form 2 tells times round the loop, seeks, restarts by hand and window counts.</p>\n",
-    )?;
-    Ok(())
+    put("</tbody></table></div>\n")
 }
 
 fn section(evening: &Evening, folder: &str, rate: u32, put: &mut Sink<'_>) -> Result<()> {
@@ -220,20 +254,23 @@ fn runs(course: &Course, rate: f64, holds: impl Fn(&Stretch) -> bool) -> Vec<(f6
 fn places(course: &Course, form: Form, rate: f64, put: &mut Sink<'_>) -> Result<()> {
     let all = seconds(course.frames, rate);
     let highest = course.highest as f64;
-    let mut plot = Plot::new(300.0, all, 0.0, highest);
+    // Room for a loop's label above the highest place.
+    let top = highest * 1.1;
+    let mut plot = Plot::new(300.0, all, 0.0, top);
     for (class, of) in [
         ("paused", (|s: &Stretch| s.paused) as fn(&Stretch) -> u64),
         ("silent", |s: &Stretch| s.silent),
     ] {
         for run in runs(course, rate, |stretch| 2 * of(stretch) > stretch.frames) {
-            plot.area(class, run, (0.0, highest), class);
+            plot.area(class, run, (0.0, top), class);
         }
     }
     plot.numbers();
     let mut labels = Vec::new();
     for round in &course.loops {
         let times = (seconds(round.from, rate), seconds(round.until, rate));
-        let (low, high) = (round.high.saturating_sub(round.length), round.high);
+        let (high, next) = (round.high, round.high.saturating_add(1));
+        let low = next.saturating_sub(round.length);
         let says = format!(
             "{} times round a loop of {} frames",
             grouped(round.rounds),

@@ -101,7 +101,7 @@ pub fn replay(trace: &Path, form: Form, out: &mut Out<'_>) -> Result<()> {
     Err(fault(&input, &error))
 }
 
-/// The same record's place and number.
+/// The record that was refused, if that is what is wrong.
 pub fn refused(error: &TraceError) -> Option<Refused> {
     match error {
         TraceError::Refused(refused) => Some(*refused),

@@ -4,7 +4,7 @@ use std::path::Path;
 
 use crate::{
     fault::{Fault, Result},
-    input::Input,
+    input::{Input, working},
     out::{Fresh, Out, free, shown},
     plot::grouped,
 };
@@ -19,7 +19,7 @@ pub fn salvage(trace: &Path, to: &Path, out: &mut Out<'_>) -> Result<()> {
     let room = kept.try_reserve_exact(bytes.len());
     room.map_err(|_| input.wrong("is too long: there is no room for a second copy in memory"))?;
     kept.resize(bytes.len(), 0);
-    let salvaged = cableowl::trace::salvage(&bytes, &mut kept);
+    let salvaged = working(input.name(), || cableowl::trace::salvage(&bytes, &mut kept));
     let salvaged = salvaged.map_err(|refusal| input.wrong(refusal))?;
     if salvaged.records == 0 && !bytes.is_empty() {
         return Err(Fault::refused(format!(

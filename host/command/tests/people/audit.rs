@@ -190,6 +190,12 @@ fn what_differs_is_told() {
             "{line} in {}",
             ran.out
         );
+        // None of these is behind.
+        assert!(
+            ran.out.contains("the box is 0 frames, neither"),
+            "{}",
+            ran.out
+        );
     }
     // What was asked of the voice is the host's to count.
     room.put("said.log", second.replace("seeks=1", "seeks=2"));

@@ -5,7 +5,6 @@ use std::{
     io::{Read, Write},
     os::unix::{fs::PermissionsExt, process::CommandExt},
     process::{Command, Stdio},
-    time::Duration,
 };
 
 use crate::room::{CABLEOWL, Room, three};
@@ -65,7 +64,6 @@ const NOBODY: u32 = 65_534;
 
 #[test]
 fn a_file_without_permission() {
-    let room = Room::new("forbidden");
     // Root reads everything, so a copy of the command is run as nobody, from where nobody comes.
     let folder = std::env::temp_dir().join(format!("cableowl-forbidden-{}", std::process::id()));
     let _ = fs::remove_dir_all(&folder);
@@ -100,7 +98,6 @@ fn a_file_without_permission() {
         assert_eq!(output.status.code(), Some(1));
     }
     fs::remove_dir_all(folder).unwrap();
-    drop(room);
 }
 
 #[test]
@@ -238,7 +235,6 @@ fn progress_is_shown_on_a_terminal_alone() {
     } else {
         eprintln!("SKIPPED: no 'script' here, so progress on a terminal was not tried");
     }
-    std::thread::sleep(Duration::ZERO);
 }
 
 #[test]

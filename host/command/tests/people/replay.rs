@@ -84,6 +84,8 @@ fn it_prints_what_the_proved_program_prints() {
     let mut random = Random::new(28);
     let mut traces = vec![Vec::new(), three(), looped(), make::all_kinds()];
     traces.extend((0..60).map(|round| make::damaged(&mut random, 1 + round % 40, 3)));
+    traces.extend((0..16).map(|_| make::trace(&mut random, 200)));
+    let count = traces.len();
     let (mut lines, mut refused) = (0, 0);
     for trace in traces {
         let ran = room.run_on(&["replay", "-"], &trace);
@@ -100,7 +102,7 @@ fn it_prints_what_the_proved_program_prints() {
             refused + usize::from(broken),
         );
     }
-    eprintln!("64 traces, {lines} lines, {refused} ended by a refused record");
+    eprintln!("{count} traces, {lines} lines, {refused} ended by a refused record");
 }
 
 #[test]
