@@ -39,6 +39,7 @@ coincide =
       transport-transport-set-loop-region = λ k a x y s t p q. same p q;
       transport-transport-increment-position = λ k a x y s t p q. same p q;
       transport-transport-decrement-position = λ k a x y s t p q. same p q;
+      transport-transport-wraps = λ k a x y s t p q. same p q;
       transport-transport-seek-to = λ k a x y s t p q. same p q;
       resampler-resampler-new = λ k a x y s t p q. same p q;
       resampler-resampler-push-frame = λ k a x y s t p q. same p q;

@@ -20,7 +20,7 @@ use Rattle.frame.specs.Frames.{lastZero}
 use Rattle.playback_state_manager.specs.declared.PlaybackState.{PlaybackState}
 use Rattle.playback_state_manager.specs.declared.PlaybackState.the-variants.{Stopped}
 use Rattle.transport.specs.declared.Transport.{Transport}
-use Rattle.transport.specs.Moves.{forward, backward}
+use Rattle.transport.specs.Moves.{forward, backward, edge, wraps}
 use Rattle.transport.proofs.Steps.{forward-still, backward-still}
 use Rattle.resampler.specs.declared.RecentFrame.{RecentFrame}
 use Rattle.resampler.specs.declared.Resampler.{Resampler}
@@ -29,10 +29,11 @@ use Rattle.resampler.proofs.Silence.{zero-frame-frame, empty-zero-frame, readin
 use Rattle.lanes.specs.Lanes.{Lane, laned, near}
 use Rattle.voice.specs.declared.Setup.{Setup}
 use Rattle.moving.specs.declared.Moving.{Moving}
+use Rattle.moving.specs.declared.Wraps.{Wraps}
 use Rattle.moving.specs.declared.Course.{Course}
 use Rattle.voice.specs.declared.StaticSound.{StaticSound}
 use Rattle.voice.specs.Voices.{courseOf}
-use Rattle.moving.specs.Updates.{sounding, pushed, stepped, updated, updates}
+use Rattle.moving.specs.Updates.{sounding, pushed, stepped, raised, counted, updated, updates}
 use Rattle.voice.specs.WellFormed.{Formed}
 use Rattle.playing.specs.Plays.{Played, total, turned, frameHeard, plays}
 use Rattle.block.specs.Blocks.{zeros}
@@ -76,6 +77,20 @@ module _ (snd : List Float) (c : Course) where
   updates-still zero m h = refl
   updates-still (suc n) m h = updates-still n (updated snd c m) (updated-ended m h) ∙ stepped-still c (m .transport) (h .still)
 
+  -- and no step is counted
+  counted-still : (t : Transport) (k : Wraps) → t .playing ≡ false → counted c t k ≡ k
+  unfolding counted wraps
+  counted-still t k e =
+      ap (λ (b : Bool). record {
+        forward = raised (b && edge (c .backwards) (t .«loop_region») (t .position) && not (c .backwards)) (k .forward);
+        backward = raised (b && edge (c .backwards) (t .«loop_region») (t .position) && c .backwards) (k .backward);
+      }) e
+
+  updates-uncounted : (n : ℕ) (m : Moving) → Ended m → (updates n snd c m) .wraps ≡ m .wraps
+  unfolding updates updated
+  updates-uncounted zero m h = refl
+  updates-uncounted (suc n) m h = updates-uncounted n (updated snd c m) (updated-ended m h) ∙ counted-still (m .transport) (m .wraps) (h .still)
+
   split-test : (a b : Bool) → (not a && b) ≡ true → (a ≡ false) × (b ≡ true)
   split-test true b e = absurd (false≢true e)
   split-test false b e = (refl, e)
@@ -90,7 +105,7 @@ module _ (snd : List Float) (c : Course) where
       w : Resampler
       w = pushed snd c m
 
-      go : (b : Bool) → (not (t .playing) && isEmpty w) ≡ b → EndsOnly (m .state) (record { state = cond b Stopped (m .state); transport = t; resampler = w })
+      go : (b : Bool) → (not (t .playing) && isEmpty w) ≡ b → EndsOnly (m .state) (record { state = cond b Stopped (m .state); transport = t; resampler = w; wraps = counted c (m .transport) (m .wraps) })
       go true e =
           let s = split-test (t .playing) (isEmpty w) e in
           inr (record { stopped = refl; still = s .0; empty = eqb-true (w .«time_until_empty») 0 (s .1) })
@@ -169,17 +184,17 @@ unnumbered-last-zero (r ∷ l) h =
     (unnumbered-last-zero l (and-r (zeroFrame r) (all zeroFrame l) h))
 
 -- an ended voice without them
-abbrev spare : Setup → Float → Bool → Transport → StaticSound
-spare k r b t =
+abbrev spare : Setup → Float → Bool → Transport → Wraps → StaticSound
+spare k r b t n =
     record {
       setup = k;
       «playback_rate» = r;
       started = b;
       «fractional_position» = positiveZero;
-      moving = record { state = Stopped; transport = t; resampler = record { frames = replicate 4 mute; «time_until_empty» = 0 } };
+      moving = record { state = Stopped; transport = t; resampler = record { frames = replicate 4 mute; «time_until_empty» = 0 }; wraps = n };
     }
 
-bare-ended : (v : StaticSound) → Windowed (v .moving .resampler) → Ended (v .moving) → bare v ≡ spare (v .setup) (v .«playback_rate») (v .started) (v .moving .transport)
+bare-ended : (v : StaticSound) → Windowed (v .moving .resampler) → Ended (v .moving) → bare v ≡ spare (v .setup) (v .«playback_rate») (v .started) (v .moving .transport) (v .moving .wraps)
 bare-ended v w h =
     let f : map unnumbered (v .moving .resampler .frames) ≡ replicate 4 mute =
     unnumbered-last-zero (v .moving .resampler .frames) (empty-zero-frame (v .moving .resampler) (h .empty) w) ∙ ap (λ (n : ℕ). replicate n mute) (w .four)
@@ -189,7 +204,7 @@ bare-ended v w h =
       «playback_rate» = v .«playback_rate»;
       started = v .started;
       «fractional_position» = positiveZero;
-      moving = record { state = s; transport = v .moving .transport; resampler = x };
+      moving = record { state = s; transport = v .moving .transport; resampler = x; wraps = v .moving .wraps };
     })
     (h .stopped)
     (ap₂ (λ (l : List RecentFrame) (n : ℕ). record { frames = l; «time_until_empty» = n }) f (h .empty))
@@ -199,7 +214,8 @@ module _ (snd : List Float) (dt : Float) (t : T (lt positiveZero dt)) where
   unfolding turned
   bare-turned v l k w h =
       bare-ended (turned snd dt v l) (turned-formed snd dt t v l k w .window) (turned-ended snd dt v l h)
-      ∙ ap (spare (v .setup) (v .«playback_rate») (v .started)) (updates-still snd (courseOf v) (whole (total dt v l)) (v .moving) h)
+      ∙ ap₂ (spare (v .setup) (v .«playback_rate») (v .started)) (updates-still snd (courseOf v) (whole (total dt v l)) (v .moving) h)
+      (updates-uncounted snd (courseOf v) (whole (total dt v l)) (v .moving) h)
       ∙ sym (bare-ended v (w .window) h)
 
   -- the rest of a block, played on an ended voice

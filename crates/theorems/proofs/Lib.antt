@@ -14,6 +14,7 @@ pub mod InTheLoop
 pub mod Budget
 pub mod StartTicks
 pub mod Plain
+pub mod Rounds
 pub mod MixSchedules
 pub mod AtZero
 pub mod Examples

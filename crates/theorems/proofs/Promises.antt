@@ -21,6 +21,7 @@ use Rattle.theorems.proofs.Steps.{steps-made}
 use Rattle.theorems.proofs.Reports.{creation-feeds, commands-feed, blocks-feed, mixes-feed, blocks-tell, mixes-tell, silence-tells}
 use Rattle.theorems.proofs.AnyOrder.{any-order, there-and-back, permutations}
 use Rattle.theorems.proofs.InTheLoop.{in-the-loop}
+use Rattle.theorems.proofs.Rounds.{updates-fit, blocks-fit, mixes-fit}
 use Rattle.theorems.proofs.Budget.{block-budget, mix-budget, stream-budget, two-steps}
 use Rattle.theorems.proofs.StartTicks.{half-reached, moved-together, tick-starts, mix-tick-starts}
 use Rattle.theorems.proofs.Archive.{archive-cut-blocks, archive-cut-mixes}
@@ -98,6 +99,9 @@ promises =
       there-and-back = there-and-back;
       permutations = permutations;
       in-the-loop = in-the-loop;
+      updates-fit = updates-fit;
+      blocks-fit = blocks-fit;
+      mixes-fit = mixes-fit;
       half-reached = half-reached;
       moved-together = moved-together;
       tick-starts = tick-starts;

@@ -28,7 +28,7 @@ bare v =
       «playback_rate» = v .«playback_rate»;
       started = v .started;
       «fractional_position» = positiveZero;
-      moving = record { state = v .moving .state; transport = v .moving .transport; resampler = unnumberedWindow (v .moving .resampler) };
+      moving = record { state = v .moving .state; transport = v .moving .transport; resampler = unnumberedWindow (v .moving .resampler); wraps = v .moving .wraps };
     }
 
 -- not Stopped

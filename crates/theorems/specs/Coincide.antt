@@ -68,6 +68,7 @@ pub record Coincide : Type 0 where
   pub transport-transport-set-loop-region : Decides transport.Transport.set_loop_region.Reads.Post
   pub transport-transport-increment-position : Decides transport.Transport.increment_position.Reads.Post
   pub transport-transport-decrement-position : Decides transport.Transport.decrement_position.Reads.Post
+  pub transport-transport-wraps : Decides transport.Transport.wraps.Reads.Post
   pub transport-transport-seek-to : Decides transport.Transport.seek_to.Reads.Post
   -- resampler
   pub resampler-resampler-new : Decides resampler.Resampler.new.Reads.Post

@@ -10,6 +10,7 @@ pub mod Steps
 pub mod Reports
 pub mod AnyOrder
 pub mod InTheLoop
+pub mod Rounds
 pub mod Budget
 pub mod StartTicks
 pub mod Stays

@@ -10,6 +10,7 @@ use Rattle.theorems.specs.Reports.{CreationFeeds, CommandsFeed, BlocksFe
 use Rattle.theorems.specs.Stays.{SeekStartsNothing, StoppedStays}
 use Rattle.theorems.specs.AnyOrder.{AnyOrder, ThereAndBack, Permutations}
 use Rattle.theorems.specs.InTheLoop.{InTheLoop}
+use Rattle.theorems.specs.Rounds.{UpdatesFit, BlocksFit, MixesFit}
 use Rattle.theorems.specs.Budget.{BlockBudget, MixBudget, StreamBudget, TwoSteps}
 use Rattle.theorems.specs.StartTicks.{HalfReached, MovedTogether, TickStarts, MixTickStarts}
 use Rattle.theorems.specs.AtZero.{ReadsB}
@@ -75,6 +76,10 @@ pub record Promises : Type 0 where
   pub there-and-back : ThereAndBack
   pub permutations : Permutations
   pub in-the-loop : InTheLoop
+  -- what the counts of wraps mean inside a loop: positions, steps and wraps fit
+  pub updates-fit : UpdatesFit
+  pub blocks-fit : BlocksFit
+  pub mixes-fit : MixesFit
   -- ticks that wrap: half of them are reached, and a block starts a voice whose due tick is
   pub half-reached : HalfReached
   pub moved-together : MovedTogether

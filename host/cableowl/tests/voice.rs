@@ -2,7 +2,7 @@
 
 use cableowl::{
     Commands, Lanes, PlaybackState, Refusal, Settings, Signals, StartAnswer, StartSignal,
-    StaticSound,
+    StaticSound, Wraps,
 };
 
 /// Frames 0, 1, 2 and so on, the right channel negated.
@@ -82,6 +82,99 @@ fn a_block_reports_the_lowest_count_it_read() {
     let waiting = StaticSound::new(Settings::new(1).start_waits(true), &one).unwrap();
     assert_eq!(waiting.state().time_until_empty, 2);
     assert_eq!(lowest_counts(waiting, &one, &[2]), [4]);
+}
+
+fn wraps(voice: &StaticSound) -> (u32, u32) {
+    let Wraps {
+        forward, backward, ..
+    } = voice.wraps();
+    (forward, backward)
+}
+
+#[test]
+fn wraps_are_counted_by_direction() {
+    // The smallest: each of creation's three steps wraps.
+    let one = [0.5; 2];
+    let smallest = Settings::new(1).loop_region(0..1);
+    let mut voice = StaticSound::new(smallest, &one).unwrap();
+    assert_eq!(wraps(&voice), (3, 0));
+    play(&mut voice, &one, 5);
+    assert_eq!(wraps(&voice), (8, 0));
+    let reversed = StaticSound::new(smallest.reverse(true), &one).unwrap();
+    assert_eq!(wraps(&reversed), (0, 3));
+    let backward = StaticSound::new(smallest.playback_rate(-1.0), &one).unwrap();
+    assert_eq!(wraps(&backward), (0, 3));
+    let both = smallest.playback_rate(-1.0).reverse(true);
+    assert_eq!(wraps(&StaticSound::new(both, &one).unwrap()), (3, 0));
+
+    // One a step, from outside the loop too, and however many lengths it goes back.
+    let sound = ramp(10);
+    let far = Settings::new(1).start_position(9).loop_region(0..2);
+    let voice = StaticSound::new(far, &sound).unwrap();
+    assert_eq!((voice.state().position, wraps(&voice)), (0, (2, 0)));
+    let unlooped = StaticSound::new(Settings::new(1).start_position(9), &sound).unwrap();
+    assert_eq!(wraps(&unlooped), (0, 0));
+}
+
+#[test]
+fn no_command_changes_the_wraps() {
+    let sound = ramp(10);
+    let mut voice = StaticSound::new(Settings::new(1).loop_region(3..6), &sound).unwrap();
+    play(&mut voice, &sound, 7);
+    let counted = wraps(&voice);
+    assert_eq!(counted, (2, 0));
+    let sets = [
+        Commands::new().seek_to(8.0),
+        Commands::new().seek_to(0.0),
+        Commands::new().seek_by(7.0),
+        Commands::new().set_loop_region(1..2),
+        Commands::new().clear_loop_region(),
+        Commands::new().set_playback_rate(-1.0).pause(),
+        Commands::new().stop(),
+    ];
+    for commands in sets {
+        voice.on_start_processing(&sound, commands).unwrap();
+        assert_eq!(wraps(&voice), counted);
+    }
+}
+
+#[test]
+fn a_count_of_wraps_stands_still_at_its_limit() {
+    let one = [0.5; 2];
+    let mut state = StaticSound::new(Settings::new(1).loop_region(0..1), &one)
+        .unwrap()
+        .state();
+    (state.wraps.forward, state.wraps.backward) = (u32::MAX - 2, u32::MAX);
+    let mut voice = StaticSound::from_state(state, &one).unwrap();
+    play(&mut voice, &one, 2);
+    assert_eq!(wraps(&voice), (u32::MAX, u32::MAX));
+    play(&mut voice, &one, 2);
+    assert_eq!(wraps(&voice), (u32::MAX, u32::MAX));
+}
+
+#[test]
+fn positions_steps_and_wraps_fit() {
+    let sound = ramp(10);
+    let mut lanes = Lanes::new();
+    for (rate, length) in [(1.0, 3), (1.0, 1), (-1.0, 3), (-1.0, 1), (1.0, 7)] {
+        let settings = Settings::new(1)
+            .start_position(2)
+            .loop_region(2..2 + length)
+            .playback_rate(rate);
+        let mut voice = StaticSound::new(settings, &sound).unwrap();
+        for speed in [0.3, 1.0, 2.5, 16.0, 255.0] {
+            let before = voice.state();
+            let lanes = lanes.frames(9).rate(speed);
+            let block = voice.process(&sound, lanes, 1.0, Signals::new(), &mut [0.0; 18]);
+            let (steps, after) = (block.unwrap().steps as i64, voice.state());
+            let ahead = i64::from(after.wraps.forward - before.wraps.forward);
+            let back = i64::from(after.wraps.backward - before.wraps.backward);
+            let way = if rate < 0.0 { -steps } else { steps };
+            let moved = after.position as i64 - before.position as i64;
+            assert_eq!(moved, way + length as i64 * (back - ahead));
+            assert_eq!(if rate < 0.0 { ahead } else { back }, 0);
+        }
+    }
 }
 
 #[test]

@@ -173,16 +173,16 @@ pub fn state(random: &mut Random, total: usize) -> State {
         window,
         count,
         wraps: Wraps {
-            forward: wraps(random),
-            backward: wraps(random),
+            forward: wraps(window[2].number),
+            backward: wraps(window[3].number),
         },
     }
 }
 
-/// A count of wraps: mostly small, else at its limit or a few below.
-fn wraps(random: &mut Random) -> u32 {
-    let few = random.below(4) as u32;
-    if random.one_in(3) {
+/// A count of wraps by a number that was drawn: small, or at its limit or a few below.
+fn wraps(number: usize) -> u32 {
+    let few = (number / 3 % 4) as u32;
+    if number.is_multiple_of(3) {
         u32::MAX - few
     } else {
         few

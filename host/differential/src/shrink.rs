@@ -147,6 +147,8 @@ fn simpler_states(given: &State) -> Vec<State> {
             &|s| s.playing = true,
             &|s| s.playback = PlaybackState::Playing,
             &|s| s.loop_region = Some((0, 1)),
+            &|s| s.wraps.forward = 0,
+            &|s| s.wraps.backward = 0,
             &|s| s.loop_region = s.loop_region.map(|(_, end)| (0, end)),
             &|s| s.loop_region = s.loop_region.map(|(start, end)| (start / 2, end / 2)),
             &|s| s.slice = s.slice.map(|(start, end)| (0, end - start.min(end))),

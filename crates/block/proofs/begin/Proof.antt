@@ -13,7 +13,7 @@ update-requires : tie.Need-update-requires
 update-requires c κs = search needs
 
 returns : tie.Need-returns
-returns c = begun-started _ _ _ (c .before .before .before .before .update .ensures) (c .before .if1 .taken)
+returns c = begun-started _ _ _ (c .before .before .before .before .before .update .ensures) (c .before .if1 .taken)
 
 answer-requires : tie.Need-answer-requires
 answer-requires c κs = search needs
@@ -31,19 +31,19 @@ returns-2 : tie.Need-returns-2
 returns-2 c =
     let a = c .before .before .before in
     let e = a .before in
-    begun-waiting _ _ _ (e .before .before .before .update .ensures) (e .if1 .left) (sym (a .answer .ensures) ∙ c .before .enum-told .given .1)
+    begun-waiting _ _ _ (e .before .before .before .before .update .ensures) (e .if1 .left) (sym (a .answer .ensures) ∙ c .before .enum-told .given .1)
 
 returns-3 : tie.Need-returns-3
 returns-3 c =
     let a = c .before .before .before in
     let e = a .before in
-    begun-now _ _ _ (e .before .before .before .update .ensures) (e .if1 .left) (sym (a .answer .ensures) ∙ c .before .enum-told2 .given .1)
+    begun-now _ _ _ (e .before .before .before .before .update .ensures) (e .if1 .left) (sym (a .answer .ensures) ∙ c .before .enum-told2 .given .1)
 
 returns-4 : tie.Need-returns-4
 returns-4 c =
-    let a = c .before .before .before .before .before in
+    let a = c .before .before .before .before .before .before in
     let e = a .before in
-    begun-never _ _ _ (e .before .before .before .update .ensures) (e .if1 .left) (sym (a .answer .ensures) ∙ c .before .before .before .enum-told3 .given .1)
+    begun-never _ _ _ (e .before .before .before .before .update .ensures) (e .if1 .left) (sym (a .answer .ensures) ∙ c .before .before .before .before .enum-told3 .given .1)
 
 pub begin-spec : {M : Type 1} → statement M
 begin-spec =

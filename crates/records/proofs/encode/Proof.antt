@@ -22,8 +22,8 @@ has-range-requires c κs = search needs
 has-range-requires-2 : tie.Need-has-range-requires-2
 has-range-requires-2 c κs = search needs
 
-cast-t16 : tie.Need-cast-t16
-cast-t16 c = search needs
+cast-t17 : tie.Need-cast-t17
+cast-t17 c = search needs
 
 start-of-requires : tie.Need-start-of-requires
 start-of-requires c κs = search needs
@@ -67,7 +67,7 @@ encode-spec =
     bit-of-requires-3
     has-range-requires
     has-range-requires-2
-    cast-t16
+    cast-t17
     start-of-requires
     ending-of-requires
     start-of-requires-2

@@ -3,7 +3,7 @@
 use oracle::{
     Answer, Commands, EndPosition, Entry, LIMIT, LaneBuffers, Oracle,
     PlaybackPosition::{self, Samples, Seconds},
-    PlaybackState, Region, Settings, Signals, State,
+    PlaybackState, Region, Settings, Signals, State, Wraps,
 };
 
 use super::{
@@ -22,6 +22,7 @@ pub fn write(list: &mut Words) {
     ends(list);
     fractions(list);
     limits(list);
+    wraps(list);
 }
 
 /// A mono sound in both channels: `first`, `first + 1` and so on.
@@ -474,4 +475,49 @@ fn limits(list: &mut Words) {
         seek_to: Some(5592.405333),
         ..Commands::default()
     });
+}
+
+/// Wraps counted: from creation on, one before the limit and at it, and through commands.
+fn wraps(list: &mut Words) {
+    let mut scene = Scene::begin(list, &ramp(1, 1));
+    for (rate, reverse) in [(1.0, false), (-1.0, false), (1.0, true), (-1.0, true)] {
+        scene.create(&Settings {
+            loop_region: Some(frames(0, 1)),
+            rate,
+            reverse,
+            ..Settings::new(1)
+        });
+        scene.block(&unit(2, 1.0));
+    }
+    let mut scene = Scene::begin(list, &ramp(1, 10));
+    for rate in [1.0, -1.0] {
+        for full in [0, 1, 2, u32::MAX - 1, u32::MAX] {
+            scene.give(&State {
+                position: 9,
+                loop_region: Some((3, 6)),
+                rate,
+                wraps: Wraps {
+                    forward: full,
+                    backward: u32::MAX - full,
+                },
+                ..created(1, 10)
+            });
+            scene.block(&unit(8, 1.0));
+            for seek_to in [8.0, 0.0] {
+                scene.command(&Commands {
+                    seek_to: Some(seek_to),
+                    ..Commands::default()
+                });
+            }
+            scene.command(&Commands {
+                loop_region: Some(Some(frames(4, 5))),
+                ..Commands::default()
+            });
+            scene.block(&unit(2, 1.0));
+            scene.command(&Commands {
+                loop_region: Some(None),
+                ..Commands::default()
+            });
+        }
+    }
 }

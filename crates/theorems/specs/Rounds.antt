@@ -1,0 +1,43 @@
+-- What the counts of wraps mean. Take a voice that plays inside its loop (s, e), L = e - s, and an accepted block. Then positions, steps and wraps fit:
+-- forward, the position after it is the one before, plus the steps, less L for each wrap counted in it; backward, the one before, less the steps, plus L for each wrap.
+-- As long as the count has not reached its limit, where it stands still. The count of the other direction stays as it is, and no count falls.
+use Prim.Native.Nat.{ℕ, _+_, _-_, _*_, _≤_, _<_}
+use mathlib.Core.Path.{_≡_}
+use mathlib.Core.Bool.{Bool, true, false}
+use mathlib.Core.List.{List}
+use lib.Ieee.{Float}
+use Rattle.transport.specs.WellFormed.{Inside}
+use Rattle.lanes.specs.Lanes.{Lanes}
+use Rattle.moving.specs.declared.Moving.{Moving}
+use Rattle.moving.specs.declared.Course.{Course}
+use Rattle.moving.specs.Updates.{updates}
+use Rattle.voice.specs.declared.StaticSound.{StaticSound}
+use Rattle.voice.specs.Voices.{courseOf}
+use Rattle.block.specs.declared.Signals.{Signals}
+use Rattle.static_sound.specs.Entries.{processed, processedInto}
+
+-- so many steps in the loop (s, e), in one direction, from m to w
+pub record Fits (s e : ℕ) (backwards : Bool) (steps : ℕ) (m w : Moving) : Type 0 where
+  pub forward : backwards ≡ false → w .wraps .forward < 4294967295
+      → w .transport .position + (e - s) * (w .wraps .forward - m .wraps .forward) ≡ m .transport .position + steps
+  pub backward : backwards ≡ true → w .wraps .backward < 4294967295
+      → w .transport .position + steps ≡ m .transport .position + (e - s) * (w .wraps .backward - m .wraps .backward)
+  pub other : (backwards ≡ false → w .wraps .backward ≡ m .wraps .backward) × (backwards ≡ true → w .wraps .forward ≡ m .wraps .forward)
+  pub grows : (m .wraps .forward ≤ w .wraps .forward) × (m .wraps .backward ≤ w .wraps .backward)
+
+abbrev pub UpdatesFit : Type 0
+UpdatesFit =
+    (snd : List Float) (c : Course) (s e n : ℕ) (m : Moving)
+    → e ≤ c .«num_frames» → Inside s e (m .transport) → Fits s e (c .backwards) n m (updates n snd c m)
+
+abbrev pub BlocksFit : Type 0
+BlocksFit =
+    (snd : List Float) (v : StaticSound) (dt : Float) (b : Lanes) (g : Signals) (out : List Float) (s e : ℕ)
+    → let o = processed snd v dt b g out in
+    o .answer .refusal ≡ 0 → Inside s e (v .moving .transport) → Fits s e (courseOf v .backwards) (o .answer .steps) (v .moving) (o .answer .sound .moving)
+
+abbrev pub MixesFit : Type 0
+MixesFit =
+    (snd : List Float) (v : StaticSound) (dt : Float) (b : Lanes) (g : Signals) (mix : List Float) (from s e : ℕ)
+    → let o = processedInto snd v dt b g mix from in
+    o .answer .refusal ≡ 0 → Inside s e (v .moving .transport) → Fits s e (courseOf v .backwards) (o .answer .steps) (v .moving) (o .answer .sound .moving)
