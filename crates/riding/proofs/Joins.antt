@@ -82,6 +82,17 @@ module _ (snd : List Float) (v : StaticSound) (dt : Float) (b : Lanes) (out : Li
       ∙ ap (λ (o : Outcome). record { answer = o .answer; samples = take (2 * i) out ++ o .samples }) e
       ∙ ap (λ (l : List Lane). let q = plays snd dt l v in acceptedWith q (take (2 * i) out ++ q .samples)) (ap rows (part-lanes i b) ∙ rest-rows i b)
 
+  -- where no frame is left
+  pub played-none-left : (i : ℕ) → i ≡ length (b .rate) → record { answer = record { refusal = 0; sound = v; steps = 0; «lowest_count» = 4 }; samples = out } ≡ playedFrom snd dt b i v out
+  unfolding plays
+  played-none-left i e =
+      let rows-long : length (rows b) ≡ i = beside-length (b .fade) (b .volume) (b .left) (b .right) (b .rate) ∙ sym e in
+      let long : length out ≡ 2 * i = p .long ∙ ap (λ (n : ℕ). 2 * n) (sym e) in
+      let none : drop i (rows b) ≡ [] = drop-of-length-le (rows b) (le-of-eq rows-long) in
+      sym
+      (ap (λ (l : List Lane). let q = plays snd dt l v in acceptedWith q (take (2 * i) out ++ q .samples)) none
+      ∙ ap (λ (o : List Float). record { answer = record { refusal = 0; sound = v; steps = 0; «lowest_count» = 4 }; samples = o }) (append-nil (take (2 * i) out) ∙ take-all (2 * i) out (le-of-eq long)))
+
   -- the steps from frame i on are few
   pub from-few : (i : ℕ) (r : Processed) (samples : List Float) → record { answer = r; samples = samples } ≡ playedFrom snd dt b i v out → r .steps ≤ 257 * (length (b .rate) - i)
   from-few i r samples e =

@@ -119,6 +119,14 @@ fn play_from(
     requires { ⌜ i ≤ length (now rate) ⌝ }
     ensures { λ r. ⌜ record { answer = r; samples = now (out .exit) } ≡ playedFrom (now (sound .entry)) dt (five (now (fade .entry)) (now (volume .entry)) (now (left .entry)) (now (right .entry)) (now (rate .entry))) i voice (now (out .entry)) ⌝ }
 {
+    if i == rate.len() {
+        return Processed {
+            refusal: 0,
+            sound: voice,
+            steps: 0,
+            lowest_count: 4,
+        };
+    }
     let k = 2 * i;
     playing::play(
         voice,
