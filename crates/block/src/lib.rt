@@ -10,7 +10,7 @@ use moving::Moving;
 use playback_state_manager::PlaybackState;
 use playback_state_manager::StartAnswer;
 use playing::Processed;
-use playing::play;
+use riding::play;
 use start_time::StartSignal;
 use voice::StaticSound;
 

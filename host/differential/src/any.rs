@@ -93,6 +93,11 @@ pub fn region(random: &mut Random, n: usize, sample_rate: u32) -> Region {
 pub fn exact_region(random: &mut Random, n: usize) -> Region {
     let start = random.below(n);
     let end = start + 1 + random.below(n - start);
+    samples(start, end)
+}
+
+/// The region between two frames.
+pub fn samples(start: usize, end: usize) -> Region {
     Region {
         start: PlaybackPosition::Samples(start),
         end: EndPosition::Custom(PlaybackPosition::Samples(end)),

@@ -182,6 +182,7 @@ fn one_thread(options: &Options, work: &Work) -> Tally {
                 let seed = options.seed.wrapping_mul(1 << 32).wrapping_add(round);
                 let random = &mut Random::new(seed);
                 runs::large(&mut harness, random);
+                runs::rides(&mut harness, random);
                 runs::refusals(&mut harness, random);
                 runs::cuts(&mut harness, random);
             }

@@ -49,6 +49,11 @@ fn random_voices() {
 }
 
 #[test]
+fn voices_that_play_on() {
+    rounds(10_000, runs::rides);
+}
+
+#[test]
 fn cut_blocks() {
     rounds(5_000, runs::cuts);
 }

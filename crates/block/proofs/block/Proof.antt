@@ -12,7 +12,7 @@ use Rattle.block.proofs.block.Lts as lts
 use Rattle.block.proofs.begin.Reads as begin-reads
 use Rattle.block.proofs.is_live.Reads as is-live-reads
 use Rattle.block.proofs.silence.Reads as silence-reads
-use Rattle.playing.proofs.play.Reads as play-reads
+use Rattle.riding.proofs.play.Reads as play-reads
 
 abbrev start : tie.After-begin → tie.Start
 start c = c .before .before .before .before .before .before .before .before

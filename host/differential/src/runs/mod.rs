@@ -1,9 +1,10 @@
-//! The runs: tiny sounds exhaustively, held zeros, random calls, refusals by construction, cuts, rows of calls inside a loop, starts due at a tick.
+//! The runs: tiny sounds exhaustively, held zeros, random calls, voices that play on, refusals by construction, cuts, rows of calls inside a loop, starts due at a tick.
 
 mod cuts;
 mod in_the_loop;
 mod large;
 mod refusals;
+mod rides;
 mod ticks;
 mod tiny;
 mod zeros;
@@ -12,6 +13,7 @@ pub use cuts::cuts;
 pub use in_the_loop::{Seen, in_the_loop};
 pub use large::large;
 pub use refusals::{Big, refusals};
+pub use rides::rides;
 pub use ticks::ticks;
 pub use tiny::{Extent, tiny_blocks, tiny_creations, tiny_seeks, transports};
 pub use zeros::zeros;

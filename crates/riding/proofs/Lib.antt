@@ -1,0 +1,3 @@
+-- Laws of rides.
+pub mod Rides
+pub mod Joins

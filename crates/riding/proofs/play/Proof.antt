@@ -1,0 +1,152 @@
+-- `play` rides where the window is the trail, and plays the rest frame by frame.
+use Prim.Native.Nat.{ℕ, _+_, _-_, _*_, _^_, _≤_, _<_}
+use mathlib.Core.Path.{_≡_, sym, ap, _∙_, subst}
+use native.Mathlib.Omega.{arith}
+use lib.ListN.{length}
+use denote.Ref.{now}
+use Rattle.lanes.specs.Lanes.{Lanes, five}
+use Rattle.lanes.proofs.Rows.{sized-parts}
+use Rattle.moving.specs.declared.Wraps.{Wraps}
+use Rattle.voice.specs.Voices.{courseOf, moved}
+use Rattle.voice.specs.WellFormed.{Formed}
+use Rattle.trail.specs.Tracks.{trackOf}
+use Rattle.trail.specs.Trails.{Lies, trailOf}
+use Rattle.trail.proofs.Same.{not-false}
+use Rattle.playing.specs.Turns.{Playable}
+use Rattle.riding.specs.Rides.{Tracked, riddenTo}
+use Rattle.riding.proofs.Rides.{position-on}
+use Rattle.riding.proofs.Joins.{lies-of, from-few, ridden-on}
+use borrow.Author.Needs.{needs}
+use Rattle.riding.proofs.play.Statement.{statement}
+use Rattle.riding.proofs.play.Tie as tie
+use Rattle.riding.proofs.play.Reads as reads
+use Rattle.riding.proofs.play.Lts as lts
+
+abbrev start : tie.After-track-of → tie.Start
+start c = c .before .before .before .before .before .before .before .before .before .before .before
+
+abbrev lent : tie.After-track-of → Lanes
+lent c = let a = start c .args in five (now (a .fade)) (now (a .volume)) (now (a .left)) (now (a .right)) (now (a .rate))
+
+-- the track is the voice's
+track-is : (c : tie.After-track-of) → (let v = start c .args .voice in c .track-of .result ≡ trackOf (v .moving .transport .«loop_region») (courseOf v))
+track-is c = let v = start c .args .voice in c .track-of .ensures ∙ ap (trackOf (v .moving .transport .«loop_region»)) (c .before .before .before .course .ensures)
+
+tracked : (c : tie.After-track-of) → Tracked (now (start c .args .sound)) (start c .args .voice) (c .track-of .result)
+tracked c =
+    let st = start c in
+    let v = st .args .voice in
+    record { is = track-is c; lies = subst (Lies (now (st .args .sound))) (sym (track-is c)) (lies-of (now (st .args .sound)) v (st .pre .formed) (st .pre .lent)) }
+
+sum-fits : (a b i n : ℕ) → a ≤ 257 * i → b ≤ 257 * (n - i) → i ≤ n → n ≤ 4096 → a + b < 2 ^ 64
+sum-fits a b i n h k l m = omega arith
+
+few-steps : (a i n : ℕ) → a ≤ 257 * i → i ≤ n → n ≤ 4096 → a < 4294967296
+few-steps a i n h l m = omega arith
+
+-- the voice after the ride
+abbrev tracks : tie.After-trail-at → tie.After-track-of
+tracks c = c .before .before .before .before .before .before .before .before
+
+passed-is : (c : tie.After-trail-at)
+    → (let t = tracks c in
+    let v = start t .args .voice in
+    let r = c .before .before .before .before .ride .result in
+    moved v (r .«fractional_position») (c .trail-at .result) ≡ moved v (r .«fractional_position») (riddenTo (now (start t .args .sound)) (t .track-of .result) v (r .steps) (r .at)))
+passed-is c =
+    let t = tracks c in
+    let v = start t .args .voice in
+    let r = c .before .before .before .before .ride .result in
+    ap (moved v (r .«fractional_position»)) (c .trail-at .ensures ∙ ap (λ (w : Wraps). trailOf (now (start t .args .sound)) (t .track-of .result) (v .moving) w (r .at)) (c .before .wraps-after .ensures))
+
+passed-plays : (c : tie.After-trail-at) (m : ℕ) → m ≡ 2 * length (lent (tracks c) .rate)
+    → (let t = tracks c in
+    let v = start t .args .voice in
+    let r = c .before .before .before .before .ride .result in
+    Playable (now (start t .args .sound)) (moved v (r .«fractional_position») (c .trail-at .result)) (start t .args .dt) (lent t) m)
+passed-plays c m eq =
+    let st = start (tracks c) in
+    record {
+      formed = subst Formed (sym (passed-is c)) (c .before .before .before .before .ride .ensures .formed);
+      lent = st .pre .lent;
+      sized = st .pre .sized;
+      long = eq;
+      timeStep = st .pre .timeStep;
+      near = st .pre .near;
+    }
+
+course-requires : tie.Need-course-requires
+course-requires c κs = search needs
+
+track-of-requires : tie.Need-track-of-requires
+track-of-requires c κs = search needs
+
+is-trail-requires : tie.Need-is-trail-requires
+is-trail-requires c κs = let t = c in (tracked t .lies, start t .pre .formed .window .four)
+
+play-requires : tie.Need-play-requires
+play-requires c κs = search needs
+
+same-length : tie.Need-same-length
+same-length c = search needs
+
+returns : tie.Need-returns
+returns c = search needs
+
+ride-requires : tie.Need-ride-requires
+ride-requires c κs =
+    let t = c .before .before .before in
+    (start t .pre, (tracked t, c .before .before .is-trail .ensures .1 (not-false _ (c .before .if1 .left))))
+
+wraps-after-requires : tie.Need-wraps-after-requires
+wraps-after-requires c κs =
+    let t = c .before .before .before .before .before .before in
+    let r = c .before .before .ride .ensures in
+    (position-on _ _ _ (c .before .before .before .before .before .is-trail .ensures .1 (not-false _ (c .before .before .before .before .if1 .left))), few-steps _ _ _ (r .few) (r .within) (sized-parts (lent t) (start t .pre .sized) .most))
+
+trail-at-requires : tie.Need-trail-at-requires
+trail-at-requires c κs = (tracked (c .before .before .before .before .before .before .before) .lies, c .before .before .before .ride .ensures .on)
+
+play-from-requires : tie.Need-play-from-requires
+play-from-requires c κs =
+    let a = c .before .before in
+    (passed-plays a _ (c .before .before .before .before .before .before .ride .ensures .asLong), c .before .before .before .before .before .before .ride .ensures .within)
+
+add-t32 : tie.Need-add-t32
+add-t32 c =
+    let t = c .before .before .before .before .before .before .before .before .before .before .before .before .before .before .before .before in
+    let st = start t in
+    let h = c .before .before .before .before .before .before .before .before .before .before .before .before .ride .ensures in
+    let p = passed-plays (c .before .before .before .before .before .before .before .before) _ (h .asLong) in
+    let q = c .before .before .before .before .before .play-from in
+    let f = from-few (now (st .args .sound)) _ (st .args .dt) (lent t) _ p (c .before .before .before .before .before .before .before .before .before .before .before .before .ride .result .next) (q .result) _ (q .ensures) in
+    record { fits = sum-fits _ _ _ _ (h .few) f (h .within) (sized-parts (lent t) (st .pre .sized) .most) }
+
+same-length-2 : tie.Need-same-length-2
+same-length-2 c = search needs
+
+returns-2 : tie.Need-returns-2
+returns-2 c =
+    let t = c .before .before .before .before .before .before .before .before .before .before .before .before .before .before .before .before in
+    let st = start t in
+    let r = c .before .before .before .before .before .before .before .before .before .before .before .before .ride in
+    let q = c .before .before .before .before .before .play-from in
+    ridden-on (now (st .args .sound)) (st .args .dt) (lent t) (st .args .voice) _ (t .track-of .result) (r .result) (q .result) _ _ (r .ensures) (passed-is (c .before .before .before .before .before .before .before .before)) (q .ensures)
+
+pub play-spec : {M : Type 1} → statement M
+play-spec =
+    tie.close
+    (tie.spec
+    course-requires
+    track-of-requires
+    is-trail-requires
+    play-requires
+    same-length
+    returns
+    ride-requires
+    wraps-after-requires
+    trail-at-requires
+    play-from-requires
+    add-t32
+    same-length-2
+    returns-2)

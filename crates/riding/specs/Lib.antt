@@ -1,0 +1,2 @@
+-- A block along a track.
+pub mod Rides

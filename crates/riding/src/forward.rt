@@ -1,0 +1,142 @@
+// Along a track forward: a frame's steps and sound, and the ride.
+ghost use mathlib.Core.Path.{_≡_};
+ghost use mathlib.Core.Bool.{false};
+ghost use Prim.Native.Nat.{_<_};
+ghost use lib.Dec.{T};
+ghost use lib.ListN.{length};
+ghost use Rattle.numbers.specs.Words.{proper};
+ghost use Rattle.lanes.specs.Lanes.{five};
+ghost use Rattle.trail.specs.Tracks.{On};
+ghost use Rattle.trail.specs.Trails.{Lies, Trailing};
+ghost use Rattle.playing.specs.Turns.{Playable};
+ghost use Rattle.riding.specs.Rides.{Passing, passOf, heardOn, Tracked, Rode};
+use crate::Gains;
+use crate::Passed;
+use crate::Ridden;
+use crate::gains_at;
+use frame::Frame;
+use frame::interpolate_frame;
+use trail::Track;
+use voice::StaticSound;
+
+// One frame's steps forward.
+fn pass_on(
+    track: Track,
+    at: usize,
+    fractional_position: f64,
+    sample_rate: u32,
+    rate: f64,
+    dt: f64,
+) -> Passed
+    requires { ⌜ Passing track «sample_rate» rate dt at «fractional_position» ⌝ }
+    requires { ⌜ track .backwards ≡ false ⌝ }
+    ensures { λ r. ⌜ r ≡ passOf track «sample_rate» rate dt at «fractional_position» ⌝ }
+    ensures { λ r. ⌜ r .steps < 258 ⌝ }
+    ensures { λ r. ⌜ T (proper (r .«fractional_position»)) ⌝ }
+    ensures { λ r. ⌜ On track (r .at) ⌝ }
+{
+    let advance = (sample_rate as f64) * numbers::magnitude(rate) * dt;
+    let sum = numbers::advance_by(fractional_position, advance);
+    Passed {
+        at: trail::after_steps(track, at, sum.steps),
+        fractional_position: sum.rest,
+        steps: sum.steps,
+    }
+}
+
+// The frame heard at a place: the four frames from there on.
+fn heard_after(
+    sound: &[f32],
+    track: Track,
+    at: usize,
+    fractional_position: f64,
+    gains: Gains,
+) -> Frame
+    requires { ⌜ Lies (now sound) track ⌝ }
+    requires { ⌜ On track at ⌝ }
+    requires { ⌜ T (proper «fractional_position») ⌝ }
+    requires { ⌜ track .backwards ≡ false ⌝ }
+    ensures { λ r. ⌜ r ≡ heardOn (now (sound .entry)) track at «fractional_position» gains ⌝ }
+{
+    let b = trail::after(track, at);
+    let c = trail::after(track, b);
+    let d = trail::after(track, c);
+    let out = interpolate_frame(
+        trail::frame_at(sound, track, at),
+        trail::frame_at(sound, track, b),
+        trail::frame_at(sound, track, c),
+        trail::frame_at(sound, track, d),
+        numbers::narrow(fractional_position),
+    );
+    Frame {
+        left: out.left * gains.fade * gains.volume * gains.left,
+        right: out.right * gains.fade * gains.volume * gains.right,
+    }
+}
+
+// From a trail on, two frames a turn: they are computed side by side. It ends where the track does, or a frame is left.
+pub fn ride_on(
+    voice: StaticSound,
+    track: Track,
+    sound: &[f32],
+    fade: &[f32],
+    volume: &[f32],
+    left: &[f32],
+    right: &[f32],
+    rate: &[f64],
+    dt: f64,
+    out: &mut [f32],
+) -> Ridden
+    requires { ⌜ Playable (now sound) voice dt (five (now fade) (now volume) (now left) (now right) (now rate)) (length (now out)) ⌝ }
+    requires { ⌜ Tracked (now sound) voice track ⌝ }
+    requires { ⌜ Trailing (now sound) track (voice .moving) ⌝ }
+    requires { ⌜ track .backwards ≡ false ⌝ }
+    ensures { λ r. ⌜ Rode (now (sound .entry)) dt (five (now (fade .entry)) (now (volume .entry)) (now (left .entry)) (now (right .entry)) (now (rate .entry))) voice track r (now (out .exit)) ⌝ }
+{
+    let moving = voice.moving;
+    let window = moving.resampler;
+    let first = window.frames[0];
+    let mut at = first.frame_index;
+    let mut fractional_position = voice.fractional_position;
+    let mut steps: usize = 0;
+    let mut i: usize = 0;
+    while i + 1 < rate.len() {
+        let setup = voice.setup;
+        let sample_rate = setup.sample_rate;
+        let half = pass_on(track, at, fractional_position, sample_rate, rate[i], dt);
+        let full = pass_on(
+            track,
+            half.at,
+            half.fractional_position,
+            sample_rate,
+            rate[i + 1],
+            dt,
+        );
+        if !trail::has_room_after(track, at, half.steps + full.steps) {
+            return Ridden {
+                at,
+                fractional_position,
+                steps,
+                next: i,
+            };
+        }
+        let g = gains_at(fade, volume, left, right, i);
+        let h = gains_at(fade, volume, left, right, i + 1);
+        let x = heard_after(sound, track, at, fractional_position, g);
+        let y = heard_after(sound, track, half.at, half.fractional_position, h);
+        out[2 * i] = x.left;
+        out[2 * i + 1] = x.right;
+        out[2 * i + 2] = y.left;
+        out[2 * i + 3] = y.right;
+        at = full.at;
+        fractional_position = full.fractional_position;
+        steps += half.steps + full.steps;
+        i += 2;
+    }
+    Ridden {
+        at,
+        fractional_position,
+        steps,
+        next: i,
+    }
+}

@@ -1,0 +1,204 @@
+// A started, advancing block where the window is the transport's trail: the four frames are read in the sound, two frames a turn.
+// Where it is not, and where a ride ends, the block goes on frame by frame (crate playing).
+ghost use mathlib.Core.Path.{_≡_};
+ghost use Prim.Native.Nat.{_≤_, _<_};
+ghost use lib.ListN.{length};
+ghost use Rattle.lanes.specs.Lanes.{five, rows};
+ghost use Rattle.trail.specs.Trails.{Trailing};
+ghost use Rattle.playing.specs.Plays.{plays, acceptedAs};
+ghost use Rattle.playing.specs.Turns.{Playable};
+ghost use Rattle.riding.specs.Rides.{gainsAt, Tracked, Rode, playedFrom};
+
+mod backward;
+mod forward;
+
+use backward::ride_back;
+use forward::ride_on;
+use playing::Processed;
+use trail::Track;
+use voice::StaticSound;
+
+// What a frame's reading is multiplied by.
+pub struct Gains {
+    pub fade: f32,
+    pub volume: f32,
+    pub left: f32,
+    pub right: f32,
+}
+
+// What one frame's steps leave: the place of the window's first frame, the fraction, and the steps made.
+pub struct Passed {
+    pub at: usize,
+    pub fractional_position: f64,
+    pub steps: usize,
+}
+
+// How far a ride has come: the place and the fraction, the steps made, and the next frame.
+pub struct Ridden {
+    pub at: usize,
+    pub fractional_position: f64,
+    pub steps: usize,
+    pub next: usize,
+}
+
+pub fn gains_at(fade: &[f32], volume: &[f32], left: &[f32], right: &[f32], i: usize) -> Gains
+    requires { ⌜ i < length (now fade) ⌝ }
+    requires { ⌜ i < length (now volume) ⌝ }
+    requires { ⌜ i < length (now left) ⌝ }
+    requires { ⌜ i < length (now right) ⌝ }
+    ensures { λ r. ⌜ r ≡ gainsAt (now (fade .entry)) (now (volume .entry)) (now (left .entry)) (now (right .entry)) i ⌝ }
+{
+    Gains {
+        fade: fade[i],
+        volume: volume[i],
+        left: left[i],
+        right: right[i],
+    }
+}
+
+// From a trail on, as far as the track and pairs of frames go.
+fn ride(
+    voice: StaticSound,
+    track: Track,
+    sound: &[f32],
+    fade: &[f32],
+    volume: &[f32],
+    left: &[f32],
+    right: &[f32],
+    rate: &[f64],
+    dt: f64,
+    out: &mut [f32],
+) -> Ridden
+    requires { ⌜ Playable (now sound) voice dt (five (now fade) (now volume) (now left) (now right) (now rate)) (length (now out)) ⌝ }
+    requires { ⌜ Tracked (now sound) voice track ⌝ }
+    requires { ⌜ Trailing (now sound) track (voice .moving) ⌝ }
+    ensures { λ r. ⌜ Rode (now (sound .entry)) dt (five (now (fade .entry)) (now (volume .entry)) (now (left .entry)) (now (right .entry)) (now (rate .entry))) voice track r (now (out .exit)) ⌝ }
+{
+    if track.backwards {
+        return ride_back(
+            voice,
+            track,
+            sound,
+            fade,
+            volume,
+            left,
+            right,
+            rate,
+            dt,
+            out,
+        );
+    }
+    ride_on(
+        voice,
+        track,
+        sound,
+        fade,
+        volume,
+        left,
+        right,
+        rate,
+        dt,
+        out,
+    )
+}
+
+// Frame by frame from frame i on.
+fn play_from(
+    voice: StaticSound,
+    i: usize,
+    sound: &[f32],
+    fade: &[f32],
+    volume: &[f32],
+    left: &[f32],
+    right: &[f32],
+    rate: &[f64],
+    dt: f64,
+    out: &mut [f32],
+) -> Processed
+    requires { ⌜ Playable (now sound) voice dt (five (now fade) (now volume) (now left) (now right) (now rate)) (length (now out)) ⌝ }
+    requires { ⌜ i ≤ length (now rate) ⌝ }
+    ensures { λ r. ⌜ record { answer = r; samples = now (out .exit) } ≡ playedFrom (now (sound .entry)) dt (five (now (fade .entry)) (now (volume .entry)) (now (left .entry)) (now (right .entry)) (now (rate .entry))) i voice (now (out .entry)) ⌝ }
+{
+    if i == rate.len() {
+        return Processed {
+            refusal: 0,
+            sound: voice,
+            steps: 0,
+            lowest_count: 4,
+        };
+    }
+    let k = 2 * i;
+    playing::play(
+        voice,
+        sound,
+        &fade[i..],
+        &volume[i..],
+        &left[i..],
+        &right[i..],
+        &rate[i..],
+        dt,
+        &mut out[k..],
+    )
+}
+
+// A started, advancing block: along the track where the window is its trail, and the rest frame by frame.
+pub fn play(
+    voice: StaticSound,
+    sound: &[f32],
+    fade: &[f32],
+    volume: &[f32],
+    left: &[f32],
+    right: &[f32],
+    rate: &[f64],
+    dt: f64,
+    out: &mut [f32],
+) -> Processed
+    requires { ⌜ Playable (now sound) voice dt (five (now fade) (now volume) (now left) (now right) (now rate)) (length (now out)) ⌝ }
+    ensures { λ r. ⌜ record { answer = r; samples = now (out .exit) } ≡ acceptedAs (plays (now (sound .entry)) dt (rows (five (now (fade .entry)) (now (volume .entry)) (now (left .entry)) (now (right .entry)) (now (rate .entry)))) voice) ⌝ }
+{
+    let course = voice.course();
+    let moving = voice.moving;
+    let transport = moving.transport;
+    let loop_region = transport.loop_region;
+    let track = trail::track_of(loop_region, course);
+    if !trail::is_trail(moving, sound, track) {
+        return playing::play(voice, sound, fade, volume, left, right, rate, dt, out);
+    }
+    let ridden = ride(
+        voice,
+        track,
+        sound,
+        fade,
+        volume,
+        left,
+        right,
+        rate,
+        dt,
+        out,
+    );
+    let wraps = trail::wraps_after(track, transport.position, ridden.steps, moving.wraps);
+    let passed = StaticSound {
+        fractional_position: ridden.fractional_position,
+        moving: trail::trail_at(moving, sound, track, ridden.at, wraps),
+        ..voice
+    };
+    let rest = play_from(
+        passed,
+        ridden.next,
+        sound,
+        fade,
+        volume,
+        left,
+        right,
+        rate,
+        dt,
+        out,
+    );
+    let after = rest.sound;
+    Processed {
+        refusal: 0,
+        sound: after,
+        steps: ridden.steps + rest.steps,
+        lowest_count: rest.lowest_count,
+    }
+}

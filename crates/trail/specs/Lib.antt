@@ -1,0 +1,3 @@
+-- The way of a transport, and the window as its trail.
+pub mod Tracks
+pub mod Trails

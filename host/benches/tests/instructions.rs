@@ -1,0 +1,83 @@
+//! Instructions a frame, counted by callgrind: they may not rise by more than 15 percent over what is recorded here.
+//!
+//! Times depend on the machine and on what else runs there; counts depend on the archive alone, which one clang
+//! compiles. Where there is no valgrind, or nothing is recorded for the processor, that is said, and nothing is tested.
+
+use std::{
+    env::consts::ARCH,
+    error::Error,
+    io::{Write as _, stderr},
+    process::Command,
+};
+
+/// A workload: rate, block, loop.
+type Cell = [&'static str; 3];
+
+const CELLS: [Cell; 3] = [
+    ["0.93", "512", "long"],
+    ["1", "64", "long"],
+    ["-0.93", "512", "3"],
+];
+
+/// Instructions a frame in each cell, ours with every check: by processor, as `tools/instructions` counts them.
+const RECORDED: [(&str, [f64; 3]); 1] = [("aarch64", [0.0, 0.0, 0.0])];
+
+const MOST: f64 = 1.15;
+const FRAMES: u32 = 40_960;
+
+#[test]
+fn instructions_a_frame_do_not_rise() -> Result<(), Box<dyn Error>> {
+    if Command::new("valgrind").arg("--version").output().is_err() {
+        return unheard("no valgrind on PATH");
+    }
+    let Some((_, recorded)) = RECORDED.iter().find(|(arch, _)| *arch == ARCH) else {
+        for cell in CELLS {
+            let found = a_frame(cell)?;
+            unheard(&format!(
+                "nothing is recorded for {ARCH}; {cell:?} counts {found:.1}"
+            ))?;
+        }
+        return Ok(());
+    };
+    for (cell, recorded) in CELLS.into_iter().zip(recorded) {
+        let found = a_frame(cell)?;
+        assert!(
+            found <= recorded * MOST,
+            "rate, block and loop {cell:?}: {found:.1} instructions a frame, and {recorded} were recorded. What changed in the \
+             loop of a block? If the new count is meant, record it"
+        );
+    }
+    Ok(())
+}
+
+/// Said past the test's own capture of what it prints.
+fn unheard(why: &str) -> Result<(), Box<dyn Error>> {
+    Ok(writeln!(
+        stderr(),
+        "INSTRUCTIONS A FRAME WERE NOT TESTED: {why}"
+    )?)
+}
+
+fn a_frame(cell: Cell) -> Result<f64, Box<dyn Error>> {
+    let played = counted("ours", cell)? - counted("none", cell)?;
+    Ok(played / f64::from(FRAMES))
+}
+
+/// All instructions of a run.
+fn counted(who: &str, [rate, block, looped]: Cell) -> Result<f64, Box<dyn Error>> {
+    let frames = FRAMES.to_string();
+    let run = Command::new("valgrind")
+        .args(["--tool=callgrind", "--callgrind-out-file=/dev/null"])
+        .arg(env!("CARGO_BIN_EXE_benches"))
+        .args([
+            "--play", who, "--rate", rate, "--block", block, "--looped", looped,
+        ])
+        .args(["--frames", &frames])
+        .output()?;
+    let said = String::from_utf8(run.stderr)?;
+    let (_, after) = said
+        .split_once("Collected : ")
+        .ok_or_else(|| format!("callgrind counted nothing: {said}"))?;
+    let digits: String = after.chars().take_while(char::is_ascii_digit).collect();
+    Ok(digits.parse()?)
+}
