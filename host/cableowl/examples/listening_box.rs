@@ -12,6 +12,9 @@ use std::{
     time::{Duration, Instant},
 };
 
+#[path = "evening/recorded.rs"]
+mod recorded;
+
 use cableowl::{
     Commands, Lane, Lanes, Level, MAX_BLOCK_FRAMES, Refusal, Settings, Signals, State, StaticSound,
     fade_ramp,
@@ -553,5 +556,20 @@ fn run() -> Result<ExitCode, Refusal> {
     );
     println!("The operator is right: in Cableowl the block size changes nothing that is heard.");
     println!("{}", verdict(&drifts));
+    recorded_evening()
+}
+
+/// The evening on a short sound, recorded, and played again from its trace.
+fn recorded_evening() -> Result<ExitCode, Refusal> {
+    let (live, trace) = recorded::live(DEVICE_RATE)?;
+    let again = recorded::again(&trace);
+    let [blocks, bytes] = [live.lines.len(), trace.len()].map(|count| grouped(count as u64));
+    if again != live {
+        println!("Its trace prints another evening, and must not: a fault in Cableowl.");
+        return Ok(ExitCode::FAILURE);
+    }
+    println!(
+        "\nRecorded on a sound of 64 frames it is {blocks} blocks in {bytes} bytes of trace, and played again\nit prints the same lines and sounds the same."
+    );
     Ok(ExitCode::SUCCESS)
 }

@@ -1,6 +1,6 @@
 //! The lanes of a block: docs/RULES.md, "What the host supplies".
 
-use crate::{MAX_BLOCK_FRAMES, ffi};
+use crate::{MAX_BLOCK_FRAMES, Refusal, Signals, ffi, trace::Block};
 
 /// One lane of a block: the same number for every output frame, or one for each.
 #[derive(Debug, Clone, Copy, PartialEq)]
@@ -143,6 +143,46 @@ impl<'a> BlockLanes<'a> {
         self
     }
 
+    /// How many frames from the first on have the same numbers, by their bits, in every lane: where a
+    /// host cuts a block that is to be recorded ([`trace`](crate::trace)).
+    ///
+    /// ```
+    /// use cableowl::Lanes;
+    ///
+    /// let (fade, rate) = ([1.0, 1.0, 1.0, 0.5], [1.0, 1.0, 0.9, 0.9]);
+    /// let mut lanes = Lanes::new();
+    /// assert_eq!(lanes.frames(4).constant_frames(), 4);
+    /// assert_eq!(lanes.frames(4).fade(&fade).constant_frames(), 3);
+    /// assert_eq!(lanes.frames(4).fade(&fade).rate(&rate).constant_frames(), 2);
+    /// ```
+    #[must_use]
+    pub fn constant_frames(&self) -> usize {
+        let amplitudes = [self.fade, self.volume, self.left, self.right];
+        let amplitudes = amplitudes.map(|lane| constant_in(lane, self.frames));
+        let rate = constant_in(self.rate, self.frames);
+        amplitudes.into_iter().fold(rate, usize::min)
+    }
+
+    /// How many frames the block has.
+    pub(crate) fn count(&self) -> usize {
+        self.frames
+    }
+
+    /// The record of the block, if one can hold it: constant lanes of its length. Its frames are not
+    /// judged.
+    pub(crate) fn block(&self, time_step: f64, signals: Signals) -> Result<Block, Refusal> {
+        let frames = self.frames;
+        let block = Block {
+            fade: constant(self.fade, frames)?,
+            volume: constant(self.volume, frames)?,
+            left: constant(self.left, frames)?,
+            right: constant(self.right, frames)?,
+            rate: constant(self.rate, frames)?,
+            ..Block::new(frames, time_step)
+        };
+        Ok(block.with_signals(signals))
+    }
+
     pub(crate) fn lend(self) -> ffi::Lanes<'a> {
         let (room, frames) = (self.room, self.frames);
         ffi::Lanes {
@@ -151,6 +191,31 @@ impl<'a> BlockLanes<'a> {
             left: room.left.lend(self.left, frames),
             right: room.right.lend(self.right, frames),
             rate: room.rate.lend(self.rate, frames),
+        }
+    }
+}
+
+/// How many frames of a lane have the first one's number.
+fn constant_in<T: Number>(lane: Lane<T>, frames: usize) -> usize {
+    match lane {
+        Lane::Constant(_) => frames,
+        Lane::PerFrame(numbers) => {
+            let first = numbers.first();
+            let same = |number: &&T| first.is_some_and(|first| first.same_bits(**number));
+            numbers.iter().take(frames).take_while(same).count()
+        }
+    }
+}
+
+/// A lane's one number: [`Refusal::Record`] where it has several, or another length than the block's.
+/// A lane of no frames has any number.
+fn constant<T: Number + From<f32>>(lane: Lane<T>, frames: usize) -> Result<T, Refusal> {
+    match lane {
+        Lane::Constant(number) => Ok(number),
+        Lane::PerFrame(numbers) => {
+            let is_one = numbers.len() == frames && constant_in(lane, frames) == frames;
+            let number = numbers.first().copied().unwrap_or(T::from(1.0));
+            is_one.then_some(number).ok_or(Refusal::Record)
         }
     }
 }

@@ -29,6 +29,8 @@
 //! # Ok::<(), cableowl::Refusal>(())
 //! ```
 //!
+//! What a host does with a voice can be recorded, and played again from its bytes: [`trace`].
+//!
 //! docs/RULES.md states the exact rules; the definitions of the crates below
 //! `crates/` say them, and the proofs hold the compiled code to them.
 #![deny(missing_docs)]
@@ -50,6 +52,7 @@ mod saved_settings;
 mod settings;
 mod state;
 mod static_sound;
+pub mod trace;
 
 pub use commands::{Commands, LoopCommand, ResumeCommand};
 pub use fades::{Level, MAX_RAMP_FRAMES, fade_ramp};

@@ -104,6 +104,26 @@ pub enum StartSignal {
     },
 }
 
+impl StartSignal {
+    /// The answer that the start is told.
+    ///
+    /// ```
+    /// use cableowl::{StartAnswer, StartSignal};
+    ///
+    /// let told = |due, now| StartSignal::Tick { due, now }.answer();
+    /// assert_eq!(told(3, u32::MAX), StartAnswer::Waiting);
+    /// assert_eq!(told(u32::MAX, 3), StartAnswer::Now);
+    /// ```
+    #[must_use]
+    pub fn answer(self) -> StartAnswer {
+        match self {
+            Self::Answer(answer) => answer,
+            Self::Tick { due, now } if now.wrapping_sub(due) < 1 << 31 => StartAnswer::Now,
+            Self::Tick { .. } => StartAnswer::Waiting,
+        }
+    }
+}
+
 impl Default for StartSignal {
     fn default() -> Self {
         Self::Answer(StartAnswer::default())

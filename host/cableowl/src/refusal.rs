@@ -33,7 +33,8 @@ impl fmt::Display for LaneName {
 
 /// Why a call was refused: its number, and a sentence to act on.
 ///
-/// Of 1 to 12 the lowest number wins over the whole input; 13 comes before 14. A refused call
+/// Of 1 to 12 the lowest number wins over the whole input; 13 comes before 14; 15 to 18 are judged
+/// byte by byte. A refused call
 /// changes nothing.
 ///
 /// ```
@@ -175,6 +176,11 @@ impl Refusal {
         let named = |refusal: &&Self| refusal.number() == number;
         // The library has no other number.
         Err(*Self::PLAIN.iter().find(named).unwrap_or(&Self::State))
+    }
+
+    /// The same of an answer whose numbers have 64 bits.
+    pub(crate) fn check_word(number: u64) -> Result<(), Self> {
+        Self::check(u32::try_from(number).unwrap_or(u32::MAX))
     }
 
     /// The same of a block: refusals 11 and 12 are told their place, which is looked for only then.

@@ -1,11 +1,15 @@
-// No call of a voice allocates, and no block does, with kept lanes and with cloned ones.
+// No call of a voice allocates, and no block does, with kept lanes and with cloned ones; nor does recording, reading or
+// playing a trace.
 
 use std::{
     alloc::{GlobalAlloc, Layout, System},
     cell::Cell,
 };
 
-use cableowl::{Commands, Lanes, Refusal, Settings, Signals, State, StaticSound};
+use cableowl::{
+    Commands, Lanes, Refusal, Settings, Signals, State, StaticSound,
+    trace::{Recorder, Replay, Trace, salvage},
+};
 
 thread_local! {
     static ALLOCATIONS: Cell<usize> = const { Cell::new(0) };
@@ -96,4 +100,39 @@ fn no_call_allocates() {
     assert_eq!((answer.is_ok(), allocations), (true, 0));
     // The count counts.
     assert_eq!(counted(|| vec![0_u8; 100].len()).1, 1);
+}
+
+/// Every call of a recorder, held by its trace and not, then the trace salvaged, read and played again.
+fn recorded(lanes: &mut Lanes, replay: &mut Replay, room: &mut [u8], out: &mut [u8]) -> usize {
+    let (sound, long) = ([0.25; 16], [0.25; 200]);
+    let mut recorder = Recorder::new(room);
+    let _ = recorder.create(Settings::new(1).loop_region(0..), &sound);
+    for frames in [0, 1, 8, 1_024] {
+        let _ = recorder.on_start_processing(&sound, Commands::new().seek_by(0.5));
+        let mut samples = [0.0; 2 * 1_024];
+        let block = lanes.frames(frames).rate(0.7);
+        let part = &mut samples[..2 * frames];
+        let _ = recorder.process(&sound, block, 1.0, Signals::new(), part);
+        let block = lanes.frames(1).volume(f32::NAN);
+        let _ = recorder.process_into(&sound, block, 1.0, Signals::new(), &mut samples, 3);
+    }
+    let held = recorder.bytes().len();
+    let _ = recorder.create(Settings::new(1), &long);
+    let refused = recorder.on_start_processing(&long, Commands::new());
+    assert_eq!(refused.recorded, Err(Refusal::Record));
+    assert_eq!(recorder.bytes().len(), held);
+    let trace = recorder.bytes();
+    assert_eq!(salvage(trace, out).unwrap().kept, held);
+    let records = Trace::new(trace).map_while(Result::ok);
+    records
+        .filter_map(|(_, record)| replay.play(&record))
+        .count()
+}
+
+#[test]
+fn no_recording_allocates() {
+    let (mut lanes, mut replay) = (Lanes::new(), Replay::new());
+    let (mut room, mut out) = ([0; 2_048], [0; 2_048]);
+    let (lines, allocations) = counted(|| recorded(&mut lanes, &mut replay, &mut room, &mut out));
+    assert_eq!((lines, allocations), (8, 0));
 }

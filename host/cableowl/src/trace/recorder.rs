@@ -1,0 +1,256 @@
+//! A voice that is recorded as it plays.
+
+use super::{Block, Line, Record, ShortSound, write};
+use crate::{BlockLanes, Commands, LoopTable, Processed, Refusal, Settings, Signals, StaticSound};
+
+/// What a recorded call answers.
+#[derive(Debug, Clone, Copy, PartialEq)]
+#[must_use]
+pub struct Recorded<T> {
+    /// The voice's own answer: recording never changes it.
+    pub answer: Result<T, Refusal>,
+    /// Whether the trace holds the call: [`Refusal::Record`] where no record can, [`Refusal::Room`]
+    /// where the buffer was full, and the same for every call after that.
+    pub recorded: Result<(), Refusal>,
+}
+
+/// A voice that plays and is recorded in one go, into a lent buffer.
+///
+/// It plays as an unrecorded voice does, call for call and bit for bit. **What the buffer holds is
+/// the evening up to the first call that it could not hold**: that call is played all the same, it
+/// and every later call say why ([`Recorded::recorded`]), and nothing more is written. So a trace
+/// has no gaps, and played again it prints the lines of the evening ([`Recorder::line`]).
+///
+/// - 19, [`Refusal::Room`]: the buffer is full. A host that records for long empties it in time: while
+///   [`Recorder::room`] is below [`MAX_RECORD_BYTES`](super::MAX_RECORD_BYTES), it appends
+///   [`Recorder::bytes`] to its file and calls [`Recorder::clear`].
+/// - 17, [`Refusal::Record`]: a sound of more than 64 frames or an odd sample count, a block of more
+///   than 1,024 frames, a lane that changes within the block, a call refused with 9 (no record shows
+///   that), or a sound that is not the creation's. **A host with moving lanes cuts its blocks where
+///   they change** ([`BlockLanes::constant_frames`] says where): cutting changes nothing that is
+///   heard.
+///
+/// No call panics or allocates.
+///
+/// ```
+/// use cableowl::{Commands, Lanes, Settings, Signals, trace::{Recorder, lines}};
+///
+/// let sound = [0.5; 16];
+/// let mut buffer = [0; 4_096];
+/// let mut recorder = Recorder::new(&mut buffer);
+/// recorder.create(Settings::new(1).loop_region(2..6), &sound).answer?;
+/// let mut log = Vec::new();
+///
+/// // A fade of four frames at the end of a block of eight: cut at each change.
+/// let fade = [1.0, 1.0, 1.0, 1.0, 0.75, 0.5, 0.25, 0.0];
+/// recorder.on_start_processing(&sound, Commands::new().pause()).answer?;
+/// let (mut room, mut out, mut from) = (Lanes::new(), [0.0; 16], 0);
+/// while from < fade.len() {
+///     let rest = room.frames(fade.len() - from).fade(&fade[from..]);
+///     let to = from + rest.constant_frames();
+///     let lanes = room.frames(to - from).fade(&fade[from..to]);
+///     let part = &mut out[2 * from..2 * to];
+///     let played = recorder.process(&sound, lanes, 1.0, Signals::new(), part);
+///     played.answer?;
+///     played.recorded?;
+///     log.extend(recorder.line());
+///     from = to;
+/// }
+/// assert_eq!(out[6..], [0.5, 0.5, 0.375, 0.375, 0.25, 0.25, 0.125, 0.125, 0.0, 0.0]);
+/// assert_eq!(log.len(), 5);
+/// assert!(lines(recorder.bytes()).eq(log));
+/// # Ok::<(), cableowl::Refusal>(())
+/// ```
+#[derive(Debug)]
+pub struct Recorder<'a> {
+    voice: Option<StaticSound>,
+    sound: ShortSound,
+    buffer: &'a mut [u8],
+    held: usize,
+    ended: Option<Refusal>,
+    blocks: u64,
+    line: Option<Line>,
+}
+
+impl<'a> Recorder<'a> {
+    /// An empty trace in a lent buffer; no voice yet, so a command set or a block is refused with 1.
+    #[must_use]
+    pub fn new(buffer: &'a mut [u8]) -> Self {
+        Self {
+            voice: None,
+            sound: ShortSound::EMPTY,
+            buffer,
+            held: 0,
+            ended: None,
+            blocks: 0,
+            line: None,
+        }
+    }
+
+    /// Creates the voice, as [`StaticSound::new`]; it takes the place of one created before, and
+    /// after a refused creation there is none.
+    pub fn create(&mut self, settings: Settings, sound: &[f32]) -> Recorded<()> {
+        let created = StaticSound::new(settings, sound);
+        let answer = created.as_ref().map(|_| ()).map_err(|refusal| *refusal);
+        self.voice = created.ok();
+        let short = ShortSound::new(sound);
+        self.sound = short.unwrap_or(ShortSound::EMPTY);
+        let record = short.map(|sound| Record::Creation { settings, sound });
+        self.recorded(answer, record)
+    }
+
+    /// Obeys a command set, as [`StaticSound::on_start_processing`].
+    pub fn on_start_processing(&mut self, sound: &[f32], commands: Commands) -> Recorded<f64> {
+        let answer = match &mut self.voice {
+            Some(voice) => voice.on_start_processing(sound, commands),
+            None => Err(Refusal::State),
+        };
+        let record = self.of_this_sound(sound, Record::Commands(commands));
+        self.recorded(answer, record)
+    }
+
+    /// Takes a loop from a table, as [`StaticSound::take_loop`]; recorded as the command set that it
+    /// is. Where the table refuses there is none, and nothing is recorded.
+    pub fn take_loop(&mut self, sound: &[f32], table: &LoopTable, slot: usize) -> Recorded<f64> {
+        let region = match table.read(slot) {
+            Ok(region) => region,
+            Err(refusal) => {
+                return Recorded {
+                    answer: Err(refusal),
+                    recorded: self.ended.map_or(Ok(()), Err),
+                };
+            }
+        };
+        let answer = match &mut self.voice {
+            Some(voice) => voice.take_loop(sound, table, slot),
+            None => Err(Refusal::State),
+        };
+        let commands = Commands::new().set_loop_region(region.start as usize..region.end as usize);
+        let record = self.of_this_sound(sound, Record::Commands(commands));
+        self.recorded(answer, record)
+    }
+
+    /// Plays a block, as [`StaticSound::process`].
+    pub fn process(
+        &mut self,
+        sound: &[f32],
+        lanes: BlockLanes<'_>,
+        dt: f64,
+        signals: Signals,
+        out: &mut [f32],
+    ) -> Recorded<Processed> {
+        let (frames, block) = (lanes.count(), lanes.block(dt, signals));
+        let answer = match &mut self.voice {
+            Some(voice) => voice.process(sound, lanes, dt, signals, out),
+            None => Err(Refusal::State),
+        };
+        self.played(sound, frames, answer, block)
+    }
+
+    /// Plays a block into a longer buffer, as [`StaticSound::process_into`].
+    pub fn process_into(
+        &mut self,
+        sound: &[f32],
+        lanes: BlockLanes<'_>,
+        dt: f64,
+        signals: Signals,
+        mix: &mut [f32],
+        from: usize,
+    ) -> Recorded<Processed> {
+        let (frames, block) = (lanes.count(), lanes.block(dt, signals));
+        let answer = match &mut self.voice {
+            Some(voice) => voice.process_into(sound, lanes, dt, signals, mix, from),
+            None => Err(Refusal::State),
+        };
+        self.played(sound, frames, answer, block)
+    }
+
+    /// The line of the last block: what the trace prints of it when it is played again, while blocks
+    /// are recorded.
+    #[must_use]
+    pub fn line(&self) -> Option<Line> {
+        self.line
+    }
+
+    /// The voice as it is now, if there is one.
+    #[must_use]
+    pub fn voice(&self) -> Option<&StaticSound> {
+        self.voice.as_ref()
+    }
+
+    /// Ends the recording: the voice, to be played on unrecorded.
+    #[must_use]
+    pub fn into_voice(self) -> Option<StaticSound> {
+        self.voice
+    }
+
+    /// The records that the buffer holds.
+    #[must_use]
+    pub fn bytes(&self) -> &[u8] {
+        &self.buffer[..self.held]
+    }
+
+    /// The bytes that the buffer still has room for.
+    #[must_use]
+    pub fn room(&self) -> usize {
+        self.buffer.len() - self.held
+    }
+
+    /// Empties the buffer, once the host has kept its records: what is recorded next goes on with the
+    /// same trace.
+    pub fn clear(&mut self) {
+        self.held = 0;
+    }
+
+    /// A block's record, and its line.
+    fn played(
+        &mut self,
+        sound: &[f32],
+        frames: usize,
+        answer: Result<Processed, Refusal>,
+        block: Result<Block, Refusal>,
+    ) -> Recorded<Processed> {
+        self.blocks = self.blocks.saturating_add(1);
+        self.line = Some(match &self.voice {
+            Some(voice) => Line::of_block(self.blocks, frames, voice, answer),
+            None => Line::RefusedBlock {
+                block: self.blocks,
+                refusal: Refusal::State,
+            },
+        });
+        let record = match (block, answer) {
+            (Err(refusal), _) => Err(refusal),
+            // A recorded block brings its own output.
+            (_, Err(Refusal::Block)) => Err(Refusal::Record),
+            (Ok(block), _) => self.of_this_sound(sound, Record::Block(block)),
+        };
+        self.recorded(answer, record)
+    }
+
+    /// Played again, the voice is lent the creation's sound: a call with another one is no record.
+    fn of_this_sound(&self, sound: &[f32], record: Record) -> Result<Record, Refusal> {
+        match self.voice.is_none() || self.sound.is(sound) {
+            true => Ok(record),
+            false => Err(Refusal::Record),
+        }
+    }
+
+    fn recorded<T>(
+        &mut self,
+        answer: Result<T, Refusal>,
+        record: Result<Record, Refusal>,
+    ) -> Recorded<T> {
+        let recorded = match self.ended {
+            Some(refusal) => Err(refusal),
+            None => record.and_then(|record| write(&record, self.buffer, self.held)),
+        };
+        match recorded {
+            Ok(next) => self.held = next,
+            Err(refusal) => self.ended = Some(refusal),
+        }
+        Recorded {
+            answer,
+            recorded: recorded.map(|_| ()),
+        }
+    }
+}

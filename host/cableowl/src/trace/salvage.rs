@@ -1,0 +1,52 @@
+//! What is left of a trace with holes.
+
+use crate::{Refusal, ffi, float_mode};
+
+/// What a salvage kept and skipped.
+#[derive(Debug, Clone, Copy, PartialEq, Eq, Hash)]
+#[non_exhaustive]
+pub struct Salvaged {
+    /// The records kept.
+    pub records: usize,
+    /// Their bytes, at the output's start.
+    pub kept: usize,
+    /// The bytes that belong to no kept record.
+    pub skipped: usize,
+    /// The place in the input of the first byte skipped; the input's length if none.
+    pub first_skipped: usize,
+}
+
+/// Copies the complete records of a damaged trace to the output's start, and skips any other byte,
+/// one at a time. The output past the kept bytes stays.
+///
+/// A record is known by its bytes alone: a mark inside a damaged payload may be taken for a record
+/// (docs/TRACE.md has an example of each way).
+///
+/// ```
+/// use cableowl::{Commands, Refusal, trace::{Record, salvage, write}};
+///
+/// let mut trace = [0xff; 3 + 12];
+/// write(&Record::Commands(Commands::new()), &mut trace, 2)?;
+/// let mut out = [9; 15];
+/// let salvaged = salvage(&trace, &mut out)?;
+/// assert_eq!((salvaged.records, salvaged.kept), (1, 12));
+/// assert_eq!((salvaged.skipped, salvaged.first_skipped), (3, 0));
+/// assert_eq!((&out[..12], &out[12..]), (&trace[2..14], &[9; 3][..]));
+/// # Ok::<(), Refusal>(())
+/// ```
+///
+/// # Errors
+///
+/// [`Refusal::Output`]: the output is shorter than the trace; nothing is written.
+pub fn salvage(trace: &[u8], out: &mut [u8]) -> Result<Salvaged, Refusal> {
+    let saved = float_mode::plain(|| ffi::salvage(trace, out));
+    Refusal::check_word(saved.refusal)?;
+    let skipped = saved.skipped as usize;
+    Ok(Salvaged {
+        records: saved.records as usize,
+        // Skipped bytes are some of the trace's.
+        kept: trace.len().saturating_sub(skipped),
+        skipped,
+        first_skipped: saved.first as usize,
+    })
+}

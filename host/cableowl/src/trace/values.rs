@@ -1,0 +1,248 @@
+//! A record as its kind and numbers, in the order of docs/TRACE.md; absent ones are 0.
+
+use super::{Block, MAX_SOUND_FRAMES, Record, ShortSound};
+use crate::{
+    Commands, EndPosition, LoopCommand, PlaybackPosition, Region, ResumeCommand, Settings,
+    StartAnswer,
+};
+
+/// The numbers of any kind.
+pub type Values = [u64; 80];
+
+const CREATION: u64 = 1;
+const COMMANDS: u64 = 2;
+const BLOCK: u64 = 3;
+
+/// The places before the sound's frames.
+const BEFORE_SOUND: usize = 13;
+
+/// A record's kind and numbers.
+pub fn of(record: &Record) -> (u64, Values) {
+    let mut values = [0; 80];
+    let kind = match record {
+        Record::Creation { settings, sound } => {
+            put(&mut values, &creation(settings, sound));
+            let frames = sound.samples().chunks_exact(2);
+            for (value, frame) in values[BEFORE_SOUND..].iter_mut().zip(frames) {
+                *value = u64::from(frame[0].to_bits()) | u64::from(frame[1].to_bits()) << 32;
+            }
+            CREATION
+        }
+        Record::Commands(commands) => {
+            put(&mut values, &command_set(commands));
+            COMMANDS
+        }
+        Record::Block(block) => {
+            put(&mut values, &block_of(block));
+            BLOCK
+        }
+    };
+    (kind, values)
+}
+
+fn put(values: &mut Values, numbers: &[u64]) {
+    for (value, number) in values.iter_mut().zip(numbers) {
+        *value = *number;
+    }
+}
+
+fn creation(settings: &Settings, sound: &ShortSound) -> [u64; BEFORE_SOUND] {
+    let [slice, slice_start, slice_end] = optional(settings.slice);
+    let [looped, loop_start, loop_end] = optional(settings.loop_region);
+    let (unit, start) = place(settings.start_position);
+    [
+        settings.sample_rate.into(),
+        slice,
+        slice_start,
+        slice_end,
+        unit,
+        start,
+        looped,
+        loop_start,
+        loop_end,
+        settings.reverse.into(),
+        settings.playback_rate.to_bits(),
+        settings.start_waits.into(),
+        sound.frames() as u64,
+    ]
+}
+
+fn command_set(commands: &Commands) -> [u64; 12] {
+    let [looped, loop_start, loop_end] = match commands.loop_region {
+        LoopCommand::Keep => [0; 3],
+        LoopCommand::Clear => [1, 0, 0],
+        LoopCommand::Set(given) => {
+            let [tag, start, end] = region(given);
+            [tag + 1, start, end]
+        }
+    };
+    let [rate, seek_by, seek_to] =
+        [commands.playback_rate, commands.seek_by, commands.seek_to].map(amount);
+    [
+        rate[0],
+        rate[1],
+        looped,
+        loop_start,
+        loop_end,
+        commands.pause.into(),
+        commands.resume as u64,
+        commands.stop.into(),
+        seek_by[0],
+        seek_by[1],
+        seek_to[0],
+        seek_to[1],
+    ]
+}
+
+fn block_of(block: &Block) -> [u64; 10] {
+    [
+        block.frames as u64,
+        block.fade.to_bits().into(),
+        block.volume.to_bits().into(),
+        block.left.to_bits().into(),
+        block.right.to_bits().into(),
+        block.rate.to_bits(),
+        block.time_step.to_bits(),
+        block.finished.into(),
+        block.start as u64,
+        block.resume as u64,
+    ]
+}
+
+fn amount(amount: Option<f64>) -> [u64; 2] {
+    amount.map_or([0; 2], |amount| [1, amount.to_bits()])
+}
+
+/// A place's unit and number.
+fn place(position: PlaybackPosition) -> (u64, u64) {
+    match position {
+        PlaybackPosition::Samples(samples) => (0, samples as u64),
+        PlaybackPosition::Seconds(seconds) => (1, seconds.to_bits()),
+    }
+}
+
+/// A region's tag, 1 to 6, its start and its end.
+fn region(region: Region) -> [u64; 3] {
+    let (start_unit, start) = place(region.start);
+    let (end_tag, end) = match region.end {
+        EndPosition::EndOfAudio => (1, 0),
+        EndPosition::Custom(position) => {
+            let (unit, end) = place(position);
+            (3 + 2 * unit, end)
+        }
+    };
+    [end_tag + start_unit, start, end]
+}
+
+fn optional(given: Option<Region>) -> [u64; 3] {
+    given.map_or([0; 3], region)
+}
+
+/// The record of a kind and numbers that the reader has accepted.
+pub fn record(kind: u64, values: &Values) -> Record {
+    match kind {
+        CREATION => Record::Creation {
+            settings: settings(values),
+            sound: sound(values),
+        },
+        COMMANDS => Record::Commands(commands(values)),
+        _ => Record::Block(block(values)),
+    }
+}
+
+fn settings(values: &Values) -> Settings {
+    Settings {
+        sample_rate: values[0] as u32,
+        slice: optional_in(values[1], values[2], values[3]),
+        start_position: place_in(values[4], values[5]),
+        loop_region: optional_in(values[6], values[7], values[8]),
+        reverse: values[9] == 1,
+        playback_rate: f64::from_bits(values[10]),
+        start_waits: values[11] == 1,
+    }
+}
+
+fn sound(values: &Values) -> ShortSound {
+    let frames = (values[12] as usize).min(MAX_SOUND_FRAMES);
+    let mut samples = [0.0; 2 * MAX_SOUND_FRAMES];
+    for (frame, value) in samples.chunks_exact_mut(2).zip(&values[BEFORE_SOUND..]) {
+        frame[0] = single(*value);
+        frame[1] = single(*value >> 32);
+    }
+    // An even count of at most 64 frames is never refused.
+    ShortSound::new(&samples[..2 * frames]).unwrap_or(ShortSound::EMPTY)
+}
+
+fn commands(values: &Values) -> Commands {
+    Commands {
+        playback_rate: amount_in(values[0], values[1]),
+        loop_region: match values[2] {
+            0 => LoopCommand::Keep,
+            1 => LoopCommand::Clear,
+            tag => LoopCommand::Set(region_in(tag - 1, values[3], values[4])),
+        },
+        pause: values[5] == 1,
+        resume: match values[6] {
+            0 => ResumeCommand::No,
+            1 => ResumeCommand::AtOnce,
+            _ => ResumeCommand::Waiting,
+        },
+        stop: values[7] == 1,
+        seek_by: amount_in(values[8], values[9]),
+        seek_to: amount_in(values[10], values[11]),
+    }
+}
+
+fn block(values: &Values) -> Block {
+    Block {
+        frames: values[0] as usize,
+        fade: single(values[1]),
+        volume: single(values[2]),
+        left: single(values[3]),
+        right: single(values[4]),
+        rate: f64::from_bits(values[5]),
+        time_step: f64::from_bits(values[6]),
+        finished: values[7] == 1,
+        start: answer(values[8]),
+        resume: answer(values[9]),
+    }
+}
+
+/// The low half of a number as a float.
+fn single(value: u64) -> f32 {
+    f32::from_bits(value as u32)
+}
+
+fn amount_in(tag: u64, value: u64) -> Option<f64> {
+    (tag == 1).then_some(f64::from_bits(value))
+}
+
+fn answer(value: u64) -> StartAnswer {
+    match value {
+        0 => StartAnswer::Waiting,
+        1 => StartAnswer::Now,
+        _ => StartAnswer::Never,
+    }
+}
+
+fn place_in(unit: u64, value: u64) -> PlaybackPosition {
+    match unit {
+        0 => PlaybackPosition::Samples(value as usize),
+        _ => PlaybackPosition::Seconds(f64::from_bits(value)),
+    }
+}
+
+fn region_in(tag: u64, start: u64, end: u64) -> Region {
+    Region {
+        start: place_in(1 - tag % 2, start),
+        end: match tag {
+            1 | 2 => EndPosition::EndOfAudio,
+            3 | 4 => EndPosition::Custom(place_in(0, end)),
+            _ => EndPosition::Custom(place_in(1, end)),
+        },
+    }
+}
+
+fn optional_in(tag: u64, start: u64, end: u64) -> Option<Region> {
+    (tag > 0).then(|| region_in(tag, start, end))
+}

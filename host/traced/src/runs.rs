@@ -1,0 +1,349 @@
+//! Random runs against the page: each gives a tally, or what differs first.
+
+use std::fmt;
+
+use cableowl::trace;
+use random::Random;
+
+use crate::{
+    Values,
+    entries::{self, Read, Saved, Sent},
+    make, page,
+    program::Program,
+};
+
+/// What a run tried.
+#[derive(Debug, Clone, Default)]
+pub struct Tally {
+    /// The calls compared.
+    pub calls: u64,
+    /// The bytes compared.
+    pub bytes: u64,
+    /// How many calls gave each refusal; 0 is none.
+    pub refused: [u64; 26],
+}
+
+impl Tally {
+    fn call(&mut self, refusal: u64, bytes: usize) {
+        self.calls += 1;
+        self.bytes += bytes as u64;
+        self.refused[refusal as usize % 26] += 1;
+    }
+}
+
+impl fmt::Display for Tally {
+    fn fmt(&self, f: &mut fmt::Formatter<'_>) -> fmt::Result {
+        write!(f, "{} calls, {} bytes", self.calls, self.bytes)?;
+        write!(f, ", accepted {}", self.refused[0])?;
+        for (number, times) in self.refused.iter().enumerate().skip(1) {
+            if *times > 0 {
+                write!(f, ", {number} {times}")?;
+            }
+        }
+        Ok(())
+    }
+}
+
+/// A run's answer.
+pub type Run = Result<Tally, String>;
+
+/// Reads the record at a place.
+pub type Reader = fn(&[u8], u64) -> Read;
+/// Writes a record of a kind at a place.
+pub type Writer = fn(&mut [u8], u64, u64, &Values) -> Sent;
+/// Copies complete records.
+pub type Salvage = fn(&[u8], &mut [u8]) -> Saved;
+
+/// A reader, a writer and a salvage.
+#[derive(Debug, Clone, Copy)]
+pub struct Codec {
+    /// The reader.
+    pub read: Reader,
+    /// The writer.
+    pub write: Writer,
+    /// The salvage.
+    pub salvage: Salvage,
+}
+
+/// The compiled ones.
+pub const COMPILED: Codec = Codec {
+    read: entries::read,
+    write: entries::write,
+    salvage: entries::salvage,
+};
+
+impl Codec {
+    /// What is read at a place must be the page's answer. Tells the refusal.
+    ///
+    /// # Errors
+    ///
+    /// What differs.
+    pub fn compare_read(&self, bytes: &[u8], at: u64) -> Result<u64, String> {
+        let (ours, pages) = ((self.read)(bytes, at), page::read(bytes, at));
+        match ours == pages {
+            true => Ok(ours.refusal),
+            false => Err(format!("at {at} of {bytes:x?}: {ours:?} against {pages:?}")),
+        }
+    }
+
+    /// A salvage must be the page's, byte for byte past the kept ones too. Tells the refusal, and the
+    /// kept bytes and records.
+    ///
+    /// # Errors
+    ///
+    /// What differs.
+    pub fn compare_salvage(
+        &self,
+        bytes: &[u8],
+        room: usize,
+    ) -> Result<(u64, Vec<u8>, u64), String> {
+        let before: Vec<u8> = (0..room).map(|place| !place as u8).collect();
+        let (mut ours, mut pages) = (before.clone(), before);
+        let saved = (self.salvage)(bytes, &mut ours);
+        let expected = page::salvage(bytes, &mut pages);
+        if (saved, &ours) != (expected, &pages) {
+            return Err(format!("{bytes:x?}: {saved:?} against {expected:?}"));
+        }
+        let kept = bytes.len() - saved.skipped as usize;
+        ours.truncate(if saved.refusal == 0 { kept } else { 0 });
+        Ok((saved.refusal, ours, saved.records))
+    }
+
+    /// The same; what is kept must be read to its end, and come out of a second salvage as it is.
+    ///
+    /// # Errors
+    ///
+    /// What differs.
+    pub fn compare_salvages(&self, bytes: &[u8], room: usize) -> Result<u64, String> {
+        let (refusal, kept, records) = self.compare_salvage(bytes, room)?;
+        let mut again = vec![0x5a; kept.len()];
+        let second = (self.salvage)(&kept, &mut again);
+        let whole = Saved {
+            refusal: 0,
+            records,
+            skipped: 0,
+            first: kept.len() as u64,
+        };
+        let read = trace::Trace::new(&kept).map_while(Result::ok).count() as u64;
+        match second == whole && again == kept && read == records {
+            true => Ok(refusal),
+            false => Err(format!("{bytes:x?}: a second salvage gives {second:?}")),
+        }
+    }
+
+    /// Traces with faults, read at each record and at any places.
+    ///
+    /// # Errors
+    ///
+    /// What differs.
+    pub fn reads(&self, seed: u64, count: u64) -> Run {
+        let (mut random, mut tally) = (Random::new(seed), Tally::default());
+        while tally.calls < count {
+            // Boxed: not a byte more than they are, for a memory checker.
+            let bytes = make::damaged(&mut random, 4, 3).into_boxed_slice();
+            let mut at = 0;
+            while at <= bytes.len() {
+                let refusal = self.compare_read(&bytes, at as u64)?;
+                tally.call(refusal, bytes.len() - at);
+                match refusal {
+                    0 => at = page::read(&bytes, at as u64).next as usize,
+                    _ => break,
+                }
+            }
+            for _ in 0..2 {
+                let at = match random.one_in(100) {
+                    true => random.word() >> random.below(64),
+                    false => random.below(bytes.len() + 3) as u64,
+                };
+                let refusal = self.compare_read(&bytes, at)?;
+                tally.call(refusal, bytes.len().saturating_sub(at as usize));
+            }
+        }
+        Ok(tally)
+    }
+
+    /// Records, lawful or not, written at any place of a buffer with any room, and read back.
+    ///
+    /// # Errors
+    ///
+    /// What differs.
+    pub fn writes(&self, seed: u64, count: u64) -> Run {
+        let (mut random, mut tally) = (Random::new(seed), Tally::default());
+        while tally.calls < count {
+            let (kind, values) = make::any(&mut random);
+            let needed = page::bytes(kind, &values).map_or(20, |bytes| bytes.len());
+            let at = random.below(9);
+            let length = match random.below(4) {
+                0 => random.below(at + needed + 8),
+                1 => at + needed,
+                2 => (at + needed).saturating_sub(1),
+                _ => at + needed + random.below(8),
+            };
+            let at = match random.one_in(40) {
+                true => random.word() >> random.below(64),
+                false => at as u64,
+            };
+            let before: Vec<u8> = (0..length).map(|_| random.word() as u8).collect();
+            let (mut ours, mut pages) = (before.clone(), before);
+            let sent = (self.write)(&mut ours, at, kind, &values);
+            let expected = page::write(&mut pages, at, kind, &values);
+            if (sent, &ours) != (expected, &pages) {
+                return Err(format!(
+                    "kind {kind}, {values:?} at {at} of {length}: {sent:?}, {ours:x?} against {expected:?}, {pages:x?}"
+                ));
+            }
+            if sent.refusal == 0 {
+                let back = (self.read)(&ours, at);
+                let same = (back.kind, back.next) == (kind, sent.next);
+                let fields = [77, 12, 10][kind as usize - 1];
+                if !same || back.values[..fields] != values[..fields] {
+                    return Err(format!("kind {kind}, {values:?} is read back as {back:?}"));
+                }
+                compare_record(&ours, at as usize)?;
+            }
+            tally.call(sent.refusal, length);
+        }
+        Ok(tally)
+    }
+
+    /// Traces with faults, salvaged into outputs of any room.
+    ///
+    /// # Errors
+    ///
+    /// What differs.
+    pub fn salvages(&self, seed: u64, count: u64) -> Run {
+        let (mut random, mut tally) = (Random::new(seed), Tally::default());
+        while tally.calls < count {
+            let bytes = make::damaged(&mut random, 8, 6).into_boxed_slice();
+            let room = match random.one_in(16) {
+                true => random.below(bytes.len() + 1),
+                false => bytes.len() + random.below(4),
+            };
+            tally.call(self.compare_salvages(&bytes, room)?, bytes.len());
+        }
+        Ok(tally)
+    }
+}
+
+/// The Rust crate reads as the page does, and its record is written as the bytes that it was read from.
+///
+/// # Errors
+///
+/// What differs.
+pub fn compare_record(bytes: &[u8], at: usize) -> Result<u64, String> {
+    let refusal = page::read(bytes, at as u64).refusal;
+    let safe = trace::read(bytes, at);
+    let number = safe.as_ref().err().map_or(0, |refusal| refusal.number());
+    if u64::from(number) != refusal {
+        return Err(format!("at {at} of {bytes:x?}: {safe:?} against {refusal}"));
+    }
+    if let Ok((record, next)) = safe {
+        let mut again = [0x5a; trace::MAX_RECORD_BYTES + 1];
+        let written = trace::write(&record, &mut again, 0);
+        if written != Ok(next - at)
+            || again[..next - at] != bytes[at..next]
+            || again[next - at..].iter().any(|byte| *byte != 0x5a)
+        {
+            return Err(format!("{record:?} is not written as it was read at {at}"));
+        }
+    }
+    Ok(refusal)
+}
+
+/// What the library prints of a trace, at once and as it is read.
+///
+/// # Errors
+///
+/// Where the two differ.
+pub fn library_prints(bytes: &[u8]) -> Result<Vec<u8>, String> {
+    let whole: String = trace::lines(bytes)
+        .map(|line| format!("{line}\n"))
+        .collect();
+    let mut read = Vec::new();
+    trace::replay(Slow(bytes), &mut read).map_err(|error| error.to_string())?;
+    match whole.as_bytes() == read {
+        true => Ok(read),
+        false => Err(format!("{bytes:x?}: {whole:?} at once, else as it is read")),
+    }
+}
+
+/// Bytes that are read a few at a time.
+struct Slow<'a>(&'a [u8]);
+
+impl std::io::Read for Slow<'_> {
+    fn read(&mut self, into: &mut [u8]) -> std::io::Result<usize> {
+        let few = into.len().min(1 + self.0.len() % 700);
+        std::io::Read::read(&mut self.0, &mut into[..few])
+    }
+}
+
+/// The program `replay` and the library must print the same bytes of a trace.
+///
+/// # Errors
+///
+/// What differs.
+pub fn compare_print(program: &Program, bytes: &[u8]) -> Result<Vec<u8>, String> {
+    let library = library_prints(bytes)?;
+    let program = program.printed(bytes).map_err(|error| error.to_string())?;
+    match program == library {
+        true => Ok(program),
+        false => Err(format!(
+            "{bytes:x?}: the program prints {:?}, the library {:?}",
+            String::from_utf8_lossy(&program),
+            String::from_utf8_lossy(&library)
+        )),
+    }
+}
+
+/// Traces with faults and without, printed by the program and by the library; the refusals counted
+/// are those of records and of blocks, and the bytes are the printed ones.
+///
+/// # Errors
+///
+/// What differs.
+pub fn prints(program: &Program, seed: u64, count: u64) -> Run {
+    let (mut random, mut tally) = (Random::new(seed), Tally::default());
+    for trace in 0..count {
+        let bytes = match trace % 4 {
+            // Long ones have many lines for one start of the program.
+            0 => make::trace(&mut random, 400),
+            1 => make::damaged(&mut random, 400, 2),
+            _ => make::damaged(&mut random, 40, 3),
+        };
+        let printed = compare_print(program, &bytes)?;
+        tally.bytes += printed.len() as u64;
+        for line in printed
+            .split(|byte| *byte == b'\n')
+            .filter(|line| !line.is_empty())
+        {
+            let line = String::from_utf8_lossy(line);
+            let refusal = line.split("refused=").nth(1).map_or(0, |rest| {
+                let digits = rest.split(' ').next().unwrap_or_default();
+                digits.parse().unwrap_or(25)
+            });
+            tally.call(refusal, 0);
+        }
+    }
+    Ok(tally)
+}
+
+/// Every cut of a short trace with all kinds, and each of its bytes raised by 1, and set to 0 and FF, printed by both.
+///
+/// # Errors
+///
+/// What differs.
+pub fn print_cuts(program: &Program) -> Run {
+    let (trace, mut tally) = (make::all_kinds(), Tally::default());
+    for place in 0..trace.len() {
+        let changed = [trace[place].wrapping_add(1), 0, 0xff].map(|byte| {
+            let mut changed = trace.clone();
+            changed[place] = byte;
+            changed
+        });
+        for bytes in [&trace[..place], &changed[0], &changed[1], &changed[2]] {
+            let printed = compare_print(program, bytes)?;
+            tally.call(0, printed.len());
+        }
+    }
+    Ok(tally)
+}

@@ -1,0 +1,139 @@
+//! The compiled reader against the page: short inputs exhaustively, then changed, cut and random ones.
+
+use std::{
+    io::{self, Read},
+    thread,
+};
+
+use cableowl::trace::{TraceReader, replay};
+use traced::{
+    make, page,
+    runs::{self, COMPILED},
+};
+
+fn compare(bytes: &[u8]) {
+    COMPILED.compare_read(bytes, 0).unwrap();
+}
+
+#[test]
+fn every_input_of_at_most_three_bytes() {
+    compare(&[]);
+    thread::scope(|scope| {
+        for quarter in 0..4_u8 {
+            scope.spawn(move || {
+                for first in (0..=255).filter(|byte| byte % 4 == quarter) {
+                    compare(&[first]);
+                    for second in 0..=255 {
+                        compare(&[first, second]);
+                        for third in 0..=255 {
+                            compare(&[first, second, third]);
+                        }
+                    }
+                }
+            });
+        }
+    });
+}
+
+#[test]
+fn every_length_of_every_kind() {
+    for kind in 0..=4 {
+        for length in 0..=u16::MAX {
+            let [low, high] = length.to_le_bytes();
+            compare(&[0xa5, 0x1d, kind, low, high]);
+        }
+    }
+}
+
+/// Every record of it, each byte changed to each value, and each cut.
+#[test]
+fn every_change_of_one_byte_and_every_cut() {
+    let mut trace = make::all_kinds();
+    let mut at = 0;
+    while at < trace.len() {
+        let next = page::read(&trace, at as u64).next as usize;
+        assert!(next > at);
+        for place in at..next {
+            COMPILED.compare_read(&trace[..place], at as u64).unwrap();
+            runs::compare_record(&trace[..place], at).unwrap();
+            let right = trace[place];
+            for byte in 0..=255 {
+                trace[place] = byte;
+                COMPILED.compare_read(&trace, at as u64).unwrap();
+                runs::compare_record(&trace, at).unwrap();
+                // The same with nothing behind the record.
+                COMPILED.compare_read(&trace[..next], at as u64).unwrap();
+            }
+            trace[place] = right;
+        }
+        at = next;
+    }
+}
+
+/// What is printed of each: the refusal stands where the page's reader finds it.
+#[test]
+fn every_cut_of_a_trace_is_printed() {
+    let trace = make::all_kinds();
+    for cut in 0..=trace.len() {
+        let printed = String::from_utf8(runs::library_prints(&trace[..cut]).unwrap()).unwrap();
+        let mut at = 0;
+        let refusal = loop {
+            if at == cut as u64 {
+                break None;
+            }
+            let read = page::read(&trace[..cut], at);
+            if read.refusal != 0 {
+                break Some(read.refusal);
+            }
+            at = read.next;
+        };
+        match refusal {
+            Some(refusal) => {
+                let line = format!("refused={refusal} at={at}\n");
+                assert!(printed.ends_with(&line), "{cut}: {printed}");
+            }
+            None => assert!(!printed.contains("at="), "{cut}: {printed}"),
+        }
+    }
+}
+
+#[test]
+fn random_traces_with_faults() {
+    let tally = COMPILED.reads(104, 60_000).unwrap();
+    println!("{tally}");
+    for refusal in [0, 15, 16, 17, 18] {
+        assert!(tally.refused[refusal] > 100, "{tally}");
+    }
+}
+
+/// Past what is held at once, places go on; what cannot be read ends the records, and is said.
+#[test]
+fn a_trace_longer_than_what_is_held() {
+    let (mut trace, mut part) = (Vec::new(), Vec::new());
+    for _ in 0..3 {
+        make::long(&mut part, 1_000, 1);
+        trace.extend_from_slice(&part);
+    }
+    let length = trace.len();
+    assert!(length > 100_000);
+    trace.push(b'\n');
+    let printed = String::from_utf8(runs::library_prints(&trace).unwrap()).unwrap();
+    assert!(printed.ends_with(&format!("\nrefused=15 at={length}\n")));
+    assert_eq!(printed.lines().count(), 3_001);
+
+    struct Broken<'a>(&'a [u8]);
+    impl Read for Broken<'_> {
+        fn read(&mut self, into: &mut [u8]) -> io::Result<usize> {
+            match self.0.read(into)? {
+                0 => Err(io::ErrorKind::TimedOut.into()),
+                got => Ok(got),
+            }
+        }
+    }
+    let mut records = TraceReader::new(Broken(&trace[..70_000]));
+    let read = records.by_ref().take_while(Result::is_ok).count();
+    assert!((1_000..2_000).contains(&read), "{read}");
+    assert!(records.next().is_none());
+    let failed = replay(Broken(&trace[..70_000]), io::sink());
+    assert_eq!(failed.unwrap_err().kind(), io::ErrorKind::TimedOut);
+}

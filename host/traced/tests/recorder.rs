@@ -1,0 +1,446 @@
+//! A recorded voice plays as an unrecorded one, call for call and bit for bit, whatever it cannot record; and what it
+//! recorded prints, played again, the lines of the evening and sounds the same.
+
+use cableowl::{
+    Commands, Hall, Lanes, LoopTable, Processed, Refusal, Settings, Signals, StartAnswer,
+    StartSignal, StaticSound,
+    trace::{self, Block, Line, Record, Recorded, Recorder, Replay, ShortSound, Trace},
+};
+use random::Random;
+
+/// What is lent as the lanes of a block.
+#[derive(Clone)]
+struct Numbers {
+    fade: Vec<f32>,
+    left: f32,
+    rate: Vec<f64>,
+}
+
+/// One call.
+#[derive(Clone)]
+enum Call {
+    Create(Settings, Vec<f32>),
+    Commands(Commands),
+    Take(LoopTable, usize),
+    /// Of these frames, in an output of so many samples, from a frame on where it is a mix.
+    Block(usize, Numbers, f64, Signals, usize, Option<usize>),
+    /// Lends another sound from here on, until the next creation.
+    Sound(Vec<f32>),
+}
+
+fn sound(random: &mut Random) -> Vec<f32> {
+    let samples = match random.below(40) {
+        0 => 2 * 65,
+        1 => 129,
+        2 => 2 * 64,
+        3 => 0,
+        _ => 2 * (1 + random.below(20)),
+    };
+    (0..samples).map(|_| random.unit() as f32 - 0.5).collect()
+}
+
+fn settings(random: &mut Random) -> Settings {
+    let settings = Settings::new([0, 1, 1, 2, 3][random.below(5)])
+        .reverse(random.one_in(4))
+        .start_waits(random.one_in(4));
+    match random.below(4) {
+        0 => settings.loop_region(0..),
+        1 => settings.loop_region(0.0..1.0).playback_rate(-1.0),
+        2 => settings.slice(0..random.below(9)),
+        _ => settings,
+    }
+}
+
+fn commands(random: &mut Random) -> Commands {
+    let commands = Commands::new();
+    match random.below(9) {
+        0 => commands.pause(),
+        1 => commands.resume(),
+        2 => commands.resume_waiting(),
+        3 => commands.stop(),
+        4 => commands.seek_by(random.unit() * 8.0 - 4.0),
+        5 => commands.seek_to(f64::from_bits(random.word())),
+        6 => commands.set_loop_region(random.below(9)..random.below(9)),
+        7 => commands.clear_loop_region().set_playback_rate(-0.5),
+        _ => commands,
+    }
+}
+
+fn signals(random: &mut Random) -> Signals {
+    let answers = [
+        StartAnswer::Waiting,
+        StartAnswer::Waiting,
+        StartAnswer::Now,
+        StartAnswer::Never,
+    ];
+    let start = match random.below(4) {
+        0 => StartSignal::Tick {
+            due: random.word() as u32,
+            now: random.word() as u32,
+        },
+        1 => StartSignal::Tick { due: 7, now: 7 },
+        _ => answers[random.below(4)].into(),
+    };
+    Signals::new()
+        .finished(random.one_in(4))
+        .start(start)
+        .resume(answers[random.below(4)])
+}
+
+fn block(random: &mut Random, off: bool) -> Call {
+    let frames = match random.below(40) {
+        0 if off => 1_025 + random.below(4_000),
+        1 => 1_024,
+        2 => 0,
+        _ => random.below(24),
+    };
+    let fade = random.unit() as f32;
+    let mut fade = vec![if random.one_in(20) { -0.0 } else { fade }; frames];
+    let mut rate = vec![2.0 * random.unit(); frames];
+    if off {
+        match random.below(60) {
+            0 if frames > 0 => fade[frames - 1] += 1.0,
+            1 if frames > 0 => rate[random.below(frames)] *= -1.0,
+            2 => fade.push(0.5),
+            _ => {}
+        }
+    }
+    let dt = match random.one_in(12) {
+        true => [0.0, f64::NAN, 1e9][random.below(3)],
+        false => 1.0,
+    };
+    let numbers = Numbers {
+        fade,
+        left: random.unit() as f32,
+        rate,
+    };
+    let odd = usize::from(off && random.one_in(60));
+    let signals = signals(random);
+    match random.coin() {
+        true => Call::Block(frames, numbers, dt, signals, 2 * frames + odd, None),
+        false => {
+            let from = random.below(3) + 9 * odd;
+            Call::Block(frames, numbers, dt, signals, 2 * frames + 6, Some(from))
+        }
+    }
+}
+
+/// An evening's calls; `off` lets some of them be such as no record holds.
+fn evening(random: &mut Random, calls: usize, off: bool) -> Vec<Call> {
+    let mut table = LoopTable::new(8);
+    table.write(Hall::A, 3, 1..3).unwrap();
+    table.write(Hall::B, 9, 5..8).unwrap();
+    let mut call = |first: bool| match random.below(30) {
+        _ if first => Call::Create(settings(random), vec![0.5; 16]),
+        0 | 1 => {
+            let mut sound = sound(random);
+            if !off && (sound.len() > 128 || sound.len() % 2 == 1) {
+                sound.truncate(2);
+            }
+            Call::Create(settings(random), sound)
+        }
+        2 => Call::Take(table, [3, 9, 4, 99][random.below(4)]),
+        3 if off && random.one_in(4) => Call::Sound(sound(random)),
+        3..=9 => Call::Commands(commands(random)),
+        _ => block(random, off),
+    };
+    (0..calls).map(|place| call(place == 0)).collect()
+}
+
+fn bits(samples: &[f32]) -> Vec<u32> {
+    samples.iter().map(|sample| sample.to_bits()).collect()
+}
+
+/// An unrecorded voice beside a recorded one.
+struct Beside<'a> {
+    recorder: Recorder<'a>,
+    voice: Option<StaticSound>,
+    sound: Vec<f32>,
+    created: Vec<f32>,
+    lanes: [Lanes; 2],
+    blocks: u64,
+    /// The lines and the samples of the blocks that the trace holds.
+    log: Vec<(Line, Vec<u32>)>,
+    /// What the trace should hold of each call, and why it ends.
+    records: Vec<Record>,
+    room: usize,
+    ended: Option<Refusal>,
+}
+
+impl<'a> Beside<'a> {
+    fn new(buffer: &'a mut [u8]) -> Self {
+        Self {
+            room: buffer.len(),
+            recorder: Recorder::new(buffer),
+            voice: None,
+            sound: Vec::new(),
+            created: Vec::new(),
+            lanes: [Lanes::new(), Lanes::new()],
+            blocks: 0,
+            log: Vec::new(),
+            records: Vec::new(),
+            ended: None,
+        }
+    }
+
+    /// What the recorder must say of a call with this record.
+    fn expect<T: PartialEq + std::fmt::Debug>(
+        &mut self,
+        made: Recorded<T>,
+        answer: Result<T, Refusal>,
+        record: Option<Record>,
+    ) -> bool {
+        assert_eq!(made.answer, answer);
+        if self.ended.is_none() {
+            let mut bytes = [0; trace::MAX_RECORD_BYTES];
+            self.ended = match record.map(|record| trace::write(&record, &mut bytes, 0).unwrap()) {
+                None => Some(Refusal::Record),
+                Some(length) if length > self.room => Some(Refusal::Room),
+                Some(length) => {
+                    self.room -= length;
+                    self.records.extend(record);
+                    None
+                }
+            };
+        }
+        assert_eq!(made.recorded, self.ended.map_or(Ok(()), Err));
+        assert_eq!(self.recorder.room(), self.room);
+        let states = [self.recorder.voice(), self.voice.as_ref()];
+        let [recorded, plain] = states.map(|voice| voice.map(StaticSound::state));
+        assert_eq!(recorded, plain);
+        self.ended.is_none()
+    }
+
+    fn is_the_creations(&self) -> bool {
+        self.voice.is_none() || bits(&self.sound) == bits(&self.created)
+    }
+
+    fn call(&mut self, call: &Call) {
+        match call {
+            Call::Sound(sound) => self.sound.clone_from(sound),
+            Call::Create(settings, sound) => {
+                self.sound.clone_from(sound);
+                self.created.clone_from(sound);
+                let plain = StaticSound::new(*settings, sound);
+                let answer = plain.as_ref().map(|_| ()).map_err(|refusal| *refusal);
+                self.voice = plain.ok();
+                let made = self.recorder.create(*settings, sound);
+                let settings = *settings;
+                let short = ShortSound::new(sound).ok();
+                let record = short.map(|sound| Record::Creation { settings, sound });
+                self.expect(made, answer, record);
+            }
+            Call::Commands(commands) => {
+                let made = self.recorder.on_start_processing(&self.sound, *commands);
+                let answer = match &mut self.voice {
+                    Some(voice) => voice.on_start_processing(&self.sound, *commands),
+                    None => Err(Refusal::State),
+                };
+                let record = Record::Commands(*commands);
+                let record = self.is_the_creations().then_some(record);
+                self.expect(made, answer, record);
+            }
+            Call::Take(table, slot) => {
+                let made = self.recorder.take_loop(&self.sound, table, *slot);
+                let answer = match (table.read(*slot), &mut self.voice) {
+                    (Err(refusal), _) => Err(refusal),
+                    (_, Some(voice)) => voice.take_loop(&self.sound, table, *slot),
+                    (_, None) => Err(Refusal::State),
+                };
+                let Ok(region) = table.read(*slot) else {
+                    assert_eq!(made.answer, answer);
+                    assert_eq!(made.recorded, self.ended.map_or(Ok(()), Err));
+                    return;
+                };
+                let region = region.start as usize..region.end as usize;
+                let record = Record::Commands(Commands::new().set_loop_region(region));
+                let record = self.is_the_creations().then_some(record);
+                self.expect(made, answer, record);
+            }
+            Call::Block(frames, numbers, dt, signals, length, from) => {
+                self.block(*frames, numbers, *dt, *signals, *length, *from);
+            }
+        }
+    }
+
+    fn block(
+        &mut self,
+        frames: usize,
+        numbers: &Numbers,
+        dt: f64,
+        signals: Signals,
+        length: usize,
+        from: Option<usize>,
+    ) {
+        let mut outs = [vec![9.0; length], vec![9.0; length]];
+        let [one, other] = &mut self.lanes;
+        let [recorded_out, plain_out] = &mut outs;
+        let lanes = |room| Lanes::frames(room, frames);
+        let lanes = [one, other].map(|room| {
+            let lanes = lanes(room).fade(&numbers.fade).rate(&numbers.rate);
+            lanes.left(numbers.left)
+        });
+        let [recorded, plain] = lanes;
+        let constant = recorded.constant_frames() == frames && numbers.fade.len() == frames;
+        let (made, answer) = match from {
+            None => (
+                self.recorder
+                    .process(&self.sound, recorded, dt, signals, recorded_out),
+                self.voice.as_mut().map_or(Err(Refusal::State), |voice| {
+                    voice.process(&self.sound, plain, dt, signals, plain_out)
+                }),
+            ),
+            Some(from) => (
+                self.recorder
+                    .process_into(&self.sound, recorded, dt, signals, recorded_out, from),
+                self.voice.as_mut().map_or(Err(Refusal::State), |voice| {
+                    voice.process_into(&self.sound, plain, dt, signals, plain_out, from)
+                }),
+            ),
+        };
+        assert_eq!(bits(&outs[0]), bits(&outs[1]));
+        self.blocks += 1;
+        let line = match &self.voice {
+            Some(voice) => Line::of_block(self.blocks, frames, voice, answer),
+            None => Line::RefusedBlock {
+                block: self.blocks,
+                refusal: Refusal::State,
+            },
+        };
+        assert_eq!(self.recorder.line(), Some(line));
+        let holds = constant
+            && frames <= trace::MAX_TRACED_FRAMES
+            && answer != Err(Refusal::Block)
+            && self.is_the_creations();
+        let record = holds.then(|| {
+            Record::Block(
+                Block {
+                    fade: numbers.fade.first().copied().unwrap_or(1.0),
+                    left: numbers.left,
+                    rate: numbers.rate.first().copied().unwrap_or(1.0),
+                    ..Block::new(frames, dt)
+                }
+                .with_signals(signals),
+            )
+        });
+        let heard: Result<Processed, Refusal> = answer;
+        let place = 2 * from.unwrap_or(0);
+        let heard = match heard {
+            Ok(_) => bits(&outs[0][place..place + 2 * frames]),
+            Err(_) => Vec::new(),
+        };
+        if self.expect(made, answer, record) {
+            self.log.push((line, heard));
+        }
+    }
+
+    /// What is recorded is what was done, and played again it is what was heard and logged.
+    fn end(&self) {
+        let bytes = self.recorder.bytes();
+        let records: Vec<Record> = Trace::new(bytes).map(|record| record.unwrap().1).collect();
+        assert_eq!(records, self.records);
+        let mut replay = Replay::new();
+        let mut again = Vec::new();
+        for record in &records {
+            if let Some(line) = replay.play(record) {
+                again.push((line, bits(replay.heard())));
+            }
+        }
+        assert_eq!(again, self.log);
+        let lines = self.log.iter().map(|(line, _)| *line);
+        assert!(trace::lines(bytes).eq(lines));
+    }
+}
+
+#[test]
+fn a_recorded_voice_plays_as_an_unrecorded_one() {
+    let mut random = Random::new(1_051);
+    let (mut lines, mut ends) = (0, [0; 3]);
+    for round in 0..3_000 {
+        let room = match round % 4 {
+            0 => random.below(3_000),
+            _ => 100_000,
+        };
+        let mut buffer = vec![0; room];
+        let mut beside = Beside::new(&mut buffer);
+        for call in evening(&mut random, 60, round % 2 == 0) {
+            beside.call(&call);
+        }
+        beside.end();
+        lines += beside.log.len();
+        ends[match beside.ended {
+            None => 0,
+            Some(Refusal::Record) => 1,
+            _ => 2,
+        }] += 1;
+    }
+    println!("{lines} lines; recorded to the end, 17, 19: {ends:?}");
+    assert!(lines > 20_000 && ends.iter().all(|times| *times > 100));
+}
+
+/// A host that empties a small buffer in time has the same trace as one with a large buffer.
+#[test]
+fn emptied_in_time_the_buffer_is_never_full() {
+    let mut random = Random::new(1_052);
+    for _ in 0..200 {
+        let calls = evening(&mut random, 80, false);
+        let mut large = vec![0; 100_000];
+        let mut beside = Beside::new(&mut large);
+        let mut small = [0; 2 * trace::MAX_RECORD_BYTES];
+        let mut emptied = Beside::new(&mut small);
+        let mut file = Vec::new();
+        for call in &calls {
+            beside.call(call);
+            if emptied.recorder.room() < trace::MAX_RECORD_BYTES {
+                file.extend_from_slice(emptied.recorder.bytes());
+                emptied.recorder.clear();
+                emptied.room = emptied.recorder.room();
+            }
+            emptied.call(call);
+        }
+        file.extend_from_slice(emptied.recorder.bytes());
+        assert_eq!((beside.ended, emptied.ended), (None, None));
+        assert_eq!(file, beside.recorder.bytes());
+        assert_eq!(emptied.log, beside.log);
+    }
+}
+
+/// A tick is recorded as the answer that the library gives it.
+#[test]
+fn a_tick_is_its_answer() {
+    let edges = [0, 1, 2, 1 << 31, u32::MAX].map(|edge: u32| {
+        let near = |by: u32| edge.wrapping_sub(2).wrapping_add(by);
+        (0..5).map(near).collect::<Vec<_>>()
+    });
+    let edges = edges.concat();
+    let (sound, mut lanes) = ([0.5; 8], Lanes::new());
+    for (&due, &now) in edges
+        .iter()
+        .flat_map(|due| edges.iter().map(move |now| (due, now)))
+    {
+        let started = |start: StartSignal, lanes: &mut Lanes| {
+            let mut voice = StaticSound::new(Settings::new(1).start_waits(true), &sound).unwrap();
+            let signals = Signals::new().start(start);
+            let block = voice.process(&sound, lanes.frames(1), 1.0, signals, &mut [0.0; 2]);
+            (block.unwrap().steps, voice.state())
+        };
+        let tick = StartSignal::Tick { due, now };
+        let told = started(tick.answer().into(), &mut lanes);
+        assert_eq!(started(tick, &mut lanes), told, "due {due}, now {now}");
+    }
+}
+
+/// No voice: command sets and blocks are refused with 1, and recorded.
+#[test]
+fn before_a_creation() {
+    let mut buffer = [0; 200];
+    let mut recorder = Recorder::new(&mut buffer);
+    let mut lanes = Lanes::new();
+    let made = recorder.on_start_processing(&[], Commands::new());
+    assert_eq!((made.answer, made.recorded), (Err(Refusal::State), Ok(())));
+    let made = recorder.process(&[], lanes.frames(1), 1.0, Signals::new(), &mut [0.0; 2]);
+    assert_eq!((made.answer, made.recorded), (Err(Refusal::State), Ok(())));
+    assert_eq!(recorder.line().unwrap().to_string(), "block=1 refused=1");
+    assert_eq!(recorder.bytes().len(), 12 + 42);
+    assert!(recorder.into_voice().is_none());
+}
