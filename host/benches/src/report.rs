@@ -93,7 +93,7 @@ Time a frame over that of kira's text in the same run, stereo, looped, rate 0.93
 | libxmp spline | 0.48 / 0.49 / 0.48 | less: 16 bit, the rate is fixed in a tick |
 | libopenmpt cubic | 0.40 / 0.37 / 0.36 | less: 16 bit, the rate is fixed in a tick |
 | fluidsynth 4th order | 1.47 / 1.42 / 1.38 | more: a filter, envelopes |
-| ours, on Arm (the table above) | 0.92 / 0.79 / 0.77 | as kira's, with every check, proved |
+| ours, on Arm (the table above) | 0.95 / 0.79 / 0.77 | as kira's, with every check, proved |
 ";
 
 /// Processor, system, compiler and day of the run, as far as they can be told.
@@ -105,8 +105,15 @@ fn machine() -> String {
     };
     let processor = || {
         let text = fs::read_to_string("/proc/cpuinfo").ok()?;
-        let line = text.lines().find(|line| line.starts_with("model name"))?;
-        Some(line.split_once(':')?.1.trim().to_string())
+        let told = |name: &str| {
+            let line = text.lines().find(|line| line.starts_with(name))?;
+            Some(line.split_once(':')?.1.trim().to_string())
+        };
+        // Arm tells numbers and no name.
+        told("model name").or_else(|| {
+            let [implementer, part] = [told("CPU implementer")?, told("CPU part")?];
+            Some(format!("processor {implementer} {part}"))
+        })
     };
     [
         processor(),
