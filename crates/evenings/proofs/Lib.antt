@@ -1,4 +1,6 @@
 -- The proofs of the statements.
 pub mod Streams
 pub mod Cuts
+pub mod Played
+pub mod Example
 pub mod Promises

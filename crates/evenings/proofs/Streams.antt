@@ -23,7 +23,7 @@ none : {A : Type 0} → ⊥ → A
 none e = elim e [ ]
 
 -- the bytes of the record in hand are passed
-run-on : (c : Course) (at : ℕ) (bs : List ℕ) (k : ℕ) → k ≤ length bs → printed c at k bs ≡ printed c (at + k) 0 (drop k bs)
+pub run-on : (c : Course) (at : ℕ) (bs : List ℕ) (k : ℕ) → k ≤ length bs → printed c at k bs ≡ printed c (at + k) 0 (drop k bs)
 unfolding printed
 run-on c at bs zero h = let e : at ≡ at + 0 = omega arith in ap (λ (z : ℕ). printed c z 0 bs) e
 run-on c at [] (suc k) h = none (omega arith)

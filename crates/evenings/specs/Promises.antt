@@ -1,7 +1,9 @@
 -- All that is promised of a whole evening played again.
 use Rattle.evenings.specs.Streams.{Streams}
 use Rattle.evenings.specs.Cuts.{CutRecords}
+use Rattle.evenings.specs.Example.{ThreeFrames}
 
 pub record Promises : Type 0 where
   pub streams : Streams
   pub cut-records : CutRecords
+  pub three-frames : ThreeFrames

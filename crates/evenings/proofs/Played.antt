@@ -1,0 +1,36 @@
+-- The player's part of the rules' three-frame example, by computing it. Assumes nothing.
+use mathlib.Core.Path.{_≡_, refl}
+use Prim.Native.Nat.{ℕ}
+use mathlib.Core.List.{List, [], _∷_}
+use lib.ListN.{replicate}
+use lib.Ieee.{Float, add, sub, mul, lt, le, eq, ofInt, ofBits, nanBits}
+use Rattle.words.specs.Patterns.{floatOf}
+use Rattle.recorded.specs.Inputs.{settingsOf, stereo, samplesOf, blockOf}
+use Rattle.numbers.specs.Frames.{rounded, cutOff}
+use Rattle.numbers.specs.Words.{magnitude, narrowed, whole, taken, part, advance}
+use Rattle.playback_position.specs.Positions.{placed, ended, stretched, lawfulRegion}
+use Rattle.transport.specs.Moves.{forward, backward}
+use Rattle.resampler.specs.Windows.{push, reading}
+use Rattle.frame.specs.Frames.{cubic, interpolated}
+use Rattle.lanes.specs.Lanes.{low}
+use Rattle.moving.specs.Updates.{pushed, stepped, updated, updates}
+use Rattle.voice.specs.WellFormed.{ours, wellFormed}
+use Rattle.creation.specs.Creation.{refusedNew, made, created}
+use Rattle.playing.specs.Plays.{frameHeard, lower, plays, total, turned}
+use Rattle.block.specs.Blocks.{begun, block, zeros}
+use Rattle.static_sound.specs.Entries.{refusedBlock, processed}
+use Rattle.lines.specs.Lines.{spelt, blockLine}
+use Rattle.turns.specs.Runs.{answered, lineOf}
+use Rattle.evenings.specs.Example.{printedLine}
+
+-- the numbers of the two records
+abbrev pub creationNumbers : List ℕ
+creationNumbers =
+    1 ∷ 0 ∷ 0 ∷ 0 ∷ 0 ∷ 0 ∷ 0 ∷ 0 ∷ 0 ∷ 0 ∷ 4607182418800017408 ∷ 0 ∷ 3 ∷ 4575657222473777152 ∷ 4611686019501129728 ∷ 4629700418014806016 ∷ replicate 64 0
+
+abbrev pub sixNumbers : List ℕ
+sixNumbers = 6 ∷ 1065353216 ∷ 1065353216 ∷ 1065353216 ∷ 1065353216 ∷ 4607182418800017408 ∷ 4607182418800017408 ∷ 0 ∷ 0 ∷ 0 ∷ replicate 70 0
+
+pub played : lineOf 1 6 (answered (samplesOf creationNumbers) (created (samplesOf creationNumbers) (settingsOf creationNumbers) .sound) (blockOf sixNumbers)) ≡ printedLine
+unfolding lineOf answered blockLine spelt processed refusedBlock block begun zeros plays total turned frameHeard lower updates updated stepped pushed ours wellFormed low created made refusedNew placed ended stretched lawfulRegion rounded cutOff magnitude narrowed whole taken part advance forward backward push reading cubic interpolated settingsOf stereo blockOf floatOf add sub mul lt le eq ofInt ofBits nanBits
+played = refl
