@@ -1,5 +1,5 @@
 // A trace from standard input, played again: one line a block on standard output (docs/TRACE.md). Each record's run and line
-// are `turns::turn`'s; what stands here is reading and writing. Input of any length: a window moves over it that holds a whole
+// are `turns::advance`'s; what stands here is reading and writing. Input of any length: a window moves over it that holds a whole
 // record or the input's end.
 ghost use mathlib.Core.Path.{_≡_};
 ghost use Prim.Native.Nat.{_-_, _≤_};
@@ -51,39 +51,18 @@ fn play_one(p: Play, bytes: &[u8], sound: &mut [f32], line: &mut [u8]) -> Play
     let run = p.run;
     let at = window.at;
     let end = window.end;
-    if at == end {
-        return Play {
-            run,
-            window,
-            done: true,
-        };
-    }
-    let record = trace::read(&bytes[..end], at);
-    if record.refusal != 0 {
-        let n = lines::put_refused(
-            line,
-            record.refusal,
-            std::num::wrapping_add_u64(window.base, at as u64),
-        );
-        io::write_all(1, &line[..n]);
-        return Play {
-            run,
-            window,
-            done: true,
-        };
-    }
-    let values = record.values;
-    let turned = turns::turn(run, record.kind, values, sound, line);
+    let place = std::num::wrapping_add_u64(window.base, at as u64);
+    let turned = turns::advance(run, &bytes[..end], at, place, sound, line);
     let n = turned.written;
     io::write_all(1, &line[..n]);
     let run = turned.run;
     Play {
         run,
         window: Window {
-            at: record.next,
+            at: turned.next,
             ..window
         },
-        done: false,
+        done: turned.over,
     }
 }
 

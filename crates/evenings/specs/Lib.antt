@@ -1,0 +1,4 @@
+-- What is promised of a whole evening played again (request #104).
+pub mod Streams
+pub mod Cuts
+pub mod Promises
