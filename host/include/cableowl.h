@@ -131,7 +131,12 @@ typedef struct CableowlEntry {
     uint64_t number;
 } CableowlEntry;
 
-/* A voice's whole state. Save it as it is; change nothing, or expect refusal 1. */
+/* A voice's whole state. Save it as it is; change nothing, or expect refusal 1.
+ *
+ * Its wraps are the steps that took the loop's wrap: one for each, however many lengths it goes back, creation's own
+ * three among them. Seeks do not count and no command clears them. Each stands still at 4,294,967,295, and any two are
+ * well formed. The direction is the position's: reverse at rate 1 counts backward. In a block inside a loop of L frames,
+ * forward, the position after it is the one before, plus the steps, less L times the wraps counted in it. */
 typedef struct CableowlState {
     uint32_t sample_rate;
     uint32_t state; /* 0 playing, 1 pausing, 2 paused, 3 waiting to resume, 4 resuming, 5 stopping, 6 stopped */
@@ -150,9 +155,6 @@ typedef struct CableowlState {
     double playback_rate;
     double fraction;
     CableowlEntry window[4];
-    /* Steps that took the loop's wrap, one each however many lengths it wraps, creation's own three among
-     * them; seeks do not count and no command clears them. Each stands still at 4,294,967,295; any are well
-     * formed. The direction is the position's: reverse at rate 1 counts backward. */
     uint32_t forward_wraps;
     uint32_t backward_wraps;
 } CableowlState;

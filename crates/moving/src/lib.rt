@@ -69,14 +69,10 @@ fn step(transport: Transport, course: Course) -> Transport
 }
 
 // One more; a count stands still at its limit.
-fn raise(count: u32, more: bool) -> u32
-    ensures { λ r. ⌜ r ≡ raised more count ⌝ }
+fn raise(count: u32) -> u32
+    ensures { λ r. ⌜ r ≡ raised true count ⌝ }
 {
-    if more & (count < 4294967295) {
-        count + 1
-    } else {
-        count
-    }
+    if count < 4294967295 { count + 1 } else { count }
 }
 
 // The counts after the next step.
@@ -84,11 +80,19 @@ fn count(transport: Transport, course: Course, wraps: Wraps) -> Wraps
     requires { ⌜ FormedTransport (course .«num_frames») transport ⌝ }
     ensures { λ r. ⌜ r ≡ counted course transport wraps ⌝ }
 {
-    let wrapped = transport.wraps(course.backwards);
-    Wraps {
-        forward: raise(wraps.forward, wrapped & !course.backwards),
-        backward: raise(wraps.backward, wrapped & course.backwards),
+    if transport.wraps(course.backwards) {
+        if course.backwards {
+            return Wraps {
+                forward: wraps.forward,
+                backward: raise(wraps.backward),
+            };
+        }
+        return Wraps {
+            forward: raise(wraps.forward),
+            backward: wraps.backward,
+        };
     }
+    wraps
 }
 
 impl Moving {

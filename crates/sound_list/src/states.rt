@@ -129,10 +129,7 @@ fn is_resampler(resampler: Resampler) -> bool {
 fn next_wraps() -> Wraps {
     let forward = input::half();
     let backward = input::half();
-    Wraps {
-        forward,
-        backward,
-    }
+    Wraps { forward, backward }
 }
 
 fn is_wraps(wraps: Wraps) -> bool {

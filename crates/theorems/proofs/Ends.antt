@@ -20,8 +20,8 @@ use Rattle.frame.specs.Frames.{lastZero}
 use Rattle.playback_state_manager.specs.declared.PlaybackState.{PlaybackState}
 use Rattle.playback_state_manager.specs.declared.PlaybackState.the-variants.{Stopped}
 use Rattle.transport.specs.declared.Transport.{Transport}
-use Rattle.transport.specs.Moves.{forward, backward, edge, wraps}
-use Rattle.transport.proofs.Steps.{forward-still, backward-still}
+use Rattle.transport.specs.Moves.{forward, backward}
+use Rattle.transport.proofs.Steps.{forward-still, backward-still, wraps-still}
 use Rattle.resampler.specs.declared.RecentFrame.{RecentFrame}
 use Rattle.resampler.specs.declared.Resampler.{Resampler}
 use Rattle.resampler.specs.Windows.{push, given-count, isEmpty, zeroFrame, Windowed}
@@ -79,12 +79,10 @@ module _ (snd : List Float) (c : Course) where
 
   -- and no step is counted
   counted-still : (t : Transport) (k : Wraps) → t .playing ≡ false → counted c t k ≡ k
-  unfolding counted wraps
+  unfolding counted
   counted-still t k e =
-      ap (λ (b : Bool). record {
-        forward = raised (b && edge (c .backwards) (t .«loop_region») (t .position) && not (c .backwards)) (k .forward);
-        backward = raised (b && edge (c .backwards) (t .«loop_region») (t .position) && c .backwards) (k .backward);
-      }) e
+      ap (λ (b : Bool). record { forward = raised (b && not (c .backwards)) (k .forward); backward = raised (b && c .backwards) (k .backward) })
+      (sym (wraps-still (c .backwards) t e))
 
   updates-uncounted : (n : ℕ) (m : Moving) → Ended m → (updates n snd c m) .wraps ≡ m .wraps
   unfolding updates updated

@@ -18,7 +18,7 @@ use Rattle.transport.specs.declared.Transport.{Transport}
 use Rattle.transport.specs.Moves.{under, back, wraps, forward, backward}
 use Rattle.transport.specs.WellFormed.{Inside}
 use Rattle.transport.proofs.Wraps.{under-inside, under-end, back-inside, back-start}
-use Rattle.transport.proofs.Steps.{forward-going, backward-looped, wraps-looped}
+use Rattle.transport.proofs.Steps.{forward-going, backward-looped, wraps-on, wraps-back}
 use Rattle.transport.proofs.WellFormed.{forward-inside, backward-inside}
 use Rattle.lanes.specs.Lanes.{Lanes}
 use Rattle.moving.specs.declared.Moving.{Moving}
@@ -60,7 +60,9 @@ raised-grows b n = go (b && ltb n 4294967295)
 module _ (snd : List Float) (c : Course) where
   updated-grows : (m : Moving) → let w = updated snd c m in (m .wraps .forward ≤ w .wraps .forward) × (m .wraps .backward ≤ w .wraps .backward)
   unfolding updated counted
-  updated-grows m = (raised-grows _ (m .wraps .forward), raised-grows _ (m .wraps .backward))
+  updated-grows m =
+      let w = wraps (c .backwards) (m .transport) in
+      (raised-grows (w && not (c .backwards)) (m .wraps .forward), raised-grows (w && c .backwards) (m .wraps .backward))
 
   updates-grow : (n : ℕ) (m : Moving) → let w = updates n snd c m in (m .wraps .forward ≤ w .wraps .forward) × (m .wraps .backward ≤ w .wraps .backward)
   unfolding updates
@@ -149,12 +151,6 @@ module _ (s e : ℕ) where
       up : (p : ℕ) → s < p → p - 1 + 1 ≡ p
       up p l = omega arith
 
-  wraps-on : (t : Transport) → Inside s e t → wraps false t ≡ leb e (t .position + 1)
-  wraps-on t h = wraps-looped false t s e (leb e (t .position + 1)) (h .loop) refl ∙ ap (λ (b : Bool). b && leb e (t .position + 1)) (h .going)
-
-  wraps-back : (t : Transport) → Inside s e t → wraps true t ≡ leb (t .position) s
-  wraps-back t h = wraps-looped true t s e (leb (t .position) s) (h .loop) refl ∙ ap (λ (b : Bool). b && leb (t .position) s) (h .going)
-
   -- ---- updates
 
   module _ (snd : List Float) (c : Course) (k : e ≤ c .«num_frames») where
@@ -186,7 +182,7 @@ module _ (s e : ℕ) where
         count : raised (wraps (c .backwards) t && not (c .backwards)) a ≡ raised (leb e (p + 1)) a
         count =
             ap (λ (b : Bool). raised (wraps b t && not b) a) d
-            ∙ ap (λ (b : Bool). raised b a) (and-true (wraps false t) ∙ wraps-on t h)
+            ∙ ap (λ (b : Bool). raised b a) (and-true (wraps false t) ∙ wraps-on t s e (h .going) (h .loop))
 
         still : raised (wraps (c .backwards) t && c .backwards) (m .wraps .backward) ≡ m .wraps .backward
         still =
@@ -239,7 +235,7 @@ module _ (s e : ℕ) where
         count : raised (wraps (c .backwards) t && c .backwards) a ≡ raised (leb p s) a
         count =
             ap (λ (b : Bool). raised (wraps b t && b) a) d
-            ∙ ap (λ (b : Bool). raised b a) (and-true (wraps true t) ∙ wraps-back t h)
+            ∙ ap (λ (b : Bool). raised b a) (and-true (wraps true t) ∙ wraps-back t s e (h .going) (h .loop))
 
         still : raised (wraps (c .backwards) t && not (c .backwards)) (m .wraps .forward) ≡ m .wraps .forward
         still =

@@ -3,13 +3,12 @@
 use Prim.Native.Nat.{ℕ, _+_, _-_, _≤_, _<_}
 use mathlib.Core.Path.{_≡_, refl, sym, ap, ap₂, _∙_}
 use mathlib.Core.Bool.{Bool, true, false, not, cond, _&&_, and-true, and-false}
-use native.Mathlib.Omega.{arith}
 use lib.Dec.{leb}
-use borrow.Author.Tests.{lt-ltb, le-ltb, le-leb, lt-leb, leb-true, leb-false, eq-eqb, ne-eqb}
+use borrow.Author.Tests.{lt-ltb, le-ltb, eq-eqb, ne-eqb}
 use Rattle.playback_position.specs.declared.FrameRange.{FrameRange}
 use Rattle.playback_position.specs.declared.FrameRange.the-variants.{Absent, Frames}
 use Rattle.transport.specs.declared.Transport.{Transport}
-use Rattle.transport.specs.Moves.{under, over, back, first, landed, forward, backward, edge, wraps, seek}
+use Rattle.transport.specs.Moves.{under, over, back, first, landed, forward, backward, atEnd, atStart, wraps, seek}
 
 -- the transport with its two numbers changed
 abbrev pub moved : Transport → ℕ → Bool → Transport
@@ -76,22 +75,19 @@ seek-down n t q h = ap (λ (b : Bool). landed n t (cond b (under (t .«loop_regi
 
 -- ---- whether a step takes the wrap
 
-pub wraps-none : (b : Bool) (t : Transport) → t .«loop_region» ≡ Absent → wraps b t ≡ false
+pub wraps-still : (b : Bool) (t : Transport) → t .playing ≡ false → false ≡ wraps b t
 unfolding wraps
-wraps-none b t l = ap (λ (r : FrameRange). t .playing && edge b r (t .position)) l ∙ and-false (t .playing)
+wraps-still b t p = sym (ap (λ (p : Bool). p && cond b (atStart (t .«loop_region») (t .position)) (atEnd (t .«loop_region») (t .position + 1))) p)
 
--- with its loop and its direction known
-pub wraps-looped : (b : Bool) (t : Transport) (s e : ℕ) (x : Bool) → t .«loop_region» ≡ Frames s e → edge b (Frames s e) (t .position) ≡ x → wraps b t ≡ (t .playing && x)
+-- playing, with its direction known
+pub wraps-going : (b d : Bool) (t : Transport) → b ≡ d → t .playing ≡ true
+    → cond d (atStart (t .«loop_region») (t .position)) (atEnd (t .«loop_region») (t .position + 1)) ≡ wraps b t
 unfolding wraps
-wraps-looped b t s e x l h = ap (λ (r : FrameRange). t .playing && edge b r (t .position)) l ∙ ap (λ (x : Bool). t .playing && x) h
+wraps-going b d t e p = sym (ap₂ (λ (p b : Bool). p && cond b (atStart (t .«loop_region») (t .position)) (atEnd (t .«loop_region») (t .position + 1))) p e)
 
-pub edge-back : (b : Bool) (s e p : ℕ) → b ≡ true → edge b (Frames s e) p ≡ leb p s
-edge-back b s e p h = ap (λ (b : Bool). cond b (leb p s) (leb e (p + 1))) h
+-- and with its loop known
+pub wraps-on : (t : Transport) (s e : ℕ) → t .playing ≡ true → t .«loop_region» ≡ Frames s e → wraps false t ≡ leb e (t .position + 1)
+wraps-on t s e p l = sym (wraps-going false false t refl p) ∙ ap (λ (r : FrameRange). atEnd r (t .position + 1)) l
 
--- on to the end: p + 1 >= e is p >= e - 1
-pub edge-on : (b : Bool) (s e p : ℕ) → b ≡ false → s < e → edge b (Frames s e) p ≡ leb (e - 1) p
-edge-on b s e p h l = ap (λ (b : Bool). cond b (leb p s) (leb e (p + 1))) h ∙ go (leb (e - 1) p) refl
-  where
-    go : (x : Bool) → leb (e - 1) p ≡ x → leb e (p + 1) ≡ leb (e - 1) p
-    go true k = let q = leb-true (e - 1) p k in le-leb e (p + 1) (omega arith) ∙ sym k
-    go false k = let q = leb-false (e - 1) p k in lt-leb e (p + 1) (omega arith) ∙ sym k
+pub wraps-back : (t : Transport) (s e : ℕ) → t .playing ≡ true → t .«loop_region» ≡ Frames s e → wraps true t ≡ leb (t .position) s
+wraps-back t s e p l = sym (wraps-going true true t refl p) ∙ ap (λ (r : FrameRange). atStart r (t .position)) l

@@ -45,14 +45,19 @@ backward t =
     (record { position = back (t .«loop_region») (t .position); «loop_region» = t .«loop_region»; playing = not (first (t .«loop_region») (t .position)) })
     t
 
--- a step from p takes the wrap: forward onto the loop's end or past it, backward from its start or from before it
-abbrev pub edge : Bool → FrameRange → ℕ → Bool
-edge backwards Absent p = false
-edge backwards (Frames s e) p = cond backwards (leb p s) (leb e (p + 1))
+-- the place p is at the loop's end or past it
+abbrev pub atEnd : FrameRange → ℕ → Bool
+atEnd Absent p = false
+atEnd (Frames s e) p = leb e p
 
--- the next step, backwards or not, takes the wrap; a transport that does not play makes none
+-- the place p is at the loop's start or before it
+abbrev pub atStart : FrameRange → ℕ → Bool
+atStart Absent p = false
+atStart (Frames s e) p = leb p s
+
+-- the next step takes the wrap: backward from the loop's start or before it, forward onto its end or past it
 unfoldable pub wraps : Bool → Transport → Bool
-wraps backwards t = t .playing && edge backwards (t .«loop_region») (t .position)
+wraps backwards t = t .playing && cond backwards (atStart (t .«loop_region») (t .position)) (atEnd (t .«loop_region») (t .position + 1))
 
 -- a seek to q in n frames: up to the loop's end when it goes up, down to its start when not
 unfoldable pub seek : ℕ → Transport → ℕ → Transport

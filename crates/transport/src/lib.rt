@@ -1,9 +1,10 @@
 // The transport: where a sound plays, its loop, and whether it plays at all. It goes by value: each move hands back the next one.
 ghost use mathlib.Core.Path.{_≡_};
-ghost use Prim.Native.Nat.{_<_};
+ghost use Prim.Native.Nat.{_≤_, _<_};
 ghost use lib.Dec.{T};
+ghost use Rattle.numbers.specs.Frames.{most};
 ghost use Rattle.playback_position.specs.Positions.{ordered};
-ghost use Rattle.transport.specs.Moves.{under, over, landed, forward, backward, wraps, seek, reloop, begun};
+ghost use Rattle.transport.specs.Moves.{under, over, landed, forward, backward, atEnd, atStart, wraps, seek, reloop, begun};
 ghost use Rattle.transport.specs.WellFormed.{FormedTransport};
 use playback_position::FrameRange;
 
@@ -48,6 +49,26 @@ fn from_start(loop_region: FrameRange, p: usize) -> usize
                 p
             }
         }
+    }
+}
+
+// Whether the place p is at the loop's end or past it.
+fn is_at_end(loop_region: FrameRange, p: usize) -> bool
+    ensures { λ r. ⌜ r ≡ atEnd «loop_region» p ⌝ }
+{
+    match loop_region {
+        FrameRange::Absent => false,
+        FrameRange::Frames(_, end) => p >= end,
+    }
+}
+
+// Whether the place p is at the loop's start or before it.
+fn is_at_start(loop_region: FrameRange, p: usize) -> bool
+    ensures { λ r. ⌜ r ≡ atStart «loop_region» p ⌝ }
+{
+    match loop_region {
+        FrameRange::Absent => false,
+        FrameRange::Frames(start, _) => p <= start,
     }
 }
 
@@ -130,22 +151,22 @@ impl Transport {
         self
     }
 
-    // Whether the next step takes the wrap.
+    // Whether the next step takes the wrap: asked as the step itself asks, so that the two tests become one.
     pub fn wraps(self, backwards: bool) -> bool
-        requires { ⌜ T (ordered (self .«loop_region»)) ⌝ }
+        requires { ⌜ self .position ≤ most ⌝ }
         ensures { λ r. ⌜ r ≡ wraps backwards self ⌝ }
     {
         let loop_region = self.loop_region;
-        match loop_region {
-            FrameRange::Absent => false,
-            FrameRange::Frames(start, end) => {
-                if backwards {
-                    self.playing & (self.position <= start)
-                } else {
-                    self.playing & (self.position >= end - 1)
-                }
+        if backwards {
+            if self.playing {
+                return is_at_start(loop_region, self.position);
             }
+            return false;
         }
+        if self.playing {
+            return is_at_end(loop_region, self.position + 1);
+        }
+        false
     }
 
     pub fn seek_to(mut self, position: usize, num_frames: usize) -> Transport

@@ -175,7 +175,7 @@ impl<I: Iterator<Item = u64>> Reader<I> {
         let frames = self.next();
         self.skip(7);
         let state = self.next();
-        self.skip(18);
+        self.skip(20);
         (frames, state)
     }
 

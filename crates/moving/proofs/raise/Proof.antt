@@ -1,30 +1,27 @@
 -- `raise` meets its contract: its test is the definition's.
-use Prim.Native.Nat.{ℕ, _+_, _<_}
 use mathlib.Core.Path.{_≡_, sym, ap}
-use mathlib.Core.Bool.{Bool, true, false, false≢true, _&&_, cond}
+use mathlib.Core.Bool.{Bool, true, false, cond}
+use Prim.Native.Nat.{ℕ, _+_, _≤_, _<_}
 use native.Mathlib.Omega.{arith}
-use lib.Dec.{ltb}
-use borrow.Author.Tests.{ltb-true}
+use borrow.Author.Tests.{lt-ltb, le-ltb}
 use Rattle.moving.specs.Updates.{raised}
 use Rattle.moving.proofs.raise.Statement.{statement}
 use Rattle.moving.proofs.raise.Tie as tie
 
--- a count that is raised is below its limit
-below : (more : Bool) (n : ℕ) → (more && ltb n 4294967295) ≡ true → n < 4294967295
-below true n e = ltb-true n 4294967295 e
-below false n e = absurd (false≢true e)
+more : (n : ℕ) → n < 4294967295 → n + 1 ≡ raised true n
+more n h = sym (ap (λ (b : Bool). cond b (n + 1) n) (lt-ltb n 4294967295 h))
 
-raised-by : (more : Bool) (n : ℕ) (b : Bool) → (more && ltb n 4294967295) ≡ b → cond b (n + 1) n ≡ raised more n
-raised-by more n b e = ap (λ (b : Bool). cond b (n + 1) n) (sym e)
+full : (n : ℕ) → 4294967295 ≤ n → n ≡ raised true n
+full n h = sym (ap (λ (b : Bool). cond b (n + 1) n) (le-ltb n 4294967295 h))
 
 add-result : tie.Need-add-result
-add-result c = omega (arith, below (c .before .args .more) (c .before .args .count) (c .if1 .taken))
+add-result c = omega (arith, c .if1 .taken)
 
 returns : tie.Need-returns
-returns c = raised-by (c .before .args .more) (c .before .args .count) true (c .if1 .taken)
+returns c = more (c .before .args .count) (c .if1 .taken)
 
 returns-2 : tie.Need-returns-2
-returns-2 c = raised-by (c .before .args .more) (c .before .args .count) false (c .if1 .left)
+returns-2 c = full (c .before .args .count) (c .if1 .left)
 
 pub raise-spec : {M : Type 1} → statement M
 raise-spec = tie.close (tie.spec add-result returns returns-2)

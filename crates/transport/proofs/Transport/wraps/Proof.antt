@@ -1,46 +1,41 @@
--- `transport::Transport::wraps` meets its contract: each arm is a case of `edge`.
+-- `transport::Transport::wraps` meets its contract: by the direction, and by whether it plays.
 -- Assumes nothing.
-use Prim.Native.Nat.{ℕ, _<_}
-use mathlib.Core.Path.{sym}
-use native.Mathlib.Omega.{arith}
+use mathlib.Core.Path.{_∙_}
+use mathlib.Core.Bool.{true, false}
 use borrow.Author.Needs.{needs}
-use Rattle.playback_position.proofs.Ranges.{ordered-more}
-use Rattle.transport.proofs.Steps.{wraps-none, wraps-looped, edge-back, edge-on}
+use Rattle.transport.proofs.Steps.{wraps-still, wraps-going}
 use Rattle.transport.proofs.Transport.wraps.Statement.{statement}
 use Rattle.transport.proofs.Transport.wraps.Tie as tie
 
--- in the loop's arm: its start and end, and that it is not empty
-module _ (c : tie.After-loop-region) where
-  abbrev s : ℕ
-  s = c .loop-region .given .0 .0
-
-  abbrev e : ℕ
-  e = c .loop-region .given .0 .1 .0
-
-  more : s < e
-  more = ordered-more s e (c .loop-region .given .1) (c .before .before .pre)
-
-enum-told : tie.Need-enum-told
-enum-told c = search needs
-
-enum-known-loop-region : tie.Need-enum-known-loop-region
-enum-known-loop-region c = search needs
-
-sub-result : tie.Need-sub-result
-sub-result c = omega (arith, more (c .before .before))
+is-at-start-requires : tie.Need-is-at-start-requires
+is-at-start-requires c κs = search needs
 
 returns : tie.Need-returns
-returns c = sym (wraps-none _ _ (c .enum-told .given .1))
+returns c = c .is-at-start .ensures ∙ wraps-going _ true _ (c .before .before .if1 .taken) (c .before .if2 .taken)
 
 returns-2 : tie.Need-returns-2
-returns-2 c =
-    let k = c .before .before .before .before in
-    sym (wraps-looped _ _ (s k) (e k) _ (k .loop-region .given .1) (edge-back _ (s k) (e k) _ (c .before .before .if1 .taken)))
+returns-2 c = wraps-still _ _ (c .if2 .left)
+
+add-is-at-end : tie.Need-add-is-at-end
+add-is-at-end c = search needs
+
+is-at-end-requires : tie.Need-is-at-end-requires
+is-at-end-requires c κs = search needs
 
 returns-3 : tie.Need-returns-3
-returns-3 c =
-    let k = c .before .before .before .before in
-    sym (wraps-looped _ _ (s k) (e k) _ (k .loop-region .given .1) (edge-on _ (s k) (e k) _ (c .before .before .if1 .left) (more k)))
+returns-3 c = c .is-at-end .ensures ∙ wraps-going _ false _ (c .before .before .before .if1 .left) (c .before .before .if3 .taken)
+
+returns-4 : tie.Need-returns-4
+returns-4 c = wraps-still _ _ (c .if3 .left)
 
 pub wraps-spec : {M : Type 1} → statement M
-wraps-spec = tie.close (tie.spec enum-told enum-known-loop-region sub-result returns returns-2 returns-3)
+wraps-spec =
+    tie.close
+    (tie.spec
+    is-at-start-requires
+    returns
+    returns-2
+    add-is-at-end
+    is-at-end-requires
+    returns-3
+    returns-4)
