@@ -77,7 +77,8 @@ step-by false (Frames s e) o n p w h r =
 
 wraps-by : (b : Bool) (loop : FrameRange) (o n p : ℕ) → On (way loop o n b) p → Going (way loop o n b) p → wraps b (on loop p) ≡ turns (way loop o n b) p
 unfolding wraps
-wraps-by b Absent o n p h r = sym (r refl)
+wraps-by true Absent o n p h r = sym (r refl)
+wraps-by false Absent o n p h r = sym (r refl)
 wraps-by true (Frames s e) o n p h r = go (eqb p s) refl
   where
     above : (s p : ℕ) → s ≤ p → (p ≡ s → ⊥) → s < p
