@@ -1,4 +1,4 @@
-//! The evening of `make` on a sound short enough to be recorded, and played again from its trace: what support does.
+//! The evening of `listening_box` on a sound short enough to be recorded, and played again from its trace: what support does.
 
 use cableowl::{
     Command, Level, RecordedPlayer, Refusal, Region, Settings, Tween,
