@@ -94,8 +94,10 @@ impl Room {
             fs::create_dir_all(path.join(folder)).unwrap();
         }
         fs::write(path.join("KIT"), "kit\n").unwrap();
-        let gate = Path::new(env!("CARGO_MANIFEST_DIR")).join("../../tools/gate");
-        fs::copy(gate, path.join("tools/gate")).unwrap();
+        let tools = Path::new(env!("CARGO_MANIFEST_DIR")).join("../../tools");
+        for tool in ["gate", "from-proved"] {
+            fs::copy(tools.join(tool), path.join("tools").join(tool)).unwrap();
+        }
         Self(path)
     }
 }
