@@ -21,6 +21,13 @@ pub struct Signals {
     pub resume: StartAnswer,
 }
 
+// A voice, the seconds that each frame of its block takes, and what the block is told.
+pub struct Told {
+    pub voice: StaticSound,
+    pub dt: f64,
+    pub signals: Signals,
+}
+
 // A voice takes its signals: states, then the answer that the start signal gives.
 fn begin(voice: StaticSound, signals: Signals) -> StaticSound
     ensures { λ r. ⌜ r ≡ begun signals voice ⌝ }
@@ -84,23 +91,23 @@ fn silence(out: &mut [f32])
 
 // The block of a well formed voice over lanes that were judged.
 pub fn block(
-    voice: StaticSound,
+    told: Told,
     sound: &[f32],
     fade: &[f32],
     volume: &[f32],
     left: &[f32],
     right: &[f32],
     rate: &[f64],
-    dt: f64,
-    signals: Signals,
     out: &mut [f32],
 ) -> Processed
-    requires { ⌜ Playable (now sound) voice dt (five (now fade) (now volume) (now left) (now right) (now rate)) (length (now out)) ⌝ }
-    ensures { λ r. ⌜ record { answer = r; samples = now (out .exit) } ≡ acceptedAs (block (now (sound .entry)) dt (rows (five (now (fade .entry)) (now (volume .entry)) (now (left .entry)) (now (right .entry)) (now (rate .entry)))) signals voice) ⌝ }
+    requires { ⌜ Playable (now sound) (told .voice) (told .dt) (five (now fade) (now volume) (now left) (now right) (now rate)) (length (now out)) ⌝ }
+    ensures { λ r. ⌜ record { answer = r; samples = now (out .exit) } ≡ acceptedAs (block (now (sound .entry)) (told .dt) (rows (five (now (fade .entry)) (now (volume .entry)) (now (left .entry)) (now (right .entry)) (now (rate .entry)))) (told .signals) (told .voice)) ⌝ }
 {
+    let voice = told.voice;
+    let signals = told.signals;
     let begun = begin(voice, signals);
     if is_live(begun) {
-        return play(begun, sound, fade, volume, left, right, rate, dt, out);
+        return play(begun, sound, fade, volume, left, right, rate, told.dt, out);
     }
     silence(out);
     Processed {

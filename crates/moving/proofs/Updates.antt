@@ -13,6 +13,9 @@ use Rattle.resampler.specs.declared.RecentFrame.{RecentFrame}
 use Rattle.resampler.specs.Windows.{blank, push}
 use Rattle.moving.specs.declared.Course.{Course}
 use Rattle.moving.specs.declared.Moving.{Moving}
+use Rattle.moving.specs.declared.window.Frames.{Frames}
+use Rattle.moving.specs.declared.window.Numbers.{Numbers}
+use Rattle.moving.specs.Windows.{framesOf, numbersOf, windowOf}
 use Rattle.moving.specs.Updates.{pushed, stepped, updated, updates, movingOf}
 
 pub updates-one : (n : ℕ) (snd : List Float) (c : Course) (m : Moving) → 0 < n → updates (n - 1) snd c (updated snd c m) ≡ updates n snd c m
@@ -43,22 +46,15 @@ stepped-loop c t = go (c .backwards) (t .playing)
     go false true = refl
     go false false = refl
 
--- and so do updates in a row
-pub updates-loop : (n : ℕ) (snd : List Float) (c : Course) (m : Moving) → (updates n snd c m) .transport .«loop_region» ≡ m .transport .«loop_region»
-unfolding updates updated
-updates-loop zero snd c m = refl
-updates-loop (suc n) snd c m = updates-loop n snd c (updated snd c m) ∙ stepped-loop c (m .transport)
-
 -- entry i of the window, as code reads it
 abbrev getD-blank : List RecentFrame → ℕ → RecentFrame
 getD-blank l i = getD l i blank
 
--- what moves, taken apart as code reads it and put together beside a loop
+-- what moves, taken apart and put together beside a loop
 abbrev pub apart : FrameRange → Moving → Moving
 apart loop m =
-    let e : ℕ → RecentFrame = getD-blank (m .resampler .frames) in
-    movingOf loop (m .state) (m .transport .position) (m .transport .playing) (m .wraps) (e 0 .frame) (e 1 .frame) (e 2 .frame) (e 3 .frame) (e 0 .«frame_index») (e 1 .«frame_index») (e 2 .«frame_index») (e 3 .«frame_index»)
-    (m .resampler .«time_until_empty»)
+    let w = m .resampler in
+    movingOf loop (m .state) (m .transport .position) (m .transport .playing) (m .wraps) (windowOf (framesOf w) (numbersOf w))
 
 four : (l : List RecentFrame) → length l ≡ 4 → _≡_ {A = List RecentFrame} (getD-blank l 0 ∷ getD-blank l 1 ∷ getD-blank l 2 ∷ getD-blank l 3 ∷ []) l
 four [] e = absurd (bad e)
@@ -93,9 +89,18 @@ together loop m e f =
       wraps = m .wraps;
     }) (sym e) (four (m .resampler .frames) f)
 
+-- the same, from the parts that the code has
+pub together-as : (loop : FrameRange) (m x : Moving) (f : Frames) (n : Numbers) → x ≡ m → m .transport .«loop_region» ≡ loop → length (m .resampler .frames) ≡ 4
+    → f ≡ framesOf (x .resampler) → n ≡ numbersOf (x .resampler)
+    → movingOf loop (x .state) (x .transport .position) (x .transport .playing) (x .wraps) (windowOf f n) ≡ m
+together-as loop m x f n e h g ef en =
+    ap₂ (λ (f : Frames) (n : Numbers). movingOf loop (x .state) (x .transport .position) (x .transport .playing) (x .wraps) (windowOf f n)) ef en
+    ∙ ap (apart loop) e ∙ together loop m h g
+
 -- an update has four frames, and the loop that it had
-pub updated-apart : (snd : List Float) (c : Course) (loop : FrameRange) (m w x : Moving) → w ≡ m → x ≡ updated snd c w → m .transport .«loop_region» ≡ loop → apart loop x ≡ updated snd c m
+pub updated-apart : (snd : List Float) (c : Course) (loop : FrameRange) (m w x : Moving) (f : Frames) (n : Numbers) → w ≡ m → x ≡ updated snd c w → m .transport .«loop_region» ≡ loop
+    → f ≡ framesOf (x .resampler) → n ≡ numbersOf (x .resampler)
+    → movingOf loop (x .state) (x .transport .position) (x .transport .playing) (x .wraps) (windowOf f n) ≡ updated snd c m
 unfolding updated pushed push
-updated-apart snd c loop m w x e f h =
-    let g : x ≡ updated snd c m = f ∙ ap (updated snd c) e in
-    together loop x (ap (λ (y : Moving). y .transport .«loop_region») g ∙ stepped-loop c (m .transport) ∙ h) (ap (λ (y : Moving). length (y .resampler .frames)) g) ∙ g
+updated-apart snd c loop m w x f n e u h ef en =
+    together-as loop (updated snd c m) x f n (u ∙ ap (updated snd c) e) (stepped-loop c (m .transport) ∙ h) refl ef en

@@ -1,11 +1,10 @@
 -- One update of what moves (docs/RULES.md, "Creation, commands, block"), and what it asks.
 use Prim.Native.Nat.{ℕ, zero, suc, _+_, _*_, _≤_}
 use mathlib.Core.Bool.{Bool, not, _&&_, cond}
-use mathlib.Core.List.{List, [], _∷_}
+use mathlib.Core.List.{List}
 use lib.Dec.{ltb}
 use lib.ListN.{length}
 use lib.Ieee.{Float}
-use Rattle.frame.specs.declared.Frame.{Frame}
 use Rattle.frame.specs.Frames.{frameOf}
 use Rattle.playback_position.specs.declared.FrameRange.{FrameRange}
 use Rattle.playback_state_manager.specs.declared.PlaybackState.{PlaybackState}
@@ -64,16 +63,13 @@ unfolding updated
 updates zero snd c m = m
 updates (suc n) snd c m = updates n snd c (updated snd c m)
 
--- what moves, from its parts: the loop, the state, the place, the counts, and the window's four frames with their numbers
-abbrev pub movingOf : FrameRange → PlaybackState → ℕ → Bool → Wraps → Frame → Frame → Frame → Frame → ℕ → ℕ → ℕ → ℕ → ℕ → Moving
-movingOf loop s p playing k a b c d na nb nc nd count =
+-- what moves, from its parts: the loop, the state, the place, the counts, and the window
+abbrev pub movingOf : FrameRange → PlaybackState → ℕ → Bool → Wraps → Resampler → Moving
+movingOf loop s p playing k w =
     record {
       state = s;
       transport = record { position = p; «loop_region» = loop; playing = playing };
-      resampler = record {
-        frames = record { frame = a; «frame_index» = na } ∷ record { frame = b; «frame_index» = nb } ∷ record { frame = c; «frame_index» = nc } ∷ record { frame = d; «frame_index» = nd } ∷ [];
-        «time_until_empty» = count;
-      };
+      resampler = w;
       wraps = k;
     }
 

@@ -6,13 +6,18 @@ ghost use lib.ListN.{length};
 ghost use Rattle.frame.specs.Frames.{frameOf};
 ghost use Rattle.transport.specs.WellFormed.{FormedTransport};
 ghost use Rattle.moving.specs.Updates.{sounding, pushed, stepped, raised, counted, updated, updates, movingOf, Able};
+
+mod window;
+
 use frame::Frame;
 use playback_position::FrameRange;
 use playback_state_manager::PlaybackState;
 use resampler::MaybeFrame;
-use resampler::RecentFrame;
 use resampler::Resampler;
 use transport::Transport;
+use window::frames_of;
+use window::numbers_of;
+use window::window_of;
 
 // How often the loop was wrapped: forward steps that took the wrap, and backward ones.
 pub struct Wraps {
@@ -134,8 +139,8 @@ impl Moving {
         }
     }
 
-    // As many updates as there are steps. What moves goes round the loop in small parts: no padding is copied, and no
-    // frame number lies beside the samples that are computed with.
+    // As many updates as there are steps. What moves goes round the loop in parts: neither padding nor the loop's own frames
+    // are copied, and no frame number lies beside the samples that are computed with.
     pub fn update_positions(self, course: Course, sound: &[f32], steps: usize) -> Moving
         requires { ⌜ Able (now sound) course self ⌝ }
         ensures { λ r. ⌜ r ≡ updates steps (now (sound .entry)) course self ⌝ }
@@ -143,126 +148,47 @@ impl Moving {
         let first = self.transport;
         let loop_region = first.loop_region;
         let window = self.resampler;
-        let ea = window.frames[0];
-        let eb = window.frames[1];
-        let ec = window.frames[2];
-        let ed = window.frames[3];
         let mut state = self.state;
         let mut position = first.position;
         let mut playing = first.playing;
         let mut wraps = self.wraps;
-        let mut a = ea.frame;
-        let mut b = eb.frame;
-        let mut c = ec.frame;
-        let mut d = ed.frame;
-        let mut na = ea.frame_index;
-        let mut nb = eb.frame_index;
-        let mut nc = ec.frame_index;
-        let mut nd = ed.frame_index;
-        let mut count = window.time_until_empty;
+        let mut frames = frames_of(window);
+        let mut numbers = numbers_of(window);
         let mut left = steps;
         while left > 0 {
-            let moving = moving_of(
-                loop_region,
-                state,
-                position,
-                playing,
-                wraps,
-                a,
-                b,
-                c,
-                d,
-                na,
-                nb,
-                nc,
-                nd,
-                count,
-            );
+            let window = window_of(frames, numbers);
+            let moving = moving_of(loop_region, state, position, playing, wraps, window);
             let next = moving.update_position(course, sound);
             let after = next.transport;
-            let window = next.resampler;
-            let ea = window.frames[0];
-            let eb = window.frames[1];
-            let ec = window.frames[2];
-            let ed = window.frames[3];
+            let pushed = next.resampler;
             state = next.state;
             position = after.position;
             playing = after.playing;
             wraps = next.wraps;
-            a = ea.frame;
-            b = eb.frame;
-            c = ec.frame;
-            d = ed.frame;
-            na = ea.frame_index;
-            nb = eb.frame_index;
-            nc = ec.frame_index;
-            nd = ed.frame_index;
-            count = window.time_until_empty;
+            frames = frames_of(pushed);
+            numbers = numbers_of(pushed);
             left -= 1;
         }
-        moving_of(
-            loop_region,
-            state,
-            position,
-            playing,
-            wraps,
-            a,
-            b,
-            c,
-            d,
-            na,
-            nb,
-            nc,
-            nd,
-            count,
-        )
+        let window = window_of(frames, numbers);
+        moving_of(loop_region, state, position, playing, wraps, window)
     }
 }
 
-// What moves, from its parts: the loop, the state, the place, the counts, and the window's four frames with their numbers.
-pub fn moving_of(
+// What moves, from its parts: the loop, the state, the place, the counts, and the window.
+fn moving_of(
     loop_region: FrameRange,
     state: PlaybackState,
     position: usize,
     playing: bool,
     wraps: Wraps,
-    a: Frame,
-    b: Frame,
-    c: Frame,
-    d: Frame,
-    na: usize,
-    nb: usize,
-    nc: usize,
-    nd: usize,
-    time_until_empty: usize,
+    resampler: Resampler,
 ) -> Moving
-    ensures { λ r. ⌜ r ≡ movingOf «loop_region» state position playing wraps a b c d na nb nc nd «time_until_empty» ⌝ }
+    ensures { λ r. ⌜ r ≡ movingOf «loop_region» state position playing wraps resampler ⌝ }
 {
     let transport = Transport {
         position,
         loop_region,
         playing,
-    };
-    let ea = RecentFrame {
-        frame: a,
-        frame_index: na,
-    };
-    let eb = RecentFrame {
-        frame: b,
-        frame_index: nb,
-    };
-    let ec = RecentFrame {
-        frame: c,
-        frame_index: nc,
-    };
-    let ed = RecentFrame {
-        frame: d,
-        frame_index: nd,
-    };
-    let frames = [ea, eb, ec, ed];
-    let resampler = Resampler {
-        frames,
-        time_until_empty,
     };
     Moving {
         state,

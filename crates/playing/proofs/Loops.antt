@@ -27,7 +27,6 @@ use Rattle.moving.specs.Updates.{updates}
 use Rattle.voice.specs.WellFormed.{Formed}
 use Rattle.voice.proofs.Formed.{span-most, kept-of, moved-formed}
 use Rattle.moving.proofs.Kept.{updates-kept}
-use Rattle.moving.proofs.Updates.{updates-loop}
 use Rattle.playing.specs.declared.Turned.{Turned}
 use Rattle.playing.specs.Plays.{Played, plays, turned, total, lower, readBy, frameHeard, Outcome, acceptedAs}
 use Rattle.playing.specs.Turns.{frameAt, turnOf, Turning}
@@ -99,11 +98,6 @@ module _ (snd : List Float) (dt : Float) (b : Lanes) (v : StaticSound) where
       ∙ ap (λ (n : ℕ). played (moved v ((turning snd dt v m f l) .«fractional_position») ((turning snd dt v m f l) .moving)) (take n (set (set out (2 * i) ((framed m f l) .left)) (2 * i + 1) ((framed m f l) .right))) (steps + (turning snd dt v m f l) .steps) next) d
       ∙ ap (λ (z : List Float). played (moved v ((turning snd dt v m f l) .«fractional_position») ((turning snd dt v m f l) .moving)) z (steps + (turning snd dt v m f l) .steps) next) (two out (2 * i) ((framed m f l) .left) ((framed m f l) .right) long))
 
-  -- with the same moving parts, put together again
-  pub played-as : (i steps low : ℕ) (samples : List Float) (f : Float) (m w : Moving) → plays snd dt (take i (rows b)) v ≡ played (moved v f m) samples steps low → w ≡ m
-      → plays snd dt (take i (rows b)) v ≡ played (moved v f w) samples steps low
-  played-as i steps low samples f m w e h = e ∙ ap (λ (x : Moving). played (moved v f x) samples steps low) (sym h)
-
   pub played-none : (out : List Float) → plays snd dt (take 0 (rows b)) v ≡ played v (take (2 * 0) out) 0 4
   unfolding plays
   played-none out = refl
@@ -127,12 +121,6 @@ module _ (snd : List Float) (c : Course) (hz : ℕ) (rate dt : Float) (m : Movin
   turned-few t h e =
       subst (λ (t : Turned). t .steps ≤ 257) (sym e)
       (sum-steps f (advance hz rate dt) 256 (le-refl 256) (h .below) (advance-finite-clear hz rate dt (h .timeStep) (h .slow)) (h .slow))
-
-  -- and keep the loop
-  pub turned-loop : (t : Turned) → t ≡ turnOf snd c hz rate dt m f → t .moving .transport .«loop_region» ≡ m .transport .«loop_region»
-  unfolding turnOf
-  turned-loop t e =
-      ap (λ (t : Turned). t .moving .transport .«loop_region») e ∙ updates-loop (whole (add binary64 f (advance hz rate dt))) snd c m
 
 pub turned-on : (snd : List Float) (dt : Float) (v : StaticSound) (rate : Float) (m : Moving) (f : Float) (t : Turned) → Formed (moved v f m)
     → Turning snd (courseOf v) (v .setup .«sample_rate») rate dt m f → t ≡ turnOf snd (courseOf v) (v .setup .«sample_rate») rate dt m f → Formed (moved v (t .«fractional_position») (t .moving))

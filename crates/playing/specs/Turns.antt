@@ -3,12 +3,14 @@ use Prim.Native.Nat.{ℕ, _*_}
 use mathlib.Core.Path.{_≡_}
 use mathlib.Core.List.{List}
 use lib.Dec.{T}
-use lib.ListN.{length}
-use lib.Ieee.{Float, binary32, binary64, add, mul, lt}
+use lib.ListN.{length, getD}
+use lib.Ieee.{Float, nan, binary32, binary64, add, mul, lt}
 use Rattle.numbers.specs.Words.{positiveZero, proper, narrowed, whole, part, advance}
 use Rattle.numbers.specs.Lists.{all}
 use Rattle.frame.specs.declared.Frame.{Frame}
 use Rattle.frame.specs.Frames.{interpolated}
+use Rattle.resampler.specs.declared.Resampler.{Resampler}
+use Rattle.resampler.specs.Windows.{nth}
 use Rattle.lanes.specs.Lanes.{Lanes, rows, sized, near, slow}
 use Rattle.moving.specs.declared.Course.{Course}
 use Rattle.moving.specs.declared.Moving.{Moving}
@@ -25,6 +27,11 @@ frameAt a b c d f fade volume left right =
       left = mul binary32 (mul binary32 (mul binary32 (x .left) fade) volume) left;
       right = mul binary32 (mul binary32 (mul binary32 (x .right) fade) volume) right;
     }
+
+-- frame i of the lanes heard: the window read at a fraction
+abbrev pub heardAt : Resampler → Float → List Float → List Float → List Float → List Float → ℕ → Frame
+heardAt w f fade volume left right i =
+    frameAt (nth w 0) (nth w 1) (nth w 2) (nth w 3) f (getD fade i nan) (getD volume i nan) (getD left i nan) (getD right i nan)
 
 -- what one frame leaves of the moving parts and the fraction
 unfoldable pub turnOf : List Float → Course → ℕ → Float → Float → Moving → Float → Turned

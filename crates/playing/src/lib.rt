@@ -1,17 +1,23 @@
 // A started, advancing block: frame after frame, the window is read and the voice moves (the loop of kira's StaticSound::process).
 ghost use mathlib.Core.Path.{_≡_};
+ghost use Prim.Native.Nat.{_<_};
 ghost use lib.Dec.{T};
 ghost use lib.ListN.{length};
 ghost use Rattle.numbers.specs.Words.{proper};
 ghost use Rattle.lanes.specs.Lanes.{five, rows};
 ghost use Rattle.playing.specs.Plays.{lower, plays, acceptedAs};
-ghost use Rattle.playing.specs.Turns.{frameAt, turnOf, Turning, Playable};
+ghost use Rattle.playing.specs.Turns.{heardAt, turnOf, Turning, Playable};
 use frame::Frame;
-use frame::interpolate_frame;
 use moving::Course;
 use moving::Moving;
-use moving::moving_of;
+use resampler::Resampler;
 use voice::StaticSound;
+
+// A voice, and the seconds that each frame of its block takes.
+pub struct Timed {
+    pub voice: StaticSound,
+    pub dt: f64,
+}
 
 // What a block answers: its refusal, 0 for none, the voice after it, the steps made, and the lowest count that it read.
 pub struct Processed {
@@ -35,22 +41,29 @@ fn lower(a: usize, b: usize) -> usize
     if a <= b { a } else { b }
 }
 
-// The reading of four frames times fade, times volume, times each channel's gain.
+// The window's reading times fade, times volume, times each channel's gain, all of frame i.
 fn frame_heard(
-    a: Frame,
-    b: Frame,
-    c: Frame,
-    d: Frame,
+    window: Resampler,
     fractional_position: f64,
-    fade: f32,
-    volume: f32,
-    left: f32,
-    right: f32,
+    fade: &[f32],
+    volume: &[f32],
+    left: &[f32],
+    right: &[f32],
+    i: usize,
 ) -> Frame
     requires { ⌜ T (proper «fractional_position») ⌝ }
-    ensures { λ r. ⌜ r ≡ frameAt a b c d «fractional_position» fade volume left right ⌝ }
+    requires { ⌜ i < length (now fade) ⌝ }
+    requires { ⌜ i < length (now volume) ⌝ }
+    requires { ⌜ i < length (now left) ⌝ }
+    requires { ⌜ i < length (now right) ⌝ }
+    ensures { λ r. ⌜ r ≡ heardAt window «fractional_position» (now (fade .entry)) (now (volume .entry)) (now (left .entry)) (now (right .entry)) i ⌝ }
 {
-    let out = interpolate_frame(a, b, c, d, numbers::narrow(fractional_position));
+    let read = window.get(numbers::narrow(fractional_position));
+    let out = read.frame;
+    let fade = fade[i];
+    let volume = volume[i];
+    let left = left[i];
+    let right = right[i];
     Frame {
         left: out.left * fade * volume * left,
         right: out.right * fade * volume * right,
@@ -79,130 +92,47 @@ fn turn(
     }
 }
 
-// A started, advancing block. What moves goes round the loop in parts, so that no padding is copied
-// and no frame number lies beside the samples that are computed with.
+// A started, advancing block.
 pub fn play(
-    voice: StaticSound,
+    timed: Timed,
     sound: &[f32],
     fade: &[f32],
     volume: &[f32],
     left: &[f32],
     right: &[f32],
     rate: &[f64],
-    dt: f64,
     out: &mut [f32],
 ) -> Processed
-    requires { ⌜ Playable (now sound) voice dt (five (now fade) (now volume) (now left) (now right) (now rate)) (length (now out)) ⌝ }
-    ensures { λ r. ⌜ record { answer = r; samples = now (out .exit) } ≡ acceptedAs (plays (now (sound .entry)) dt (rows (five (now (fade .entry)) (now (volume .entry)) (now (left .entry)) (now (right .entry)) (now (rate .entry)))) voice) ⌝ }
+    requires { ⌜ Playable (now sound) (timed .voice) (timed .dt) (five (now fade) (now volume) (now left) (now right) (now rate)) (length (now out)) ⌝ }
+    ensures { λ r. ⌜ record { answer = r; samples = now (out .exit) } ≡ acceptedAs (plays (now (sound .entry)) (timed .dt) (rows (five (now (fade .entry)) (now (volume .entry)) (now (left .entry)) (now (right .entry)) (now (rate .entry)))) (timed .voice)) ⌝ }
 {
+    let voice = timed.voice;
     let course = voice.course();
-    let setup = voice.setup;
-    let sample_rate = setup.sample_rate;
-    let first = voice.moving;
-    let opening = first.transport;
-    let loop_region = opening.loop_region;
-    let window = first.resampler;
-    let ea = window.frames[0];
-    let eb = window.frames[1];
-    let ec = window.frames[2];
-    let ed = window.frames[3];
-    let mut state = first.state;
-    let mut position = opening.position;
-    let mut playing = opening.playing;
-    let mut wraps = first.wraps;
-    let mut a = ea.frame;
-    let mut b = eb.frame;
-    let mut c = ec.frame;
-    let mut d = ed.frame;
-    let mut na = ea.frame_index;
-    let mut nb = eb.frame_index;
-    let mut nc = ec.frame_index;
-    let mut nd = ed.frame_index;
-    let mut count = window.time_until_empty;
+    let mut moving = voice.moving;
     let mut fractional_position = voice.fractional_position;
     let mut steps: usize = 0;
     let mut lowest_count: usize = 4;
     let mut i: usize = 0;
     while i < rate.len() {
-        let frame = frame_heard(
-            a,
-            b,
-            c,
-            d,
-            fractional_position,
-            fade[i],
-            volume[i],
-            left[i],
-            right[i],
-        );
-        lowest_count = lower(lowest_count, count);
-        let moving = moving_of(
-            loop_region,
-            state,
-            position,
-            playing,
-            wraps,
-            a,
-            b,
-            c,
-            d,
-            na,
-            nb,
-            nc,
-            nd,
-            count,
-        );
+        let window = moving.resampler;
+        let frame = frame_heard(window, fractional_position, fade, volume, left, right, i);
+        out[2 * i] = frame.left;
+        out[2 * i + 1] = frame.right;
+        lowest_count = lower(lowest_count, window.time_until_empty);
         let next = turn(
             moving,
             fractional_position,
             course,
-            sample_rate,
+            voice.setup.sample_rate,
             rate[i],
-            dt,
+            timed.dt,
             sound,
         );
-        out[2 * i] = frame.left;
-        out[2 * i + 1] = frame.right;
-        let after = next.moving;
-        let landed = after.transport;
-        let window = after.resampler;
-        let ea = window.frames[0];
-        let eb = window.frames[1];
-        let ec = window.frames[2];
-        let ed = window.frames[3];
-        state = after.state;
-        position = landed.position;
-        playing = landed.playing;
-        wraps = after.wraps;
-        a = ea.frame;
-        b = eb.frame;
-        c = ec.frame;
-        d = ed.frame;
-        na = ea.frame_index;
-        nb = eb.frame_index;
-        nc = ec.frame_index;
-        nd = ed.frame_index;
-        count = window.time_until_empty;
+        moving = next.moving;
         fractional_position = next.fractional_position;
         steps += next.steps;
         i += 1;
     }
-    let moving = moving_of(
-        loop_region,
-        state,
-        position,
-        playing,
-        wraps,
-        a,
-        b,
-        c,
-        d,
-        na,
-        nb,
-        nc,
-        nd,
-        count,
-    );
     Processed {
         refusal: 0,
         sound: StaticSound {

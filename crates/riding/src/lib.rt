@@ -15,6 +15,7 @@ mod forward;
 use backward::ride_back;
 use forward::ride_on;
 use playing::Processed;
+use playing::Timed;
 use trail::Track;
 use voice::StaticSound;
 
@@ -129,14 +130,13 @@ fn play_from(
     }
     let k = 2 * i;
     playing::play(
-        voice,
+        Timed { voice, dt },
         sound,
         &fade[i..],
         &volume[i..],
         &left[i..],
         &right[i..],
         &rate[i..],
-        dt,
         &mut out[k..],
     )
 }
@@ -162,7 +162,16 @@ pub fn play(
     let loop_region = transport.loop_region;
     let track = trail::track_of(loop_region, course);
     if !trail::is_trail(moving, sound, track) {
-        return playing::play(voice, sound, fade, volume, left, right, rate, dt, out);
+        return playing::play(
+            Timed { voice, dt },
+            sound,
+            fade,
+            volume,
+            left,
+            right,
+            rate,
+            out,
+        );
     }
     let ridden = ride(
         voice,

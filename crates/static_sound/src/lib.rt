@@ -8,9 +8,11 @@ ghost use denote.Ref.{ptr};
 ghost use Rattle.lanes.specs.Lanes.{five};
 ghost use Rattle.static_sound.specs.Entries.{refusedBlock, processed, processedInto, stretchOf, stretchAt, sampleAt};
 use block::Signals;
+use block::Told;
 use block::block;
 use playback_position::FrameRange;
 use playing::Processed;
+use playing::Timed;
 use voice::StaticSound;
 
 // Whether an output of so many samples is that of so many frames.
@@ -35,18 +37,18 @@ fn has_room(from: usize, frames: usize, samples: usize) -> bool
 
 // The lowest number that applies to a block, 0 for none.
 fn refusal_of(
-    voice: StaticSound,
+    timed: Timed,
     samples: usize,
     fade: &[f32],
     volume: &[f32],
     left: &[f32],
     right: &[f32],
     rate: &[f64],
-    dt: f64,
     placed: bool,
 ) -> u32
-    ensures { λ r. ⌜ r ≡ refusedBlock samples voice dt (five (now (fade .entry)) (now (volume .entry)) (now (left .entry)) (now (right .entry)) (now (rate .entry))) placed ⌝ }
+    ensures { λ r. ⌜ r ≡ refusedBlock samples (timed .voice) (timed .dt) (five (now (fade .entry)) (now (volume .entry)) (now (left .entry)) (now (right .entry)) (now (rate .entry))) placed ⌝ }
 {
+    let voice = timed.voice;
     if !voice.is_well_formed(samples) {
         return 1;
     }
@@ -56,11 +58,18 @@ fn refusal_of(
     if !placed {
         return 9;
     }
-    if !lanes::is_time_step(dt) {
+    if !lanes::is_time_step(timed.dt) {
         return 10;
     }
-    let setup = voice.setup;
-    lanes::judge(setup.sample_rate, dt, fade, volume, left, right, rate)
+    lanes::judge(
+        voice.setup.sample_rate,
+        timed.dt,
+        fade,
+        volume,
+        left,
+        right,
+        rate,
+    )
 }
 
 // A block into an output of its own.
@@ -80,14 +89,13 @@ pub fn process(
 {
     let placed = holds(out.len(), rate.len());
     let refusal = refusal_of(
-        voice,
+        Timed { voice, dt },
         sound.len(),
         fade,
         volume,
         left,
         right,
         rate,
-        dt,
         placed,
     );
     if refusal != 0 {
@@ -99,15 +107,13 @@ pub fn process(
         };
     }
     block(
-        voice,
+        Told { voice, dt, signals },
         sound,
         fade,
         volume,
         left,
         right,
         rate,
-        dt,
-        signals,
         out,
     )
 }
@@ -130,14 +136,13 @@ pub fn process_into(
 {
     let placed = has_room(from, rate.len(), mix.len());
     let refusal = refusal_of(
-        voice,
+        Timed { voice, dt },
         sound.len(),
         fade,
         volume,
         left,
         right,
         rate,
-        dt,
         placed,
     );
     if refusal != 0 {
@@ -151,15 +156,13 @@ pub fn process_into(
     let a = 2 * from;
     let e = a + 2 * rate.len();
     block(
-        voice,
+        Told { voice, dt, signals },
         sound,
         fade,
         volume,
         left,
         right,
         rate,
-        dt,
-        signals,
         &mut mix[a..e],
     )
 }

@@ -64,7 +64,6 @@ coincide =
       moving-moving-push-frame-to-resampler = λ k a x y s t p q. same p q;
       moving-moving-update-position = λ k a x y s t p q. same p q;
       moving-moving-update-positions = λ k a x y s t p q. same p q;
-      moving-moving-of = λ k a x y s t p q. same p q;
       creation-blank = λ k a x y s t p q. same p q;
       creation-new = λ k a x y s t p q. same p q;
       command-set-on-start-processing = λ k a x y s t p q. same p q;

@@ -99,15 +99,14 @@ pub record Coincide : Type 0 where
   pub moving-moving-push-frame-to-resampler : Decides moving.Moving.push_frame_to_resampler.Reads.Post
   pub moving-moving-update-position : Decides moving.Moving.update_position.Reads.Post
   pub moving-moving-update-positions : Decides moving.Moving.update_positions.Reads.Post
-  pub moving-moving-of : Decides moving.moving_of.Reads.Post
   -- creation
   pub creation-blank : Decides creation.blank.Reads.Post
   pub creation-new : Decides creation.new.Reads.Post
   -- command_set
   pub command-set-on-start-processing : Decides command_set.on_start_processing.Reads.Post
   -- playing and block
-  pub playing-play : DecidesWith (λ k s. s .1 .1 .1 .1 .1 .1 .1 .1 .0 .now) playing.play.Reads.Post
-  pub block-block : DecidesWith (λ k s. s .1 .1 .1 .1 .1 .1 .1 .1 .1 .0 .now) block.block.Reads.Post
+  pub playing-play : DecidesWith (λ k s. s .1 .1 .1 .1 .1 .1 .1 .0 .now) playing.play.Reads.Post
+  pub block-block : DecidesWith (λ k s. s .1 .1 .1 .1 .1 .1 .1 .0 .now) block.block.Reads.Post
   -- static_sound
   pub static-sound-process : DecidesWith (λ k s. s .1 .1 .1 .1 .1 .1 .1 .1 .1 .0 .now) static_sound.process.Reads.Post
   pub static-sound-process-into : DecidesWith (λ k s. s .1 .1 .1 .1 .1 .1 .1 .1 .1 .0 .now) static_sound.process_into.Reads.Post

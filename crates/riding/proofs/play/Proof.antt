@@ -112,8 +112,8 @@ play-from-requires c κs =
     let a = c .before .before in
     (passed-plays a _ (c .before .before .before .before .before .before .ride .ensures .asLong), c .before .before .before .before .before .before .ride .ensures .within)
 
-add-t32 : tie.Need-add-t32
-add-t32 c =
+add-t33 : tie.Need-add-t33
+add-t33 c =
     let t = c .before .before .before .before .before .before .before .before .before .before .before .before .before .before .before .before in
     let st = start t in
     let h = c .before .before .before .before .before .before .before .before .before .before .before .before .ride .ensures in
@@ -147,6 +147,6 @@ play-spec =
     wraps-after-requires
     trail-at-requires
     play-from-requires
-    add-t32
+    add-t33
     same-length-2
     returns-2)

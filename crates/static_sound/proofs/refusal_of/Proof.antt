@@ -19,16 +19,16 @@ use Rattle.voice.proofs.StaticSound.is_well_formed.Reads as is-well-formed-read
 
 -- ---- what each place has passed
 
-formed : (c : tie.Else1) → ours (c .before .before .before .before .before .before .before .args .samples) (c .before .before .before .before .before .before .before .args .voice) ≡ true
-formed c = passes (c .before .is-well-formed .ensures) (c .if1 .left)
-
 abbrev start : tie.Else1 → tie.Start
-start c = c .before .before .before .before .before .before .before
+start c = c .before .before .before .before .before .before .before .before
+
+formed : (c : tie.Else1) → ours (start c .args .samples) (start c .args .timed .voice) ≡ true
+formed c = passes (c .before .is-well-formed .ensures) (c .if1 .left)
 
 lanes-sized : (c : tie.Else2) → (let a = start (c .before .before) .args in sized (five (now (a .fade)) (now (a .volume)) (now (a .left)) (now (a .right)) (now (a .rate))) ≡ true)
 lanes-sized c = passes (c .before .are-sized .ensures) (c .if2 .left)
 
-time-step-one : (c : tie.Else4) → timeStep (start (c .before .before .before .before .before) .args .dt) ≡ true
+time-step-one : (c : tie.Else4) → timeStep (start (c .before .before .before .before .before) .args .timed .dt) ≡ true
 time-step-one c = passes (c .before .is-time-step .ensures) (c .if4 .left)
 
 is-well-formed-requires : tie.Need-is-well-formed-requires
@@ -53,11 +53,11 @@ returns-4 : tie.Need-returns-4
 returns-4 c = let p = c .before .before in number-10 _ _ _ _ _ (formed (p .before .before .before)) (lanes-sized (p .before)) (not-false _ (p .if3 .left)) (fails (c .before .is-time-step .ensures) (c .if4 .taken))
 
 judge-requires : tie.Need-judge-requires
-judge-requires c κs = let q = c .before in (subst T (sym (lanes-sized (q .before .before .before))) tt, subst T (sym (time-step-one q)) tt)
+judge-requires c κs = let q = c in (subst T (sym (lanes-sized (q .before .before .before))) tt, subst T (sym (time-step-one q)) tt)
 
 returns-5 : tie.Need-returns-5
 returns-5 c =
-    let q = c .before .before in
+    let q = c .before in
     let p = q .before .before in
     c .judge .ensures ∙ number-judged _ _ _ _ _ (formed (p .before .before .before)) (lanes-sized (p .before)) (not-false _ (p .if3 .left)) (time-step-one q)
 
