@@ -69,7 +69,7 @@ impl Kit {
     }
 
     /// The kit's clang for a processor, with the kit's own options; no product is fused with a sum. A frame of the ride
-    /// is a deeper expression than clang by itself looks through for vector code.
+    /// is a deeper expression than clang by itself looks through for vector code: the last two let it see the whole.
     fn compiler(&self, arch: &str) -> Command {
         let mut clang = self.tool("clang");
         clang
@@ -87,6 +87,8 @@ impl Kit {
                 "-no-trap-after-noreturn",
                 "-mllvm",
                 "-slp-recursion-max-depth=16",
+                "-mllvm",
+                "-slp-max-look-ahead-depth=4",
                 "--no-default-config",
                 "-Werror",
             ]);
