@@ -68,7 +68,8 @@ impl Kit {
         Command::new(self.machine().join("toolchain/bin").join(name))
     }
 
-    /// The kit's clang for a processor, with the kit's own options; no product is fused with a sum.
+    /// The kit's clang for a processor, with the kit's own options; no product is fused with a sum. A frame of the ride
+    /// is a deeper expression than clang by itself looks through for vector code: the last two let it see the whole.
     fn compiler(&self, arch: &str) -> Command {
         let mut clang = self.tool("clang");
         clang
@@ -84,6 +85,10 @@ impl Kit {
                 "-trap-unreachable",
                 "-mllvm",
                 "-no-trap-after-noreturn",
+                "-mllvm",
+                "-slp-recursion-max-depth=16",
+                "-mllvm",
+                "-slp-max-look-ahead-depth=4",
                 "--no-default-config",
                 "-Werror",
             ]);

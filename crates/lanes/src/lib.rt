@@ -21,12 +21,12 @@ pub fn is_time_step(dt: f64) -> bool
     numbers::is_finite(dt) & (dt > 0.0)
 }
 
-// The bits of x where it is below infinity, else the top bit alone: that bit is set if and only if x is refused.
+// The bits of x where it is at most the largest number, else the top bit alone: that bit is set if and only if x is refused.
 fn top(x: f32) -> u32
     ensures { λ r. ⌜ low r ≡ finiteClear x ⌝ }
 {
-    let infinity: f32 = 1.0 / 0.0;
-    if x < infinity {
+    let largest: f32 = f32::from_bits(0x7f7f_ffff);
+    if x <= largest {
         f32::to_bits(x)
     } else {
         0x8000_0000

@@ -6,8 +6,8 @@ use native.Mathlib.Nat.{le-of-eq, le-refl}
 use native.Mathlib.Omega.{arith}
 use mathlib.Core.Bool.{Bool, true, false}
 use lib.Dec.{T}
-use lib.ListN.{length, take, drop, take-append-drop, length-drop, drop-of-length-le}
-use lib.Seq.{take-all}
+use lib.ListN.{length, take, drop, take-append-drop, length-append, length-drop, drop-of-length-le}
+use lib.Seq.{take-all, length-take-le}
 use lib.Ieee.{Float}
 use Rattle.numbers.specs.Lists.{all}
 use Rattle.numbers.proofs.Lists.{all-drop}
@@ -31,7 +31,7 @@ use Rattle.playing.specs.declared.Processed.{Processed}
 use Rattle.playing.specs.Plays.{Played, plays, Outcome, acceptedWith, acceptedAs}
 use Rattle.playing.specs.Turns.{Playable}
 use Rattle.playing.proofs.Lowest.{lower-four}
-use Rattle.playing.proofs.Plays.{joined, plays-append, plays-lowest}
+use Rattle.playing.proofs.Plays.{joined, plays-append, plays-length, plays-lowest}
 use Rattle.playing.proofs.Keeps.{plays-steps}
 use Rattle.riding.specs.declared.Ridden.{Ridden}
 use Rattle.riding.specs.Rides.{riddenTo, Rode, playedFrom}
@@ -93,12 +93,31 @@ module _ (snd : List Float) (v : StaticSound) (dt : Float) (b : Lanes) (out : Li
       (ap (λ (l : List Lane). let q = plays snd dt l v in acceptedWith q (take (2 * i) out ++ q .samples)) none
       ∙ ap (λ (o : List Float). record { answer = record { refusal = 0; sound = v; steps = 0; «lowest_count» = 4 }; samples = o }) (append-nil (take (2 * i) out) ∙ take-all (2 * i) out (le-of-eq long)))
 
+  rows-left : (i : ℕ) → length (drop i (rows b)) ≡ length (b .rate) - i
+  rows-left i = length-drop i (rows b) ∙ ap (λ (n : ℕ). n - i) (beside-length (b .fade) (b .volume) (b .left) (b .right) (b .rate))
+
+  -- the output stays as long
+  pub from-long : (i : ℕ) (r : Processed) (samples : List Float) → i ≤ length (b .rate) → record { answer = r; samples = samples } ≡ playedFrom snd dt b i v out → length samples ≡ length out
+  from-long i r samples h e =
+      let q = plays snd dt (drop i (rows b)) v in
+      let first : length (take (2 * i) out) ≡ 2 * i = length-take-le (2 * i) out (within (length out) (length (b .rate)) i (p .long) h) in
+      let rest : length (q .samples) ≡ 2 * (length (b .rate) - i) = plays-length snd dt (drop i (rows b)) v ∙ ap (λ (n : ℕ). 2 * n) (rows-left i) in
+      ap (λ (o : Outcome). length (o .samples)) e
+      ∙ length-append (take (2 * i) out) (q .samples)
+      ∙ ap₂ (λ (m n : ℕ). m + n) first rest
+      ∙ all-of (length out) (length (b .rate)) i (p .long) h
+    where
+      within : (m n i : ℕ) → m ≡ 2 * n → i ≤ n → 2 * i ≤ m
+      within m n i e h = omega arith
+
+      all-of : (m n i : ℕ) → m ≡ 2 * n → i ≤ n → 2 * i + 2 * (n - i) ≡ m
+      all-of m n i e h = omega arith
+
   -- the steps from frame i on are few
   pub from-few : (i : ℕ) (r : Processed) (samples : List Float) → record { answer = r; samples = samples } ≡ playedFrom snd dt b i v out → r .steps ≤ 257 * (length (b .rate) - i)
   from-few i r samples e =
-      let n : length (drop i (rows b)) ≡ length (b .rate) - i = length-drop i (rows b) ∙ ap (λ (n : ℕ). n - i) (beside-length (b .fade) (b .volume) (b .left) (b .right) (b .rate)) in
       subst (λ (s : ℕ). s ≤ 257 * (length (b .rate) - i)) (sym (ap (λ (o : Outcome). o .answer .steps) e))
-      (subst (λ (m : ℕ). (plays snd dt (drop i (rows b)) v) .steps ≤ 257 * m) n (plays-steps snd dt (p .timeStep) (drop i (rows b)) v (near-rest i) (p .formed)))
+      (subst (λ (m : ℕ). (plays snd dt (drop i (rows b)) v) .steps ≤ 257 * m) (rows-left i) (plays-steps snd dt (p .timeStep) (drop i (rows b)) v (near-rest i) (p .formed)))
 
 -- ---- the track lies in the sound
 
@@ -143,3 +162,14 @@ ridden-on snd dt b v u k r q out end h eu e =
     ∙ plays-append snd dt (take i (rows b)) (drop i (rows b)) v
     ∙ ap (λ (q : Played). joined q (plays snd dt (drop i (rows b)) (q .voice))) (h .soFar)
     ∙ ap (λ (u : StaticSound). joined (record { voice = u; samples = take (2 * i) out; steps = r .steps; «lowest_count» = 4 }) (plays snd dt (drop i (rows b)) u)) (sym eu)))
+
+-- a ride of all frames: nothing is left
+pub ridden-whole : (snd : List Float) (dt : Float) (b : Lanes) (v u : StaticSound) (k : Track) (r : Ridden) (out : List Float) → Playable snd u dt b (length out) → Rode snd dt b v k r out
+    → u ≡ moved v (r .«fractional_position») (riddenTo snd k v (r .steps) (r .at)) → r .next ≡ length (b .rate)
+    → record { answer = record { refusal = 0; sound = u; steps = r .steps; «lowest_count» = 4 }; samples = out } ≡ acceptedAs (plays snd dt (rows b) v)
+ridden-whole snd dt b v u k r out p h eu e =
+    ap (λ (n : ℕ). record { answer = record { refusal = 0; sound = u; steps = n; «lowest_count» = 4 }; samples = out }) (none (r .steps))
+    ∙ ridden-on snd dt b v u k r (record { refusal = 0; sound = u; steps = 0; «lowest_count» = 4 }) out out h eu (played-none-left snd u dt b out p (r .next) e)
+  where
+    none : (n : ℕ) → n ≡ n + 0
+    none n = omega arith

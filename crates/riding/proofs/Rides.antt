@@ -4,11 +4,11 @@ use mathlib.Core.List.{List, [], _∷_, _++_}
 use Prim.Native.Nat.{ℕ, zero, suc, _+_, _-_, _*_, _≤_, _<_}
 use native.Mathlib.Nat.{le-refl, add-assoc, add-comm}
 use native.Mathlib.Omega.{arith}
-use mathlib.Core.Bool.{Bool, true, false}
+use mathlib.Core.Bool.{Bool, true, false, not}
 use lib.Dec.{T}
 use lib.IntN.{pos}
 use lib.ListN.{length, getD, take, drop, set, length-set}
-use lib.Ieee.{Float, nan, binary32, binary64, add, mul, ofInt, lt}
+use lib.Ieee.{Float, nan, inf, fin, binary32, binary64, add, mul, ofInt, lt, le, isNan}
 use Rattle.numbers.specs.declared.Stepped.{Stepped}
 use Rattle.numbers.specs.Words.{positiveZero, proper, magnitude, narrowed, whole, part, stepped, advance}
 use Rattle.numbers.specs.Lists.{all}
@@ -48,6 +48,23 @@ product hz m dt = mul binary64 (mul binary64 (ofInt binary64 (pos hz)) m) dt
 pub sum-is : (hz : ℕ) (r dt m f : Float) (a : Stepped) → m ≡ magnitude r → a ≡ stepped (add binary64 f (product hz m dt)) → a ≡ stepped (add binary64 f (advance hz r dt))
 unfolding advance
 sum-is hz r dt m f a e h = h ∙ ap (λ (x : Float). stepped (add binary64 f (product hz x dt))) e
+
+-- a slow rate is no NaN: its advance would be one
+mul-nan : (x : Float) → mul binary64 x nan ≡ nan
+unfolding mul
+mul-nan nan = refl
+mul-nan (inf s) = refl
+mul-nan (fin s m e) = refl
+
+nan-fast : (x dt : Float) → x ≡ nan → T (le (mul binary64 x dt) (fin false 1 (pos 8))) → ⊥
+unfolding mul le
+nan-fast x dt e h = subst (λ (x : Float). T (le (mul binary64 x dt) (fin false 1 (pos 8)))) e h
+
+pub slow-number : (hz : ℕ) (dt q : Float) → T (slow hz dt q) → T (not (isNan q))
+unfolding advance magnitude isNan
+slow-number hz dt nan h = absurd (nan-fast _ dt (mul-nan (ofInt binary64 (pos hz))) h)
+slow-number hz dt (inf s) h = tt
+slow-number hz dt (fin s m e) h = tt
 
 module _ (k : Track) (hz : ℕ) (r dt : Float) (q : ℕ) (f : Float) where
   pub sum-few : (a : Stepped) → Passing k hz r dt q f → a ≡ stepped (add binary64 f (advance hz r dt)) → a .steps ≤ 257

@@ -14,6 +14,7 @@ use crate::Gains;
 use crate::Passed;
 use crate::Ridden;
 use crate::gains_at;
+use crate::magnitude_of;
 use frame::Frame;
 use frame::interpolate_frame;
 use trail::Track;
@@ -35,7 +36,7 @@ fn pass_back(
     ensures { λ r. ⌜ T (proper (r .«fractional_position»)) ⌝ }
     ensures { λ r. ⌜ On track (r .at) ⌝ }
 {
-    let advance = (sample_rate as f64) * numbers::magnitude(rate) * dt;
+    let advance = (sample_rate as f64) * magnitude_of(rate) * dt;
     let sum = numbers::advance_by(fractional_position, advance);
     Passed {
         at: trail::before_steps(track, at, sum.steps),

@@ -1,8 +1,12 @@
 // A started, advancing block where the window is the transport's trail: the four frames are read in the sound, two frames a turn.
 // Where it is not, and where a ride ends, the block goes on frame by frame (crate playing).
 ghost use mathlib.Core.Path.{_≡_};
+ghost use mathlib.Core.Bool.{not};
 ghost use Prim.Native.Nat.{_≤_, _<_};
+ghost use lib.Dec.{T};
 ghost use lib.ListN.{length};
+ghost use lib.Ieee.{isNan};
+ghost use Rattle.numbers.specs.Words.{magnitude};
 ghost use Rattle.lanes.specs.Lanes.{five, rows};
 ghost use Rattle.trail.specs.Trails.{Trailing};
 ghost use Rattle.playing.specs.Plays.{plays, acceptedAs};
@@ -40,6 +44,14 @@ pub struct Ridden {
     pub fractional_position: f64,
     pub steps: usize,
     pub next: usize,
+}
+
+// A rate without its sign. It is no NaN, so its bits need no test.
+fn magnitude_of(rate: f64) -> f64
+    requires { ⌜ T (not (isNan rate)) ⌝ }
+    ensures { λ r. ⌜ r ≡ magnitude rate ⌝ }
+{
+    f64::from_bits(f64::to_bits(rate) & 0x7fff_ffff_ffff_ffff)
 }
 
 pub fn gains_at(fade: &[f32], volume: &[f32], left: &[f32], right: &[f32], i: usize) -> Gains
@@ -191,6 +203,14 @@ pub fn play(
         moving: trail::trail_at(moving, sound, track, ridden.at, wraps),
         ..voice
     };
+    if ridden.next == rate.len() {
+        return Processed {
+            refusal: 0,
+            sound: passed,
+            steps: ridden.steps,
+            lowest_count: 4,
+        };
+    }
     let rest = play_from(
         passed,
         ridden.next,

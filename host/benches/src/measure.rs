@@ -7,7 +7,7 @@ use crate::workload::{Kira, Looped, Ours, Safe, Voice, Workload};
 /// The rates played forward.
 pub const FORWARD: [f64; 5] = [0.5, 0.93, 1.0, 2.0, 16.0];
 /// The rates played backward.
-const BACKWARD: [f64; 3] = [-1.0, -2.0, -16.0];
+const BACKWARD: [f64; 5] = [-0.5, -0.93, -1.0, -2.0, -16.0];
 /// The blocks played, in frames.
 pub const BLOCKS: [usize; 3] = [64, 512, 4_096];
 

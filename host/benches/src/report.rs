@@ -79,7 +79,7 @@ Measured on {}.
 /// Where the rest of the time is, and what others take.
 const REST: &str = "## Where the time is
 
-Of some 92 instructions a frame on Arm (0.93, blocks of 512, callgrind; kira's text 121): 77 are the ride's loop, 11 judge the lanes, 4 are the call's own part (the state's test and its translation, the trail's test, the answer), which at 64 frames are 17. Of the loop's 77 about 37 are the two channels' cubic and gains, four lanes at a time for two frames; 18 the advance, the sum and its narrowing; 22 the places and the reads. Below 1 a rate spares kira's text updates and ours nothing: its frames cost the same at 0.5 as at 1. A block is played frame by frame, at 1.25 to 1.5 of kira's time, where its window is no trail: the first block after creation, one after a seek, the last frames of a sound without a loop, a window with a NaN.
+Of some 77 instructions a frame on Arm (0.93, blocks of 512, callgrind; kira's text 121): 64 are the ride's loop, 9 judge the lanes, 4 are the call's own part (the state's test and its translation, the trail's test, the answer) and the first block, which has no trail; at 64 frames the call's own part is 15. Of the loop's 64 about 26 are the two channels' cubic and gains, four lanes at a time for two frames; 16 the advance, the sum and its narrowing; 22 the places and the reads. Below 1 a rate spares kira's text updates and ours nothing: its frames cost the same at 0.5 as at 1. A block is played frame by frame, at 1.25 to 1.5 of kira's time, where its window is no trail: the first block after creation, one after a seek, the last frames of a sound without a loop, a window with a NaN.
 
 ## Beside others
 
@@ -93,7 +93,7 @@ Time a frame over that of kira's text in the same run, stereo, looped, rate 0.93
 | libxmp spline | 0.48 / 0.49 / 0.48 | less: 16 bit, the rate is fixed in a tick |
 | libopenmpt cubic | 0.40 / 0.37 / 0.36 | less: 16 bit, the rate is fixed in a tick |
 | fluidsynth 4th order | 1.47 / 1.42 / 1.38 | more: a filter, envelopes |
-| ours, on Arm (the table above) | 0.95 / 0.79 / 0.77 | as kira's, with every check, proved |
+| ours, on Arm (the table above) | 0.78 / 0.64 / 0.62 | as kira's, with every check, proved |
 ";
 
 /// Processor, system, compiler and day of the run, as far as they can be told.

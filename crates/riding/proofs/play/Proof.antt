@@ -1,4 +1,4 @@
--- `play` rides where the window is the trail, and plays the rest frame by frame.
+-- `play` rides where the window is the trail, and plays the rest, if any, frame by frame.
 use Prim.Native.Nat.{ℕ, _+_, _-_, _*_, _^_, _≤_, _<_}
 use mathlib.Core.Path.{_≡_, sym, ap, _∙_, subst}
 use native.Mathlib.Omega.{arith}
@@ -15,7 +15,7 @@ use Rattle.trail.proofs.Same.{not-false}
 use Rattle.playing.specs.Turns.{Playable}
 use Rattle.riding.specs.Rides.{Tracked, riddenTo}
 use Rattle.riding.proofs.Rides.{position-on}
-use Rattle.riding.proofs.Joins.{lies-of, from-few, ridden-on}
+use Rattle.riding.proofs.Joins.{lies-of, from-few, from-long, ridden-on, ridden-whole}
 use borrow.Author.Needs.{needs}
 use Rattle.riding.proofs.play.Statement.{statement}
 use Rattle.riding.proofs.play.Tie as tie
@@ -107,31 +107,49 @@ wraps-after-requires c κs =
 trail-at-requires : tie.Need-trail-at-requires
 trail-at-requires c κs = (tracked (c .before .before .before .before .before .before .before) .lies, c .before .before .before .ride .ensures .on)
 
-play-from-requires : tie.Need-play-from-requires
-play-from-requires c κs =
-    let a = c .before .before in
-    (passed-plays a _ (c .before .before .before .before .before .before .ride .ensures .asLong), c .before .before .before .before .before .before .ride .ensures .within)
-
-add-t33 : tie.Need-add-t33
-add-t33 c =
-    let t = c .before .before .before .before .before .before .before .before .before .before .before .before .before .before .before .before in
-    let st = start t in
-    let h = c .before .before .before .before .before .before .before .before .before .before .before .before .ride .ensures in
-    let p = passed-plays (c .before .before .before .before .before .before .before .before) _ (h .asLong) in
-    let q = c .before .before .before .before .before .play-from in
-    let f = from-few (now (st .args .sound)) _ (st .args .dt) (lent t) _ p (c .before .before .before .before .before .before .before .before .before .before .before .before .ride .result .next) (q .result) _ (q .ensures) in
-    record { fits = sum-fits _ _ _ _ (h .few) f (h .within) (sized-parts (lent t) (st .pre .sized) .most) }
-
 same-length-2 : tie.Need-same-length-2
 same-length-2 c = search needs
 
 returns-2 : tie.Need-returns-2
 returns-2 c =
-    let t = c .before .before .before .before .before .before .before .before .before .before .before .before .before .before .before .before in
+    let t = c .before .before .before .before .before .before .before .before .before .before .before in
     let st = start t in
-    let r = c .before .before .before .before .before .before .before .before .before .before .before .before .ride in
+    let a = c .before .before .before in
+    let r = c .before .before .before .before .before .before .before .ride in
+    ridden-whole (now (st .args .sound)) (st .args .dt) (lent t) (st .args .voice) _ (t .track-of .result) (r .result) _ (passed-plays a _ (r .ensures .asLong)) (r .ensures) (passed-is a) (c .if2 .taken)
+
+play-from-requires : tie.Need-play-from-requires
+play-from-requires c κs =
+    let a = c .before .before .before .before in
+    let r = c .before .before .before .before .before .before .before .before .ride in
+    (passed-plays a _ (r .ensures .asLong), r .ensures .within)
+
+add-t31 : tie.Need-add-t31
+add-t31 c =
+    let t = c .before .before .before .before .before .before .before .before .before .before .before .before .before .before .before .before .before .before in
+    let st = start t in
+    let r = c .before .before .before .before .before .before .before .before .before .before .before .before .before .before .ride in
+    let h = r .ensures in
+    let p = passed-plays (c .before .before .before .before .before .before .before .before .before .before) _ (h .asLong) in
     let q = c .before .before .before .before .before .play-from in
-    ridden-on (now (st .args .sound)) (st .args .dt) (lent t) (st .args .voice) _ (t .track-of .result) (r .result) (q .result) _ _ (r .ensures) (passed-is (c .before .before .before .before .before .before .before .before)) (q .ensures)
+    let f = from-few (now (st .args .sound)) _ (st .args .dt) (lent t) _ p (r .result .next) (q .result) _ (q .ensures) in
+    record { fits = sum-fits _ _ _ _ (h .few) f (h .within) (sized-parts (lent t) (st .pre .sized) .most) }
+
+same-length-3 : tie.Need-same-length-3
+same-length-3 c =
+    let t = c .before .before .before .before .before .before .before .before .before .before .before .before .before .before .before .before .before .before in
+    let st = start t in
+    let r = c .before .before .before .before .before .before .before .before .before .before .before .before .before .before .ride in
+    let q = c .before .before .before .before .before .play-from in
+    from-long (now (st .args .sound)) _ (st .args .dt) (lent t) _ (passed-plays (c .before .before .before .before .before .before .before .before .before .before) _ (r .ensures .asLong)) (r .result .next) (q .result) _ (r .ensures .within) (q .ensures) ∙ (r .ensures .asLong ∙ sym (st .pre .long))
+
+returns-3 : tie.Need-returns-3
+returns-3 c =
+    let t = c .before .before .before .before .before .before .before .before .before .before .before .before .before .before .before .before .before .before in
+    let st = start t in
+    let r = c .before .before .before .before .before .before .before .before .before .before .before .before .before .before .ride in
+    let q = c .before .before .before .before .before .play-from in
+    ridden-on (now (st .args .sound)) (st .args .dt) (lent t) (st .args .voice) _ (t .track-of .result) (r .result) (q .result) _ _ (r .ensures) (passed-is (c .before .before .before .before .before .before .before .before .before .before)) (q .ensures)
 
 pub play-spec : {M : Type 1} → statement M
 play-spec =
@@ -146,7 +164,9 @@ play-spec =
     ride-requires
     wraps-after-requires
     trail-at-requires
-    play-from-requires
-    add-t33
     same-length-2
-    returns-2)
+    returns-2
+    play-from-requires
+    add-t31
+    same-length-3
+    returns-3)

@@ -5,7 +5,7 @@ use native.Mathlib.Omega.{arith}
 use lib.Ieee.{binary64, add}
 use Rattle.numbers.specs.Words.{stepped, advance}
 use Rattle.playing.proofs.Turns.{asks}
-use Rattle.riding.proofs.Rides.{sum-is, sum-few, sum-below, passed-as}
+use Rattle.riding.proofs.Rides.{slow-number, sum-is, sum-few, sum-below, passed-as}
 use borrow.Author.Needs.{needs}
 use Rattle.riding.proofs.backward.pass_back.Statement.{statement}
 use Rattle.riding.proofs.backward.pass_back.Tie as tie
@@ -15,7 +15,7 @@ use Rattle.riding.proofs.backward.pass_back.Lts as lts
 summed : (c : tie.After-advance-by)
     → (let a = c .before .before .before .args in
     c .advance-by .result ≡ stepped (add binary64 (a .fractional-position) (advance (a .sample-rate) (a .rate) (a .dt))))
-summed c = let a = c .before .before .before .args in sum-is (a .sample-rate) (a .rate) (a .dt) _ (a .fractional-position) (c .advance-by .result) (c .before .magnitude .ensures) (c .advance-by .ensures)
+summed c = let a = c .before .before .before .args in sum-is (a .sample-rate) (a .rate) (a .dt) _ (a .fractional-position) (c .advance-by .result) (c .before .magnitude-of .ensures) (c .advance-by .ensures)
 
 less : {n : ℕ} → n ≤ 257 → n < 1000
 less h = omega arith
@@ -26,13 +26,13 @@ below h = omega arith
 int-to-float-advance : tie.Need-int-to-float-advance
 int-to-float-advance c = search needs
 
-magnitude-requires : tie.Need-magnitude-requires
-magnitude-requires c κs = search needs
+magnitude-of-requires : tie.Need-magnitude-of-requires
+magnitude-of-requires c κs = slow-number _ _ _ (c .before .pre .0 .slow)
 
 advance-by-requires : tie.Need-advance-by-requires
 advance-by-requires c κs =
     let s = c .before .before in
-    (s .pre .0 .below, asks _ _ _ _ (c .magnitude .ensures) (s .pre .0 .timeStep) (s .pre .0 .slow))
+    (s .pre .0 .below, asks _ _ _ _ (c .magnitude-of .ensures) (s .pre .0 .timeStep) (s .pre .0 .slow))
 
 before-steps-requires : tie.Need-before-steps-requires
 before-steps-requires c κs =
@@ -52,7 +52,7 @@ pass-back-spec =
     tie.close
     (tie.spec
     int-to-float-advance
-    magnitude-requires
+    magnitude-of-requires
     advance-by-requires
     before-steps-requires
     returns)
