@@ -10,6 +10,7 @@ use moving::Moving;
 use playback_state_manager::PlaybackState;
 use playback_state_manager::StartAnswer;
 use playing::Processed;
+use playing::Timed;
 use riding::play;
 use start_time::StartSignal;
 use voice::StaticSound;
@@ -107,7 +108,11 @@ pub fn block(
     let signals = told.signals;
     let begun = begin(voice, signals);
     if is_live(begun) {
-        return play(begun, sound, fade, volume, left, right, rate, told.dt, out);
+        let timed = Timed {
+            voice: begun,
+            dt: told.dt,
+        };
+        return play(timed, sound, fade, volume, left, right, rate, out);
     }
     silence(out);
     Processed {

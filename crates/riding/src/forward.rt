@@ -10,6 +10,7 @@ ghost use Rattle.trail.specs.Tracks.{On};
 ghost use Rattle.trail.specs.Trails.{Lies, Trailing};
 ghost use Rattle.playing.specs.Turns.{Playable};
 ghost use Rattle.riding.specs.Rides.{Passing, passOf, heardOn, Tracked, Rode};
+use crate::Along;
 use crate::Gains;
 use crate::Passed;
 use crate::Ridden;
@@ -18,7 +19,6 @@ use crate::magnitude_of;
 use frame::Frame;
 use frame::interpolate_frame;
 use trail::Track;
-use voice::StaticSound;
 
 // One frame's steps forward.
 fn pass_on(
@@ -77,23 +77,24 @@ fn heard_after(
 
 // From a trail on, two frames a turn: they are computed side by side. It ends where the track does, or a frame is left.
 pub fn ride_on(
-    voice: StaticSound,
-    track: Track,
+    along: Along,
     sound: &[f32],
     fade: &[f32],
     volume: &[f32],
     left: &[f32],
     right: &[f32],
     rate: &[f64],
-    dt: f64,
     out: &mut [f32],
 ) -> Ridden
-    requires { ⌜ Playable (now sound) voice dt (five (now fade) (now volume) (now left) (now right) (now rate)) (length (now out)) ⌝ }
-    requires { ⌜ Tracked (now sound) voice track ⌝ }
-    requires { ⌜ Trailing (now sound) track (voice .moving) ⌝ }
-    requires { ⌜ track .backwards ≡ false ⌝ }
-    ensures { λ r. ⌜ Rode (now (sound .entry)) dt (five (now (fade .entry)) (now (volume .entry)) (now (left .entry)) (now (right .entry)) (now (rate .entry))) voice track r (now (out .exit)) ⌝ }
+    requires { ⌜ Playable (now sound) (along .voice) (along .dt) (five (now fade) (now volume) (now left) (now right) (now rate)) (length (now out)) ⌝ }
+    requires { ⌜ Tracked (now sound) (along .voice) (along .track) ⌝ }
+    requires { ⌜ Trailing (now sound) (along .track) (along .voice .moving) ⌝ }
+    requires { ⌜ along .track .backwards ≡ false ⌝ }
+    ensures { λ r. ⌜ Rode (now (sound .entry)) (along .dt) (five (now (fade .entry)) (now (volume .entry)) (now (left .entry)) (now (right .entry)) (now (rate .entry))) (along .voice) (along .track) r (now (out .exit)) ⌝ }
 {
+    let voice = along.voice;
+    let track = along.track;
+    let dt = along.dt;
     let moving = voice.moving;
     let window = moving.resampler;
     let first = window.frames[0];

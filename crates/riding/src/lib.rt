@@ -23,6 +23,20 @@ use playing::Timed;
 use trail::Track;
 use voice::StaticSound;
 
+// A voice, the seconds that each frame of its block takes, and the track that it goes along.
+pub struct Along {
+    pub voice: StaticSound,
+    pub dt: f64,
+    pub track: Track,
+}
+
+// A voice, the seconds that each frame of its block takes, and the first frame that is left.
+pub struct Rest {
+    pub voice: StaticSound,
+    pub dt: f64,
+    pub next: usize,
+}
+
 // What a frame's reading is multiplied by.
 pub struct Gains {
     pub fade: f32,
@@ -71,78 +85,46 @@ pub fn gains_at(fade: &[f32], volume: &[f32], left: &[f32], right: &[f32], i: us
 
 // From a trail on, as far as the track and pairs of frames go.
 fn ride(
-    voice: StaticSound,
-    track: Track,
+    along: Along,
     sound: &[f32],
     fade: &[f32],
     volume: &[f32],
     left: &[f32],
     right: &[f32],
     rate: &[f64],
-    dt: f64,
     out: &mut [f32],
 ) -> Ridden
-    requires { ⌜ Playable (now sound) voice dt (five (now fade) (now volume) (now left) (now right) (now rate)) (length (now out)) ⌝ }
-    requires { ⌜ Tracked (now sound) voice track ⌝ }
-    requires { ⌜ Trailing (now sound) track (voice .moving) ⌝ }
-    ensures { λ r. ⌜ Rode (now (sound .entry)) dt (five (now (fade .entry)) (now (volume .entry)) (now (left .entry)) (now (right .entry)) (now (rate .entry))) voice track r (now (out .exit)) ⌝ }
+    requires { ⌜ Playable (now sound) (along .voice) (along .dt) (five (now fade) (now volume) (now left) (now right) (now rate)) (length (now out)) ⌝ }
+    requires { ⌜ Tracked (now sound) (along .voice) (along .track) ⌝ }
+    requires { ⌜ Trailing (now sound) (along .track) (along .voice .moving) ⌝ }
+    ensures { λ r. ⌜ Rode (now (sound .entry)) (along .dt) (five (now (fade .entry)) (now (volume .entry)) (now (left .entry)) (now (right .entry)) (now (rate .entry))) (along .voice) (along .track) r (now (out .exit)) ⌝ }
 {
-    if track.backwards {
-        return ride_back(
-            voice,
-            track,
-            sound,
-            fade,
-            volume,
-            left,
-            right,
-            rate,
-            dt,
-            out,
-        );
+    if along.track.backwards {
+        return ride_back(along, sound, fade, volume, left, right, rate, out);
     }
-    ride_on(
-        voice,
-        track,
-        sound,
-        fade,
-        volume,
-        left,
-        right,
-        rate,
-        dt,
-        out,
-    )
+    ride_on(along, sound, fade, volume, left, right, rate, out)
 }
 
-// Frame by frame from frame i on.
+// Frame by frame from the first frame that is left on.
 fn play_from(
-    voice: StaticSound,
-    i: usize,
+    rest: Rest,
     sound: &[f32],
     fade: &[f32],
     volume: &[f32],
     left: &[f32],
     right: &[f32],
     rate: &[f64],
-    dt: f64,
     out: &mut [f32],
 ) -> Processed
-    requires { ⌜ Playable (now sound) voice dt (five (now fade) (now volume) (now left) (now right) (now rate)) (length (now out)) ⌝ }
-    requires { ⌜ i ≤ length (now rate) ⌝ }
-    ensures { λ r. ⌜ record { answer = r; samples = now (out .exit) } ≡ playedFrom (now (sound .entry)) dt (five (now (fade .entry)) (now (volume .entry)) (now (left .entry)) (now (right .entry)) (now (rate .entry))) i voice (now (out .entry)) ⌝ }
+    requires { ⌜ Playable (now sound) (rest .voice) (rest .dt) (five (now fade) (now volume) (now left) (now right) (now rate)) (length (now out)) ⌝ }
+    requires { ⌜ rest .next ≤ length (now rate) ⌝ }
+    ensures { λ r. ⌜ record { answer = r; samples = now (out .exit) } ≡ playedFrom (now (sound .entry)) (rest .dt) (five (now (fade .entry)) (now (volume .entry)) (now (left .entry)) (now (right .entry)) (now (rate .entry))) (rest .next) (rest .voice) (now (out .entry)) ⌝ }
 {
-    if i == rate.len() {
-        return Processed {
-            refusal: 0,
-            sound: voice,
-            steps: 0,
-            lowest_count: 4,
-        };
-    }
+    let voice = rest.voice;
+    let i = rest.next;
     let k = 2 * i;
     playing::play(
-        Timed { voice, dt },
+        Timed { voice, dt: rest.dt },
         sound,
         &fade[i..],
         &volume[i..],
@@ -155,48 +137,30 @@ fn play_from(
 
 // A started, advancing block: along the track where the window is its trail, and the rest frame by frame.
 pub fn play(
-    voice: StaticSound,
+    timed: Timed,
     sound: &[f32],
     fade: &[f32],
     volume: &[f32],
     left: &[f32],
     right: &[f32],
     rate: &[f64],
-    dt: f64,
     out: &mut [f32],
 ) -> Processed
-    requires { ⌜ Playable (now sound) voice dt (five (now fade) (now volume) (now left) (now right) (now rate)) (length (now out)) ⌝ }
-    ensures { λ r. ⌜ record { answer = r; samples = now (out .exit) } ≡ acceptedAs (plays (now (sound .entry)) dt (rows (five (now (fade .entry)) (now (volume .entry)) (now (left .entry)) (now (right .entry)) (now (rate .entry)))) voice) ⌝ }
+    requires { ⌜ Playable (now sound) (timed .voice) (timed .dt) (five (now fade) (now volume) (now left) (now right) (now rate)) (length (now out)) ⌝ }
+    ensures { λ r. ⌜ record { answer = r; samples = now (out .exit) } ≡ acceptedAs (plays (now (sound .entry)) (timed .dt) (rows (five (now (fade .entry)) (now (volume .entry)) (now (left .entry)) (now (right .entry)) (now (rate .entry)))) (timed .voice)) ⌝ }
 {
+    let voice = timed.voice;
+    let dt = timed.dt;
     let course = voice.course();
     let moving = voice.moving;
     let transport = moving.transport;
     let loop_region = transport.loop_region;
     let track = trail::track_of(loop_region, course);
     if !trail::is_trail(moving, sound, track) {
-        return playing::play(
-            Timed { voice, dt },
-            sound,
-            fade,
-            volume,
-            left,
-            right,
-            rate,
-            out,
-        );
+        return playing::play(timed, sound, fade, volume, left, right, rate, out);
     }
-    let ridden = ride(
-        voice,
-        track,
-        sound,
-        fade,
-        volume,
-        left,
-        right,
-        rate,
-        dt,
-        out,
-    );
+    let along = Along { voice, dt, track };
+    let ridden = ride(along, sound, fade, volume, left, right, rate, out);
     let wraps = trail::wraps_after(track, transport.position, ridden.steps, moving.wraps);
     let passed = StaticSound {
         fractional_position: ridden.fractional_position,
@@ -211,23 +175,17 @@ pub fn play(
             lowest_count: 4,
         };
     }
-    let rest = play_from(
-        passed,
-        ridden.next,
-        sound,
-        fade,
-        volume,
-        left,
-        right,
-        rate,
+    let rest = Rest {
+        voice: passed,
         dt,
-        out,
-    );
-    let after = rest.sound;
+        next: ridden.next,
+    };
+    let played = play_from(rest, sound, fade, volume, left, right, rate, out);
+    let after = played.sound;
     Processed {
         refusal: 0,
         sound: after,
-        steps: ridden.steps + rest.steps,
-        lowest_count: rest.lowest_count,
+        steps: ridden.steps + played.steps,
+        lowest_count: played.lowest_count,
     }
 }

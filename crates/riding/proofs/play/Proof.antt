@@ -23,19 +23,19 @@ use Rattle.riding.proofs.play.Reads as reads
 use Rattle.riding.proofs.play.Lts as lts
 
 abbrev start : tie.After-track-of → tie.Start
-start c = c .before .before .before .before .before .before .before .before .before .before .before
+start c = c .before .before .before .before .before .before .before .before .before .before .before .before
 
 abbrev lent : tie.After-track-of → Lanes
 lent c = let a = start c .args in five (now (a .fade)) (now (a .volume)) (now (a .left)) (now (a .right)) (now (a .rate))
 
 -- the track is the voice's
-track-is : (c : tie.After-track-of) → (let v = start c .args .voice in c .track-of .result ≡ trackOf (v .moving .transport .«loop_region») (courseOf v))
-track-is c = let v = start c .args .voice in c .track-of .ensures ∙ ap (trackOf (v .moving .transport .«loop_region»)) (c .before .before .before .course .ensures)
+track-is : (c : tie.After-track-of) → (let v = start c .args .timed .voice in c .track-of .result ≡ trackOf (v .moving .transport .«loop_region») (courseOf v))
+track-is c = let v = start c .args .timed .voice in c .track-of .ensures ∙ ap (trackOf (v .moving .transport .«loop_region»)) (c .before .before .before .course .ensures)
 
-tracked : (c : tie.After-track-of) → Tracked (now (start c .args .sound)) (start c .args .voice) (c .track-of .result)
+tracked : (c : tie.After-track-of) → Tracked (now (start c .args .sound)) (start c .args .timed .voice) (c .track-of .result)
 tracked c =
     let st = start c in
-    let v = st .args .voice in
+    let v = st .args .timed .voice in
     record { is = track-is c; lies = subst (Lies (now (st .args .sound))) (sym (track-is c)) (lies-of (now (st .args .sound)) v (st .pre .formed) (st .pre .lent)) }
 
 sum-fits : (a b i n : ℕ) → a ≤ 257 * i → b ≤ 257 * (n - i) → i ≤ n → n ≤ 4096 → a + b < 2 ^ 64
@@ -50,20 +50,20 @@ tracks c = c .before .before .before .before .before .before .before .before
 
 passed-is : (c : tie.After-trail-at)
     → (let t = tracks c in
-    let v = start t .args .voice in
+    let v = start t .args .timed .voice in
     let r = c .before .before .before .before .ride .result in
     moved v (r .«fractional_position») (c .trail-at .result) ≡ moved v (r .«fractional_position») (riddenTo (now (start t .args .sound)) (t .track-of .result) v (r .steps) (r .at)))
 passed-is c =
     let t = tracks c in
-    let v = start t .args .voice in
+    let v = start t .args .timed .voice in
     let r = c .before .before .before .before .ride .result in
     ap (moved v (r .«fractional_position»)) (c .trail-at .ensures ∙ ap (λ (w : Wraps). trailOf (now (start t .args .sound)) (t .track-of .result) (v .moving) w (r .at)) (c .before .wraps-after .ensures))
 
 passed-plays : (c : tie.After-trail-at) (m : ℕ) → m ≡ 2 * length (lent (tracks c) .rate)
     → (let t = tracks c in
-    let v = start t .args .voice in
+    let v = start t .args .timed .voice in
     let r = c .before .before .before .before .ride .result in
-    Playable (now (start t .args .sound)) (moved v (r .«fractional_position») (c .trail-at .result)) (start t .args .dt) (lent t) m)
+    Playable (now (start t .args .sound)) (moved v (r .«fractional_position») (c .trail-at .result)) (start t .args .timed .dt) (lent t) m)
 passed-plays c m eq =
     let st = start (tracks c) in
     record {
@@ -116,7 +116,7 @@ returns-2 c =
     let st = start t in
     let a = c .before .before .before in
     let r = c .before .before .before .before .before .before .before .ride in
-    ridden-whole (now (st .args .sound)) (st .args .dt) (lent t) (st .args .voice) _ (t .track-of .result) (r .result) _ (passed-plays a _ (r .ensures .asLong)) (r .ensures) (passed-is a) (c .if2 .taken)
+    ridden-whole (now (st .args .sound)) (st .args .timed .dt) (lent t) (st .args .timed .voice) _ (t .track-of .result) (r .result) _ (passed-plays a _ (r .ensures .asLong)) (r .ensures) (passed-is a) (c .if2 .taken)
 
 play-from-requires : tie.Need-play-from-requires
 play-from-requires c κs =
@@ -124,15 +124,15 @@ play-from-requires c κs =
     let r = c .before .before .before .before .before .before .before .before .ride in
     (passed-plays a _ (r .ensures .asLong), r .ensures .within)
 
-add-t31 : tie.Need-add-t31
-add-t31 c =
+add-t33 : tie.Need-add-t33
+add-t33 c =
     let t = c .before .before .before .before .before .before .before .before .before .before .before .before .before .before .before .before .before .before in
     let st = start t in
     let r = c .before .before .before .before .before .before .before .before .before .before .before .before .before .before .ride in
     let h = r .ensures in
     let p = passed-plays (c .before .before .before .before .before .before .before .before .before .before) _ (h .asLong) in
     let q = c .before .before .before .before .before .play-from in
-    let f = from-few (now (st .args .sound)) _ (st .args .dt) (lent t) _ p (r .result .next) (q .result) _ (q .ensures) in
+    let f = from-few (now (st .args .sound)) _ (st .args .timed .dt) (lent t) _ p (r .result .next) (q .result) _ (q .ensures) in
     record { fits = sum-fits _ _ _ _ (h .few) f (h .within) (sized-parts (lent t) (st .pre .sized) .most) }
 
 same-length-3 : tie.Need-same-length-3
@@ -141,7 +141,7 @@ same-length-3 c =
     let st = start t in
     let r = c .before .before .before .before .before .before .before .before .before .before .before .before .before .before .ride in
     let q = c .before .before .before .before .before .play-from in
-    from-long (now (st .args .sound)) _ (st .args .dt) (lent t) _ (passed-plays (c .before .before .before .before .before .before .before .before .before .before) _ (r .ensures .asLong)) (r .result .next) (q .result) _ (r .ensures .within) (q .ensures) ∙ (r .ensures .asLong ∙ sym (st .pre .long))
+    from-long (now (st .args .sound)) _ (st .args .timed .dt) (lent t) _ (passed-plays (c .before .before .before .before .before .before .before .before .before .before) _ (r .ensures .asLong)) (r .result .next) (q .result) _ (r .ensures .within) (q .ensures) ∙ (r .ensures .asLong ∙ sym (st .pre .long))
 
 returns-3 : tie.Need-returns-3
 returns-3 c =
@@ -149,7 +149,7 @@ returns-3 c =
     let st = start t in
     let r = c .before .before .before .before .before .before .before .before .before .before .before .before .before .before .ride in
     let q = c .before .before .before .before .before .play-from in
-    ridden-on (now (st .args .sound)) (st .args .dt) (lent t) (st .args .voice) _ (t .track-of .result) (r .result) (q .result) _ _ (r .ensures) (passed-is (c .before .before .before .before .before .before .before .before .before .before)) (q .ensures)
+    ridden-on (now (st .args .sound)) (st .args .timed .dt) (lent t) (st .args .timed .voice) _ (t .track-of .result) (r .result) (q .result) _ _ (r .ensures) (passed-is (c .before .before .before .before .before .before .before .before .before .before)) (q .ensures)
 
 pub play-spec : {M : Type 1} → statement M
 play-spec =
@@ -167,6 +167,6 @@ play-spec =
     same-length-2
     returns-2
     play-from-requires
-    add-t31
+    add-t33
     same-length-3
     returns-3)

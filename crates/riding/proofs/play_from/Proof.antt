@@ -3,18 +3,12 @@ use native.Mathlib.Omega.{arith}
 use denote.Ref.{now}
 use Rattle.lanes.specs.Lanes.{five}
 use Rattle.lanes.proofs.Rows.{sized-parts}
-use Rattle.riding.proofs.Joins.{playable-from, played-from, played-none-left}
+use Rattle.riding.proofs.Joins.{playable-from, played-from}
 use borrow.Author.Needs.{needs}
 use Rattle.riding.proofs.play_from.Statement.{statement}
 use Rattle.riding.proofs.play_from.Tie as tie
 use Rattle.riding.proofs.play_from.Reads as reads
 use Rattle.riding.proofs.play_from.Lts as lts
-
-returns : tie.Need-returns
-returns c =
-    let st = c .before .before .before .before .before .before .before .before in
-    let a = st .args in
-    played-none-left (now (a .sound)) (a .voice) (a .dt) (five (now (a .fade)) (now (a .volume)) (now (a .left)) (now (a .right)) (now (a .rate))) (now (a .out)) (st .pre .0) (a .i) (c .if1 .taken)
 
 mul-k : tie.Need-mul-k
 mul-k c = search needs
@@ -95,23 +89,22 @@ play-requires : tie.Need-play-requires
 play-requires c κs =
     let st = c .before .before .before .before .before .before .before .before .before .before .before .before .before .before in
     let a = st .args in
-    playable-from (now (a .sound)) (a .voice) (a .dt) (five (now (a .fade)) (now (a .volume)) (now (a .left)) (now (a .right)) (now (a .rate))) (now (a .out)) (st .pre .0) (a .i) (st .pre .1)
+    playable-from (now (a .sound)) (a .rest .voice) (a .rest .dt) (five (now (a .fade)) (now (a .volume)) (now (a .left)) (now (a .right)) (now (a .rate))) (now (a .out)) (st .pre .0) (a .rest .next) (st .pre .1)
 
 same-length : tie.Need-same-length
 same-length c = search needs
 
-returns-2 : tie.Need-returns-2
-returns-2 c =
+returns : tie.Need-returns
+returns c =
     let st = c .before .before .before .before .before .before .before .before .before .before .before .before .before .before .before .before .before in
     let a = st .args in
     let p = c .before .before .play in
-    played-from (now (a .sound)) (a .voice) (a .dt) (five (now (a .fade)) (now (a .volume)) (now (a .left)) (now (a .right)) (now (a .rate))) (now (a .out)) (st .pre .0) (a .i) (p .result) _ (p .ensures)
+    played-from (now (a .sound)) (a .rest .voice) (a .rest .dt) (five (now (a .fade)) (now (a .volume)) (now (a .left)) (now (a .right)) (now (a .rate))) (now (a .out)) (st .pre .0) (a .rest .next) (p .result) _ (p .ensures)
 
 pub play-from-spec : {M : Type 1} → statement M
 play-from-spec =
     tie.close
     (tie.spec
-    returns
     mul-k
     mul-play
     sub-play
@@ -139,4 +132,4 @@ play-from-spec =
     part-play-end-6
     play-requires
     same-length
-    returns-2)
+    returns)

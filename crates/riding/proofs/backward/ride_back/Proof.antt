@@ -22,17 +22,17 @@ use Rattle.riding.proofs.backward.ride_back.Reads as reads
 use Rattle.riding.proofs.backward.ride_back.Lts as lts
 
 abbrev Inv-loop : tie.InvT-loop
-Inv-loop voice track sound fade volume left right rate dt out₀ at₀ fractional-position₀ steps₀ i₀ out at fractional-position steps i =
+Inv-loop sound fade volume left right rate out₀ voice track dt at₀ fractional-position₀ steps₀ i₀ out at fractional-position steps i =
     Rode sound dt (five fade volume left right rate) voice track (place at fractional-position steps i) out
 
 abbrev μ-loop : tie.MeasureT-loop
-μ-loop voice track sound fade volume left right rate dt out₀ at₀ fractional-position₀ steps₀ i₀ out at fractional-position steps i =
+μ-loop sound fade volume left right rate out₀ voice track dt at₀ fractional-position₀ steps₀ i₀ out at fractional-position steps i =
     length rate - i
 
 -- ---- the places
 
 abbrev start : tie.At-loop Inv-loop μ-loop → tie.Start Inv-loop μ-loop
-start c = c .before .before .before .before .before .before .before .before .before .before .before
+start c = c .before .before .before .before .before .before .before .before .before .before .before .before .before
 
 abbrev lent : tie.At-loop Inv-loop μ-loop → Lanes
 lent c = let a = start c .args in five (now (a .fade)) (now (a .volume)) (now (a .left)) (now (a .right)) (now (a .rate))
@@ -65,8 +65,8 @@ numbers c =
     }
 
 -- a lane's rate makes a small advance
-slow-on : (c : tie.At-loop Inv-loop μ-loop) (j : ℕ) → j < length (now (start c .args .rate)) → let a = start c .args in T (slow (a .voice .setup .«sample_rate») (a .dt) (getD (now (a .rate)) j nan))
-slow-on c j h = let st = start c in let v = st .args .voice in slow-at (now (st .args .sound)) (st .args .dt) (lent c) v (v .setup .«sample_rate») j h (st .pre .0 .near)
+slow-on : (c : tie.At-loop Inv-loop μ-loop) (j : ℕ) → j < length (now (start c .args .rate)) → let a = start c .args in T (slow (a .along .voice .setup .«sample_rate») (a .along .dt) (getD (now (a .rate)) j nan))
+slow-on c j h = let st = start c in let v = st .args .along .voice in slow-at (now (st .args .sound)) (st .args .along .dt) (lent c) v (v .setup .«sample_rate») j h (st .pre .0 .near)
 
 -- both passes make few steps
 two-few : (a b : ℕ) → a < 258 → b < 258 → a + b < 1000
@@ -77,9 +77,9 @@ element-copy-out-first c = search needs
 
 loop-holds : tie.Need-loop-holds Inv-loop μ-loop
 loop-holds c =
-    let st = c .before .before .before .before .before .before .before .before .before .before in
+    let st = c .before .before .before .before .before .before .before .before .before .before .before .before in
     let a = st .args in
-    ride-none (now (a .sound)) (a .dt) (five (now (a .fade)) (now (a .volume)) (now (a .left)) (now (a .right)) (now (a .rate))) (a .voice) (a .track) (now (a .out)) (st .pre .0 .formed) (st .pre .0 .long) (st .pre .1 .1 .0)
+    ride-none (now (a .sound)) (a .along .dt) (five (now (a .fade)) (now (a .volume)) (now (a .left)) (now (a .right)) (now (a .rate))) (a .along .voice) (a .along .track) (now (a .out)) (st .pre .0 .formed) (st .pre .0 .long) (st .pre .1 .1 .0)
 
 add-loop : tie.Need-add-loop Inv-loop μ-loop
 add-loop c = omega (arith, numbers (c))
@@ -218,8 +218,8 @@ loop-again c =
     let at = l .before in
     let st = start at in
     let a = st .args in
-    let v = a .voice in
-    let k = a .track in
+    let v = a .along .voice in
+    let k = a .along .track in
     let snd = now (a .sound) in
     let b = lent at in
     let n = numbers at in
@@ -245,10 +245,10 @@ loop-again c =
       few = omega (arith, n, hs, gs);
       asLong = simp length-set (at .loop .inv .asLong);
       on = eh .1 .1 .1;
-      came = two-came snd (a .dt) b v k t w i (at .loop .steps) q f g h (at .loop .inv .came) (eg .0) (eh .0);
-      formed = two-formed snd (a .dt) b v k t w i (at .loop .steps) q f g h (st .pre .0 .lent) (at .loop .inv .formed) (st .pre .0 .timeStep) (slow-on at i (omega (arith, below))) (slow-on at (i + 1) below) (at .loop .inv .came) (eg .0) (eh .0) room;
+      came = two-came snd (a .along .dt) b v k t w i (at .loop .steps) q f g h (at .loop .inv .came) (eg .0) (eh .0);
+      formed = two-formed snd (a .along .dt) b v k t w i (at .loop .steps) q f g h (st .pre .0 .lent) (at .loop .inv .formed) (st .pre .0 .timeStep) (slow-on at i (omega (arith, below))) (slow-on at (i + 1) below) (at .loop .inv .came) (eg .0) (eh .0) room;
       soFar =
-          two-more snd (a .dt) b v k t w i (at .loop .steps) q (at .loop .out) f (x .result) (y .result) g h below
+          two-more snd (a .along .dt) b v k t w i (at .loop .steps) q (at .loop .out) f (x .result) (y .result) g h below
           (omega (arith, n, below)) (at .loop .inv .soFar) (at .loop .inv .came)
           (x .ensures ∙ ap (heardOn snd k q f) gx) (eg .0)
           (y .ensures ∙ ap (heardOn snd k (g .at) (g .«fractional_position»)) gy) (eh .0) room;
