@@ -182,10 +182,11 @@ pub fn play(
     };
     let played = play_from(rest, sound, fade, volume, left, right, rate, out);
     let after = played.sound;
+    let steps = ridden.steps + played.steps;
     Processed {
         refusal: 0,
         sound: after,
-        steps: ridden.steps + played.steps,
+        steps,
         lowest_count: played.lowest_count,
     }
 }

@@ -124,8 +124,8 @@ play-from-requires c κs =
     let r = c .before .before .before .before .before .before .before .before .ride in
     (passed-plays a _ (r .ensures .asLong), r .ensures .within)
 
-add-t33 : tie.Need-add-t33
-add-t33 c =
+add-steps : tie.Need-add-steps
+add-steps c =
     let t = c .before .before .before .before .before .before .before .before .before .before .before .before .before .before .before .before .before .before in
     let st = start t in
     let r = c .before .before .before .before .before .before .before .before .before .before .before .before .before .before .ride in
@@ -167,6 +167,6 @@ play-spec =
     same-length-2
     returns-2
     play-from-requires
-    add-t33
+    add-steps
     same-length-3
     returns-3)
