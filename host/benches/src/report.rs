@@ -79,7 +79,7 @@ Measured on {}.
 /// Where the rest of the time is, and what others take.
 const REST: &str = "## Where the time is
 
-Of some 77 instructions a frame on Arm (0.93, blocks of 512, callgrind; kira's text 121): 64 are the ride's loop, 9 judge the lanes, 4 are the call's own part (the state's test and its translation, the trail's test, the answer) and the first block, which has no trail; at 64 frames the call's own part is 15. Of the loop's 64 about 26 are the two channels' cubic and gains, four lanes at a time for two frames; 16 the advance, the sum and its narrowing; 22 the places and the reads. Below 1 a rate spares kira's text updates and ours nothing: its frames cost the same at 0.5 as at 1. A block is played frame by frame, at 1.25 to 1.5 of kira's time, where its window is no trail: the first block after creation, one after a seek, the last frames of a sound without a loop, a window with a NaN.
+Of some 78 instructions a frame on Arm (0.93, blocks of 512, callgrind; kira's text 121): 67 are the ride's loop, 9 judge the lanes, 2 are the call's own part (the state's test and its translation, the trail's test, the answer), about 1,000 a call, which at 64 frames is 16. Of the loop's 67 about 26 are the two channels' cubic and gains, four lanes at a time for two frames; 16 the advance, the sum and its narrowing; 22 the places and the reads; 3 keep what the registers do not hold. Below 1 a rate spares kira's text updates and ours nothing: its frames cost the same at 0.5 as at 1. A block is played frame by frame, at 1.25 to 1.5 of kira's time, where its window is no trail: the first block after creation, one after a seek, the last frames of a sound without a loop, a window with a NaN.
 
 ## Beside others
 
