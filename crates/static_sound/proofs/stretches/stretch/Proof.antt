@@ -15,10 +15,10 @@ use Rattle.voice.proofs.Formed.{Fixed, setup-parts, ours-parts}
 use Rattle.static_sound.specs.Entries.{stretchOf, stretchAt}
 use Rattle.static_sound.proofs.Calls.{fails, passes}
 use borrow.Author.Needs.{needs}
-use Rattle.static_sound.proofs.stretch.Statement.{statement}
-use Rattle.static_sound.proofs.stretch.Tie as tie
-use Rattle.static_sound.proofs.stretch.Reads as reads
-use Rattle.static_sound.proofs.stretch.Lts as lts
+use Rattle.static_sound.proofs.stretches.stretch.Statement.{statement}
+use Rattle.static_sound.proofs.stretches.stretch.Tie as tie
+use Rattle.static_sound.proofs.stretches.stretch.Reads as reads
+use Rattle.static_sound.proofs.stretches.stretch.Lts as lts
 use Rattle.voice.proofs.StaticSound.is_well_formed.Reads as is-well-formed-reads
 
 -- no sample further

@@ -1,10 +1,10 @@
 -- `has_room` is its three tests, in whole frames.
 use Rattle.static_sound.proofs.Places.{room-odd, room-beyond, room-left}
 use borrow.Author.Needs.{needs}
-use Rattle.static_sound.proofs.has_room.Statement.{statement}
-use Rattle.static_sound.proofs.has_room.Tie as tie
-use Rattle.static_sound.proofs.has_room.Reads as reads
-use Rattle.static_sound.proofs.has_room.Lts as lts
+use Rattle.static_sound.proofs.mix.has_room.Statement.{statement}
+use Rattle.static_sound.proofs.mix.has_room.Tie as tie
+use Rattle.static_sound.proofs.mix.has_room.Reads as reads
+use Rattle.static_sound.proofs.mix.has_room.Lts as lts
 
 returns : tie.Need-returns
 returns c = room-odd _ _ _ (c .if1 .taken)

@@ -8,11 +8,11 @@ use Rattle.lanes.specs.Lanes.{Lanes, five}
 use Rattle.static_sound.specs.Entries.{refusedBlock, room}
 use Rattle.static_sound.proofs.Calls.{refused-into, processed-into, playable-part, inside}
 use borrow.Author.Needs.{needs}
-use Rattle.static_sound.proofs.process_into.Statement.{statement}
-use Rattle.static_sound.proofs.process_into.Tie as tie
-use Rattle.static_sound.proofs.process_into.Reads as reads
-use Rattle.static_sound.proofs.process_into.Lts as lts
-use Rattle.static_sound.proofs.has_room.Reads as has-room-reads
+use Rattle.static_sound.proofs.mix.process_into.Statement.{statement}
+use Rattle.static_sound.proofs.mix.process_into.Tie as tie
+use Rattle.static_sound.proofs.mix.process_into.Reads as reads
+use Rattle.static_sound.proofs.mix.process_into.Lts as lts
+use Rattle.static_sound.proofs.mix.has_room.Reads as has-room-reads
 use Rattle.block.proofs.block.Reads as block-reads
 use Rattle.static_sound.proofs.refusal_of.Reads as refusal-of-reads
 

@@ -1,0 +1,76 @@
+// A block into the middle of a longer mix.
+ghost use mathlib.Core.Path.{_≡_};
+ghost use Prim.Native.Nat.{_+_, _/_, _%_};
+ghost use mathlib.Core.Bool.{_&&_};
+ghost use lib.Dec.{leb, eqb};
+ghost use Rattle.lanes.specs.Lanes.{five};
+ghost use Rattle.static_sound.specs.Entries.{processedInto};
+use crate::refusal_of;
+use block::Signals;
+use block::Told;
+use block::block;
+use playing::Processed;
+use playing::Timed;
+use voice::StaticSound;
+
+// Whether a mix of so many samples has whole frames, and so many of them from the frame given on.
+fn has_room(from: usize, frames: usize, samples: usize) -> bool
+    ensures { λ r. ⌜ r ≡ (eqb (samples % 2) 0 && leb (from + frames) (samples / 2)) ⌝ }
+{
+    if samples % 2 != 0 {
+        return false;
+    }
+    if from > samples / 2 {
+        return false;
+    }
+    frames <= samples / 2 - from
+}
+
+// A block into the middle of a longer mix, from the frame given on; every other sample stays.
+pub fn process_into(
+    voice: StaticSound,
+    sound: &[f32],
+    fade: &[f32],
+    volume: &[f32],
+    left: &[f32],
+    right: &[f32],
+    rate: &[f64],
+    dt: f64,
+    signals: Signals,
+    mix: &mut [f32],
+    from: usize,
+) -> Processed
+    ensures { λ r. ⌜ record { answer = r; samples = now (mix .exit) } ≡ processedInto (now (sound .entry)) voice dt (five (now (fade .entry)) (now (volume .entry)) (now (left .entry)) (now (right .entry)) (now (rate .entry))) signals (now (mix .entry)) from ⌝ }
+{
+    let placed = has_room(from, rate.len(), mix.len());
+    let refusal = refusal_of(
+        Timed { voice, dt },
+        sound.len(),
+        fade,
+        volume,
+        left,
+        right,
+        rate,
+        placed,
+    );
+    if refusal != 0 {
+        return Processed {
+            refusal,
+            sound: voice,
+            steps: 0,
+            lowest_count: 4,
+        };
+    }
+    let a = 2 * from;
+    let e = a + 2 * rate.len();
+    block(
+        Told { voice, dt, signals },
+        sound,
+        fade,
+        volume,
+        left,
+        right,
+        rate,
+        &mut mix[a..e],
+    )
+}
