@@ -93,7 +93,7 @@ Time a frame over that of kira's text in the same run, stereo, looped, rate 0.93
 | libxmp spline | 0.48 / 0.49 / 0.48 | less: 16 bit, the rate is fixed in a tick |
 | libopenmpt cubic | 0.40 / 0.37 / 0.36 | less: 16 bit, the rate is fixed in a tick |
 | fluidsynth 4th order | 1.47 / 1.42 / 1.38 | more: a filter, envelopes |
-| ours, on Arm (the table above) | 0.78 / 0.64 / 0.62 | as kira's, with every check, proved |
+| ours, on Arm (the table above) | 0.81 / 0.65 / 0.63 | as kira's, with every check, proved |
 ";
 
 /// Processor, system, compiler and day of the run, as far as they can be told.
