@@ -168,6 +168,32 @@ impl Refusal {
         Self::Output,
     ];
 
+    /// The sentence of a number, for those who have only the number: from a log, or in C, where
+    /// `cableowl_refusal_text` returns the same. `None` where no refusal has the number.
+    ///
+    /// ```
+    /// use cableowl::Refusal;
+    ///
+    /// assert_eq!(Refusal::text(2), Some("the sample rate must be from 1 to 768,000"));
+    /// assert_eq!(Refusal::text(0), None);
+    /// ```
+    #[must_use]
+    pub fn text(number: u32) -> Option<&'static str> {
+        match number {
+            11 => Some(
+                "fade, volume and gains must be finite with no minus sign (minus zero has one), and rates must be finite",
+            ),
+            12 => Some(Self::Advance { frame: 0 }.sentence()),
+            _ => {
+                let named = |refusal: &&Self| refusal.number() == number;
+                Self::PLAIN
+                    .iter()
+                    .find(named)
+                    .map(|refusal| refusal.sentence())
+            }
+        }
+    }
+
     /// What the library's answer to a creation or a command set says: 0 is no refusal.
     pub(crate) fn check(number: u32) -> Result<(), Self> {
         if number == 0 {

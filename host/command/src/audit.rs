@@ -8,9 +8,9 @@ use cableowl::trace::{Line as Proved, LogLine, Record, TraceReader};
 use crate::{
     course::{Join, Series},
     fault::{Fault, Result},
-    input::Input,
+    input::{FileKind, Input},
     log::{Before, Block, Form, Line, Log, More},
-    out::{Fresh, Out, free_for_a_page},
+    out::{Fresh, Out, free_for_a_page, shown},
     page::{Sink, foot, head},
     plot::{Plot, escaped, grouped},
     replay::{Run, fault, number, refused},
@@ -146,7 +146,7 @@ fn alike(proved: &Line, said: &Line) -> bool {
 }
 
 /// A proved line, as a log has it.
-fn as_said(line: &LogLine) -> Line {
+pub fn as_said(line: &LogLine) -> Line {
     let before = Some(Before {
         created: line.since.created,
         seeks: line.since.seeks,
@@ -198,8 +198,7 @@ pub fn audit(
         not_an_input(path, &inputs)?;
         free_for_a_page(path)?;
     }
-    let input = Input::open(trace)?;
-    let log = Log::new(Input::open(log)?)?;
+    let (input, log) = opened(trace, log)?;
     if csv {
         out.put("block,frames,seconds,steps_proved,steps_said,position_proved,position_said,creep,same\n")?;
     }
@@ -220,6 +219,29 @@ pub fn audit(
     match found.ended {
         Some(fault) => Err(fault),
         None => Ok(agrees),
+    }
+}
+
+/// The trace and the log, each of its own kind as far as their first bytes tell.
+fn opened(trace: &Path, log: &Path) -> Result<(Input, Log)> {
+    let mut files = (Input::open(trace)?, Input::open(log)?);
+    let kinds = (files.0.kind()?, files.1.kind()?);
+    if kinds == (FileKind::Log, FileKind::Trace) {
+        let (first, second) = (shown(trace), shown(log));
+        return Err(Fault::usage(format!(
+            "the two files are swapped: {first} is a log and {second} is a trace; say 'cableowl audit {second} {first}'"
+        )));
+    }
+    match kinds {
+        (FileKind::Log | FileKind::Settings | FileKind::Page, _) => {
+            let another = files.0.another("a trace, which audit reads first");
+            Err(another.unwrap_or(Fault::Closed))
+        }
+        (_, FileKind::Trace | FileKind::Settings | FileKind::Page) => {
+            let another = files.1.another("a log, which audit reads second");
+            Err(another.unwrap_or(Fault::Closed))
+        }
+        _ => Ok((files.0, Log::new(files.1)?)),
     }
 }
 

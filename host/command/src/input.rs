@@ -1,8 +1,10 @@
-//! What a run reads: a file, or standard input for `-`; how far it is, and who is told.
+//! What a run reads: a file, or standard input for `-`; what it is by its first bytes, and how far
+//! the reading is.
 
 use std::{
     fs::File,
-    io::{self, IsTerminal, Read, Write},
+    io::{self, Cursor, IsTerminal, Read, Write},
+    mem,
     path::Path,
     sync::mpsc::{self, RecvTimeoutError},
     thread,
@@ -18,9 +20,65 @@ use crate::{
 const PATIENCE: Duration = Duration::from_secs(2);
 const EVERY: Duration = Duration::from_millis(250);
 
+/// What a file is, by its first bytes.
+#[derive(Debug, Clone, Copy, PartialEq, Eq)]
+pub enum FileKind {
+    /// A trace.
+    Trace,
+    /// A log.
+    Log,
+    /// Saved settings.
+    Settings,
+    /// A page of this command.
+    Page,
+    /// None of them, or too short to tell.
+    Unknown,
+}
+
+/// As many bytes as tell one kind from another.
+const FIRST: u64 = 8;
+
+impl FileKind {
+    fn of(first: &[u8]) -> Self {
+        let begins = |mark: &[u8]| first.starts_with(mark);
+        match first {
+            [0xa5, 0x1d, ..] => Self::Trace,
+            [0x5e, 0x71, ..] => Self::Settings,
+            _ if begins(b"block=") || begins(b"log=") || begins(b"refused=") => Self::Log,
+            _ if begins(b"<!DOCTYP") => Self::Page,
+            _ => Self::Unknown,
+        }
+    }
+
+    /// What is said of a file of this kind where another was wanted: what it is, and what reads it.
+    fn says(self, wanted: &str, name: &str) -> Option<String> {
+        let file = if name == STANDARD_INPUT { "-" } else { name };
+        let (is, reads) = match self {
+            Self::Trace => (
+                "this is a trace",
+                format!("'cableowl replay {file}' plays it"),
+            ),
+            Self::Log => (
+                "this is a log",
+                format!("'cableowl report {file}' reads it"),
+            ),
+            Self::Settings => (
+                "these are saved settings",
+                format!("'cableowl settings show {file}' shows them"),
+            ),
+            Self::Page => ("this is a page", "a browser shows it".into()),
+            Self::Unknown => return None,
+        };
+        Some(format!("{is}, not {wanted}: {reads}"))
+    }
+}
+
+const STANDARD_INPUT: &str = "standard input";
+
 /// A file that is being read.
 pub struct Input {
     name: String,
+    kind: FileKind,
     from: Box<dyn Read>,
     length: Option<u64>,
     read: u64,
@@ -32,7 +90,7 @@ impl Input {
     pub fn open(path: &Path) -> Result<Self> {
         if path == Path::new("-") {
             return Ok(Self::new(
-                "standard input".into(),
+                STANDARD_INPUT.into(),
                 Box::new(io::stdin()),
                 None,
             ));
@@ -55,10 +113,28 @@ impl Input {
         Self {
             progress: Progress::new(),
             name,
+            kind: FileKind::Unknown,
             from,
             length,
             read: 0,
         }
+    }
+
+    /// Looks at its first bytes, and says what it is; nothing is taken from it.
+    pub fn kind(&mut self) -> Result<FileKind> {
+        let mut first = Vec::new();
+        let looked = (&mut self.from).take(FIRST).read_to_end(&mut first);
+        looked.map_err(|error| self.unread(&error))?;
+        self.kind = FileKind::of(&first);
+        let rest = mem::replace(&mut self.from, Box::new(io::empty()));
+        self.from = Box::new(Cursor::new(first).chain(rest));
+        Ok(self.kind)
+    }
+
+    /// It is of another kind than was wanted, if that is known.
+    pub fn another(&self, wanted: &str) -> Option<Fault> {
+        let says = self.kind.says(wanted, &self.name)?;
+        Some(self.wrong(says))
     }
 
     /// Its name, as it may be told.

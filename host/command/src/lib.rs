@@ -4,11 +4,15 @@
 #![warn(missing_docs)]
 
 mod audit;
+mod completions;
 mod course;
+mod explain;
 mod fault;
 mod figures;
+mod help;
 mod input;
 mod log;
+mod man;
 mod out;
 mod page;
 mod plot;
@@ -16,13 +20,16 @@ mod replay;
 mod report;
 mod salvage;
 mod settings;
+mod summary;
+mod verbs;
 mod words;
 
 use std::{ffi::OsString, io::Write};
 
 use fault::{Fault, Result};
 use out::Out;
-use words::{Asked, HELP};
+use verbs::VERBS;
+use words::Asked;
 
 /// Does what the words ask for, and tells the exit status: 0; 1 where a file was refused or an audit
 /// found a difference; 2 where the words mean nothing.
@@ -31,6 +38,11 @@ pub fn run(
     out: impl Write,
     mut complaints: impl Write,
 ) -> u8 {
+    let words: Vec<OsString> = words.into_iter().collect();
+    let help = match verbs::find(&words) {
+        Some((verb, _)) => format!("cableowl help {}", verb.name),
+        None => "cableowl help".into(),
+    };
     let mut out = Out::new(out);
     let mut complain = |fault: &Fault| {
         // There is nowhere to say that it could not be said.
@@ -38,11 +50,11 @@ pub fn run(
             Fault::Closed => Ok(()),
             Fault::Refused(_) => writeln!(complaints, "cableowl: {fault}"),
             Fault::Usage(_) => {
-                writeln!(complaints, "cableowl: {fault}; 'cableowl help' tells more")
+                writeln!(complaints, "cableowl: {fault}; '{help}' says more")
             }
         };
     };
-    let done = obey(words, &mut out, &mut complain);
+    let done = obey(&words, &mut out, &mut complain);
     let flushed = out.flush();
     match done.and_then(|well| flushed.map(|()| well)) {
         Ok(true) => 0,
@@ -54,27 +66,41 @@ pub fn run(
     }
 }
 
-fn obey(
-    words: impl IntoIterator<Item = OsString>,
-    out: &mut Out<'_>,
-    complain: &mut dyn FnMut(&Fault),
-) -> Result<bool> {
+fn obey(words: &[OsString], out: &mut Out<'_>, complain: &mut dyn FnMut(&Fault)) -> Result<bool> {
     match words::asked(words)? {
-        Asked::Help => out.put(HELP).map(|()| true),
+        Asked::Help(verb) => {
+            let text = of_verb(verb).map_or_else(help::all, help::of);
+            out.put(text).map(|()| true)
+        }
+        Asked::Man(verb) => {
+            let page = of_verb(verb).map_or_else(man::all, man::of);
+            out.put(page).map(|()| true)
+        }
+        Asked::Completions(shell) => out.put(completions::of(shell)).map(|()| true),
+        Asked::Explain(asked) => explain::explain(&asked, out).map(|()| true),
         Asked::Version => {
             let (version, archive) = (env!("CARGO_PKG_VERSION"), cableowl::version());
             let words = format!("cableowl {version}, C interface {archive}\n");
             out.put(words).map(|()| true)
         }
+        Asked::Summary { trace } => summary::summary(&trace, out).map(|()| true),
         Asked::Replay { trace, form } => replay::replay(&trace, form, out).map(|()| true),
         Asked::Salvage { trace, to } => salvage::salvage(&trace, &to, out).map(|()| true),
-        Asked::ShowSettings { file } => settings::show(&file, out).map(|()| true),
+        Asked::ShowSettings { file, rate } => settings::show(&file, rate, out).map(|()| true),
+        Asked::SaveSettings { save, to } => settings::save(&save, &to, out).map(|()| true),
         Asked::Report {
-            logs,
+            files,
             rate,
+            sound_rate,
             csv,
             page,
-        } => report::report(&logs, rate, csv, page.as_deref(), out, complain),
+        } => {
+            let rates = report::Rates {
+                device: rate,
+                sound: sound_rate,
+            };
+            report::report(&files, rates, csv, page.as_deref(), out, complain)
+        }
         Asked::Audit {
             trace,
             log,
@@ -82,4 +108,9 @@ fn obey(
             page,
         } => audit::audit(&trace, &log, csv, page.as_deref(), out),
     }
+}
+
+/// The verb of this name.
+fn of_verb(name: Option<&str>) -> Option<&'static verbs::Verb> {
+    VERBS.iter().find(|verb| Some(verb.name) == name)
 }

@@ -201,6 +201,9 @@ fn section(evening: &Evening, folder: &str, rate: u32, put: &mut Sink<'_>) -> Re
         put(&format!("<div><dt>{name}</dt><dd>{says}</dd></div>\n"))?;
     }
     put("</dl>\n")?;
+    if evening.again {
+        put("<p class=\"bad\">This file was given twice, and counts twice in the totals.</p>\n")?;
+    }
     if let Some((refusal, at)) = figures.broken {
         put(&format!(
             "<p class=\"bad\">The run ended at a record that was refused with {refusal}, at byte {at}.</p>\n"

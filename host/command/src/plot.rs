@@ -203,6 +203,20 @@ pub fn grouped(number: u64) -> String {
     text
 }
 
+/// So many of a thing: `1 block`, `2 blocks`.
+pub fn counted(number: u64, thing: &str) -> String {
+    let end = if number == 1 { "" } else { "s" };
+    format!("{} {thing}{end}", grouped(number))
+}
+
+/// A time of the evening, to a thousandth of a second: `1:15.000`.
+pub fn clock(seconds: f64) -> String {
+    // Beyond 2^64 thousandths the cast stays at its limit.
+    let thousandths = (seconds * 1_000.0).round() as u64;
+    let (whole, rest) = (thousandths / 1_000, thousandths % 1_000);
+    format!("{}.{rest:03}", time(whole as f64, 1.0))
+}
+
 fn grouped_signed(number: f64) -> String {
     let sign = if number <= -0.5 { "-" } else { "" };
     format!("{sign}{}", grouped(number.abs().round() as u64))

@@ -3,7 +3,7 @@
 use std::path::Path;
 
 use cableowl::{
-    Refusal,
+    Refusal, StaticSound,
     trace::{
         LOG_HEAD, Line, Log, LogLine, Record, Refused, Replay, ShortSound, TraceError, TraceReader,
     },
@@ -31,6 +31,11 @@ impl Run {
             sound: ShortSound::EMPTY,
             log: Log::new(),
         }
+    }
+
+    /// The voice, if there is one.
+    pub fn voice(&self) -> Option<&StaticSound> {
+        self.replay.voice()
     }
 
     /// Plays a record, and tells the line of a block.
@@ -66,7 +71,13 @@ impl Run {
 pub fn fault(input: &Input, error: &TraceError) -> Fault {
     match error {
         TraceError::Io(error) => input.unread(error),
-        TraceError::Refused(refused) => input.wrong(refused),
+        TraceError::Refused(refused) => {
+            let another = match refused.at {
+                0 => input.another("a trace"),
+                _ => None,
+            };
+            another.unwrap_or_else(|| input.wrong(refused))
+        }
         _ => input.wrong(error),
     }
 }
@@ -74,6 +85,7 @@ pub fn fault(input: &Input, error: &TraceError) -> Fault {
 /// Plays a trace again.
 pub fn replay(trace: &Path, form: Form, out: &mut Out<'_>) -> Result<()> {
     let mut input = Input::open(trace)?;
+    input.kind()?;
     let mut broken = None;
     if form == Form::Second {
         out.put(format!("{LOG_HEAD}\n"))?;

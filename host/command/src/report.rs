@@ -5,23 +5,45 @@ use std::{
     path::{Path, PathBuf},
 };
 
+use cableowl::{
+    Refusal,
+    trace::{TraceError, TraceReader},
+};
+
 use crate::{
+    audit::as_said,
     course::Course,
     fault::{Fault, Result},
     figures::{Count, Figures, QUANTILES, REFUSALS, quantile, total},
-    input::Input,
-    log::{Form, Log},
+    input::{FileKind, Input},
+    log::{Form, Line, Log},
     out::{Fresh, Out, free_for_a_page, same},
     page,
-    plot::grouped,
+    plot::{counted, grouped},
+    replay::{Run, fault, number},
 };
 
-/// A log and its figures.
+/// Frames a second.
+#[derive(Debug, Clone, Copy, PartialEq, Eq)]
+pub struct Rates {
+    /// Of the box.
+    pub device: u32,
+    /// Of the sound, where they are given.
+    pub sound: Option<u32>,
+}
+
+/// A log or a trace, and its figures.
 pub struct Evening {
-    /// The log's name.
+    /// The file's name.
     pub name: String,
-    /// Its form.
+    /// Its form; a trace is told as form 2.
     pub form: Form,
+    /// Whether it is a trace.
+    pub trace: bool,
+    /// The sound's frames a second, where they are known.
+    pub sound_rate: Option<u32>,
+    /// Whether the same file was given before it.
+    pub again: bool,
     /// Its figures.
     pub figures: Figures,
     /// Its course.
@@ -179,11 +201,24 @@ pub fn rows(evenings: &[Evening], rate: u32) -> Vec<Told> {
     rows
 }
 
-/// Reads a log to its end.
-fn read(path: &Path, rate: u32) -> Result<Evening> {
-    let mut log = Log::new(Input::open(path)?)?;
+/// Reads a log or a trace to its end. A trace that is damaged is told up to the damage, which comes
+/// with it.
+fn read(path: &Path, rates: Rates) -> Result<(Evening, Option<Damage>)> {
+    let mut input = Input::open(path)?;
+    match input.kind()? {
+        FileKind::Trace => read_trace(input, rates),
+        FileKind::Settings | FileKind::Page => {
+            let another = input.another("a log or a trace");
+            Err(another.unwrap_or(Fault::Closed))
+        }
+        FileKind::Log | FileKind::Unknown => read_log(input, rates).map(|evening| (evening, None)),
+    }
+}
+
+fn read_log(input: Input, rates: Rates) -> Result<Evening> {
+    let mut log = Log::new(input)?;
     let mut count = Count::new(log.form());
-    let mut course = Course::new(rate);
+    let mut course = Course::new(rates.device);
     while let Some(line) = log.next_line()? {
         if let Some(told) = count.add(&line) {
             course.add(&told);
@@ -192,32 +227,111 @@ fn read(path: &Path, rate: u32) -> Result<Evening> {
     Ok(Evening {
         name: log.name().to_owned(),
         form: log.form(),
+        trace: false,
+        sound_rate: rates.sound,
+        again: false,
         figures: count.figures(),
         course,
     })
 }
 
-/// Reports on logs. A log that is refused is told by `complain` and left out.
+/// Where a trace could not be read on.
+struct Damage {
+    fault: Fault,
+    /// Whether it only ends too early, as where a box loses power.
+    cut_short: bool,
+}
+
+fn read_trace(mut input: Input, rates: Rates) -> Result<(Evening, Option<Damage>)> {
+    let mut count = Count::new(Form::Second);
+    let mut course = Course::new(rates.device);
+    let mut add = |line: &Line| {
+        if let Some(told) = count.add(line) {
+            course.add(&told);
+        }
+    };
+    let mut run = Run::new();
+    let (mut sound_rate, mut damage) = (rates.sound, None);
+    for record in TraceReader::new(&mut input) {
+        match record {
+            Ok((_, record)) => {
+                if let Some(line) = run.play(&record) {
+                    add(&as_said(&line));
+                }
+                let played = run.voice().map(|voice| voice.state().sample_rate);
+                sound_rate = rates.sound.or(played).or(sound_rate);
+            }
+            Err(error) => damage = Some(error),
+        }
+    }
+    if let Some(TraceError::Refused(refused)) = &damage {
+        add(&Line::Broken {
+            refusal: number(refused.refusal),
+            at: refused.at,
+        });
+    }
+    let damage = damage.map(|error| Damage {
+        fault: Fault::refused(format!("{}; its figures end there", fault(&input, &error))),
+        cut_short: matches!(
+            &error,
+            TraceError::Refused(refused) if refused.refusal == Refusal::Truncated
+        ),
+    });
+    let evening = Evening {
+        name: input.name().to_owned(),
+        form: Form::Second,
+        trace: true,
+        sound_rate,
+        again: false,
+        figures: count.figures(),
+        course,
+    };
+    Ok((evening, damage))
+}
+
+/// Reports on logs and traces. One that is refused is told by `complain` and left out; one that is
+/// given twice is told too.
 pub fn report(
-    logs: &[PathBuf],
-    rate: u32,
+    files: &[PathBuf],
+    rates: Rates,
     csv: bool,
     to: Option<&Path>,
     out: &mut Out<'_>,
     complain: &mut dyn FnMut(&Fault),
 ) -> Result<bool> {
     if let Some(path) = to {
-        not_an_input(path, logs)?;
+        not_an_input(path, files)?;
         free_for_a_page(path)?;
     }
+    let rate = rates.device;
     let mut evenings = Vec::new();
-    for path in logs {
-        match read(path, rate) {
-            Ok(evening) => evenings.push(evening),
-            Err(fault) => complain(&fault),
+    let mut all_read = true;
+    for (index, path) in files.iter().enumerate() {
+        let (mut evening, damage) = match read(path, rates) {
+            Ok(read) => read,
+            Err(fault) => {
+                complain(&fault);
+                all_read = false;
+                continue;
+            }
+        };
+        if let Some(damage) = damage {
+            complain(&damage.fault);
+            all_read &= damage.cut_short;
         }
+        if files
+            .iter()
+            .take(index)
+            .any(|before| one_file(before, path))
+        {
+            evening.again = true;
+            complain(&Fault::refused(format!(
+                "{}: this file is given twice, and counts twice in the totals",
+                evening.name
+            )));
+        }
+        evenings.push(evening);
     }
-    let all_read = evenings.len() == logs.len();
     if evenings.is_empty() {
         return Ok(false);
     }
@@ -234,6 +348,14 @@ pub fn report(
         file.replace()?;
     }
     Ok(all_read)
+}
+
+/// Whether two paths lead to one file.
+fn one_file(a: &Path, b: &Path) -> bool {
+    match (fs::metadata(a), fs::metadata(b)) {
+        (Ok(a), Ok(b)) => same(&a, &b),
+        _ => false,
+    }
 }
 
 /// A page does not take the place of what it is made from.
@@ -285,11 +407,14 @@ fn put_one(evening: &Evening, rate: u32, out: &mut Out<'_>) -> Result<()> {
     let figures = &evening.figures;
     let told = |number: Option<u64>| number.map_or(NOT_TOLD.into(), grouped);
     let time = |frames| format!("{} minutes", minutes(frames, rate));
+    let source = match evening.trace {
+        true => "a trace".into(),
+        false => format!("a log of form {}", evening.form.number()),
+    };
     out.put(format!(
-        "{}: a log of form {}, read at {} frames a second\n",
+        "{}: {source}, read at {} a second\n",
         evening.name,
-        evening.form.number(),
-        grouped(rate.into())
+        counted(rate.into(), "frame")
     ))?;
     let still = match figures.still {
         0 => String::new(),
@@ -304,7 +429,7 @@ fn put_one(evening: &Evening, rate: u32, out: &mut Out<'_>) -> Result<()> {
         ("played", format!("{}{still}", time(figures.played))),
         ("paused", time(figures.paused)),
         ("silent", time(figures.silent)),
-        ("steps", grouped(figures.steps)),
+        ("steps", steps(figures.steps, evening.sound_rate)),
         ("jumps", grouped(figures.jumps)),
         ("times round the loop", told(figures.rounds)),
         ("seeks", told(figures.seeks)),
@@ -321,6 +446,15 @@ fn put_one(evening: &Evening, rate: u32, out: &mut Out<'_>) -> Result<()> {
         ))?;
     }
     Ok(())
+}
+
+/// Steps, and the seconds of the sound that they are.
+fn steps(steps: u64, sound_rate: Option<u32>) -> String {
+    let seconds = |rate: u32| steps as f64 / f64::from(rate);
+    match sound_rate {
+        Some(rate) => format!("{}, {:.3} s of the sound", grouped(steps), seconds(rate)),
+        None => grouped(steps),
+    }
 }
 
 /// The refused blocks by number.

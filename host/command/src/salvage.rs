@@ -3,13 +3,13 @@
 use std::path::Path;
 
 use crate::{
-    fault::{Fault, Result},
+    fault::Result,
     input::{Input, working},
     out::{Fresh, Out, free, shown},
-    plot::grouped,
+    plot::counted,
 };
 
-/// Copies what is complete. The new file stands under its name only once it is whole, and takes no
+/// Copies what is complete, if anything is. The new file stands under its name only once it is whole, and takes no
 /// other file's place: so the trace itself cannot be overwritten, whatever name leads to it.
 pub fn salvage(trace: &Path, to: &Path, out: &mut Out<'_>) -> Result<()> {
     free(to)?;
@@ -21,28 +21,21 @@ pub fn salvage(trace: &Path, to: &Path, out: &mut Out<'_>) -> Result<()> {
     kept.resize(bytes.len(), 0);
     let salvaged = working(input.name(), || cableowl::trace::salvage(&bytes, &mut kept));
     let salvaged = salvaged.map_err(|refusal| input.wrong(refusal))?;
-    if salvaged.records == 0 && !bytes.is_empty() {
-        return Err(Fault::refused(format!(
-            "{}: no record of a trace is in it, from byte 0 to its end at byte {} (refusal 15), so nothing was written",
-            input.name(),
-            bytes.len()
-        )));
-    }
     let mut file = Fresh::begin(to)?;
     file.put(kept.get(..salvaged.kept).unwrap_or_default())?;
     file.keep()?;
     let skipped = match salvaged.skipped {
         0 => "nothing skipped".into(),
         skipped => format!(
-            "{} bytes skipped, the first at byte {}",
-            grouped(skipped as u64),
+            "{} skipped, the first at byte {}",
+            counted(skipped as u64, "byte"),
             salvaged.first_skipped
         ),
     };
     out.put(format!(
-        "{}: {} records kept, {skipped}; written to {}\n",
+        "{}: {} kept, {skipped}; written to {}\n",
         input.name(),
-        grouped(salvaged.records as u64),
+        counted(salvaged.records as u64, "record"),
         shown(to)
     ))
 }

@@ -1,4 +1,4 @@
-//! The words of the command line.
+//! The words of the command line, read by the table of verbs.
 
 use std::{
     ffi::{OsStr, OsString},
@@ -6,24 +6,39 @@ use std::{
 };
 
 use crate::{
+    completions::Shell,
+    explain::Meaning,
     fault::{Fault, Result},
     log::Form,
     out::shown,
+    settings::{Part, Place, Save},
+    verbs::{self, HELP, Kind, Many, Opt, VERBS, Verb, list},
 };
 
 /// What is asked for.
-#[derive(Debug, PartialEq, Eq)]
+#[derive(Debug, PartialEq)]
 pub enum Asked {
-    /// How it is used.
-    Help,
+    /// How it is used, or how a verb is.
+    Help(Option<&'static str>),
     /// Which version this is.
     Version,
+    /// A man page.
+    Man(Option<&'static str>),
+    /// Completions.
+    Completions(Shell),
+    /// What numbers and states mean; all of them where none is named.
+    Explain(Vec<Meaning>),
     /// A trace played again.
     Replay {
         /// The trace.
         trace: PathBuf,
         /// The form of its lines.
         form: Form,
+    },
+    /// A trace played again, and told in words.
+    Summary {
+        /// The trace.
+        trace: PathBuf,
     },
     /// What is left of a damaged trace.
     Salvage {
@@ -36,13 +51,24 @@ pub enum Asked {
     ShowSettings {
         /// Their file.
         file: PathBuf,
+        /// Frames a second of the sound.
+        rate: u32,
+    },
+    /// Settings saved.
+    SaveSettings {
+        /// What to save.
+        save: Save,
+        /// Where they go.
+        to: PathBuf,
     },
     /// The figures of evenings.
     Report {
-        /// Their logs.
-        logs: Vec<PathBuf>,
+        /// Their logs and traces.
+        files: Vec<PathBuf>,
         /// Frames a second of the box.
         rate: u32,
+        /// Frames a second of the sound, where they are given.
+        sound_rate: Option<u32>,
         /// Told as comma separated values.
         csv: bool,
         /// Where the page goes.
@@ -61,238 +87,307 @@ pub enum Asked {
     },
 }
 
-/// How it is used.
-pub const HELP: &str = "\
-cableowl: what a listening box's evening came to
-
-  cableowl replay [--log 2] TRACE
-      plays a recorded evening again: one line a block
-  cableowl salvage TRACE OUT
-      copies the complete records of a damaged trace to a new file
-  cableowl settings show FILE
-      shows saved settings
-  cableowl report [--rate HZ] [--csv] [--html OUT] LOG..
-      the figures of one evening or of many, and a page with plots
-  cableowl audit [--csv] [--html OUT] TRACE LOG
-      did this box play as proved? the first block that differs, and the creep
-  cableowl help, cableowl version
-
-A file named - is standard input. A log is what replay prints, or what a box
-said of its voice (docs/TOOLS.md). HZ is the box's frames a second, 48000
-where it is not given. It exits with 0; with 1 where a file was refused or an
-audit found a difference; with 2 where these words are not kept.
-";
-
 /// The frames a second that are taken where none are given.
 const RATE: u32 = 48_000;
 
 /// What the words ask for.
-pub fn asked(words: impl IntoIterator<Item = OsString>) -> Result<Asked> {
-    let mut words = words.into_iter();
-    let Some(command) = words.next() else {
-        return Err(Fault::usage(
-            "say what to do: replay, salvage, settings, report or audit",
-        ));
-    };
-    let given = Given::read(words)?;
-    match command.to_str() {
-        Some("help" | "--help" | "-h") => Ok(Asked::Help),
-        _ if given.help => Ok(Asked::Help),
-        Some("version" | "--version" | "-V") => given.none().map(|()| Asked::Version),
-        Some("replay") => given.replay(),
-        Some("salvage") => given.salvage(),
-        Some("settings") => given.settings(),
-        Some("report") => given.report(),
-        Some("audit") => given.audit(),
-        _ => Err(Fault::usage(format!(
-            "'{}' is no command: replay, salvage, settings, report and audit are",
-            shown(Path::new(&command))
-        ))),
+pub fn asked(words: &[OsString]) -> Result<Asked> {
+    match words.first().map(|word| word.to_str()) {
+        Some(Some("--help" | "-h")) => return Ok(Asked::Help(None)),
+        Some(Some("--version" | "-V")) => return Ok(Asked::Version),
+        _ => {}
     }
+    let Some((verb, rest)) = verbs::find(words) else {
+        return Err(no_verb(words));
+    };
+    let given = Given::read(verb, rest)?;
+    if given.has("--help") {
+        return Ok(Asked::Help(Some(verb.name)));
+    }
+    given.judge()?;
+    given.asked()
 }
 
-/// The words after the command: files, and options.
-#[derive(Default)]
+/// The words begin with no verb.
+fn no_verb(words: &[OsString]) -> Fault {
+    let all = list(&verbs::first_words(), "or");
+    let Some(first) = words.first() else {
+        return Fault::usage(format!("say what to do: {all}"));
+    };
+    let seconds = first.to_str().map(verbs::after).unwrap_or_default();
+    let first = shown(Path::new(first));
+    if seconds.is_empty() {
+        return Fault::usage(format!(
+            "'{first}' is not something that cableowl can do: say {all}"
+        ));
+    }
+    let seconds: Vec<String> = seconds.iter().map(|s| format!("'{first} {s}'")).collect();
+    let seconds: Vec<&str> = seconds.iter().map(String::as_str).collect();
+    Fault::usage(format!("say {}", list(&seconds, "or")))
+}
+
+/// The words after a verb: its options and its arguments.
 struct Given {
-    files: Vec<PathBuf>,
-    help: bool,
-    csv: bool,
-    page: Option<PathBuf>,
-    rate: Option<OsString>,
-    log: Option<OsString>,
+    verb: &'static Verb,
+    options: Vec<(&'static Opt, OsString)>,
+    words: Vec<OsString>,
 }
 
 impl Given {
-    fn read(mut words: impl Iterator<Item = OsString>) -> Result<Self> {
-        let mut given = Self::default();
+    fn read(verb: &'static Verb, words: &[OsString]) -> Result<Self> {
+        let mut given = Self {
+            verb,
+            options: Vec::new(),
+            words: Vec::new(),
+        };
+        let mut words = words.iter().cloned();
         while let Some(word) = words.next() {
-            let text = word.to_string_lossy().into_owned();
-            if text == "--" {
-                given.files.extend(words.by_ref().map(PathBuf::from));
-            } else if text == "-" || !text.starts_with('-') {
-                given.files.push(word.into());
+            let bytes = word.as_encoded_bytes();
+            if word == "--" {
+                given.words.extend(words.by_ref());
+            } else if word == "-h" {
+                given.options.push((&HELP, OsString::new()));
+            } else if word == "-" || !bytes.starts_with(b"-") {
+                given.words.push(word);
             } else {
-                given.option(&word, &text, &mut words)?;
+                given.option(&word, &mut words)?;
             }
         }
         Ok(given)
     }
 
-    fn option(
-        &mut self,
-        word: &OsStr,
-        text: &str,
-        words: &mut impl Iterator<Item = OsString>,
-    ) -> Result<()> {
-        let (name, mut value) = split(word);
-        let mut value = || {
-            let missing = || Fault::usage(format!("'{text}' needs a word after it"));
-            value.take().or_else(|| words.next()).ok_or_else(missing)
+    fn option(&mut self, word: &OsStr, words: &mut impl Iterator<Item = OsString>) -> Result<()> {
+        let (name, value) = split(word);
+        let (verb, shown) = (self.verb.name, shown(Path::new(word)));
+        let Some(option) = self.verb.all_options().find(|option| name == option.name) else {
+            let known = VERBS.iter().flat_map(|verb| verb.options);
+            return Err(match known.into_iter().find(|option| name == option.name) {
+                Some(option) => Fault::usage(format!("{verb} has no option {}", option.name)),
+                None => Fault::usage(format!(
+                    "'{shown}' is not an option (write -- before a file of that name)"
+                )),
+            });
         };
-        let twice = match name.to_str() {
-            Some("--help" | "-h") => {
-                self.help = true;
-                false
+        let value = match (option.value, value) {
+            (None, None) => OsString::new(),
+            (None, Some(_)) => {
+                return Err(Fault::usage(format!("{} takes no value", option.name)));
             }
-            Some("--csv") if word == "--csv" => std::mem::replace(&mut self.csv, true),
-            Some("--html") => self.page.replace(value()?.into()).is_some(),
-            Some("--rate") => self.rate.replace(value()?).is_some(),
-            Some("--log") => self.log.replace(value()?).is_some(),
-            _ => {
-                let word = shown(Path::new(word));
-                return Err(Fault::usage(format!(
-                    "'{word}' is no option (a file of that name is given after --)"
-                )));
-            }
+            (Some((value, _)), given) => given.or_else(|| words.next()).ok_or_else(|| {
+                Fault::usage(format!("{} needs a word after it, {value}", option.name))
+            })?,
         };
-        match twice {
-            true => Err(Fault::usage(format!("'{text}' is given twice"))),
-            false => Ok(()),
+        match self.has(option.name) {
+            true => Err(Fault::usage(format!("{} is given twice", option.name))),
+            false => {
+                self.options.push((option, value));
+                Ok(())
+            }
         }
     }
 
-    /// Only these options may be given.
-    fn only(&self, command: &str, options: &[&str]) -> Result<()> {
-        let given = [
-            ("--csv", self.csv),
-            ("--html", self.page.is_some()),
-            ("--rate", self.rate.is_some()),
-            ("--log", self.log.is_some()),
-        ];
-        for (option, given) in given {
-            if given && !options.contains(&option) {
-                return Err(Fault::usage(format!("{command} has no option {option}")));
+    fn has(&self, name: &str) -> bool {
+        self.options.iter().any(|(option, _)| option.name == name)
+    }
+
+    fn value(&self, name: &str) -> Option<&OsStr> {
+        let found = self.options.iter().find(|(option, _)| option.name == name);
+        found.map(|(_, value)| value.as_os_str())
+    }
+
+    /// Each word with the kind that it must be of, and the name of what it is.
+    fn judge(&self) -> Result<()> {
+        for (option, value) in &self.options {
+            if let Some((_, kind)) = option.value {
+                is_of(kind, option.name, value)?;
             }
         }
-        let inputs = self.files.iter().filter(|file| *file == Path::new("-"));
-        match inputs.count() {
+        self.count()?;
+        let mut inputs = 0;
+        for (index, word) in self.words.iter().enumerate() {
+            let arguments = self.verb.arguments;
+            if let Some(argument) = arguments.get(index).or(arguments.last()) {
+                is_of(argument.kind, argument.name, word)?;
+                inputs += usize::from(argument.kind == Kind::File && word == "-");
+            }
+        }
+        match inputs {
             0 | 1 => Ok(()),
             _ => Err(Fault::usage("standard input, '-', can be read only once")),
         }
     }
 
-    fn none(&self) -> Result<()> {
-        match self.files.is_empty() {
-            true => self.only("version", &[]),
-            false => Err(Fault::usage("version takes no file")),
+    /// As many words as the verb takes.
+    fn count(&self) -> Result<()> {
+        let arguments = self.verb.arguments;
+        if let Some(missing) = arguments.get(self.words.len())
+            && matches!(missing.many, Many::One | Many::Several)
+        {
+            return Err(Fault::usage(format!(
+                "{} needs {}: {}",
+                self.verb.name,
+                missing.name,
+                missing.says.trim_end_matches('.').to_lowercase()
+            )));
+        }
+        let endless = arguments
+            .last()
+            .is_some_and(|last| matches!(last.many, Many::Any | Many::Several));
+        match self.words.get(arguments.len()) {
+            Some(word) if !endless => Err(Fault::usage(format!(
+                "'{}' is one word too many: the words are '{}'",
+                shown(Path::new(word)),
+                self.verb.synopsis()
+            ))),
+            _ => Ok(()),
         }
     }
 
-    fn files<const N: usize>(self, words: &str) -> Result<[PathBuf; N]> {
-        let count = self.files.len();
-        let files = <[PathBuf; N]>::try_from(self.files);
-        files.map_err(|_| Fault::usage(format!("{words}, and {count} were given")))
+    fn path(&self, index: usize) -> PathBuf {
+        self.words.get(index).map(PathBuf::from).unwrap_or_default()
     }
 
-    fn replay(self) -> Result<Asked> {
-        self.only("replay", &["--log"])?;
-        let form = match self.log.as_deref().map(OsStr::to_str) {
-            None | Some(Some("1")) => Form::First,
-            Some(Some("2")) => Form::Second,
-            Some(_) => return Err(Fault::usage("--log is 1 or 2, the form of the lines")),
-        };
-        let [trace] = self.files("replay takes one file, a trace")?;
-        Ok(Asked::Replay { trace, form })
+    fn number(&self, name: &str) -> Option<i64> {
+        self.value(name)?.to_str()?.parse().ok()
     }
 
-    fn salvage(self) -> Result<Asked> {
-        self.only("salvage", &[])?;
-        let [trace, to] =
-            self.files("salvage takes two files, a trace and the new file that its records go to")?;
-        match to == Path::new("-") {
-            true => Err(Fault::usage(
-                "salvage writes a file, so its second word cannot be '-'",
-            )),
-            false => Ok(Asked::Salvage { trace, to }),
+    fn rate(&self, name: &str) -> Option<u32> {
+        self.number(name).and_then(|rate| u32::try_from(rate).ok())
+    }
+
+    /// What a judged line asks for.
+    fn asked(self) -> Result<Asked> {
+        let page = || self.value("--html").map(PathBuf::from);
+        let rate = self.rate("--rate").unwrap_or(RATE);
+        Ok(match self.verb.name {
+            "help" => Asked::Help(self.named()?),
+            "man" => Asked::Man(self.named()?),
+            "completions" => Asked::Completions(match self.words.first() {
+                Some(word) if word == "zsh" => Shell::Zsh,
+                Some(word) if word == "fish" => Shell::Fish,
+                _ => Shell::Bash,
+            }),
+            "explain" => Asked::Explain(
+                self.words
+                    .iter()
+                    .filter_map(|word| Meaning::read(word))
+                    .collect(),
+            ),
+            "replay" if self.has("--summary") => match self.has("--log") {
+                true => {
+                    return Err(Fault::usage(
+                        "--summary prints words and --log lines: give one of them",
+                    ));
+                }
+                false => Asked::Summary {
+                    trace: self.path(0),
+                },
+            },
+            "replay" => Asked::Replay {
+                trace: self.path(0),
+                form: match self.number("--log") {
+                    Some(2) => Form::Second,
+                    _ => Form::First,
+                },
+            },
+            "salvage" => Asked::Salvage {
+                trace: self.path(0),
+                to: self.path(1),
+            },
+            "settings show" => Asked::ShowSettings {
+                file: self.path(0),
+                rate,
+            },
+            "settings save" => Asked::SaveSettings {
+                save: self.save(rate),
+                to: self.path(0),
+            },
+            "report" => Asked::Report {
+                rate,
+                sound_rate: self.rate("--sound-rate"),
+                csv: self.has("--csv"),
+                page: page(),
+                files: self.words.iter().map(PathBuf::from).collect(),
+            },
+            "audit" => Asked::Audit {
+                trace: self.path(0),
+                log: self.path(1),
+                csv: self.has("--csv"),
+                page: page(),
+            },
+            _ => Asked::Version,
+        })
+    }
+
+    /// The verb that the words name, for `help` and `man`.
+    fn named(&self) -> Result<Option<&'static str>> {
+        if self.words.is_empty() {
+            return Ok(None);
+        }
+        match verbs::find(&self.words) {
+            Some((verb, [])) => Ok(Some(verb.name)),
+            Some((_, [more, ..])) => Err(Fault::usage(format!(
+                "'{}' is one word too many",
+                shown(Path::new(more))
+            ))),
+            None => Err(no_verb(&self.words)),
         }
     }
 
-    fn settings(mut self) -> Result<Asked> {
-        self.only("settings", &[])?;
-        let words = "say 'settings show' and one file";
-        if self.files.first().is_none_or(|word| word != "show") {
-            return Err(Fault::usage(words));
-        }
-        self.files.remove(0);
-        let [file] = self.files(words)?;
-        Ok(Asked::ShowSettings { file })
-    }
-
-    fn report(self) -> Result<Asked> {
-        self.only("report", &["--csv", "--html", "--rate"])?;
-        let rate = self.rate.as_deref().map(OsStr::to_str);
-        let rate = match rate {
-            None => Some(RATE),
-            Some(word) => word.and_then(|word| word.parse().ok()),
-        };
-        let Some(rate @ 1..=768_000) = rate else {
-            return Err(Fault::usage(
-                "--rate is the box's frames a second, 1 to 768000",
-            ));
-        };
-        if self.files.is_empty() {
-            return Err(Fault::usage("report takes one log or more"));
-        }
-        page_is_a_file(self.page.as_deref())?;
-        Ok(Asked::Report {
-            logs: self.files,
+    fn save(&self, rate: u32) -> Save {
+        let text = |name| self.value(name).and_then(OsStr::to_str);
+        Save {
+            start: text("--start").and_then(Place::read),
+            looped: text("--loop").and_then(Part::read),
+            reverse: self.has("--reverse"),
+            speed: text("--speed").and_then(decimal).unwrap_or(1.0),
+            pitch: self.number("--pitch").map_or(0, |pitch| pitch as i8),
             rate,
-            csv: self.csv,
-            page: self.page,
-        })
-    }
-
-    fn audit(self) -> Result<Asked> {
-        self.only("audit", &["--csv", "--html"])?;
-        page_is_a_file(self.page.as_deref())?;
-        let (csv, page) = (self.csv, self.page.clone());
-        let [trace, log] = self.files("audit takes two files, a trace and the box's log")?;
-        Ok(Asked::Audit {
-            trace,
-            log,
-            csv,
-            page,
-        })
+            first: self.number("--format") == Some(1),
+        }
     }
 }
 
-fn page_is_a_file(page: Option<&Path>) -> Result<()> {
-    match page == Some(Path::new("-")) {
-        true => Err(Fault::usage("--html writes a file, so it cannot be '-'")),
-        false => Ok(()),
+/// A finite number.
+fn decimal(text: &str) -> Option<f64> {
+    text.parse().ok().filter(|number: &f64| number.is_finite())
+}
+
+/// A word is of its kind.
+fn is_of(kind: Kind, name: &str, word: &OsStr) -> Result<()> {
+    let text = word.to_str();
+    let good = match kind {
+        Kind::File | Kind::Verb => true,
+        Kind::NewFile if word == "-" => {
+            return Err(Fault::usage(format!(
+                "{name} is a file to write, and cannot be '-'"
+            )));
+        }
+        Kind::NewFile => true,
+        Kind::OneOf(words) => text.is_some_and(|text| words.contains(&text)),
+        Kind::Number(from, to) => text
+            .and_then(|text| text.parse().ok())
+            .is_some_and(|number: i64| (from..=to).contains(&number)),
+        Kind::Decimal => text.and_then(decimal).is_some(),
+        Kind::Place => text.and_then(Place::read).is_some(),
+        Kind::Part => text.and_then(Part::read).is_some(),
+        Kind::Meaning => Meaning::read(word).is_some(),
+    };
+    if good {
+        return Ok(());
     }
+    let must_be = kind.must_be().unwrap_or_default();
+    Err(Fault::usage(format!(
+        "{name} must be {must_be}, and not '{}'",
+        shown(Path::new(word))
+    )))
 }
 
 /// An option's name, and what follows its `=`.
 fn split(word: &OsStr) -> (OsString, Option<OsString>) {
-    let bytes = word.as_encoded_bytes();
-    let text = word.to_str();
-    match (bytes.iter().position(|byte| *byte == b'='), text) {
-        (Some(_), Some(text)) => match text.split_once('=') {
-            Some((name, value)) => (name.into(), Some(value.into())),
-            None => (word.into(), None),
-        },
-        _ => (word.into(), None),
+    match word.to_str().and_then(|text| text.split_once('=')) {
+        Some((name, value)) => (name.into(), Some(value.into())),
+        None => (word.into(), None),
     }
 }
 
@@ -301,14 +396,16 @@ mod tests {
     use super::*;
 
     fn said(words: &str) -> std::result::Result<Asked, String> {
-        asked(words.split_whitespace().map(OsString::from)).map_err(|fault| fault.to_string())
+        let words: Vec<OsString> = words.split_whitespace().map(OsString::from).collect();
+        asked(&words).map_err(|fault| fault.to_string())
     }
 
     #[test]
     fn words_are_read_in_any_order() {
         let report = Asked::Report {
-            logs: vec!["a".into(), "-".into(), "--csv".into()],
+            files: vec!["a".into(), "-".into(), "--csv".into()],
             rate: 44_100,
+            sound_rate: None,
             csv: true,
             page: Some("p".into()),
         };
@@ -318,54 +415,91 @@ mod tests {
         ] {
             assert_eq!(said(words).as_ref(), Ok(&report), "{words}");
         }
+        for words in ["help replay", "replay --help", "replay a b -h --nothing="] {
+            let help = match words.contains("nothing") {
+                true => Err(
+                    "'--nothing=' is not an option (write -- before a file of that name)".into(),
+                ),
+                false => Ok(Asked::Help(Some("replay"))),
+            };
+            assert_eq!(said(words), help, "{words}");
+        }
+        let show = Asked::Help(Some("settings show"));
+        assert_eq!(said("help settings show").as_ref(), Ok(&show));
+        assert_eq!(said("settings show -h").as_ref(), Ok(&show));
     }
 
     #[test]
     fn wrong_words_are_told() {
+        let all =
+            "replay, salvage, settings, report, audit, explain, help, version, man or completions";
         for (words, told) in [
-            (
-                "",
-                "say what to do: replay, salvage, settings, report or audit",
-            ),
+            ("", &*format!("say what to do: {all}")),
             (
                 "play",
-                "'play' is no command: replay, salvage, settings, report and audit are",
+                &format!("'play' is not something that cableowl can do: say {all}"),
             ),
-            ("replay", "replay takes one file, a trace, and 0 were given"),
+            ("replay", "replay needs TRACE: the trace"),
             (
                 "replay a b",
-                "replay takes one file, a trace, and 2 were given",
+                "'b' is one word too many: the words are 'cableowl replay [--log FORM] [--summary] TRACE'",
             ),
-            ("replay --log 3 a", "--log is 1 or 2, the form of the lines"),
+            ("replay --log 3 a", "--log must be 1 or 2, and not '3'"),
             ("replay --csv a", "replay has no option --csv"),
-            ("replay --log", "'--log' needs a word after it"),
+            ("replay --log", "--log needs a word after it, FORM"),
             (
-                "salvage a -",
-                "salvage writes a file, so its second word cannot be '-'",
+                "replay --log 2 --summary a",
+                "--summary prints words and --log lines: give one of them",
             ),
-            ("settings a", "say 'settings show' and one file"),
+            ("salvage a", "salvage needs OUT: the new file"),
+            ("salvage a -", "OUT is a file to write, and cannot be '-'"),
+            ("settings a", "say 'settings show' or 'settings save'"),
+            ("settings", "say 'settings show' or 'settings save'"),
             (
                 "settings show",
-                "say 'settings show' and one file, and 0 were given",
+                "settings show needs FILE: the saved settings",
             ),
-            ("report", "report takes one log or more"),
+            ("report", "report needs FILE: logs or traces"),
             ("report - -", "standard input, '-', can be read only once"),
             (
                 "report --rate 0 a",
-                "--rate is the box's frames a second, 1 to 768000",
+                "--rate must be a whole number from 1 to 768000, and not '0'",
             ),
-            ("report --csv --csv a", "'--csv' is given twice"),
+            ("report --csv --csv a", "--csv is given twice"),
+            ("report --csv=1 a", "--csv takes no value"),
             (
                 "report --html - a",
-                "--html writes a file, so it cannot be '-'",
+                "--html is a file to write, and cannot be '-'",
             ),
-            (
-                "audit a",
-                "audit takes two files, a trace and the box's log, and 1 were given",
-            ),
+            ("audit a", "audit needs LOG: the log that the box wrote"),
             (
                 "audit -x a b",
-                "'-x' is no option (a file of that name is given after --)",
+                "'-x' is not an option (write -- before a file of that name)",
+            ),
+            (
+                "help listen",
+                &format!("'listen' is not something that cableowl can do: say {all}"),
+            ),
+            ("help replay it", "'it' is one word too many"),
+            (
+                "version 2",
+                "'2' is one word too many: the words are 'cableowl version'",
+            ),
+            (
+                "completions tcsh",
+                "SHELL must be bash, zsh or fish, and not 'tcsh'",
+            ),
+            (
+                "settings save --start 6 a",
+                "--start must be a place in the sound: seconds, such as 6.2s, or frames, such as 273420f, and not '6'",
+            ),
+            (
+                "settings save --loop 6s a",
+                "--loop must be a part of the sound: two places with .. between them, such as 6.2s..10.9s, and not '6s'",
+            ),
+            (
+                "settings save --speed inf a",
+                "--speed must be a number, such as 0.75, and not 'inf'",
             ),
         ] {
             assert_eq!(said(words), Err(told.into()), "{words}");

@@ -164,40 +164,41 @@ fn an_audit_keeps_its_verdict_when_its_reader_goes() {
 #[test]
 fn wrong_words() {
     let room = room("words");
-    for (words, told) in [
-        (
-            &[][..],
-            "say what to do: replay, salvage, settings, report or audit",
-        ),
+    let all =
+        "replay, salvage, settings, report, audit, explain, help, version, man or completions";
+    for (words, told, verb) in [
+        (&[][..], &*format!("say what to do: {all}"), ""),
         (
             &["listen"],
-            "'listen' is no command: replay, salvage, settings, report and audit are",
+            &format!("'listen' is not something that cableowl can do: say {all}"),
+            "",
         ),
-        (
-            &["replay"],
-            "replay takes one file, a trace, and 0 were given",
-        ),
+        (&["replay"], "replay needs TRACE: the trace", "replay"),
         (
             &["salvage", "a"],
-            "salvage takes two files, a trace and the new file that its records go to, and 1 were given",
+            "salvage needs OUT: the new file",
+            "salvage",
         ),
         (
             &["audit", "-", "-"],
             "standard input, '-', can be read only once",
+            "audit",
         ),
         (
             &["report", "--html", "good.log", "good.log"],
             "--html names a file that is read",
+            "report",
         ),
         (
             &["audit", "--html", "./good.trace", "good.trace", "good.log"],
             "--html names a file that is read",
+            "audit",
         ),
     ] {
-        room.run(words).is_no_use(told);
+        room.run(words).is_no_use(told, verb);
     }
     let help = room.run(&["help"]);
-    for words in [&["--help"][..], &["report", "--help"], &["-h"]] {
+    for words in [&["--help"][..], &["-h"]] {
         assert_eq!(room.run(words), help);
     }
     assert!(help.out.starts_with("cableowl: ") && help.status == 0);

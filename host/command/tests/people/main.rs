@@ -2,7 +2,9 @@
 
 mod audit;
 mod browser;
+mod explain;
 mod files;
+mod hints;
 mod log;
 mod replay;
 mod report;
@@ -10,3 +12,4 @@ mod room;
 mod salvage;
 mod settings;
 mod tools;
+mod words;

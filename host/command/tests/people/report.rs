@@ -16,7 +16,7 @@ fn one_evening_in_words() {
     let log = room.run_on(&["replay", "--log", "2", "-"], &looped()).out;
     room.put("evening.log", log);
     room.run(&["report", "--rate", "1", "evening.log"]).says(
-        "evening.log: a log of form 2, read at 1 frames a second\n\
+        "evening.log: a log of form 2, read at 1 frame a second\n\
          \x20 blocks               6\n\
          \x20 frames               15, 0.250 minutes\n\
          \x20 played               0.250 minutes\n\

@@ -110,10 +110,11 @@ impl Ran {
         );
     }
 
-    /// The words mean nothing, told in one line.
+    /// The words are not understood, told in one line that names the verb's help.
     #[track_caller]
-    pub fn is_no_use(&self, sentence: &str) {
-        let told = format!("cableowl: {sentence}; 'cableowl help' tells more\n");
+    pub fn is_no_use(&self, sentence: &str, verb: &str) {
+        let help = format!("cableowl help {verb}");
+        let told = format!("cableowl: {sentence}; '{}' says more\n", help.trim_end());
         assert_eq!((self.status, &*self.err, &*self.out), (2, &*told, ""));
     }
 }

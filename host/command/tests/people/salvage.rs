@@ -29,7 +29,7 @@ fn a_damaged_trace_is_mended() {
     broken.extend_from_slice(b"\xa5\x1d\x02");
     room.put("in", &broken);
     room.run(&["salvage", "in", "out"])
-        .says("in: 1 records kept, 58 bytes skipped, the first at byte 0; written to out\n");
+        .says("in: 1 record kept, 58 bytes skipped, the first at byte 0; written to out\n");
     assert_eq!(fs::read(room.0.join("out")).unwrap(), &three()[55..]);
     room.run(&["replay", "out"]).says("block=1 refused=1\n");
     assert_eq!(
@@ -47,10 +47,19 @@ fn an_empty_trace_and_one_without_records() {
         .says("empty: 0 records kept, nothing skipped; written to out\n");
     assert_eq!(room.read("out"), "");
     room.put("letter", "Dear tutor");
-    room.run(&["salvage", "letter", "none"]).refuses(
-        "letter: no record of a trace is in it, from byte 0 to its end at byte 10 (refusal 15), so nothing was written",
-    );
-    assert_eq!(room.names(), ["empty", "letter", "out"]);
+    room.run(&["salvage", "letter", "none"])
+        .says("letter: 0 records kept, 10 bytes skipped, the first at byte 0; written to none\n");
+    assert_eq!(room.read("none"), "");
+    assert_eq!(room.names(), ["empty", "letter", "none", "out"]);
+}
+
+#[test]
+fn salvage_of_one_byte_writes_an_empty_file() {
+    let room = Room::new("salvage-a5");
+    room.put("in", b"\xa5");
+    room.run(&["salvage", "in", "out"])
+        .says("in: 0 records kept, 1 byte skipped, the first at byte 0; written to out\n");
+    assert_eq!(room.read("out"), "");
 }
 
 #[test]

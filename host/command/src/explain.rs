@@ -1,0 +1,353 @@
+//! `cableowl explain`: what a refusal's number or a state means, and what to do.
+
+use std::ffi::OsStr;
+
+use cableowl::{PlaybackState, Refusal};
+
+use crate::{fault::Result, out::Out};
+
+/// What is to be explained.
+#[derive(Debug, Clone, Copy, PartialEq, Eq)]
+pub enum Meaning {
+    /// A number, whatever it counts.
+    Number(u32),
+    /// A refusal.
+    Refusal(u32),
+    /// A state.
+    State(u32),
+}
+
+impl Meaning {
+    /// A number, a state's name, or a word of a log.
+    pub fn read(word: &OsStr) -> Option<Self> {
+        let word = word.to_str()?.to_lowercase().replace(['-', '_'], " ");
+        let number = |text: &str| text.parse().ok();
+        let meaning = match word.split_once('=') {
+            Some(("state", text)) => Self::State(number(text)?),
+            Some(("refused" | "refusal", text)) => Self::Refusal(number(text)?),
+            Some(_) => return None,
+            None => match number(&word) {
+                Some(number) => Self::Number(number),
+                None => {
+                    let named = |state: &PlaybackState| {
+                        let name = state_name(*state);
+                        word == name || word == name.replace(' ', "")
+                    };
+                    Self::State(PlaybackState::ALL.into_iter().find(named)?.number())
+                }
+            },
+        };
+        let (refusal, state) = meaning.parts();
+        (refusal.is_some() || state.is_some()).then_some(meaning)
+    }
+
+    /// The refusal and the state that it names.
+    fn parts(self) -> (Option<&'static Explained>, Option<PlaybackState>) {
+        let refusal = |number| REFUSALS.iter().find(|refusal| refusal.number == number);
+        match self {
+            Self::Number(number) => (refusal(number), PlaybackState::from_number(number)),
+            Self::Refusal(number) => (refusal(number), None),
+            Self::State(number) => (None, PlaybackState::from_number(number)),
+        }
+    }
+}
+
+/// What a refusal's number says to a person.
+struct Explained {
+    number: u32,
+    about: &'static str,
+    given_by: &'static str,
+    to_do: &'static str,
+}
+
+const fn explained(
+    number: u32,
+    about: &'static str,
+    given_by: &'static str,
+    to_do: &'static str,
+) -> Explained {
+    Explained {
+        number,
+        about,
+        given_by,
+        to_do,
+    }
+}
+
+const READING: &str = "reading a trace, or saved settings";
+const TRACE: &str = "reading or writing a trace";
+
+/// All refusals.
+const REFUSALS: [Explained; 25] = [
+    explained(
+        1,
+        "a state or a sound that does not fit",
+        "a command or a block",
+        "Give each call the sound that the voice was created with. In a replay no voice was there when the block came: the trace begins too late, or its creation was refused",
+    ),
+    explained(
+        2,
+        "the sample rate",
+        "the creation of a voice",
+        "Give the sample rate of the sound, such as 44,100 or 48,000",
+    ),
+    explained(
+        3,
+        "the length of the sound",
+        "the creation of a voice",
+        "Look at the sound file: it may be empty, longer than 16,777,216 frames (5 minutes and 49 seconds at 48,000 a second), or not read as two channels",
+    ),
+    explained(
+        4,
+        "the slice of the sound",
+        "the creation of a voice",
+        "Choose a slice that starts before it ends and lies within the sound",
+    ),
+    explained(
+        5,
+        "the start position",
+        "the creation of a voice",
+        "Choose a start within the sound. Saved settings made for a longer sound give this",
+    ),
+    explained(
+        6,
+        "the loop",
+        "the creation of a voice, a command, a loop table",
+        "Choose a loop that starts before it ends and lies within the sound. Saved settings made for a longer sound give this",
+    ),
+    explained(
+        7,
+        "the playback rate",
+        "the creation of a voice, a command",
+        "Give a finite rate. Saved settings whose rate and pitch are too large together give this",
+    ),
+    explained(
+        8,
+        "a seek",
+        "a command",
+        "Look at what computes the place to seek to: it is infinite, not a number, or far behind the end of any sound",
+    ),
+    explained(
+        9,
+        "the size of a block",
+        "a block",
+        "Give an output of two samples a frame and lanes of the same length, at most 4,096 frames in one block. A Player cuts longer outputs itself",
+    ),
+    explained(
+        10,
+        "the time step",
+        "a block",
+        "Give 1 divided by the output's sample rate. A sound device that reports a sample rate of 0 gives this",
+    ),
+    explained(
+        11,
+        "a number in a lane",
+        "a block",
+        "Look at what computes volume, panning, fade and rate: one of them is infinite, not a number, or has a minus sign where none is allowed",
+    ),
+    explained(
+        12,
+        "a rate that is too high",
+        "a block",
+        "Lower the rate, and look at the time step: at 48,000 frames a second it is 1 / 48,000",
+    ),
+    explained(
+        13,
+        "a level",
+        "a fade",
+        "Give a level of 0 to 600, in tenths of a decibel below full level, or 601 for silence",
+    ),
+    explained(
+        14,
+        "the length of a ramp",
+        "a fade",
+        "Cut a fade of more than 65,536 frames into several",
+    ),
+    explained(
+        15,
+        "bytes where no record begins",
+        READING,
+        "Look whether this is the right file. If it is, its bytes are damaged: 'cableowl salvage' copies the complete records of a trace",
+    ),
+    explained(
+        16,
+        "the kind of a record",
+        TRACE,
+        "Read the trace with a newer version. If there is none, its bytes are damaged: 'cableowl salvage' copies the complete records",
+    ),
+    explained(
+        17,
+        "a field of a record",
+        TRACE,
+        "In reading, the bytes are damaged: 'cableowl salvage' copies the complete records. In writing, cut the sound to 64 frames and the block to 1,024",
+    ),
+    explained(
+        18,
+        "bytes that end inside a record",
+        READING,
+        "Look whether the whole file was copied. A box that loses power leaves such a file: 'cableowl salvage' copies the complete records of a trace",
+    ),
+    explained(
+        19,
+        "a buffer that is too short",
+        "writing a trace, or saved settings",
+        "Give a buffer of 575 bytes for a record of a trace, or 26 for saved settings",
+    ),
+    explained(
+        20,
+        "the slot of a loop table",
+        "a loop table",
+        "Name a slot from 0 to 15",
+    ),
+    explained(
+        21,
+        "the other hall's slot",
+        "a loop table",
+        "Write to a slot of this hall: 0 to 7 in hall A, 8 to 15 in hall B",
+    ),
+    explained(
+        22,
+        "an empty slot",
+        "a loop table",
+        "Write a loop to the slot before it is taken",
+    ),
+    explained(
+        23,
+        "the version of saved settings",
+        "reading saved settings",
+        "Read them with a newer version, or save them again with 'cableowl settings save --format 1'",
+    ),
+    explained(
+        24,
+        "a field of saved settings",
+        "reading or writing saved settings",
+        "In reading, the bytes are damaged: save the settings again. In writing, mend the loop, the rate or the pitch",
+    ),
+    explained(
+        25,
+        "the output of a salvage",
+        "a salvage",
+        "Give the call an output as long as the trace. The command does that itself",
+    ),
+];
+
+/// A state's name, for people.
+pub fn state_name(state: PlaybackState) -> &'static str {
+    match state {
+        PlaybackState::Playing => "playing",
+        PlaybackState::Pausing => "pausing",
+        PlaybackState::Paused => "paused",
+        PlaybackState::WaitingToResume => "waiting to resume",
+        PlaybackState::Resuming => "resuming",
+        PlaybackState::Stopping => "stopping",
+        PlaybackState::Stopped => "stopped",
+    }
+}
+
+/// What a state means, and what to do.
+fn state_says(state: PlaybackState) -> (&'static str, &'static str) {
+    match state {
+        PlaybackState::Playing => (
+            "the voice plays",
+            "Nothing. Where it has no steps its rate is 0 or very low, or its start has not come",
+        ),
+        PlaybackState::Pausing => (
+            "the voice was paused and still plays while it fades out",
+            "Nothing: it is paused when the fade has ended",
+        ),
+        PlaybackState::Paused => (
+            "the voice is silent and stays where it is",
+            "Resume it to hear it",
+        ),
+        PlaybackState::WaitingToResume => (
+            "the voice is silent and will resume when the host says so",
+            "If it stays so, look at the host: it has not answered the resume",
+        ),
+        PlaybackState::Resuming => (
+            "the voice was resumed and fades in",
+            "Nothing: it is playing when the fade has ended",
+        ),
+        PlaybackState::Stopping => (
+            "the voice was stopped and still plays while it fades out",
+            "Nothing: it is stopped when the fade has ended",
+        ),
+        PlaybackState::Stopped => (
+            "the voice is silent for good: it was stopped, or its sound has ended",
+            "Create a new voice to play the sound again",
+        ),
+    }
+}
+
+/// All words that can be explained, for the completions.
+pub fn words() -> Vec<String> {
+    let numbers = REFUSALS.iter().map(|refusal| refusal.number.to_string());
+    let states = PlaybackState::ALL.into_iter();
+    let states = states.map(|state| state_name(state).replace(' ', "-"));
+    numbers.chain(states).collect()
+}
+
+/// Explains what is asked for; everything where nothing is.
+pub fn explain(asked: &[Meaning], out: &mut Out<'_>) -> Result<()> {
+    let mut parts = Vec::new();
+    for meaning in asked {
+        let (refusal, state) = meaning.parts();
+        parts.extend(refusal.map(of_refusal));
+        parts.extend(state.map(of_state));
+    }
+    if asked.is_empty() {
+        parts.extend(REFUSALS.iter().map(of_refusal));
+        parts.extend(PlaybackState::ALL.into_iter().map(of_state));
+    }
+    out.put(parts.join("\n"))
+}
+
+fn of_refusal(refusal: &Explained) -> String {
+    let Explained {
+        number,
+        about,
+        given_by,
+        to_do,
+    } = refusal;
+    let means = Refusal::text(*number).unwrap_or_default();
+    format!(
+        "refusal {number}: {about}\n  means       {means}\n  given by    {given_by}\n  what to do  {to_do}.\n"
+    )
+}
+
+fn of_state(state: PlaybackState) -> String {
+    let (means, to_do) = state_says(state);
+    format!(
+        "state {}: {}\n  means       {means}\n  what to do  {to_do}.\n",
+        state.number(),
+        state_name(state)
+    )
+}
+
+#[cfg(test)]
+mod tests {
+    use super::*;
+
+    #[test]
+    fn every_refusal_of_the_library_has_a_number_here() {
+        for (index, refusal) in REFUSALS.iter().enumerate() {
+            assert_eq!(refusal.number as usize, index + 1);
+            assert!(Refusal::text(refusal.number).is_some());
+        }
+        assert_eq!(Refusal::text(REFUSALS.len() as u32 + 1), None);
+    }
+
+    #[test]
+    fn a_word_is_read_as_a_log_or_a_person_writes_it() {
+        let read = |word: &str| Meaning::read(OsStr::new(word));
+        assert_eq!(read("12"), Some(Meaning::Number(12)));
+        assert_eq!(read("0"), Some(Meaning::Number(0)));
+        assert_eq!(read("refused=12"), Some(Meaning::Refusal(12)));
+        assert_eq!(read("state=2"), Some(Meaning::State(2)));
+        for name in ["waiting-to-resume", "WaitingToResume", "waiting to resume"] {
+            assert_eq!(read(name), Some(Meaning::State(3)), "{name}");
+        }
+        for word in ["26", "state=7", "refused=0", "-1", "play", "block=1", ""] {
+            assert_eq!(read(word), None, "{word}");
+        }
+    }
+}

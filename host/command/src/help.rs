@@ -1,0 +1,107 @@
+//! What `help` prints, from the table of verbs.
+
+use crate::verbs::{ABOUT, Argument, PURPOSE, VERBS, Verb};
+
+/// The longest line.
+const WIDTH: usize = 78;
+
+/// What the whole command does: each verb in two lines.
+pub fn all() -> String {
+    let mut text = format!("cableowl: {PURPOSE}\n\n");
+    for verb in VERBS {
+        text += &synopsis(verb, 2, 6);
+        text += &lines(verb.says, 6, 6);
+    }
+    text += "\n";
+    for paragraph in ABOUT {
+        text += &lines(paragraph, 0, 0);
+    }
+    text += &lines("'cableowl help VERB' says more about one of them.", 0, 0);
+    text
+}
+
+/// What one verb does.
+pub fn of(verb: &Verb) -> String {
+    let mut text = synopsis(verb, 0, 4);
+    text += &lines(verb.says, 4, 4);
+    for paragraph in verb.about {
+        text += "\n";
+        text += &lines(paragraph, 0, 0);
+    }
+    if !verb.arguments.is_empty() {
+        text += "\nWords:\n";
+        text += &columns(
+            verb.arguments
+                .iter()
+                .map(|a: &Argument| (a.name.into(), a.says)),
+        );
+    }
+    text += "\nOptions:\n";
+    text += &columns(
+        verb.all_options()
+            .map(|option| (option.spelt(), option.says)),
+    );
+    if !verb.examples.is_empty() {
+        text += "\nExamples:\n";
+        for (words, says) in verb.examples {
+            text += &format!("  cableowl {words}\n");
+            text += &lines(says, 6, 6);
+        }
+    }
+    text += "\nExit status:\n";
+    let statuses = verb.statuses.iter();
+    text += &columns(statuses.map(|(status, says)| (status.to_string(), *says)));
+    text
+}
+
+/// How a verb is called; no line ends inside brackets.
+fn synopsis(verb: &Verb, first: usize, others: usize) -> String {
+    const HELD: &str = "\u{a0}";
+    let mut inside = false;
+    let held = verb
+        .synopsis()
+        .chars()
+        .fold(String::new(), |mut held, letter| {
+            inside = (inside || letter == '[') && letter != ']';
+            match letter == ' ' && inside {
+                true => held.push_str(HELD),
+                false => held.push(letter),
+            }
+            held
+        });
+    lines(&held, first, others).replace(HELD, " ")
+}
+
+/// Names on the left, what is said of them on the right.
+fn columns(rows: impl Iterator<Item = (String, &'static str)>) -> String {
+    let rows: Vec<(String, &str)> = rows.collect();
+    let widest = rows.iter().map(|(name, _)| name.len()).max().unwrap_or(0);
+    let right = widest + 4;
+    let mut text = String::new();
+    for (name, says) in rows {
+        let told = lines(says, right, right);
+        text += &format!("  {name:<widest$}  {}", told.trim_start());
+    }
+    text
+}
+
+/// A paragraph in lines, the first and the others indented by so many spaces.
+fn lines(text: &str, first: usize, others: usize) -> String {
+    let mut told = String::new();
+    let mut line = " ".repeat(first);
+    let mut begun = false;
+    for word in text.split(' ') {
+        if begun && line.chars().count() + 1 + word.chars().count() > WIDTH {
+            told += &line;
+            told.push('\n');
+            line = " ".repeat(others);
+            begun = false;
+        }
+        if begun {
+            line.push(' ');
+        }
+        line += word;
+        begun = true;
+    }
+    told + &line + "\n"
+}

@@ -1,0 +1,306 @@
+//! `cableowl replay --summary`: what happened in a trace and when, in words.
+
+use std::path::Path;
+
+use cableowl::{
+    Commands, LoopCommand, PlaybackState, Refusal, ResumeCommand, Settings, State, StaticSound,
+    trace::{Block, Line, LogLine, Record, ShortSound, TraceReader},
+};
+
+use crate::{
+    explain::state_name,
+    fault::{Fault, Result},
+    input::Input,
+    out::Out,
+    plot::{clock, counted, grouped},
+    replay::{Run, fault},
+};
+
+/// Tells what happened in a trace.
+pub fn summary(trace: &Path, out: &mut Out<'_>) -> Result<()> {
+    let mut input = Input::open(trace)?;
+    input.kind()?;
+    let mut teller = Teller::new();
+    let mut broken = None;
+    for record in TraceReader::new(&mut input) {
+        match record {
+            Ok((_, record)) => teller.take(&record, out)?,
+            Err(error) => broken = Some(error),
+        }
+        if out.closed() {
+            return Err(Fault::Closed);
+        }
+    }
+    teller.put_refused(out)?;
+    let refused = match teller.all_refused {
+        0 => String::new(),
+        refused => format!(", {} refused", grouped(refused)),
+    };
+    out.put(format!(
+        "{}: {}{refused}, {} in all\n",
+        input.name(),
+        counted(teller.blocks, "block"),
+        clock(teller.seconds)
+    ))?;
+    match broken {
+        Some(error) => Err(fault(&input, &error)),
+        None => Ok(()),
+    }
+}
+
+/// Neighbouring blocks with the same refusal.
+struct Refused {
+    refusal: Refusal,
+    first: u64,
+    last: u64,
+    at: f64,
+}
+
+/// What was told so far.
+struct Teller {
+    run: Run,
+    sound: ShortSound,
+    blocks: u64,
+    all_refused: u64,
+    seconds: f64,
+    state: Option<PlaybackState>,
+    /// The speed that was told, and the last one with the time of its first block.
+    speeds: (f64, f64, f64),
+    refused: Option<Refused>,
+}
+
+impl Teller {
+    fn new() -> Self {
+        Self {
+            run: Run::new(),
+            sound: ShortSound::EMPTY,
+            blocks: 0,
+            all_refused: 0,
+            seconds: 0.0,
+            state: None,
+            speeds: (1.0, 1.0, 0.0),
+            refused: None,
+        }
+    }
+
+    fn put(&self, says: &str, out: &mut Out<'_>) -> Result<()> {
+        put_at(self.seconds, says, out)
+    }
+
+    fn state(&self) -> Option<State> {
+        self.run.voice().map(StaticSound::state)
+    }
+
+    fn take(&mut self, record: &Record, out: &mut Out<'_>) -> Result<()> {
+        let before = self.state();
+        let line = self.run.play(record);
+        match (record, line) {
+            (Record::Block(block), Some(line)) => self.block(block, &line, out),
+            (Record::Creation { settings, sound }, _) => self.creation(settings, sound, out),
+            (Record::Commands(commands), _) => self.commands(commands, before, out),
+            (Record::Block(_), None) => Ok(()),
+        }
+    }
+
+    fn creation(
+        &mut self,
+        settings: &Settings,
+        sound: &ShortSound,
+        out: &mut Out<'_>,
+    ) -> Result<()> {
+        self.put_refused(out)?;
+        self.sound = *sound;
+        let created = StaticSound::new(*settings, sound.samples());
+        let says = match created.map(|voice| voice.state()) {
+            Err(refusal) => format!("no voice is created: {refusal}"),
+            Ok(state) => {
+                let looped = state.loop_region.map_or(String::new(), |region| {
+                    format!(", {}", looped(region, &state))
+                });
+                let way = if is_backward(&state) {
+                    ", backward"
+                } else {
+                    ""
+                };
+                let starts = match state.started {
+                    true => "",
+                    false => ", its start still to come",
+                };
+                format!(
+                    "a voice is created over {} ({}){looped}{way}{starts}",
+                    counted(state.num_frames as u64, "frame"),
+                    seconds(state.num_frames, &state),
+                )
+            }
+        };
+        self.put(&says, out)?;
+        self.state = None;
+        self.speeds = (1.0, 1.0, self.seconds);
+        Ok(())
+    }
+
+    fn commands(
+        &mut self,
+        commands: &Commands,
+        before: Option<State>,
+        out: &mut Out<'_>,
+    ) -> Result<()> {
+        self.put_refused(out)?;
+        let (Some(before), Some(after)) = (before, self.state()) else {
+            return self.put("a command without a voice: it does nothing", out);
+        };
+        let judged = StaticSound::from_state(before, self.sound.samples())
+            .and_then(|mut voice| voice.on_start_processing(self.sound.samples(), *commands));
+        let says = match judged {
+            Ok(_) => obeyed(commands, &before, &after),
+            Err(refusal) => format!("a command is refused: {refusal}"),
+        };
+        match says.is_empty() {
+            true => Ok(()),
+            false => self.put(&says, out),
+        }
+    }
+
+    fn block(&mut self, block: &Block, line: &LogLine, out: &mut Out<'_>) -> Result<()> {
+        self.blocks += 1;
+        match line.line {
+            Line::RefusedBlock { block, refusal } => {
+                self.all_refused += 1;
+                if let Some(refused) = &mut self.refused
+                    && refused.refusal == refusal
+                {
+                    refused.last = block;
+                    return Ok(());
+                }
+                self.put_refused(out)?;
+                self.refused = Some(Refused {
+                    refusal,
+                    first: block,
+                    last: block,
+                    at: self.seconds,
+                });
+                Ok(())
+            }
+            Line::Block {
+                state, position, ..
+            } => {
+                self.put_refused(out)?;
+                self.speed(block, out)?;
+                self.turned(state, position, out)?;
+                self.seconds += block.frames as f64 * block.time_step;
+                Ok(())
+            }
+            Line::Refused(_) => Ok(()),
+        }
+    }
+
+    /// A speed is told once two blocks have it: not each step of a slow change.
+    fn speed(&mut self, block: &Block, out: &mut Out<'_>) -> Result<()> {
+        let (told, last, since) = self.speeds;
+        if block.rate != last {
+            self.speeds = (told, block.rate, self.seconds);
+            return Ok(());
+        }
+        if block.rate == told {
+            return Ok(());
+        }
+        self.speeds.0 = block.rate;
+        put_at(since, &format!("at speed {:?}", block.rate), out)
+    }
+
+    fn turned(&mut self, state: PlaybackState, position: u64, out: &mut Out<'_>) -> Result<()> {
+        if self.state == Some(state) {
+            return Ok(());
+        }
+        self.state = Some(state);
+        let place = self.state().map_or(String::new(), |all| {
+            format!(
+                ", at frame {} ({})",
+                grouped(position),
+                seconds(position as usize, &all)
+            )
+        });
+        self.put(&format!("{}{place}", state_name(state)), out)
+    }
+
+    /// The refused blocks so far.
+    fn put_refused(&mut self, out: &mut Out<'_>) -> Result<()> {
+        let Some(Refused {
+            refusal,
+            first,
+            last,
+            at,
+        }) = self.refused.take()
+        else {
+            return Ok(());
+        };
+        let blocks = match first == last {
+            true => format!("block {} is refused", grouped(first)),
+            false => format!("blocks {} to {} are refused", grouped(first), grouped(last)),
+        };
+        put_at(at, &format!("{blocks}: {refusal}"), out)
+    }
+}
+
+fn put_at(seconds: f64, says: &str, out: &mut Out<'_>) -> Result<()> {
+    out.put(format!("{:>12}  {says}\n", clock(seconds)))
+}
+
+fn is_backward(state: &State) -> bool {
+    state.reverse != state.playback_rate.is_sign_negative()
+}
+
+/// Frames of the sound as seconds.
+fn seconds(frames: usize, state: &State) -> String {
+    format!("{:.3} s", frames as f64 / f64::from(state.sample_rate))
+}
+
+fn looped((start, end): (usize, usize), state: &State) -> String {
+    format!(
+        "a loop from {} to {}",
+        seconds(start, state),
+        seconds(end, state)
+    )
+}
+
+/// What a command set did, in the order in which it is obeyed.
+fn obeyed(commands: &Commands, before: &State, after: &State) -> String {
+    let mut parts = Vec::new();
+    if is_backward(before) != is_backward(after) {
+        parts.push(match is_backward(after) {
+            true => "turned backward".to_owned(),
+            false => "turned forward".to_owned(),
+        });
+    }
+    match (commands.loop_region, after.loop_region) {
+        (LoopCommand::Set(_), Some(region)) => parts.push(looped(region, after)),
+        (LoopCommand::Clear, _) => parts.push("the loop is removed".into()),
+        _ => {}
+    }
+    if commands.pause {
+        parts.push("pause".into());
+    }
+    match commands.resume {
+        ResumeCommand::No => {}
+        ResumeCommand::AtOnce => parts.push("resume".into()),
+        ResumeCommand::Waiting => parts.push("resume when the host says so".into()),
+    }
+    if commands.stop {
+        parts.push("stop".into());
+    }
+    if let Some(amount) = commands.seek_by {
+        let way = if amount < 0.0 { "back" } else { "forward" };
+        parts.push(format!("a step {way} by {:.3} s", amount.abs()));
+    }
+    if let Some(place) = commands.seek_to {
+        parts.push(format!("a seek to {place:.3} s"));
+    }
+    if commands.seek_by.is_some() || commands.seek_to.is_some() {
+        parts.push(format!(
+            "now at frame {} ({})",
+            grouped(after.position as u64),
+            seconds(after.position, after)
+        ));
+    }
+    parts.join(", ")
+}

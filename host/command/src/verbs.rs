@@ -1,0 +1,546 @@
+//! The table of the command's verbs. The parser, `help`, the man pages and the completions all read
+//! it, so they cannot differ.
+
+use std::ffi::OsString;
+
+/// A verb: what follows `cableowl`.
+pub struct Verb {
+    /// Its words.
+    pub name: &'static str,
+    /// What it does, in one line.
+    pub says: &'static str,
+    /// More about it, a paragraph each.
+    pub about: &'static [&'static str],
+    /// Its options, beside `--help`.
+    pub options: &'static [Opt],
+    /// The words that it takes.
+    pub arguments: &'static [Argument],
+    /// Examples: the words after `cableowl`, and what they do.
+    pub examples: &'static [(&'static str, &'static str)],
+    /// Its exit statuses.
+    pub statuses: &'static [(u8, &'static str)],
+}
+
+/// An option.
+pub struct Opt {
+    /// Its name, with both hyphens.
+    pub name: &'static str,
+    /// Its value: the name and the kind.
+    pub value: Option<(&'static str, Kind)>,
+    /// What it does.
+    pub says: &'static str,
+}
+
+/// A word that a verb takes.
+pub struct Argument {
+    /// Its name.
+    pub name: &'static str,
+    /// Its kind.
+    pub kind: Kind,
+    /// How many are taken.
+    pub many: Many,
+    /// What it is.
+    pub says: &'static str,
+}
+
+/// How many words an argument takes; only the last argument of a verb may take other than one.
+#[derive(Debug, Clone, Copy, PartialEq, Eq)]
+pub enum Many {
+    /// Exactly one.
+    One,
+    /// None or more.
+    Any,
+    /// One or more.
+    Several,
+}
+
+/// What a word may be.
+#[derive(Debug, Clone, Copy, PartialEq, Eq)]
+pub enum Kind {
+    /// A file that is read; `-` is standard input.
+    File,
+    /// A file that is written.
+    NewFile,
+    /// One of these words.
+    OneOf(&'static [&'static str]),
+    /// A whole number, from one to another.
+    Number(i64, i64),
+    /// A finite number.
+    Decimal,
+    /// A place in a sound.
+    Place,
+    /// A part of a sound.
+    Part,
+    /// A verb of this table.
+    Verb,
+    /// A refusal's number, or a state.
+    Meaning,
+}
+
+impl Kind {
+    /// What a word of this kind must be, if the parser judges it.
+    pub fn must_be(self) -> Option<String> {
+        match self {
+            Self::OneOf(words) => Some(list(words, "or")),
+            Self::Number(from, to) => Some(format!("a whole number from {from} to {to}")),
+            Self::Decimal => Some("a number, such as 0.75".into()),
+            Self::Place => Some(
+                "a place in the sound: seconds, such as 6.2s, or frames, such as 273420f".into(),
+            ),
+            Self::Part => Some(
+                "a part of the sound: two places with .. between them, such as 6.2s..10.9s".into(),
+            ),
+            Self::Meaning => Some(
+                "a refusal's number from 1 to 25, a state's from 0 to 6, or a state's name".into(),
+            ),
+            Self::File | Self::NewFile | Self::Verb => None,
+        }
+    }
+}
+
+/// Words as a list: `a, b or c`.
+pub fn list(words: &[&str], last: &str) -> String {
+    match words {
+        [] => String::new(),
+        [word] => (*word).to_owned(),
+        [before @ .., word] => format!("{} {last} {word}", before.join(", ")),
+    }
+}
+
+/// Sample rates that the library accepts.
+const HZ: Kind = Kind::Number(1, 768_000);
+
+const DONE: (u8, &str) = (0, "Done.");
+const REFUSED: (u8, &str) = (1, "A file was refused, or could not be read or written.");
+const USAGE: (u8, &str) = (2, "The words of the command line were not understood.");
+const PLAIN: &[(u8, &str)] = &[DONE, REFUSED, USAGE];
+
+const CSV: &str = "Print comma separated values, for a spreadsheet or for R.";
+
+/// What `--help` says, for every verb.
+pub const HELP: Opt = Opt {
+    name: "--help",
+    value: None,
+    says: "Print this help.",
+};
+
+/// What the command is for, in one line.
+pub const PURPOSE: &str = "what happened at a listening box";
+
+/// What is said of the whole command.
+pub const ABOUT: &[&str] = &[
+    "A trace is an evening recorded by the box: everything that the host asked of one voice. A log is what the box, or replay, says of it: one line for each block. docs/TOOLS.md shows each verb at work.",
+    "A file named - is standard input. An option may be written --rate 44100 or --rate=44100, before or after the files; after -- every word is a file.",
+];
+
+/// The verbs, in the order in which people meet them.
+pub const VERBS: &[Verb] = &[
+    Verb {
+        name: "replay",
+        says: "play a recorded evening again: one line for each block",
+        about: &[
+            "Plays the trace with the proved player and prints a log, one line for each block. Programs read these lines, so a state is a number in them; 'cableowl explain' says what it means. With --summary it prints what people read instead: each command and each change of state with its time, and the totals.",
+            "A damaged trace is played up to the damage. The last line is then the refusal's number and the byte, and 'cableowl salvage' copies the complete records behind it too.",
+        ],
+        options: &[
+            Opt {
+                name: "--log",
+                value: Some(("FORM", Kind::OneOf(&["1", "2"]))),
+                says: "The form of the lines. Form 2 also has window counts, turns of the loop, seeks and restarts. Without this option it is 1.",
+            },
+            Opt {
+                name: "--summary",
+                value: None,
+                says: "Print what happened and when, in words, instead of the lines.",
+            },
+        ],
+        arguments: &[Argument {
+            name: "TRACE",
+            kind: Kind::File,
+            many: Many::One,
+            says: "The trace.",
+        }],
+        examples: &[
+            ("replay monday.trace", "Print the lines of Monday evening."),
+            (
+                "replay --summary monday.trace",
+                "Say what happened on Monday evening, and when.",
+            ),
+            (
+                "replay --log 2 monday.trace",
+                "Print a log that report and audit can read in full.",
+            ),
+        ],
+        statuses: &[
+            (
+                0,
+                "The trace was played to its end. Blocks that the player refused do not count as a fault.",
+            ),
+            (
+                1,
+                "The trace is damaged, or a file could not be read or written.",
+            ),
+            USAGE,
+        ],
+    },
+    Verb {
+        name: "salvage",
+        says: "copy the complete records of a damaged trace to a new file",
+        about: &[
+            "Copies every complete record and skips every other byte. The trace itself is never changed, and OUT must not exist. A trace without one complete record gives an empty file.",
+        ],
+        options: &[],
+        arguments: &[
+            Argument {
+                name: "TRACE",
+                kind: Kind::File,
+                many: Many::One,
+                says: "The damaged trace.",
+            },
+            Argument {
+                name: "OUT",
+                kind: Kind::NewFile,
+                many: Many::One,
+                says: "The new file.",
+            },
+        ],
+        examples: &[(
+            "salvage broken.trace mended.trace",
+            "Recover what can be replayed of broken.trace.",
+        )],
+        statuses: &[
+            (0, "OUT was written, even if no record is in it."),
+            REFUSED,
+            USAGE,
+        ],
+    },
+    Verb {
+        name: "settings show",
+        says: "show saved settings: where a sound starts, its loop, and how it will play",
+        about: &[
+            "Shows what the voice will do: settings with reverse and a rate below 0 play forward, and settings whose rate and pitch are too large together are refused when a voice is created.",
+            "The file has frames. Seconds stand beside them, at the frames a second that --rate gives.",
+        ],
+        options: &[Opt {
+            name: "--rate",
+            value: Some(("HZ", HZ)),
+            says: "The sound's frames a second, 48000 if not given.",
+        }],
+        arguments: &[Argument {
+            name: "FILE",
+            kind: Kind::File,
+            many: Many::One,
+            says: "The saved settings.",
+        }],
+        examples: &[(
+            "settings show --rate 44100 lesson.settings",
+            "Show the settings of a lesson recorded at 44,100 frames a second.",
+        )],
+        statuses: PLAIN,
+    },
+    Verb {
+        name: "settings save",
+        says: "save settings to a new file, in seconds or frames",
+        about: &[
+            "Writes the settings that a box loads, and shows them as 'settings show' does. A place in the sound is written with its unit, 6.2s for seconds or 273420f for frames. Seconds become frames by --rate, rounded to the nearest frame.",
+            "OUT must not exist.",
+        ],
+        options: &[
+            Opt {
+                name: "--start",
+                value: Some(("PLACE", Kind::Place)),
+                says: "Where to start. Without this option it is the first frame.",
+            },
+            Opt {
+                name: "--loop",
+                value: Some(("PART", Kind::Part)),
+                says: "The part to loop, such as 6.2s..10.9s. Its end is not part of it. Without this option there is no loop.",
+            },
+            Opt {
+                name: "--reverse",
+                value: None,
+                says: "Play in reverse.",
+            },
+            Opt {
+                name: "--speed",
+                value: Some(("SPEED", Kind::Decimal)),
+                says: "The playback rate: 1 is as recorded, 0.75 slower, below 0 in the other direction. 1 if not given.",
+            },
+            Opt {
+                name: "--pitch",
+                value: Some(("SEMITONES", Kind::Number(-24, 24))),
+                says: "The pitch, which raises or lowers the rate. 0 if not given.",
+            },
+            Opt {
+                name: "--rate",
+                value: Some(("HZ", HZ)),
+                says: "The sound's frames a second, 48000 if not given.",
+            },
+            Opt {
+                name: "--format",
+                value: Some(("VERSION", Kind::OneOf(&["1", "2"]))),
+                says: "The version of the record, 2 if not given. A box that knows version 1 alone needs 1, which has no pitch.",
+            },
+        ],
+        arguments: &[Argument {
+            name: "OUT",
+            kind: Kind::NewFile,
+            many: Many::One,
+            says: "The new file.",
+        }],
+        examples: &[(
+            "settings save --loop 6.2s..10.9s --speed 0.75 --rate 44100 lesson.settings",
+            "Save a slow loop over one sentence.",
+        )],
+        statuses: &[
+            DONE,
+            (
+                1,
+                "The settings were refused, or the file could not be written.",
+            ),
+            USAGE,
+        ],
+    },
+    Verb {
+        name: "report",
+        says: "the figures of one evening or of many, and a page with plots",
+        about: &[
+            "Reads logs and traces: minutes played, paused and silent, times round the loop, seeks, refused blocks. With several files it prints one row for each, the total and five quantiles.",
+            "A damaged file is named on standard error and left out. A file that is given twice is named there too, and counts twice.",
+        ],
+        options: &[
+            Opt {
+                name: "--rate",
+                value: Some(("HZ", HZ)),
+                says: "The box's frames a second, 48000 if not given.",
+            },
+            Opt {
+                name: "--sound-rate",
+                value: Some(("HZ", HZ)),
+                says: "The sound's frames a second, for places in seconds. A trace knows it. For a log without this option it is taken to be the box's.",
+            },
+            Opt {
+                name: "--csv",
+                value: None,
+                says: CSV,
+            },
+            Opt {
+                name: "--html",
+                value: Some(("OUT", Kind::NewFile)),
+                says: "Also write a page for a browser. An earlier page of this command is replaced, and no other file.",
+            },
+        ],
+        arguments: &[Argument {
+            name: "FILE",
+            kind: Kind::File,
+            many: Many::Several,
+            says: "Logs or traces.",
+        }],
+        examples: &[
+            ("report monday.log", "Print the figures of one evening."),
+            (
+                "report --html week.html monday.trace tuesday.log",
+                "Print a table of two evenings and write a page with plots.",
+            ),
+        ],
+        statuses: &[
+            DONE,
+            (
+                1,
+                "A file was refused, or could not be read or written. The others are reported.",
+            ),
+            USAGE,
+        ],
+    },
+    Verb {
+        name: "audit",
+        says: "did this box play as proved? the first block that differs, and the creep",
+        about: &[
+            "Plays the trace with the proved player and compares the box's own log with it, block by block.",
+        ],
+        options: &[
+            Opt {
+                name: "--csv",
+                value: None,
+                says: "Print comma separated values, a row for each block.",
+            },
+            Opt {
+                name: "--html",
+                value: Some(("OUT", Kind::NewFile)),
+                says: "Also write a page for a browser. An earlier page of this command is replaced, and no other file.",
+            },
+        ],
+        arguments: &[
+            Argument {
+                name: "TRACE",
+                kind: Kind::File,
+                many: Many::One,
+                says: "The trace of the evening.",
+            },
+            Argument {
+                name: "LOG",
+                kind: Kind::File,
+                many: Many::One,
+                says: "The log that the box wrote.",
+            },
+        ],
+        examples: &[(
+            "audit box.trace box.log",
+            "Say whether the box played as it should.",
+        )],
+        statuses: &[
+            (0, "The log agrees with the trace."),
+            (
+                1,
+                "The log differs, or a file was refused or could not be read or written.",
+            ),
+            USAGE,
+        ],
+    },
+    Verb {
+        name: "explain",
+        says: "say what a refusal's number or a state means, and what to do",
+        about: &[
+            "A number is a refusal; 0 to 6 are also states. A word may be copied from a log: refused=12, state=2. Without a word it lists them all.",
+        ],
+        options: &[],
+        arguments: &[Argument {
+            name: "WORD",
+            kind: Kind::Meaning,
+            many: Many::Any,
+            says: "A number, a state's name, or a word of a log.",
+        }],
+        examples: &[
+            ("explain 12", "Explain refusal 12."),
+            (
+                "explain state=2 paused",
+                "Explain a state by its number and by its name.",
+            ),
+        ],
+        statuses: &[DONE, USAGE],
+    },
+    Verb {
+        name: "help",
+        says: "print what the command does, or what one verb does",
+        about: &["'cableowl VERB --help' prints the same."],
+        options: &[],
+        arguments: &[VERB],
+        examples: &[("help replay", "Print the help of replay.")],
+        statuses: &[DONE, USAGE],
+    },
+    Verb {
+        name: "version",
+        says: "print the version of the command and of the C interface",
+        about: &[],
+        options: &[],
+        arguments: &[],
+        examples: &[],
+        statuses: &[DONE, USAGE],
+    },
+    Verb {
+        name: "man",
+        says: "print a man page: of the command, or of one verb",
+        about: &["For packages. 'cableowl man replay | man -l -' shows a page at once."],
+        options: &[],
+        arguments: &[VERB],
+        examples: &[("man replay", "Print the page cableowl-replay(1).")],
+        statuses: &[DONE, USAGE],
+    },
+    Verb {
+        name: "completions",
+        says: "print the completions for a shell",
+        about: &[
+            "For packages, or for a shell's own start file: bash reads it with source, zsh as a file _cableowl on its fpath, fish as ~/.config/fish/completions/cableowl.fish.",
+        ],
+        options: &[],
+        arguments: &[Argument {
+            name: "SHELL",
+            kind: Kind::OneOf(&["bash", "zsh", "fish"]),
+            many: Many::One,
+            says: "bash, zsh or fish.",
+        }],
+        examples: &[(
+            "completions bash",
+            "Print what bash reads to complete the words of cableowl.",
+        )],
+        statuses: &[DONE, USAGE],
+    },
+];
+
+const VERB: Argument = Argument {
+    name: "VERB",
+    kind: Kind::Verb,
+    many: Many::Any,
+    says: "A verb. 'settings show' and 'settings save' are two words.",
+};
+
+impl Verb {
+    /// How it is called: `cableowl replay [--log FORM] TRACE`.
+    pub fn synopsis(&self) -> String {
+        let mut line = format!("cableowl {}", self.name);
+        for option in self.options {
+            line += &format!(" [{}]", option.spelt());
+        }
+        for argument in self.arguments {
+            line += &match (argument.many, argument.name) {
+                (Many::One, name) => format!(" {name}"),
+                (Many::Any, name) => format!(" [{name}..]"),
+                (Many::Several, name) => format!(" {name}.."),
+            };
+        }
+        line
+    }
+
+    /// The name of its man page: `cableowl-settings-show`.
+    pub fn page(&self) -> String {
+        format!("cableowl-{}", self.name.replace(' ', "-"))
+    }
+
+    /// All of its options.
+    pub fn all_options(&self) -> impl Iterator<Item = &'static Opt> {
+        self.options.iter().chain([&HELP])
+    }
+}
+
+impl Opt {
+    /// With its value: `--log FORM`.
+    pub fn spelt(&self) -> String {
+        match self.value {
+            Some((value, _)) => format!("{} {value}", self.name),
+            None => self.name.into(),
+        }
+    }
+}
+
+/// The verb that these words begin with, and the words after it.
+pub fn find(words: &[OsString]) -> Option<(&'static Verb, &[OsString])> {
+    VERBS.iter().find_map(|verb| {
+        let count = verb.name.split(' ').count();
+        let (first, rest) = words.split_at_checked(count)?;
+        let same = first.iter().zip(verb.name.split(' '));
+        same.into_iter()
+            .all(|(word, name)| word == name)
+            .then_some((verb, rest))
+    })
+}
+
+/// The second words of verbs that begin with this one.
+pub fn after(first: &str) -> Vec<&'static str> {
+    let seconds = VERBS.iter().filter_map(|verb| {
+        let (word, second) = verb.name.split_once(' ')?;
+        (word == first).then_some(second)
+    });
+    seconds.collect()
+}
+
+/// The first words of all verbs, each once.
+pub fn first_words() -> Vec<&'static str> {
+    let mut firsts: Vec<&str> = Vec::new();
+    for verb in VERBS {
+        let first = verb.name.split(' ').next().unwrap_or(verb.name);
+        if !firsts.contains(&first) {
+            firsts.push(first);
+        }
+    }
+    firsts
+}
