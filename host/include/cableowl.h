@@ -389,6 +389,74 @@ CableowlSent cableowl_write_record(uint8_t *buffer, size_t buffer_len, uint64_t 
  * output stays. Answers 0, or 25 where the output is shorter than the bytes, and writes nothing. */
 CableowlSaved cableowl_salvage(const uint8_t *bytes, size_t bytes_len, uint8_t *out, size_t out_len);
 
+/* The sentence of a number that a call answered, without its place: "accepted" for 0, and the same as the Rust crate's
+ * `Refusal::text` for a refusal. Any number may be given; the text is a constant. */
+static inline const char *cableowl_refusal_text(uint64_t number) {
+    switch (number) {
+    case CABLEOWL_ACCEPTED:
+        return "accepted";
+    case CABLEOWL_REFUSAL_STATE:
+        return "the state is not well formed or belongs to another sound: lend the samples it was created with, or "
+               "create the sound anew";
+    case CABLEOWL_REFUSAL_SAMPLE_RATE:
+        return "the sample rate must be from 1 to 768,000";
+    case CABLEOWL_REFUSAL_FRAME_COUNT:
+        return "a sound is left and right samples in turn, an even count, and 1 to 16,777,216 frames";
+    case CABLEOWL_REFUSAL_SLICE:
+        return "the slice must start before it ends and end within the sound, in finite seconds or in frames";
+    case CABLEOWL_REFUSAL_START_POSITION:
+        return "the start position must be a finite time or a frame, before the end of the slice or sound";
+    case CABLEOWL_REFUSAL_LOOP_REGION:
+        return "the loop must start before it ends and end within the slice or sound, in finite seconds or in frames";
+    case CABLEOWL_REFUSAL_PLAYBACK_RATE:
+        return "the playback rate must be finite";
+    case CABLEOWL_REFUSAL_SEEK:
+        return "a seek must be a finite number of seconds and go to a frame below 4,294,967,296";
+    case CABLEOWL_REFUSAL_BLOCK:
+        return "a block has at most 4,096 frames, each lane as many, and two samples of output a frame";
+    case CABLEOWL_REFUSAL_TIME_STEP:
+        return "the time step, the seconds of one output frame, must be finite and above 0";
+    case CABLEOWL_REFUSAL_LANE:
+        return "fade, volume and gains must be finite with no minus sign (minus zero has one), and rates must be "
+               "finite";
+    case CABLEOWL_REFUSAL_ADVANCE:
+        return "sample rate times lane rate times time step must be at most 256 in every frame: lower the rate";
+    case CABLEOWL_REFUSAL_LEVEL:
+        return "a level is 0 to 600 tenths of a decibel below full level, or 601 for silence";
+    case CABLEOWL_REFUSAL_RAMP:
+        return "a ramp has 1 to 65,536 frames, and its lane as many: cut a longer fade into several ramps";
+    case CABLEOWL_REFUSAL_MARK:
+        return "no record begins here: saved settings begin with the bytes 5E 71, a record of a trace with A5 1D";
+    case CABLEOWL_REFUSAL_KIND:
+        return "a record of a trace is of kind 1, a creation, 2, a command set, or 3, a block: salvage the trace, "
+               "or read it with a newer reader";
+    case CABLEOWL_REFUSAL_RECORD:
+        return "a record of a trace holds a sound of at most 64 frames, or a block of at most 1,024 with constant "
+               "lanes: cut the block at the limit or at the change; if the record was read, its bytes are damaged: "
+               "salvage the trace";
+    case CABLEOWL_REFUSAL_TRUNCATED:
+        return "the bytes end inside the record: give the rest of it, then read again";
+    case CABLEOWL_REFUSAL_ROOM:
+        return "the buffer is too short: saved settings have 25 bytes, or 26 with a pitch, a record of a trace at "
+               "most 575";
+    case CABLEOWL_REFUSAL_LOOP_SLOT:
+        return "a loop table has the slots 0 to 15";
+    case CABLEOWL_REFUSAL_OTHER_HALL:
+        return "hall A writes and clears slots 0 to 7, hall B slots 8 to 15: ask the other hall";
+    case CABLEOWL_REFUSAL_EMPTY_SLOT:
+        return "the slot holds no loop: its hall must write one first";
+    case CABLEOWL_REFUSAL_VERSION:
+        return "the record is of a version that this reader does not know: load it with a newer reader";
+    case CABLEOWL_REFUSAL_SAVED_FIELD:
+        return "saved settings need a loop that starts before it ends, a finite rate, a pitch of -24 to 24 (0 in "
+               "version 1), and in bytes the length of their version, 21 or 22";
+    case CABLEOWL_REFUSAL_OUTPUT:
+        return "the output of a salvage must be at least as long as the trace";
+    default:
+        return "no refusal has this number";
+    }
+}
+
 /* The mode that floats were in, given back after the calls. */
 typedef uint64_t CableowlFloatMode;
 

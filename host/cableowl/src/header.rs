@@ -329,6 +329,29 @@ fn header_agrees_and_c_can_call_each_entry() {
 }
 
 #[test]
+fn c_has_the_sentences_of_rust() {
+    let texts = (0..40).map(|number| {
+        let text = Refusal::text(number).unwrap_or(match number {
+            0 => "accepted",
+            _ => "no refusal has this number",
+        });
+        format!("{text:?},\n")
+    });
+    let texts: String = texts.collect();
+    run_c(
+        "refusals",
+        &format!("const char *const TEXTS[40] = {{\n{texts}}};\n"),
+    );
+    for refusal in Refusal::PLAIN {
+        let number = refusal.number();
+        let text = Refusal::text(number).expect("a sentence");
+        assert_eq!(refusal.to_string(), format!("refusal {number}: {text}"));
+    }
+    let last = Refusal::PLAIN.iter().map(|refusal| refusal.number()).max();
+    assert_eq!(Refusal::text(last.unwrap_or(0) + 1), None);
+}
+
+#[test]
 fn a_call_needs_4_kilobytes_of_stack_at_most_and_one_of_a_trace_12() {
     run_c("stack", "");
 }
