@@ -68,9 +68,8 @@ fn prove_and_link(name: &str) -> Result<()> {
     // One at a time: two would write the same files.
     let turn = File::open(root.join("crates.txt"))?;
     turn.lock()?;
-    let root = writable(&root, &out, &crates)?;
-    let proved = Proved::of(&root, &crates, name, &kit)?;
-    let folder = root.join("target/archive").join(target.folder());
+    let (work, proved) = proved(&root, &out, &crates, name, &kit)?;
+    let folder = work.join("target/archive").join(target.folder());
     fs::create_dir_all(&folder)?;
     let archive = folder.join(format!("lib{name}.a"));
     match target.way {
@@ -191,28 +190,48 @@ fn folders(root: &Path, crates: &BTreeSet<String>) -> impl Iterator<Item = PathB
         .filter(|folder| folder.is_dir())
 }
 
-/// The repository, or where nothing can be written there a copy of the crates below OUT_DIR: `rt` writes to target/
-/// beside crates.txt.
-fn writable(root: &Path, out: &Path, crates: &BTreeSet<String>) -> Result<PathBuf> {
-    let probe = root.join("target/archive/probe");
-    let can_write =
-        fs::create_dir_all(root.join("target/archive")).is_ok() && fs::write(&probe, "").is_ok();
-    if can_write {
-        fs::remove_file(probe)?;
-        return Ok(root.to_owned());
+/// What is proved of the crate, and the folder to work in: the repository, or one below OUT_DIR where nothing can be
+/// written there. Then what was proved beside the sources is used if it was proved from this very text; if not, the
+/// crates are copied and proved below OUT_DIR.
+fn proved(
+    root: &Path,
+    out: &Path,
+    crates: &BTreeSet<String>,
+    name: &str,
+    kit: &module::Kit,
+) -> Result<(PathBuf, Proved)> {
+    if can_write(root) {
+        return Ok((root.to_owned(), Proved::of(root, crates, name, kit)?));
     }
-    let copy = out.join("source");
-    let _ = fs::remove_dir_all(copy.join("crates"));
+    let work = out.join("source");
+    fs::create_dir_all(work.join("target/archive"))?;
+    let beside = Proved::files(root, name);
+    if beside.is_from(&proved_from(root, crates, kit)?) {
+        return Ok((work, beside));
+    }
+    copy_crates(root, &work, crates)?;
+    let proved = Proved::of(&work, crates, name, kit)?;
+    Ok((work, proved))
+}
+
+/// Whether `rt` can write to target/ beside crates.txt.
+fn can_write(root: &Path) -> bool {
+    let probe = root.join("target/archive/probe");
+    let created = fs::create_dir_all(root.join("target/archive")).is_ok();
+    created && fs::write(&probe, "").is_ok() && fs::remove_file(probe).is_ok()
+}
+
+fn copy_crates(root: &Path, to: &Path, crates: &BTreeSet<String>) -> Result<()> {
+    let _ = fs::remove_dir_all(to.join("crates"));
     for folder in folders(root, crates) {
         for file in files(&folder)? {
-            let to = copy.join(file.strip_prefix(root)?);
+            let to = to.join(file.strip_prefix(root)?);
             fs::create_dir_all(to.parent().ok_or("a file has a folder")?)?;
             fs::write(to, fs::read(file)?)?;
         }
     }
-    fs::write(copy.join("crates.txt"), fs::read(root.join("crates.txt"))?)?;
-    fs::create_dir_all(copy.join("target/archive"))?;
-    Ok(copy)
+    fs::write(to.join("crates.txt"), fs::read(root.join("crates.txt"))?)?;
+    Ok(())
 }
 
 /// All files below a folder, in one order.
@@ -237,29 +256,42 @@ fn files(folder: &Path) -> io::Result<Vec<PathBuf>> {
 struct Proved {
     archive: PathBuf,
     module: PathBuf,
+    /// The text that both were made from.
+    from: PathBuf,
 }
 
 impl Proved {
+    /// Its files below a repository, whether or not they are there.
+    fn files(root: &Path, name: &str) -> Self {
+        let kept = root.join("target/archive/proved");
+        Self {
+            archive: kept.join(format!("lib{name}.a")),
+            module: kept.join(format!("{name}.bc")),
+            from: kept.join(format!("{name}.from")),
+        }
+    }
+
+    /// Whether the files are there and were made from this text.
+    fn is_from(&self, text: &[u8]) -> bool {
+        fs::read(&self.from).is_ok_and(|from| from == text)
+            && self.archive.is_file()
+            && self.module.is_file()
+    }
+
     /// Has `rt` prove the crate, unless what is kept was proved from the very same text by the same kit.
     fn of(root: &Path, crates: &BTreeSet<String>, name: &str, kit: &module::Kit) -> Result<Self> {
         let kept = root.join("target/archive/proved");
         fs::create_dir_all(&kept)?;
-        let proved = Self {
-            archive: kept.join(format!("lib{name}.a")),
-            module: kept.join(format!("{name}.bc")),
-        };
-        let from = kept.join(format!("{name}.from"));
+        let proved = Self::files(root, name);
         let text = proved_from(root, crates, kit)?;
-        if fs::read(&from).is_ok_and(|kept| kept == text)
-            && proved.archive.is_file()
-            && proved.module.is_file()
-        {
+        if proved.is_from(&text) {
             return Ok(proved);
         }
-        let _ = fs::remove_file(&from);
+        let _ = fs::remove_file(&proved.from);
         let shadow = kit.that_keeps_the_module(&kept.join(format!("kit-{name}")))?;
         told(&format!(
-            "proving {name} and what it depends on, which takes minutes where nothing is proved yet"
+            "proving {name} and what it depends on, {} crates; this takes minutes if nothing is proved yet",
+            crates.len()
         ));
         prove(root, crates, name, &shadow)?;
         fs::copy(
@@ -267,7 +299,7 @@ impl Proved {
             &proved.archive,
         )?;
         fs::copy(shadow.module()?, &proved.module)?;
-        fs::write(from, text)?;
+        fs::write(&proved.from, text)?;
         Ok(proved)
     }
 }
@@ -296,19 +328,54 @@ fn prove(
     name: &str,
     shadow: &module::Shadow,
 ) -> Result<()> {
+    let mut progress = Progress::new(crates);
     let below = crates
         .iter()
         .map(String::as_str)
         .filter(|other| *other != name);
     let check: Vec<&str> = ["check"].into_iter().chain(below).collect();
     if check.len() > 1 {
-        rt(root, &check, shadow)?;
+        rt(root, &check, shadow, &mut progress)?;
     }
-    rt(root, &["staticlib", name], shadow)
+    rt(root, &["staticlib", name], shadow, &mut progress)
+}
+
+/// How many of the crates are proved.
+struct Progress<'a> {
+    crates: &'a BTreeSet<String>,
+    proved: BTreeSet<&'a str>,
+}
+
+impl<'a> Progress<'a> {
+    fn new(crates: &'a BTreeSet<String>) -> Self {
+        Self {
+            crates,
+            proved: BTreeSet::new(),
+        }
+    }
+
+    /// What to tell of a line of `rt`: a crate that it has proved now, and how many are.
+    fn told(&mut self, line: &str) -> Option<String> {
+        let (name, _) = line.strip_prefix("rt: ")?.split_once(" proved (")?;
+        self.proved.insert(self.crates.get(name)?);
+        let (proved, all) = (self.proved.len(), self.crates.len());
+        match line.contains("(unchanged") {
+            true => None,
+            false => Some(format!(
+                "{proved} of {all}: {}",
+                line.trim_start_matches("rt: ")
+            )),
+        }
+    }
 }
 
 /// One command of `rt`, each crate told as it is proved.
-fn rt(root: &Path, words: &[&str], shadow: &module::Shadow) -> Result<()> {
+fn rt(
+    root: &Path,
+    words: &[&str],
+    shadow: &module::Shadow,
+    progress: &mut Progress<'_>,
+) -> Result<()> {
     let (reader, writer) = io::pipe()?;
     let mut rt = Command::new("rt")
         .args(words)
@@ -320,7 +387,7 @@ fn rt(root: &Path, words: &[&str], shadow: &module::Shadow) -> Result<()> {
     let mut said = String::new();
     for line in BufReader::new(reader).lines() {
         let line = line?;
-        if line.starts_with("rt: ") && line.contains("roved (") && !line.contains("(unchanged") {
+        if let Some(line) = progress.told(&line) {
             told(&line);
         }
         if !is_noise(&line) {
@@ -360,6 +427,10 @@ fn is_noise(line: &str) -> bool {
 fn told(line: &str) {
     let to = env::var("CABLEOWL_PROGRESS").unwrap_or_else(|_| "/dev/tty".to_owned());
     if let Ok(mut file) = OpenOptions::new().append(true).open(to) {
-        let _ = writeln!(file, "cableowl: {}", line.trim_start_matches("rt: "));
+        let _ = writeln!(file, "cableowl: {line}");
     }
 }
+
+#[cfg(test)]
+#[path = "archive/tests.rs"]
+mod tests;

@@ -22,16 +22,23 @@ pub struct Kit {
     home: PathBuf,
 }
 
+impl From<PathBuf> for Kit {
+    /// The kit in this folder.
+    fn from(home: PathBuf) -> Self {
+        Self { home }
+    }
+}
+
 /// The kit that `rt` on PATH belongs to.
 pub fn kit() -> Option<Kit> {
     if let Some(home) = env::var_os("RATTLE_HOME") {
-        return Some(Kit { home: home.into() });
+        return Some(PathBuf::from(home).into());
     }
     let rt = env::split_paths(&env::var_os("PATH")?)
         .map(|folder| folder.join("rt"))
         .find(|rt| rt.is_file())?;
     let home = rt.canonicalize().ok()?.parent()?.parent()?.to_owned();
-    Some(Kit { home })
+    Some(home.into())
 }
 
 /// A kit whose clang also keeps the module; all else in it is the kit's own.
