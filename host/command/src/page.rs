@@ -1,58 +1,71 @@
 //! The report's page: one file, nothing fetched, for people who do not read logs.
 
+use cableowl::Refusal;
+
 use crate::{
     course::{Course, ROWS, Stretch},
     fault::Result,
     figures::REFUSALS,
     log::Form,
     out::PAGE_MARK,
-    plot::{Plot, escaped, grouped, time},
+    plot::{Plot, counted, escaped, grouped, time},
     report::{COLUMNS, Evening, Told, minutes, refused, spaced},
 };
 
-/// How the pages look.
+/// How the pages look, in light and in dark. A plot is drawn 720 wide and scaled to the page, so its
+/// text is larger where the page is narrower: none is under 11 px.
 const STYLE: &str = "\
-:root{color-scheme:light}
-body{margin:0 auto;max-width:62rem;padding:1.5rem 1.25rem 4rem;color:#1d2530;background:#fff;font:16px/1.5 system-ui,-apple-system,'Segoe UI',Roboto,'DejaVu Sans',sans-serif}
+:root{color-scheme:light dark;--text:#1d2530;--back:#fff;--soft:#57616e;--edge:#dfe4ea;--grid:#e6eaef;--axis:#9aa5b1;--bad:#a4262c;--good:#1f6f43;--place:#1f5fa8;--paused:#e3e8ee;--silent:#f3e9da;--loop:#f6c453;--label:#7a5000;--seek:#7b3fa0;--count:#c7621a;--refused:#c0343a}
+@media (prefers-color-scheme:dark){:root{--text:#e4e8ee;--back:#14181e;--soft:#a8b2bf;--edge:#343d49;--grid:#2a323c;--axis:#7a8593;--bad:#ff9494;--good:#7fd6a4;--place:#74b0f4;--paused:#29323e;--silent:#37301f;--loop:#a87c12;--label:#f0cc7a;--seek:#c99af0;--count:#f2a567;--refused:#ff8080}}
+body{margin:0 auto;max-width:62rem;padding:1.5rem 1.25rem 4rem;color:var(--text);background:var(--back);font:16px/1.5 system-ui,-apple-system,'Segoe UI',Roboto,'DejaVu Sans',sans-serif}
+a{color:var(--place)}
 h1{font-size:1.7rem;line-height:1.2;margin:.5rem 0 .25rem}
-h2{font-size:1.3rem;margin:2.75rem 0 .25rem;padding-top:1.25rem;border-top:2px solid #dfe4ea;overflow-wrap:anywhere}
+h2{font-size:1.3rem;margin:2.75rem 0 .25rem;padding-top:1.25rem;border-top:2px solid var(--edge);overflow-wrap:anywhere}
 h3{font-size:1.05rem;margin:1.75rem 0 0}
 p{margin:.35rem 0}
+nav ul{display:flex;flex-wrap:wrap;gap:.2rem 1.2rem;margin:.75rem 0;padding:0;list-style:none;overflow-wrap:anywhere}
 .lede{font-size:1.05rem}
-.note{color:#57616e;font-size:.92rem}
-.bad{color:#a4262c;font-weight:600}
-.good{color:#1f6f43;font-weight:600}
+.note{color:var(--soft);font-size:.92rem}
+.bad{color:var(--bad);font-weight:600}
+.good{color:var(--good);font-weight:600}
 .scroll{overflow-x:auto}
 table{border-collapse:collapse;font-size:.9rem;margin:.75rem 0;font-variant-numeric:tabular-nums}
-th,td{padding:.28rem .7rem;text-align:right;border-bottom:1px solid #e6eaef;white-space:nowrap}
-th{color:#57616e;font-weight:600;vertical-align:bottom;white-space:normal;min-width:4.2rem}
+th,td{padding:.28rem .7rem;text-align:right;border-bottom:1px solid var(--grid);white-space:nowrap}
+th{color:var(--soft);font-weight:600;vertical-align:bottom;white-space:normal;min-width:4.2rem}
 th:first-child,td:first-child{text-align:left;min-width:9rem;max-width:22rem;overflow-wrap:anywhere;white-space:normal}
 .lines th,.lines td{text-align:left;white-space:normal}
-tr.total td{border-top:2px solid #9aa5b1;font-weight:600}
-tr.quantile td{color:#57616e}
+tr.total td{border-top:2px solid var(--axis);font-weight:600}
+tr.quantile td{color:var(--soft)}
 dl{display:grid;grid-template-columns:repeat(auto-fill,minmax(11rem,1fr));gap:.6rem 1.2rem;margin:.9rem 0}
-dl div{border-left:3px solid #cdd6df;padding-left:.7rem}
-dt{color:#57616e;font-size:.85rem}
+dl div{border-left:3px solid var(--edge);padding-left:.7rem}
+dt{color:var(--soft);font-size:.85rem}
 dd{margin:0;font-size:1.15rem;font-variant-numeric:tabular-nums}
-svg{display:block;width:100%;height:auto;margin:.4rem 0}
-svg text{font:12px system-ui,-apple-system,'Segoe UI',Roboto,'DejaVu Sans',sans-serif}
-.tick{fill:#57616e}
-.label{fill:#8a5a00;font-weight:600}
-.grid{stroke:#e6eaef}
-.axis{stroke:#9aa5b1}
-.place{fill:none;stroke:#1f5fa8;stroke-width:1.6;stroke-linejoin:round;stroke-linecap:round}
-.leap{fill:none;stroke:#1f5fa8;stroke-width:1.2;opacity:.45}
-.paused{fill:#eceff3}
-.silent{fill:#f6f1ea}
-.loop{fill:#f6c453;opacity:.3}
-.bar{fill:#1f5fa8}
-.seek{fill:#7b3fa0}
-.count{fill:#c7621a}
-.refused{fill:#c0343a;opacity:.85}
-.creep{fill:none;stroke:#c0343a;stroke-width:1.8;stroke-linejoin:round}
-.first{stroke:#c0343a;stroke-dasharray:4 4}
+svg{display:block;width:100%;min-width:430px;height:auto;margin:.4rem 0}
+svg text{font:11px system-ui,-apple-system,'Segoe UI',Roboto,'DejaVu Sans',sans-serif}
+@media (max-width:900px){svg text{font-size:15px}}
+@media (max-width:640px){svg text{font-size:19px}}
+.tick{fill:var(--soft)}
+.label{fill:var(--label);font-weight:600}
+.grid{stroke:var(--grid)}
+.axis{stroke:var(--axis)}
+.place{fill:none;stroke:var(--place);stroke-width:1.6;stroke-linejoin:round;stroke-linecap:round}
+.leap{fill:none;stroke:var(--place);stroke-width:1.2;opacity:.45}
+.paused{fill:var(--paused)}
+.silent{fill:var(--silent)}
+.loop{fill:var(--loop);opacity:.3}
+.bar{fill:var(--place)}
+.seek{fill:var(--seek)}
+.count{fill:var(--count)}
+.refused{fill:var(--refused);opacity:.85}
+.creep{fill:none;stroke:var(--refused);stroke-width:1.8;stroke-linejoin:round}
+.first{stroke:var(--refused);stroke-dasharray:4 4}
 .key{display:inline-block;width:.85rem;height:.85rem;border-radius:2px;vertical-align:-1px;margin:0 .3rem 0 .9rem}
 .key:first-child{margin-left:0}
+.key.place{background:var(--place)}
+.key.paused{background:var(--paused)}
+.key.silent{background:var(--silent)}
+.key.loop{background:var(--loop)}
+.key.seek{background:var(--seek)}
 ";
 
 /// Where a page's text goes.
@@ -87,11 +100,12 @@ pub fn report(evenings: &[Evening], rows: &[Told], rate: u32, put: &mut Sink<'_>
     };
     head(&title, put)?;
     put(&format!(
-        "<p class=\"lede\">{} minutes of blocks at {} frames a second.</p>\n",
+        "<p class=\"lede\">{} minutes of blocks at {} a second.</p>\n",
         spaced(&minutes(frames, rate)),
-        grouped(rate.into())
+        counted(rate.into(), "frame")
     ))?;
     let folder = shared_folder(evenings);
+    contents(evenings, folder, put)?;
     if evenings.len() > 1 {
         put(
             "<p class=\"note\">Each evening has a section below. Quantiles are figures of one of the evenings each (nearest rank).</p>\n",
@@ -99,10 +113,10 @@ pub fn report(evenings: &[Evening], rows: &[Told], rate: u32, put: &mut Sink<'_>
         table("evenings", &FEW, rows, folder, put)?;
         put(NOT_TOLD)?;
     }
-    for evening in evenings {
-        section(evening, folder, rate, put)?;
+    for (index, evening) in evenings.iter().enumerate() {
+        section(evening, index + 1, folder, rate, put)?;
     }
-    put("<h2>All figures</h2>\n")?;
+    put("<h2 id=\"all\">All figures</h2>\n")?;
     table(
         "figures",
         &COLUMNS.map(|(column, _)| column),
@@ -112,6 +126,47 @@ pub fn report(evenings: &[Evening], rows: &[Told], rate: u32, put: &mut Sink<'_>
     )?;
     put(NOT_TOLD)?;
     foot(put)
+}
+
+/// The plots of an evening: the first part of their id, and their title.
+const PLOTS: [(&str, &str); 4] = [
+    ("places", "Where in the sound"),
+    ("rounds", "Times round the loop, a minute"),
+    ("counts", "Window counts below 4"),
+    ("refusals", "Refused blocks"),
+];
+
+/// What is on the page, with links: of one evening its plots, of several each of them.
+fn contents(evenings: &[Evening], folder: &str, put: &mut Sink<'_>) -> Result<()> {
+    put("<nav id=\"contents\" aria-label=\"Contents\"><ul>\n")?;
+    let mut link = |to: &str, says: &str| {
+        put(&format!(
+            "<li><a href=\"#{to}\">{}</a></li>\n",
+            escaped(says)
+        ))
+    };
+    match evenings {
+        [evening] if evening.figures.frames > 0 => {
+            for (plot, title) in PLOTS {
+                link(&format!("{plot}-1"), title)?;
+            }
+        }
+        _ => {
+            for (index, evening) in evenings.iter().enumerate() {
+                let name = evening.name.strip_prefix(folder).unwrap_or(&evening.name);
+                link(&format!("evening-{}", index + 1), name)?;
+            }
+        }
+    }
+    link("all", "All figures")?;
+    put("</ul></nav>\n")
+}
+
+/// The title of a plot.
+fn heading(plot: &str, section: usize) -> String {
+    let title = PLOTS.iter().find(|(name, _)| *name == plot);
+    let title = title.map_or(plot, |(_, title)| title);
+    format!("<h3 id=\"{plot}-{section}\">{title}</h3>\n")
 }
 
 /// The columns that a page begins with, where there are several evenings.
@@ -181,12 +236,21 @@ fn table(
     put("</tbody></table></div>\n")
 }
 
-fn section(evening: &Evening, folder: &str, rate: u32, put: &mut Sink<'_>) -> Result<()> {
+fn section(
+    evening: &Evening,
+    number: usize,
+    folder: &str,
+    rate: u32,
+    put: &mut Sink<'_>,
+) -> Result<()> {
     let figures = &evening.figures;
     let told = |number: Option<u64>| number.map_or("not told".into(), grouped);
     let time = |frames| format!("{} min", spaced(&minutes(frames, rate)));
     let name = evening.name.strip_prefix(folder).unwrap_or(&evening.name);
-    put(&format!("<h2>{}</h2>\n<dl>\n", escaped(name)))?;
+    put(&format!(
+        "<h2 id=\"evening-{number}\">{}</h2>\n<p class=\"note\"><a href=\"#contents\">Contents</a></p>\n<dl>\n",
+        escaped(name)
+    ))?;
     let facts = [
         ("Played", time(figures.played)),
         ("Paused", time(figures.paused)),
@@ -216,11 +280,37 @@ fn section(evening: &Evening, folder: &str, rate: u32, put: &mut Sink<'_>) -> Re
         return Ok(());
     }
     let course = &evening.course;
+    let sound = Sound {
+        rate: f64::from(evening.sound_rate.unwrap_or(rate)),
+        known: evening.sound_rate.is_some(),
+    };
     let rate = f64::from(rate);
-    places(course, evening.form, rate, put)?;
+    put(&heading("places", number))?;
+    places(course, evening.form, rate, sound, put)?;
+    put(&heading("rounds", number))?;
     rounds(course, evening.form, rate, put)?;
+    put(&heading("counts", number))?;
     counts(course, evening.form, rate, put)?;
+    put(&heading("refusals", number))?;
     refusals(course, rate, put)
+}
+
+/// The sound's frames a second, and whether they are known or taken to be the box's.
+#[derive(Debug, Clone, Copy)]
+struct Sound {
+    rate: f64,
+    known: bool,
+}
+
+impl Sound {
+    /// What a place upward is.
+    fn says(self) -> String {
+        let rate = counted(self.rate as u64, "frame");
+        match self.known {
+            true => format!("at {rate} a second"),
+            false => format!("at {rate} a second, the box's: --sound-rate gives the sound's own"),
+        }
+    }
 }
 
 /// The seconds of a frame's number.
@@ -254,12 +344,12 @@ fn runs(course: &Course, rate: f64, holds: impl Fn(&Stretch) -> bool) -> Vec<(f6
 }
 
 /// Where in the sound the voice was.
-fn places(course: &Course, form: Form, rate: f64, put: &mut Sink<'_>) -> Result<()> {
+fn places(course: &Course, form: Form, rate: f64, sound: Sound, put: &mut Sink<'_>) -> Result<()> {
     let all = seconds(course.frames, rate);
     let highest = course.highest as f64;
     // Room for a loop's label above the highest place.
     let top = highest * 1.1;
-    let mut plot = Plot::new(300.0, all, 0.0, top);
+    let mut plot = Plot::new(240.0, all, 0.0, top);
     for (class, of) in [
         ("paused", (|s: &Stretch| s.paused) as fn(&Stretch) -> u64),
         ("silent", |s: &Stretch| s.silent),
@@ -268,23 +358,24 @@ fn places(course: &Course, form: Form, rate: f64, put: &mut Sink<'_>) -> Result<
             plot.area(class, run, (0.0, top), class);
         }
     }
-    plot.numbers();
+    plot.seconds(sound.rate);
     let mut labels = Vec::new();
     for round in &course.loops {
         let times = (seconds(round.from, rate), seconds(round.until, rate));
         let (high, next) = (round.high, round.high.saturating_add(1));
         let low = next.saturating_sub(round.length);
         let says = format!(
-            "{} times round a loop of {} frames",
-            grouped(round.rounds),
-            grouped(round.length)
+            "{} round a loop of {}, {:.3} s",
+            counted(round.rounds, "time"),
+            counted(round.length, "frame"),
+            round.length as f64 / sound.rate
         );
         plot.area("loop", times, (low as f64, high as f64), &says);
-        if plot.x(times.1) - plot.x(times.0) > 40.0 {
+        if plot.x(times.1) - plot.x(times.0) > 120.0 {
             let (x, y) = (plot.x(times.0) + 5.0, plot.y(high as f64) - 5.0);
-            let rounds = grouped(round.rounds);
+            let rounds = counted(round.rounds, "time");
             labels.push(format!(
-                "<text class=\"label\" x=\"{x:.1}\" y=\"{y:.1}\">{rounds} times round</text>"
+                "<text class=\"label\" x=\"{x:.1}\" y=\"{y:.1}\">{rounds} round</text>"
             ));
         }
     }
@@ -295,25 +386,26 @@ fn places(course: &Course, form: Form, rate: f64, put: &mut Sink<'_>) -> Result<
     for (index, stretch) in course.stretches.held.iter().enumerate() {
         if let (Some((.., last)), true) = (stretch.places, stretch.seeks > 0) {
             let at = seconds(index as u64 * width, rate);
-            let says = format!("{} seeks at {}", grouped(stretch.seeks), time(at, 1.0));
+            let says = format!("{} at {}", counted(stretch.seeks, "seek"), time(at, 1.0));
             plot.dot("seek", at, last as f64, 3.5, &says);
         }
     }
     for label in labels {
         plot.put(&label);
     }
-    put(
-        "<h3>Where in the sound</h3>\n<p class=\"note\">Across: the evening's time. Upward: the frame of the sound. The line rises while the sound plays, falls back where the student goes round or seeks, and is level while nothing moves.</p>\n",
-    )?;
+    put(&format!(
+        "<p class=\"note\">Across: the evening's time. Upward: the place in the sound, in seconds ({}). The line rises while the sound plays, falls back where the student goes round or seeks, and is level while nothing moves.</p>\n",
+        sound.says()
+    ))?;
     put(&plot.done("the place in the sound over the evening"))?;
-    put("<p class=\"note\"><span class=\"key\" style=\"background:#1f5fa8\"></span>the place")?;
+    put("<p class=\"note\"><span class=\"key place\"></span>the place")?;
     put(
-        "<span class=\"key\" style=\"background:#eceff3\"></span>paused<span class=\"key\" style=\"background:#f6f1ea\"></span>silent (stopped, or not started)",
+        "<span class=\"key paused\"></span>paused<span class=\"key silent\"></span>silent (stopped, or not started)",
     )?;
     match form {
         Form::First => put(" – Of a log of form 1 loops and seeks are not told apart.</p>\n"),
         Form::Second => put(
-            "<span class=\"key\" style=\"background:#f9dc98\"></span>a loop that was gone round<span class=\"key\" style=\"background:#7b3fa0\"></span>a seek</p>\n",
+            "<span class=\"key loop\"></span>a loop that was gone round<span class=\"key seek\"></span>a seek</p>\n",
         ),
     }
 }
@@ -341,7 +433,6 @@ fn line(course: &Course, plot: &Plot, rate: f64) -> (String, String) {
 
 /// Times round the loop, minute by minute.
 fn rounds(course: &Course, form: Form, rate: f64, put: &mut Sink<'_>) -> Result<()> {
-    put("<h3>Times round the loop, a minute</h3>\n")?;
     if form == Form::First {
         return put("<p class=\"note\">Not told by a log of form 1.</p>\n");
     }
@@ -369,7 +460,7 @@ fn rounds(course: &Course, form: Form, rate: f64, put: &mut Sink<'_>) -> Result<
     if highest == 0.0 {
         return put("<p class=\"note\">Nobody went round.</p>\n");
     }
-    let mut plot = Plot::new(190.0, all, 0.0, highest * 1.1);
+    let mut plot = Plot::new(150.0, all, 0.0, highest * 1.1);
     plot.numbers();
     for (from, until, rounds) in bars {
         if rounds > 0.0 {
@@ -387,7 +478,6 @@ fn rounds(course: &Course, form: Form, rate: f64, put: &mut Sink<'_>) -> Result<
 
 /// Window counts below 4.
 fn counts(course: &Course, form: Form, rate: f64, put: &mut Sink<'_>) -> Result<()> {
-    put("<h3>Window counts below 4</h3>\n")?;
     if form == Form::First {
         return put("<p class=\"note\">Not told by a log of form 1.</p>\n");
     }
@@ -404,7 +494,7 @@ fn counts(course: &Course, form: Form, rate: f64, put: &mut Sink<'_>) -> Result<
     put(
         "<p class=\"note\">A count below 4 says that the sound had ended and its tail ran out: silence there is no gap in the network.</p>\n",
     )?;
-    let mut plot = Plot::new(150.0, seconds(course.frames, rate), 0.0, 4.0);
+    let mut plot = Plot::new(130.0, seconds(course.frames, rate), 0.0, 4.0);
     plot.numbers();
     for (index, stretch) in course.stretches.held.iter().enumerate() {
         if let Some(lowest) = low(stretch) {
@@ -418,7 +508,6 @@ fn counts(course: &Course, form: Form, rate: f64, put: &mut Sink<'_>) -> Result<
 
 /// Refused blocks, by number.
 fn refusals(course: &Course, rate: f64, put: &mut Sink<'_>) -> Result<()> {
-    put("<h3>Refused blocks</h3>\n")?;
     let mut totals = [0u64; ROWS];
     for stretch in &course.stretches.held {
         for (total, more) in totals.iter_mut().zip(stretch.refused) {
@@ -437,7 +526,7 @@ fn refusals(course: &Course, rate: f64, put: &mut Sink<'_>) -> Result<()> {
     let width = course.stretches.width;
     let count = rows.len() as f64;
     let mut plot = Plot::new(
-        60.0 + 34.0 * count,
+        60.0 + 30.0 * count,
         seconds(course.frames, rate),
         0.0,
         count,
@@ -445,7 +534,7 @@ fn refusals(course: &Course, rate: f64, put: &mut Sink<'_>) -> Result<()> {
     for (place, row) in rows.iter().enumerate() {
         let number = place as f64 + 0.5;
         let name = match REFUSALS.get(*row) {
-            Some(refusal) => format!("number {refusal}"),
+            Some(refusal) => refusal.to_string(),
             None => "others".into(),
         };
         plot.name_row(number, &name);
@@ -454,10 +543,24 @@ fn refusals(course: &Course, rate: f64, put: &mut Sink<'_>) -> Result<()> {
             if refused > 0 {
                 let at = seconds(index as u64 * width, rate);
                 let radius = 3.0 + (refused as f64).sqrt().min(9.0);
-                let says = format!("{} blocks at {}", grouped(refused), time(at, 1.0));
+                let says = format!("{} at {}", counted(refused, "block"), time(at, 1.0));
                 plot.dot("refused", at, number, radius, &says);
             }
         }
     }
-    put(&plot.done("refused blocks by number"))
+    put(&plot.done("refused blocks by number"))?;
+    put("<ul class=\"note\">\n")?;
+    for row in rows {
+        let total = totals.get(row).copied().unwrap_or(0);
+        let why = match REFUSALS.get(row) {
+            Some(refusal) => format!(
+                "with refusal {refusal}: {}",
+                Refusal::text((*refusal).into()).unwrap_or_default()
+            ),
+            None => "with other refusals".into(),
+        };
+        let blocks = counted(total, "block");
+        put(&format!("<li>{blocks} {}</li>\n", escaped(&why)))?;
+    }
+    put("</ul>\n")
 }

@@ -3,11 +3,11 @@
 use std::fmt::Write as _;
 
 /// A plot's size in the page's units, and what is left free around it.
-const WIDTH: f64 = 960.0;
-const LEFT: f64 = 84.0;
+const WIDTH: f64 = 720.0;
+const LEFT: f64 = 78.0;
 const RIGHT: f64 = 16.0;
 const TOP: f64 = 12.0;
-const BOTTOM: f64 = 34.0;
+const BOTTOM: f64 = 38.0;
 
 /// No axis has more marks.
 const MARKS: u32 = 40;
@@ -102,13 +102,34 @@ impl Plot {
             if number > self.until {
                 break;
             }
-            let y = self.y(number);
-            let right = WIDTH - RIGHT;
-            let line =
-                format!(r#"<line class="grid" x1="{LEFT}" x2="{right}" y1="{y:.1}" y2="{y:.1}"/>"#);
-            self.put(&line);
-            self.name_row(number, &grouped_signed(number));
+            self.grid(number, &grouped_signed(number));
         }
+    }
+
+    /// The numbers' axis in seconds, where so many are a second.
+    pub fn seconds(&mut self, rate: f64) {
+        let (from, until) = (self.from / rate, self.until / rate);
+        let step = time_step(until - from).max(round_step(until - from, self.height / 40.0, 0.0));
+        let first = (from / step).ceil();
+        for seconds in (0..MARKS).map(|index| (first + f64::from(index)) * step) {
+            if seconds > until {
+                break;
+            }
+            let name = match until < 60.0 && step >= 1.0 {
+                true => format!("{seconds} s"),
+                false => time(seconds, step),
+            };
+            self.grid(seconds * rate, &name);
+        }
+    }
+
+    /// A line across at a number, with its name.
+    fn grid(&mut self, number: f64, name: &str) {
+        let (y, right) = (self.y(number), WIDTH - RIGHT);
+        let line =
+            format!(r#"<line class="grid" x1="{LEFT}" x2="{right}" y1="{y:.1}" y2="{y:.1}"/>"#);
+        self.put(&line);
+        self.name_row(number, name);
     }
 
     /// The whole plot, with its time's axis.
@@ -124,8 +145,8 @@ impl Plot {
             if at > self.seconds * 1.000_001 {
                 break;
             }
-            let (x, tick, below) = (self.x(at), base + 5.0, base + 20.0);
-            let anchor = if x > right - 20.0 { "end" } else { "middle" };
+            let (x, tick, below) = (self.x(at), base + 5.0, base + 25.0);
+            let anchor = if x > right - 36.0 { "end" } else { "middle" };
             let time = time(at, step);
             let mark = format!(
                 r#"<line class="axis" x1="{x:.1}" x2="{x:.1}" y1="{base:.1}" y2="{tick:.1}"/><text class="tick" x="{x:.1}" y="{below:.1}" text-anchor="{anchor}">{time}</text>"#
@@ -133,12 +154,13 @@ impl Plot {
             self.put(&mark);
         }
         let (height, says) = (self.height, escaped(says));
-        let mut plot = format!(
+        let mut plot = String::from("<div class=\"scroll\">\n");
+        plot += &format!(
             r#"<svg viewBox="0 0 {WIDTH} {height}" role="img" aria-label="{says}" xmlns="http://www.w3.org/2000/svg">"#
         );
         plot.push('\n');
         plot.push_str(&self.drawn);
-        plot.push_str("</svg>\n");
+        plot.push_str("</svg></div>\n");
         plot
     }
 }
@@ -168,9 +190,9 @@ fn time_step(seconds: f64) -> f64 {
         7_200.0, 21_600.0, 43_200.0, 86_400.0,
     ];
     match seconds {
-        ..8.0 => round_step(seconds, 8.0, 0.0),
+        ..7.0 => round_step(seconds, 7.0, 0.0),
         _ => {
-            let found = steps.into_iter().find(|step| seconds / step <= 10.0);
+            let found = steps.into_iter().find(|step| seconds / step <= 7.0);
             found.unwrap_or_else(|| round_step(seconds / 86_400.0, 8.0, 1.0) * 86_400.0)
         }
     }
@@ -259,7 +281,9 @@ mod tests {
         assert_eq!(time(75.0, 15.0), "1:15");
         assert_eq!(time(3_600.0, 600.0), "1:00:00");
         assert_eq!(time(0.25, 0.05), "0.25 s");
-        assert_eq!(time_step(300.0), 30.0);
+        assert_eq!(time_step(300.0), 60.0);
+        assert_eq!(clock(75.0004), "1:15.000");
+        assert_eq!(clock(0.0205), "0:00.021");
         assert_eq!(time_step(3_600.0), 600.0);
     }
 
@@ -280,6 +304,7 @@ mod tests {
             for until in [0.0, 1.0, 1e19] {
                 let mut plot = Plot::new(200.0, seconds, 0.0, until);
                 plot.numbers();
+                plot.seconds(48_000.0);
                 assert!(plot.done("p").len() < 1_000_000, "{seconds} {until}");
             }
         }

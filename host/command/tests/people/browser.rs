@@ -29,7 +29,7 @@ fn browser() -> Option<&'static str> {
 }
 
 /// The page's elements after the browser has read it.
-fn opened(browser: &str, room: &Room, page: &str) -> String {
+fn opened(browser: &str, room: &Room, page: &str, words: &[&str]) -> String {
     let profile = room.0.join("profile");
     let output = Command::new(browser)
         .args([
@@ -39,6 +39,7 @@ fn opened(browser: &str, room: &Room, page: &str) -> String {
             "--disable-dev-shm-usage",
             "--dump-dom",
         ])
+        .args(words.iter().filter(|word| !word.is_empty()))
         .arg(format!("--user-data-dir={}", profile.display()))
         .arg(format!("file://{}", room.0.join(page).display()))
         .output()
@@ -95,7 +96,7 @@ fn the_page_shows_the_figures_of_the_values() {
     let ran = room.run(&words);
     assert_eq!((ran.status, &*ran.err), (0, ""));
     let values = csv(&ran.out);
-    let dom = opened(browser, &room, "page.html");
+    let dom = opened(browser, &room, "page.html", &[]);
     let shown = rows(&dom);
     assert_eq!((values.len(), shown.len()), (3 + 1 + 5, 3 + 1 + 5));
     let mut compared = 0;
@@ -117,6 +118,66 @@ fn the_page_shows_the_figures_of_the_values() {
     assert!(!dom.contains("parsererror"));
     eprintln!("{compared} figures of the page are those of the values");
     draws(browser, &room);
+}
+
+/// Put at the end of a copy of a page: says the smallest text as it is drawn, and whether the colours
+/// are dark.
+const MEASURES: &str = "<script>
+let smallest = 1000;
+const walk = document.createTreeWalker(document.body, NodeFilter.SHOW_TEXT);
+while (walk.nextNode()) {
+  const text = walk.currentNode, holder = text.parentElement;
+  if (!text.data.trim() || ['SCRIPT', 'STYLE', 'TITLE', 'title'].includes(holder.tagName)) continue;
+  const scale = holder.getScreenCTM && holder.ownerSVGElement ? holder.getScreenCTM().a : 1;
+  smallest = Math.min(smallest, scale * parseFloat(getComputedStyle(holder).fontSize));
+}
+const dark = matchMedia('(prefers-color-scheme: dark)').matches;
+document.title = 'smallest=' + smallest.toFixed(2) + ' back=' + getComputedStyle(document.body).backgroundColor + ' dark=' + dark;
+</script></body>";
+
+#[test]
+fn no_text_is_under_11_px_at_any_width_and_there_is_a_dark_mode() {
+    let Some(browser) = browser() else {
+        return;
+    };
+    let room = Room::new("browser-sizes");
+    room.put("a.trace", looped());
+    room.put("b.log", room.run(&["replay", "a.trace"]).out);
+    room.run(&[
+        "report",
+        "--rate",
+        "1",
+        "--html",
+        "report.html",
+        "a.trace",
+        "b.log",
+    ]);
+    room.run(&["audit", "--html", "audit.html", "a.trace", "b.log"]);
+    for page in ["report.html", "audit.html"] {
+        let measured = room.read(page).replace("</body>", MEASURES);
+        room.put(page, measured);
+        for (width, mode, back) in [
+            (1_100, "", "rgb(255, 255, 255)"),
+            (800, "", "rgb(255, 255, 255)"),
+            (500, "", "rgb(255, 255, 255)"),
+            (500, "--force-dark-mode", "rgb(20, 24, 30)"),
+        ] {
+            let size = format!("--window-size={width},900");
+            let dom = opened(browser, &room, page, &[&size, mode]);
+            let title = dom.split("<title>").nth(1).expect("a title");
+            let title = title.split("</title>").next().expect("its end");
+            let (smallest, rest) = title.split_once(" back=").expect("what was measured");
+            let smallest = smallest.trim_start_matches("smallest=").parse::<f64>();
+            let smallest = smallest.expect("a number");
+            assert!(
+                (11.0..30.0).contains(&smallest),
+                "{page} at {width}: {title}"
+            );
+            let dark = !mode.is_empty();
+            assert_eq!(rest, format!("{back} dark={dark}"), "{page} at {width}");
+            eprintln!("{page} at {width} px, dark {dark}: the smallest text has {smallest} px");
+        }
+    }
 }
 
 /// The browser draws the page as well.

@@ -286,14 +286,52 @@ fn names_mean_themselves() {
         ran.out
     );
     let page = room.read("page.html");
-    assert!(
-        page.contains("<h2>&lt;script&gt;alert(&#39;a, &quot;b&quot;&#39;)&lt;!--&amp;.log</h2>")
-    );
+    assert!(page.contains(
+        "<h2 id=\"evening-1\">&lt;script&gt;alert(&#39;a, &quot;b&quot;&#39;)&lt;!--&amp;.log</h2>"
+    ));
     assert!(!page.contains("<script"), "no script, whatever a name says");
     for word in ["http:", "https:", "//", "url(", "@import", "<link", "src="] {
         let bare = page.replace("http://www.w3.org/2000/svg", "");
         assert!(!bare.contains(word), "the page fetches nothing: {word}");
     }
+}
+
+#[test]
+fn the_page_has_contents_seconds_and_right_plurals() {
+    let room = Room::new("report-page");
+    room.put("a.trace", looped());
+    room.put("b.log", room.run(&["replay", "--log", "2", "a.trace"]).out);
+    for files in [&["a.trace"][..], &["a.trace", "b.log"]] {
+        let words = [&["report", "--rate", "1", "--html", "page.html"], files].concat();
+        assert_eq!(room.run(&words).status, 0);
+        let page = room.read("page.html");
+        let links: Vec<&str> = page
+            .split("<a href=\"#")
+            .skip(1)
+            .filter_map(|link| link.split('"').next())
+            .collect();
+        assert!(links.len() > 3, "{links:?}");
+        for link in &links {
+            let there = page.matches(&format!("id=\"{link}\"")).count();
+            assert_eq!(there, 1, "{link}");
+        }
+        assert!(
+            links.contains(&"all") && links.contains(&"contents"),
+            "{links:?}"
+        );
+        assert!(page.contains("at 1 frame a second"), "not 1 frames");
+        assert!(page.contains("<title>1 block at "), "not 1 blocks");
+        assert!(page.contains("<li>1 block with refusal 10: the time step, "));
+        assert!(page.contains("<title>1 seek at "), "not 1 seeks");
+        assert!(page.contains(" round a loop of 4 frames, 4.000 s"));
+        assert!(page.contains(">4 s</text>"), "places are in seconds");
+        assert!(page.contains("prefers-color-scheme:dark"));
+        let inline = page.matches("style=\"").count();
+        assert_eq!(inline, 0, "each colour has a dark one");
+    }
+    let guessed = "(at 1 frame a second, the box's: --sound-rate gives the sound's own)";
+    let page = room.read("page.html");
+    assert_eq!(page.matches(guessed).count(), 1, "of the log");
 }
 
 #[test]
