@@ -232,17 +232,10 @@ fn opened(trace: &Path, log: &Path) -> Result<(Input, Log)> {
             "the two files are swapped: {first} is a log and {second} is a trace; say 'cableowl audit {second} {first}'"
         )));
     }
-    match kinds {
-        (FileKind::Log | FileKind::Settings | FileKind::Page, _) => {
-            let another = files.0.another("a trace, which audit reads first");
-            Err(another.unwrap_or(Fault::Closed))
-        }
-        (_, FileKind::Trace | FileKind::Settings | FileKind::Page) => {
-            let another = files.1.another("a log, which audit reads second");
-            Err(another.unwrap_or(Fault::Closed))
-        }
-        _ => Ok((files.0, Log::new(files.1)?)),
-    }
+    let (input, log) = files;
+    input.must_be(&[FileKind::Trace], "a trace, which audit reads first")?;
+    log.must_be(&[FileKind::Log], "a log, which audit reads second")?;
+    Ok((input, Log::new(log)?))
 }
 
 type Rows<'a> = dyn FnMut(&Found, Option<Line>, Option<Line>, bool) -> Result<()> + 'a;

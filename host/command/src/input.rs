@@ -131,10 +131,12 @@ impl Input {
         Ok(self.kind)
     }
 
-    /// It is of another kind than was wanted, if that is known.
-    pub fn another(&self, wanted: &str) -> Option<Fault> {
-        let says = self.kind.says(wanted, &self.name)?;
-        Some(self.wrong(says))
+    /// Refuses it if its first bytes say that it is none of these.
+    pub fn must_be(&self, kinds: &[FileKind], wanted: &str) -> Result<()> {
+        match self.kind.says(wanted, &self.name) {
+            Some(says) if !kinds.contains(&self.kind) => Err(self.wrong(says)),
+            _ => Ok(()),
+        }
     }
 
     /// Its name, as it may be told.

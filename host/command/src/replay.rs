@@ -11,7 +11,7 @@ use cableowl::{
 
 use crate::{
     fault::{Fault, Result},
-    input::Input,
+    input::{FileKind, Input},
     log::Form,
     out::Out,
 };
@@ -72,10 +72,8 @@ pub fn fault(input: &Input, error: &TraceError) -> Fault {
     match error {
         TraceError::Io(error) => input.unread(error),
         TraceError::Refused(refused) => {
-            let another = match refused.at {
-                0 => input.another("a trace"),
-                _ => None,
-            };
+            let another = input.must_be(&[FileKind::Trace], "a trace").err();
+            let another = another.filter(|_| refused.at == 0);
             another.unwrap_or_else(|| input.wrong(refused))
         }
         _ => input.wrong(error),

@@ -205,13 +205,11 @@ pub fn rows(evenings: &[Evening], rate: u32) -> Vec<Told> {
 /// with it.
 fn read(path: &Path, rates: Rates) -> Result<(Evening, Option<Damage>)> {
     let mut input = Input::open(path)?;
-    match input.kind()? {
+    let kind = input.kind()?;
+    input.must_be(&[FileKind::Log, FileKind::Trace], "a log or a trace")?;
+    match kind {
         FileKind::Trace => read_trace(input, rates),
-        FileKind::Settings | FileKind::Page => {
-            let another = input.another("a log or a trace");
-            Err(another.unwrap_or(Fault::Closed))
-        }
-        FileKind::Log | FileKind::Unknown => read_log(input, rates).map(|evening| (evening, None)),
+        _ => read_log(input, rates).map(|evening| (evening, None)),
     }
 }
 

@@ -17,12 +17,8 @@ const LONGEST: usize = SettingsVersion::Second.size();
 /// Shows saved settings, for a sound of so many frames a second.
 pub fn show(file: &Path, rate: u32, out: &mut Out<'_>) -> Result<()> {
     let mut input = Input::open(file)?;
-    let kind = input.kind()?;
-    if let (FileKind::Trace | FileKind::Log | FileKind::Page, Some(fault)) =
-        (kind, input.another("saved settings"))
-    {
-        return Err(fault);
-    }
+    input.kind()?;
+    input.must_be(&[FileKind::Settings], "saved settings")?;
     // One byte more tells whether any follow; the rest is not read.
     let mut bytes = Vec::new();
     let read = (&mut input)
