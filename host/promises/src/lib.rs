@@ -76,6 +76,9 @@ impl Told {
             Some(_) if excused => Some(format!(
                 "{path}: it has a law, so docs/EXCEPTIONS.md need not excuse it"
             )),
+            Some(law) if !law.ends_with(&format!(" {}.Reads.Post", path.replace("::", "."))) => {
+                Some(format!("{path}: its law is of another contract: {law}"))
+            }
             Some(law) if function.writes() && !law.starts_with("DecidesWith ") => Some(format!(
                 "{path}: it writes through a `&mut`, and its law says nothing of what it leaves"
             )),
@@ -119,7 +122,7 @@ impl Told {
 pub struct Function {
     /// `crate::Type::name` or `crate::name`
     pub path: String,
-    /// whether it is `pub`; `pub(crate)` is private
+    /// whether it is `pub` or C calls it; `pub(crate)` is private
     pub public: bool,
     /// what is given and returned, as it stands in the source
     pub signature: String,
@@ -153,7 +156,8 @@ pub fn functions(krate: &str, source: &str) -> Vec<Function> {
         let unsealed = text.strip_prefix("pub ");
         let rest = unsealed.or(text.strip_prefix("pub(crate) "));
         let rest = rest.unwrap_or(text);
-        let rest = rest.strip_prefix("extern \"C\" ").unwrap_or(rest);
+        let exported = rest.strip_prefix("extern \"C\" ");
+        let rest = exported.unwrap_or(rest);
         if let Some(rest) = rest.strip_prefix("fn ") {
             let name: String = rest
                 .chars()
@@ -166,7 +170,7 @@ pub fn functions(krate: &str, source: &str) -> Vec<Function> {
             };
             found.push(Function {
                 path,
-                public: unsealed.is_some(),
+                public: unsealed.or(exported).is_some(),
                 used: used.clone(),
                 ..Function::default()
             });

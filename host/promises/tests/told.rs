@@ -68,7 +68,11 @@ fn what_is_not_told_is_missed() {
         .push_str("\n| `numbers::widen` | `wide` | |\n");
     let words = told.missing(&widen).expect("it has no law");
     assert!(words.contains("numbers-widen"), "{words}");
-    told.laws.push_str("\npub numbers-widen : Decides _\n");
+    let law = "\npub numbers-widen : Decides numbers.widen.Reads.Post\n";
+    told.laws.push_str(&law.replace(".widen", ".narrow"));
+    let words = told.missing(&widen).expect("its law is another's");
+    assert!(words.contains("numbers.narrow"), "{words}");
+    told.laws = told.laws.replace(&law.replace(".widen", ".narrow"), law);
     assert!(told.missing(&widen).is_none());
     let unpromised = public("numbers", "widen", "x: f64", "requires { ⌜ x ⌝ }");
     let words = told.missing(&unpromised).expect("it promises nothing");
