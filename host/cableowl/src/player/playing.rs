@@ -2,9 +2,9 @@
 
 use std::hint::black_box;
 
-use super::{Player, block::Given, recorded::Watch, room::gains};
+use super::{Player, block::Given, part, queue::Press, recorded::Watch, room::gains};
 use crate::{
-    Lane, MAX_BLOCK_FRAMES, Processed, Refusal, Signals, StartAnswer, float_mode,
+    Commands, Lane, Level, MAX_BLOCK_FRAMES, Processed, Refusal, Signals, StartAnswer, float_mode,
     trace::MAX_TRACED_FRAMES,
 };
 
@@ -42,7 +42,7 @@ impl Player {
             return Err(Refusal::State);
         }
         if !out.len().is_multiple_of(2) {
-            return Err(Refusal::Block);
+            return Err(Refusal::OddOutput);
         }
         let (mut counts, mut rest) = (Processed::NONE, out);
         while !rest.is_empty() {
@@ -55,20 +55,31 @@ impl Player {
         Ok(counts)
     }
 
-    /// Tells the voice its commands, and turns it round where the rate of the next frame has.
+    /// Tells the voice what is queued, set after set, and turns it round where the rate of the next
+    /// frame has.
     fn obey<W: Watch>(&mut self, sound: &[f32], watch: &mut W) -> Result<(), Refusal> {
         let rate = self.rate.at(self.clock);
-        if rate.is_sign_negative() != self.voice.playback_rate().is_sign_negative() {
-            self.commands.get_or_insert_default().playback_rate = Some(rate);
+        let turns = rate.is_sign_negative() != self.voice.playback_rate().is_sign_negative();
+        if !turns && self.queue.is_empty() {
+            return Ok(());
         }
-        if let Some(commands) = self.commands.take() {
-            self.voice.on_start_processing(sound, commands)?;
-            watch.told(commands);
+        // Nothing in a row of commands depends on the direction: the first set turns it.
+        let mut turn = turns.then_some(rate);
+        for mut commands in self.queue.sets() {
+            commands.playback_rate = turn.take();
+            if commands != Commands::new() {
+                self.voice.on_start_processing(sound, commands)?;
+                watch.told(commands);
+            }
         }
-        if let Some(fade) = self.next_fade.take() {
-            self.fade
-                .set(super::tenths(fade.to), self.clock, fade.frames);
+        if let Some(presses) = self.queue.presses() {
+            let to = match presses.last {
+                Press::Resume => Level::FULL,
+                Press::Pause | Press::Stop => Level::SILENCE,
+            };
+            self.fade.set(super::tenths(to), self.clock, presses.fade);
         }
+        self.queue.clear();
         Ok(())
     }
 
@@ -111,6 +122,7 @@ impl Player {
                 .finished(clock == self.fade.ends())
                 .start(start),
         };
+        let told = self.voice.playback_state();
         let (voice, lanes) = (&mut self.voice, &mut room.lanes);
         let out = out.get_mut(..2 * frames).unwrap_or_default();
         let (frames, counts) = match place {
@@ -125,6 +137,9 @@ impl Player {
         };
         if W::RECORDS {
             watch.played(given.record(frames, lanes), voice, counts);
+        }
+        if W::PARTS {
+            watch.part(part::of(&given, frames, told, voice, counts));
         }
         self.clock = clock.saturating_add(frames as u64);
         Ok((frames, counts))

@@ -3,28 +3,41 @@
 
 use std::time::Duration;
 
+use super::easing::Easing;
 use crate::Lane;
 
-/// How long a parameter takes to its new value, in a straight line. The default is 10 milliseconds.
+/// How a parameter goes to its new value: kira's `Tween`. The default is a straight line over 10
+/// milliseconds, at once.
 ///
-/// A tween of n frames is over with the n-th frame after its command, which has the new value; frame
-/// i before it, from 1, is i / n of the way. One of 0 frames is as one of 1: the next frame has the
-/// new value. How the host cuts time into blocks does not enter.
+/// A tween of n frames is over with the n-th frame after its start, which has the new value; frame i
+/// before it, from 1, is i / n of the time, and the [`Easing`] says how much of the way that is. One of
+/// 0 frames is as one of 1: the next frame has the new value. How the host cuts time into blocks does
+/// not matter.
 ///
 /// ```
 /// use std::time::Duration;
 ///
-/// use cableowl::Tween;
+/// use cableowl::{Easing, Tween};
 ///
-/// let tween = Tween { duration: Duration::from_millis(250) };
+/// let tween = Tween { duration: Duration::from_millis(250), ..Tween::default() };
 /// assert_eq!(tween, Tween::from_millis(250));
 /// assert_eq!(tween, Duration::from_millis(250).into());
 /// assert_eq!(Tween::default(), Tween::from_millis(10));
+///
+/// let later = tween.easing(Easing::OutPowi(3)).delayed(Duration::from_secs(2));
+/// assert_eq!((later.easing, later.delay), (Easing::OutPowi(3), Duration::from_secs(2)));
 /// ```
-#[derive(Debug, Clone, Copy, PartialEq, Eq, Hash)]
+#[derive(Debug, Clone, Copy, PartialEq)]
 pub struct Tween {
     /// Rounded to whole frames of the output, a half up.
     pub duration: Duration,
+    /// The curve.
+    pub easing: Easing,
+    /// How long the parameter keeps its old value first: kira's `start_time`, where it is
+    /// `StartTime::Delayed`. Rounded as the duration is.
+    #[doc(alias = "start_time")]
+    #[doc(alias = "Delayed")]
+    pub delay: Duration,
 }
 
 impl Tween {
@@ -36,16 +49,44 @@ impl Tween {
     pub const fn from_millis(millis: u64) -> Self {
         Self {
             duration: Duration::from_millis(millis),
+            easing: Easing::Linear,
+            delay: Duration::ZERO,
         }
     }
 
-    /// Its frames of output, at most 2^48, which are 186 years at 48 kHz.
-    pub(super) fn frames(self, output_rate: u32) -> u64 {
-        let second = 1_000_000_000;
-        let product = self.duration.as_nanos().saturating_mul(output_rate.into());
-        let frames = product.saturating_add(second / 2) / second;
-        u64::try_from(frames).unwrap_or(u64::MAX).min(1 << 48)
+    /// With this curve.
+    #[must_use]
+    pub const fn easing(mut self, easing: Easing) -> Self {
+        self.easing = easing;
+        self
     }
+
+    /// Starting after this delay.
+    #[must_use]
+    pub const fn delayed(mut self, delay: Duration) -> Self {
+        self.delay = delay;
+        self
+    }
+
+    /// The tween in frames of output.
+    pub(super) fn ramp(self, output_rate: u32) -> Ramp {
+        Ramp {
+            delay: frames(self.delay, output_rate),
+            frames: frames(self.duration, output_rate),
+            easing: self.easing,
+        }
+    }
+}
+
+/// The most frames of a duration: 186 years at 48 kHz.
+pub const MOST_FRAMES: u64 = 1 << 48;
+
+/// A duration in frames of output, a half up.
+pub fn frames(duration: Duration, output_rate: u32) -> u64 {
+    let second = 1_000_000_000;
+    let product = duration.as_nanos().saturating_mul(output_rate.into());
+    let frames = product.saturating_add(second / 2) / second;
+    u64::try_from(frames).unwrap_or(u64::MAX).min(MOST_FRAMES)
 }
 
 impl Default for Tween {
@@ -56,14 +97,29 @@ impl Default for Tween {
 
 impl From<Duration> for Tween {
     fn from(duration: Duration) -> Self {
-        Self { duration }
+        Self {
+            duration,
+            ..Self::AT_ONCE
+        }
     }
+}
+
+/// A tween in frames.
+#[derive(Debug, Clone, Copy, PartialEq)]
+pub struct Ramp {
+    pub delay: u64,
+    pub frames: u64,
+    pub easing: Easing,
 }
 
 /// What a tween can lead.
 pub trait Tweenable: Copy {
-    /// The value `passed` of `frames` frames on the way from `from` to `to`, 0 < passed < frames.
+    /// The value `passed` of `frames` frames on the straight way from `from` to `to`,
+    /// 0 < passed < frames.
     fn between(from: Self, to: Self, passed: u64, frames: u64) -> Self;
+
+    /// The value when this part of the way is done, 0 to 1.
+    fn part(from: Self, to: Self, way: f64) -> Self;
 }
 
 /// Tenths of a decibel, rounded down as a ramp's are (`crates/decibels`): the tween is the ramp of
@@ -73,13 +129,22 @@ impl Tweenable for u16 {
         let sum = u64::from(from) * (frames - passed) + u64::from(to) * passed;
         (sum / frames) as Self
     }
+
+    fn part(from: Self, to: Self, way: f64) -> Self {
+        let (from, to) = (f64::from(from), f64::from(to));
+        // Not below 0, so the cast rounds down.
+        (from + (to - from) * way) as Self
+    }
 }
 
 /// Rates and pannings, never past either end: what is accepted at both is accepted between them.
 impl Tweenable for f64 {
     fn between(from: Self, to: Self, passed: u64, frames: u64) -> Self {
-        let amount = passed as Self / frames as Self;
-        let value = from + (to - from) * amount;
+        Self::part(from, to, passed as Self / frames as Self)
+    }
+
+    fn part(from: Self, to: Self, way: f64) -> Self {
+        let value = from + (to - from) * way;
         let (low, high) = if from <= to { (from, to) } else { (to, from) };
         // By comparisons, which leave a zero its sign on every machine.
         match value {
@@ -93,10 +158,12 @@ impl Tweenable for f64 {
 /// A number that tweens lead. Frames are counted from the player's first.
 #[derive(Debug, Clone, Copy, PartialEq)]
 pub struct Parameter<T> {
-    from: T,
-    to: T,
-    set_at: u64,
-    frames: u64,
+    pub from: T,
+    pub to: T,
+    /// The first frame of the tween, after its delay.
+    pub starts: u64,
+    pub frames: u64,
+    pub easing: Easing,
 }
 
 impl<T: Tweenable> Parameter<T> {
@@ -105,43 +172,49 @@ impl<T: Tweenable> Parameter<T> {
         Self {
             from: value,
             to: value,
-            set_at: 0,
+            starts: 0,
             frames: 0,
+            easing: Easing::Linear,
         }
     }
 
-    /// Leads it from where it is before this frame to another value, over so many frames.
-    pub fn set(&mut self, to: T, frame: u64, frames: u64) {
+    /// Leads it from where it is before this frame to another value.
+    pub fn set(&mut self, to: T, frame: u64, ramp: Ramp) {
         *self = Self {
             from: self.before(frame),
             to,
-            set_at: frame,
-            frames,
+            starts: frame.saturating_add(ramp.delay),
+            frames: ramp.frames,
+            easing: ramp.easing,
         };
     }
 
     /// The value of a frame, not before the last command.
     pub fn at(&self, frame: u64) -> T {
-        self.after(frame.saturating_sub(self.set_at).saturating_add(1))
+        self.after(frame.saturating_add(1).saturating_sub(self.starts))
     }
 
     /// The value before a frame: where a command finds it.
     pub fn before(&self, frame: u64) -> T {
-        self.after(frame.saturating_sub(self.set_at))
+        self.after(frame.saturating_sub(self.starts))
     }
 
-    /// The value once so many frames have been given theirs.
+    /// The value once so many frames of the tween have been given theirs.
     fn after(&self, passed: u64) -> T {
-        match passed {
-            0 => self.from,
+        match (passed, self.easing) {
+            (0, _) => self.from,
             _ if passed >= self.frames => self.to,
-            _ => T::between(self.from, self.to, passed, self.frames),
+            (_, Easing::Linear) => T::between(self.from, self.to, passed, self.frames),
+            (_, easing) => {
+                let time = passed as f64 / self.frames as f64;
+                T::part(self.from, self.to, easing.way(time))
+            }
         }
     }
 
     /// The first frame that has the new value.
     pub fn ends(&self) -> u64 {
-        self.set_at.saturating_add(self.frames.saturating_sub(1))
+        self.starts.saturating_add(self.frames.saturating_sub(1))
     }
 
     /// The lane of the frames from `frame` on: one number where it rests, else one for each.
@@ -155,6 +228,9 @@ impl<T: Tweenable> Parameter<T> {
         if frame >= self.ends() {
             return Lane::Constant(number(self.to));
         }
+        if frame.saturating_add(frames as u64) <= self.starts {
+            return Lane::Constant(number(self.from));
+        }
         room.clear();
         room.extend((frame..).take(frames).map(|frame| number(self.at(frame))));
         Lane::PerFrame(room)
@@ -166,6 +242,32 @@ mod test {
     use super::*;
     use crate::{Level, fade_ramp};
 
+    fn straight(frames: u64) -> Ramp {
+        Ramp {
+            delay: 0,
+            frames,
+            easing: Easing::Linear,
+        }
+    }
+
+    #[test]
+    fn a_delayed_tween_keeps_the_old_value_first() {
+        let mut parameter = Parameter::new(1.0);
+        let delayed = Ramp {
+            delay: 3,
+            ..straight(2)
+        };
+        parameter.set(2.0, 7, delayed);
+        let values: Vec<f64> = (7..13).map(|frame| parameter.at(frame)).collect();
+        assert_eq!(values, [1.0, 1.0, 1.0, 1.5, 2.0, 2.0]);
+        assert_eq!((parameter.before(10), parameter.ends()), (1.0, 11));
+        let mut room = Vec::new();
+        let lane = parameter.lane(7, 3, &mut room, |value| value);
+        assert!(matches!(lane, Lane::Constant(1.0)));
+        let lane = parameter.lane(9, 3, &mut room, |value| value);
+        assert!(matches!(lane, Lane::PerFrame([1.0, 1.5, 2.0])));
+    }
+
     #[test]
     fn a_tween_of_levels_is_the_ramp_of_one_frame_more_without_its_first() {
         for (from, to) in [(0, 601), (601, 0), (0, 1), (1, 0), (37, 412), (600, 600)] {
@@ -174,7 +276,7 @@ mod test {
                 let level = |tenths: u16| Level::new(tenths.into()).unwrap();
                 fade_ramp(level(from), level(to), &mut ramp).unwrap();
                 let mut parameter = Parameter::new(from);
-                parameter.set(to, 100, frames as u64);
+                parameter.set(to, 100, straight(frames as u64));
                 for (i, amplitude) in ramp.iter().enumerate() {
                     let before = level(parameter.before(100 + i as u64)).amplitude();
                     assert_eq!(before.to_bits(), amplitude.to_bits());
@@ -188,7 +290,7 @@ mod test {
     fn a_tween_of_no_frames_is_one_of_one() {
         for frames in [0, 1] {
             let mut parameter = Parameter::new(1.0);
-            parameter.set(2.0, 7, frames);
+            parameter.set(2.0, 7, straight(frames));
             assert_eq!(
                 (parameter.before(7), parameter.at(7), parameter.ends()),
                 (1.0, 2.0, 7)
@@ -202,7 +304,7 @@ mod test {
         for (from, to) in ends.into_iter().flat_map(|a| ends.map(|b| (a, b))) {
             for frames in [2, 3, 7, 49, 1_000, 99_991] {
                 let mut parameter = Parameter::new(from);
-                parameter.set(to, 0, frames);
+                parameter.set(to, 0, straight(frames));
                 let mut last: f64 = from;
                 for frame in (0..frames).step_by(1 + frames as usize / 1_000) {
                     let value = parameter.at(frame);
@@ -220,7 +322,6 @@ mod test {
 
     #[test]
     fn frames_of_a_tween() {
-        let frames = |duration: Duration, rate| Tween { duration }.frames(rate);
         assert_eq!(frames(Duration::from_millis(250), 48_000), 12_000);
         assert_eq!(frames(Duration::from_micros(10), 50_000), 1, "a half up");
         assert_eq!(frames(Duration::from_nanos(9_999), 50_000), 0);

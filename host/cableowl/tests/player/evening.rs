@@ -3,7 +3,8 @@
 use std::{env, sync::OnceLock, time::Duration};
 
 use cableowl::{
-    Command, Level, PlaybackPosition, Player, Processed, Refusal, Region, Settings, Ticks, Tween,
+    Command, Easing, Frames, Level, PlaybackPosition, Player, Processed, Refusal, Region, Settings,
+    Ticks, Tween,
 };
 use random::Random;
 
@@ -152,7 +153,7 @@ impl Evening {
         let mut settings = Settings::new(sample_rate)
             .reverse(random.one_in(4))
             .playback_rate(any_rate(random))
-            .start_position(random.below(frames_of_sound))
+            .start_position(Frames(random.below(frames_of_sound)))
             .start_waits(random.one_in(5));
         if random.coin() {
             settings = settings.loop_region(any_range(random, frames_of_sound));
@@ -172,10 +173,20 @@ impl Evening {
         if random.one_in(4) {
             evening.fade_in = Some(evening.any_tween(random));
         }
-        for _ in 0..random.below(10) {
+        // Few commands at frames of their own, or many before the same frame: more than can wait.
+        let (commands, together) = match random.below(12) {
+            0 => (random.below(150), 60),
+            1 | 2 => (random.below(20), 5),
+            _ => (random.below(10), 0),
+        };
+        for _ in 0..commands {
             let last = evening.commands.last().map(|(frame, _)| *frame);
+            let again = match together {
+                0 => random.one_in(3),
+                _ => !random.one_in(together),
+            };
             let frame = match last {
-                Some(last) if random.one_in(3) => last,
+                Some(last) if again => last,
                 _ => random.below(frames),
             };
             let command = evening.any_command(random, frames_of_sound);
@@ -189,15 +200,26 @@ impl Evening {
     fn any_tween(&self, random: &mut Random) -> Tween {
         let most = [1, 4, 50, self.frames + 1][random.below(4)];
         let frames = random.below(most + 1) as u64;
-        Tween {
-            duration: Duration::from_nanos(frames * 1_000_000_000 / u64::from(self.output_rate)),
+        let tween = Tween::from(self.duration_of(frames));
+        let tween = match random.below(8) {
+            0 => tween.easing(any_easing(random)),
+            _ => tween,
+        };
+        match random.below(8) {
+            0 => tween.delayed(self.duration_of(random.below(most + 1) as u64)),
+            _ => tween,
         }
+    }
+
+    /// A duration of so many frames.
+    fn duration_of(&self, frames: u64) -> Duration {
+        Duration::from_nanos(frames * 1_000_000_000 / u64::from(self.output_rate))
     }
 
     fn any_command(&self, random: &mut Random, frames: usize) -> Command {
         let tween = self.any_tween(random);
         let seconds = frames as f64 / f64::from(self.settings.sample_rate);
-        match random.below(15) {
+        match random.below(17) {
             0 | 1 => Command::Pause(tween),
             2 | 3 => Command::Resume(tween),
             4 => Command::Stop(tween),
@@ -209,6 +231,8 @@ impl Evening {
             11 => Command::SeekBy((random.unit() * 2.0 - 1.0) * seconds),
             12 => Command::SeekTo(random.unit() * 1.2 * seconds),
             13 => any_bad(random, tween),
+            14 => Command::SeekBy(-seconds * random.unit() / 4.0),
+            15 => Command::StartAfter(self.duration_of(random.below(self.frames + 1) as u64)),
             _ => {
                 let now = any_tick(random);
                 let per_second = match random.below(3) {
@@ -220,6 +244,20 @@ impl Evening {
             }
         }
     }
+}
+
+pub fn any_easing(random: &mut Random) -> Easing {
+    let whole = random.below(6) as i32 - 1;
+    let power = [0.5, 1.5, 3.0, random.unit() * 9.0, -1.0, f64::NAN][random.below(6)];
+    [
+        Easing::Linear,
+        Easing::InPowi(whole),
+        Easing::OutPowi(whole),
+        Easing::InOutPowi(whole),
+        Easing::InPowf(power),
+        Easing::OutPowf(power),
+        Easing::InOutPowf(power),
+    ][random.below(7)]
 }
 
 fn any_tick(random: &mut Random) -> u32 {
@@ -253,9 +291,9 @@ fn any_panning(random: &mut Random) -> f32 {
     ][random.below(7)]
 }
 
-fn any_range(random: &mut Random, frames: usize) -> std::ops::Range<usize> {
+fn any_range(random: &mut Random, frames: usize) -> std::ops::Range<Frames> {
     let start = random.below(frames);
-    start..start + 1 + random.below(frames - start)
+    Frames(start)..Frames(start + 1 + random.below(frames - start))
 }
 
 /// What is refused.

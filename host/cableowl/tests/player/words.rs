@@ -3,8 +3,8 @@
 use std::time::Duration;
 
 use cableowl::{
-    Commands, EndPosition, LaneName, Lanes, Level, PlaybackPosition, PlaybackState, Player,
-    Refusal, Region, Settings, SharedPlayer, Signals, StartSignal, StaticSound, Ticks, Tween,
+    Commands, EndPosition, Frames, Lanes, Level, PlaybackPosition, PlaybackState, Player, Refusal,
+    Region, Settings, SharedPlayer, Signals, StartSignal, StaticSound, Ticks, Tween,
 };
 use random::Random;
 
@@ -30,7 +30,7 @@ fn heard(player: &mut Player, sound: &[f32], frames: usize) -> Vec<f32> {
 
 #[test]
 fn pause_and_resume_change_state_where_their_fade_ends() {
-    let (sound, mut player) = counting(100, |settings| settings.start_position(10));
+    let (sound, mut player) = counting(100, |settings| settings.start_position(Frames(10)));
     let amplitude = |tenths| Level::new(tenths).unwrap().amplitude();
     assert_eq!(heard(&mut player, &sound, 2), [10.0, 11.0]);
     player.pause(frames(3));
@@ -67,28 +67,8 @@ fn pause_and_resume_change_state_where_their_fade_ends() {
 }
 
 #[test]
-fn the_commands_before_one_frame_are_one_set_in_kiras_order() {
-    let (sound, mut player) = counting(100, |settings| settings);
-    player.resume(frames(2));
-    player.pause(frames(4));
-    player.seek_by(1.0).unwrap();
-    player.seek_by(0.05).unwrap();
-    heard(&mut player, &sound, 1);
-    assert_eq!(
-        player.state(),
-        PlaybackState::Resuming,
-        "resume comes after pause"
-    );
-    assert_eq!(
-        player.voice().state().position,
-        54,
-        "the last seek_by counts"
-    );
-}
-
-#[test]
 fn a_rate_turns_where_its_tween_passes_zero() {
-    let (sound, mut player) = counting(100, |settings| settings.start_position(50));
+    let (sound, mut player) = counting(100, |settings| settings.start_position(Frames(50)));
     player.set_playback_rate(-1.0, frames(4)).unwrap();
     // Rates 0.5, 0, -0.5, -1: half a frame on, none, half a frame back.
     for (rate, fraction) in [
@@ -115,7 +95,7 @@ fn a_rate_turns_where_its_tween_passes_zero() {
 
 #[test]
 fn volume_and_panning() {
-    let (sound, mut player) = counting(100, |settings| settings.start_position(10));
+    let (sound, mut player) = counting(100, |settings| settings.start_position(Frames(10)));
     player.set_volume(Level::new(3).unwrap(), frames(2));
     let amplitude = |tenths| Level::new(tenths).unwrap().amplitude();
     let levels = [
@@ -145,7 +125,7 @@ fn volume_and_panning() {
 
 #[test]
 fn a_fade_in_leaves_the_state_playing() {
-    let (sound, player) = counting(100, |settings| settings.start_position(10));
+    let (sound, player) = counting(100, |settings| settings.start_position(Frames(10)));
     let mut player = player.fade_in_tween(frames(2));
     let half = Level::new(300).unwrap().amplitude();
     assert_eq!(heard(&mut player, &sound, 1), [10.0 * half]);
@@ -177,27 +157,29 @@ fn what_is_bad_is_refused_at_once() {
         player.set_playback_rate(nan, frames(1)),
         Err(Refusal::PlaybackRate)
     );
-    let too_fast = Err(Refusal::Advance { frame: 0 });
+    let too_fast = Err(Refusal::TooFast);
     assert_eq!(player.set_playback_rate(256.0, frames(1)), Ok(()));
     assert_eq!(
         player.set_playback_rate(-256.0_f64.next_up(), frames(1)),
         too_fast
     );
-    let (lane, frame) = (LaneName::Left, 0);
     assert_eq!(
         player.set_panning(f32::INFINITY, frames(1)),
-        Err(Refusal::Lane { lane, frame })
+        Err(Refusal::Panning)
     );
-    assert_eq!(player.set_loop_region(4..4), Err(Refusal::LoopRegion));
+    assert_eq!(
+        player.set_loop_region(Frames(4)..Frames(4)),
+        Err(Refusal::LoopRegion)
+    );
     assert_eq!(player.seek_to(nan), Err(Refusal::Seek));
     let mut out = [7.0; 5];
     assert_eq!(player.process(&sound[2..], &mut out), Err(Refusal::State));
-    assert_eq!(player.process(&sound, &mut out), Err(Refusal::Block));
-    assert_eq!(player.mix(&sound, &mut out), Err(Refusal::Block));
+    assert_eq!(player.process(&sound, &mut out), Err(Refusal::OddOutput));
+    assert_eq!(player.mix(&sound, &mut out), Err(Refusal::OddOutput));
     assert_eq!((out, player.frames()), ([7.0; 5], 0));
     let play = |settings, rate| Player::play(settings, rate, &sound).map(|_| ());
     assert_eq!(play(Settings::new(0), 0), Err(Refusal::SampleRate));
-    assert_eq!(play(Settings::new(1), 0), Err(Refusal::TimeStep));
+    assert_eq!(play(Settings::new(1), 0), Err(Refusal::OutputRate));
     assert_eq!(play(Settings::new(1).playback_rate(256.1), 1), too_fast);
     assert_eq!(play(Settings::new(768_000), 3_000), Ok(()));
     assert_eq!(play(Settings::new(768_000), 2_999), too_fast);
@@ -241,7 +223,7 @@ fn any_place(random: &mut Random, frames: usize) -> PlaybackPosition {
 #[test]
 fn what_a_player_refuses_is_what_its_voice_would() {
     let random = &mut Random::new(27);
-    let mut refused = [0; 2];
+    let (mut refused, mut counts) = ([0_usize; 2], [0_usize; 2]);
     for _ in 0..20_000 {
         let frames = 1 + random.below(12);
         let rate = [1, 2, 3, 768_000][random.below(4)];
@@ -249,50 +231,50 @@ fn what_a_player_refuses_is_what_its_voice_would() {
         let mut settings = Settings::new(rate);
         if random.coin() {
             let start = random.below(frames);
-            settings = settings.slice(start..start + 1 + random.below(frames - start));
+            settings =
+                settings.slice(Frames(start)..Frames(start + 1 + random.below(frames - start)));
         }
         let mut player = Player::play(settings, rate, &sound).unwrap();
         player
             .process(&sound, &mut vec![0.0; 2 * random.below(9)])
             .unwrap();
-        let mut voice = player.voice().clone();
-        let region = Region {
-            start: any_place(random, frames),
-            end: match random.one_in(5) {
-                true => EndPosition::EndOfAudio,
-                false => EndPosition::Custom(any_place(random, frames)),
-            },
-        };
-        let seconds = match any_place(random, frames) {
-            PlaybackPosition::Seconds(seconds) => seconds / f64::from([1, rate][random.below(2)]),
-            PlaybackPosition::Samples(samples) => samples as f64 / f64::from(rate),
-        };
-        let mut told = |commands| voice.on_start_processing(&sound, commands).map(|_| ());
-        let answer = player.set_loop_region(region);
-        assert_eq!(
-            answer,
-            told(Commands::new().set_loop_region(region)),
-            "{region:?}"
-        );
-        refused[0] += usize::from(answer.is_err());
+        // A row of commands before one frame; the voice is told each by itself.
         let mut voice = player.voice().clone();
         let mut told = |commands| voice.on_start_processing(&sound, commands).map(|_| ());
-        let answer = player.seek_to(seconds);
-        assert_eq!(
-            answer,
-            told(Commands::new().seek_to(seconds)),
-            "to {seconds}"
-        );
-        let mut voice = player.voice().clone();
-        let mut told = |commands| voice.on_start_processing(&sound, commands).map(|_| ());
-        let by = player.seek_by(seconds);
-        assert_eq!(by, told(Commands::new().seek_by(seconds)), "by {seconds}");
-        refused[1] += usize::from(answer.is_err());
+        for _ in 0..1 + random.below(4) {
+            let region = Region {
+                start: any_place(random, frames),
+                end: match random.one_in(5) {
+                    true => EndPosition::EndOfAudio,
+                    false => EndPosition::Custom(any_place(random, frames)),
+                },
+            };
+            let seconds = match any_place(random, frames) {
+                PlaybackPosition::Seconds(seconds) => {
+                    seconds / f64::from([1, rate][random.below(2)])
+                }
+                PlaybackPosition::Samples(samples) => samples as f64 / f64::from(rate),
+            };
+            let none = Commands::new();
+            let (kind, answer, commands) = match random.below(4) {
+                0 | 1 => (
+                    0,
+                    player.set_loop_region(region),
+                    none.set_loop_region(region),
+                ),
+                2 => (1, player.seek_to(seconds), none.seek_to(seconds)),
+                _ => (1, player.seek_by(seconds), none.seek_by(seconds)),
+            };
+            assert_eq!(answer, told(commands), "{commands:?}");
+            counts[kind] += 1;
+            refused[kind] += usize::from(answer.is_err());
+        }
         // What was accepted is not refused later.
         player.process(&sound, &mut [0.0; 2]).unwrap();
     }
-    println!("refused: {refused:?} of 20,000 loops and seeks");
-    assert!(refused.iter().all(|count| (1_000..19_000).contains(count)));
+    println!("{refused:?} of {counts:?} loops and seeks are refused");
+    let some = |(refused, count): (&usize, &usize)| (count / 20..count / 20 * 19).contains(refused);
+    assert!(refused.iter().zip(&counts).all(some));
 }
 
 #[test]
@@ -369,7 +351,7 @@ fn a_player_takes_any_command_and_any_length() {
             2 => player.seek_to(number),
             3 => player.seek_by(number),
             4 => player.set_loop_region(number..f64::from_bits(random.word())),
-            5 => player.set_loop_region(random.below(40)..random.below(40)),
+            5 => player.set_loop_region(Frames(random.below(40))..Frames(random.below(40))),
             6 => {
                 player.resume(tween);
                 Ok(())
