@@ -26,7 +26,7 @@ impl Plays for Player {
     }
 
     fn told(&self) -> Vec<u8> {
-        let mut told = self.voice().state().to_bytes();
+        let mut told = self.to_bytes();
         let numbers = [
             self.position().to_bits(),
             self.playback_rate().to_bits(),

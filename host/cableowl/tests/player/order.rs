@@ -163,9 +163,9 @@ fn sixty_four_seeks_wait_and_one_more_is_refused() {
     assert_eq!(player.seek_by(back), Ok(()), "a frame was played");
 }
 
-/// Every row of so many commands, in turn.
-fn rows(length: u32) -> impl Iterator<Item = Vec<Command>> {
-    let words = [
+/// What is pressed.
+fn words() -> [Command; 7] {
+    [
         Command::Pause(millis(3)),
         Command::Resume(millis(2)),
         Command::Stop(millis(4)),
@@ -173,7 +173,12 @@ fn rows(length: u32) -> impl Iterator<Item = Vec<Command>> {
         Command::SeekTo(0.0395),
         Command::SetLoopRegion((Frames(5)..Frames(9)).into()),
         Command::ClearLoopRegion,
-    ];
+    ]
+}
+
+/// Every row of so many commands, in turn.
+fn rows(length: u32) -> impl Iterator<Item = Vec<Command>> {
+    let words = words();
     (0..words.len().pow(length)).map(move |number| {
         let digit = |place| number / words.len().pow(place) % words.len();
         (0..length).map(|place| words[digit(place)]).collect()
@@ -223,6 +228,48 @@ fn every_short_row_is_obeyed_as_each_command_by_itself() {
     }
     println!("{tried} rows");
     assert_eq!(tried, 9 * (1 + 7 + 49 + 343 + 2_401));
+}
+
+/// Five frames in callbacks that end at these frames too, the presses before the callbacks at their frames.
+fn in_callbacks(evening: &Evening, ends: u32) -> (Vec<u32>, Vec<u8>) {
+    let (mut player, mut out) = (evening.player(), [0.0; 10]);
+    let mut from = 0;
+    for frame in 0..=5 {
+        let at_once = evening.commands.iter().filter(|(at, _)| *at == frame);
+        let pressed = at_once.clone().count() > 0;
+        if pressed || frame == 5 || ends & 1 << frame != 0 {
+            let part = &mut out[2 * from..2 * frame];
+            player.process(&evening.sound, part).unwrap();
+            from = frame;
+        }
+        for (_, command) in at_once {
+            player.command(*command).unwrap();
+        }
+    }
+    (bits(&out), player.to_bytes())
+}
+
+#[test]
+fn three_presses_end_alike_in_callbacks_of_every_length() {
+    let mut tried = 0;
+    for row in rows(3) {
+        for frames in 0..4_usize.pow(3) {
+            let frames = [frames / 16, frames / 4 % 4, frames % 4];
+            if !frames.is_sorted() {
+                continue;
+            }
+            let commands = frames.into_iter().zip(row.iter().copied()).collect();
+            let mut evening = evening(commands);
+            evening.frames = 5;
+            let whole = in_callbacks(&evening, 0);
+            for ends in 1..32 {
+                assert_eq!(in_callbacks(&evening, ends), whole, "{ends:b}: {evening:?}");
+                tried += 1;
+            }
+        }
+    }
+    println!("{tried} cuttings");
+    assert_eq!(tried, 343 * 20 * 31);
 }
 
 /// kira's own text, told the same presses before one frame.
