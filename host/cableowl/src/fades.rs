@@ -55,15 +55,15 @@ impl Level {
     /// assert_eq!(Level::decibels(0.0), Ok(Level::FULL));
     /// assert_eq!(Level::decibels(-60.0), Level::new(600));
     /// assert_eq!(Level::decibels(f32::NEG_INFINITY), Ok(Level::SILENCE));
-    /// assert_eq!(Level::decibels(0.1), Err(Refusal::Level));
+    /// assert_eq!(Level::decibels(0.1), Err(Refusal::Decibels));
     /// ```
     ///
     /// # Errors
     ///
-    /// [`Refusal::Level`] above 0, and for NaN.
+    /// [`Refusal::Decibels`] above 0, and for NaN.
     pub fn decibels(decibels: f32) -> Result<Self, Refusal> {
         if decibels.is_nan() || decibels > 0.0 {
-            return Err(Refusal::Level);
+            return Err(Refusal::Decibels);
         }
         // Exact: 24 bits times 4.
         let tenths = float_mode::plain(|| black_box(black_box(f64::from(decibels)) * -10.0));

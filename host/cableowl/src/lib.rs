@@ -3,8 +3,9 @@
 //! A voice plays a lent sound in blocks. What is heard does not depend on how the host cuts time
 //! into blocks: **block size may change when a command is heard, and nothing else.** Every call
 //! takes any input and refuses bad input by number ([`Refusal`]); a refused call changes nothing.
-//! No call of a voice or a player panics, allocates, waits or keeps what it was lent, and none
-//! depends on the thread's float mode: a host may flush subnormals to zero on its audio thread.
+//! No call of a voice or a player panics, allocates (but for `play` and for saving as bytes), waits or
+//! keeps what it was lent, and none depends on the thread's float mode: a host may flush subnormals
+//! to zero on its audio thread.
 //!
 //! A [`Player`] has volume, rate, panning and fades with tweens of its own, by kira's words, and plays
 //! outputs of any length:

@@ -116,6 +116,8 @@ pub enum Refusal {
     TooFast,
     /// A player's output: the number is 9, a block's.
     OddOutput,
+    /// A level in decibels: the number is 13, a level's.
+    Decibels,
 }
 
 impl Refusal {
@@ -135,7 +137,7 @@ impl Refusal {
             Self::TimeStep | Self::OutputRate => 10,
             Self::Lane { .. } | Self::Panning => 11,
             Self::Advance { .. } | Self::TooFast => 12,
-            Self::Level => 13,
+            Self::Level | Self::Decibels => 13,
             Self::Ramp => 14,
             Self::Mark => 15,
             Self::Kind => 16,
@@ -249,7 +251,7 @@ impl Refusal {
                 "sample rate times lane rate times time step must be at most 256 in every frame: lower the rate"
             }
             Self::Level => {
-                "a level is 0 to 600 tenths of a decibel below full level, or 601 for silence; in decibels it is a number at most 0"
+                "a level is 0 to 600 tenths of a decibel below full level, or 601 for silence"
             }
             Self::Mark => {
                 "no record begins here: saved settings begin with the bytes 5E 71, a record of a trace with A5 1D"
@@ -284,6 +286,7 @@ impl Refusal {
             Self::Queue => {
                 "64 seeks wait for the next frame already: play a frame, then seek again"
             }
+            Self::Decibels => "decibels must be a number, and at most 0, which is full level",
             Self::OutputRate => "the output rate, its frames a second, must be at least 1",
             Self::Panning => "the panning must be finite: -1 is left, 0 the centre, 1 right",
             Self::TooFast => {

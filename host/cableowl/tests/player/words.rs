@@ -193,7 +193,7 @@ fn a_level_in_decibels_is_its_nearest_tenth() {
     assert_eq!(tenths(-60.06), Ok(601));
     assert_eq!(tenths(-1.0e30), Ok(601));
     for bad in [0.01, f32::INFINITY, f32::NAN] {
-        assert_eq!(tenths(bad), Err(Refusal::Level));
+        assert_eq!(tenths(bad), Err(Refusal::Decibels));
     }
 }
 
