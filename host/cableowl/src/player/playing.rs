@@ -2,7 +2,14 @@
 
 use std::hint::black_box;
 
-use super::{Player, block::Given, part, queue::Press, recorded::Watch, room::gains};
+use super::{
+    Player,
+    block::Given,
+    part,
+    queue::Press,
+    recorded::Watch,
+    room::{first, gain_lanes, gains},
+};
 use crate::{
     Commands, Lane, Level, MAX_BLOCK_FRAMES, Processed, Refusal, Signals, StartAnswer, float_mode,
     trace::MAX_TRACED_FRAMES,
@@ -100,8 +107,11 @@ impl Player {
         let frames = until(clock, Some(self.fade.ends()), frames);
         let frames = until(clock, self.starts_at, frames);
         let room = &mut self.room;
-        let rate = self.rate.lane(clock, frames, &mut room.rate, |rate| rate);
-        let frames = one_direction(rate).min(frames);
+        let rate = self.rate.lane(clock, first(&mut room.rate, frames));
+        let frames = match self.rate.may_turn() {
+            true => one_direction(rate).min(frames),
+            false => frames,
+        };
 
         let amplitude = |tenths: u16| self.amplitudes.get(usize::from(tenths)).copied();
         let amplitude = |tenths| amplitude(tenths).unwrap_or_default();
@@ -109,13 +119,18 @@ impl Player {
             Some(frame) if frame <= clock => StartAnswer::Now,
             _ => StartAnswer::Waiting,
         };
-        let (left, right) = (|at| gains(at).0, |at| gains(at).1);
+        let panning = self.panning.lane(clock, first(&mut room.panning, frames));
+        let left = first(&mut room.left, frames);
+        let right = first(&mut room.right, frames);
+        let (left, right) = gain_lanes(panning, left, right);
+        let fade = first(&mut room.fade, frames);
+        let volume = first(&mut room.volume, frames);
         let given = Given {
             sound,
-            fade: self.fade.lane(clock, frames, &mut room.fade, amplitude),
-            volume: self.volume.lane(clock, frames, &mut room.volume, amplitude),
-            left: self.panning.lane(clock, frames, &mut room.left, left),
-            right: self.panning.lane(clock, frames, &mut room.right, right),
+            fade: self.fade.lane(clock, fade, amplitude),
+            volume: self.volume.lane(clock, volume, amplitude),
+            left,
+            right,
             rate,
             time_step: self.time_step,
             signals: Signals::new()

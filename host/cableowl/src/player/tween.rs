@@ -126,8 +126,7 @@ pub trait Tweenable: Copy {
 /// one frame more, without its first, which is the level that it comes from.
 impl Tweenable for u16 {
     fn between(from: Self, to: Self, passed: u64, frames: u64) -> Self {
-        let sum = u64::from(from) * (frames - passed) + u64::from(to) * passed;
-        (sum / frames) as Self
+        (weighted(from, to, passed, frames) / frames) as Self
     }
 
     fn part(from: Self, to: Self, way: f64) -> Self {
@@ -137,22 +136,29 @@ impl Tweenable for u16 {
     }
 }
 
+/// The dividend of a level on the way: both ends, weighted by the frames.
+fn weighted(from: u16, to: u16, passed: u64, frames: u64) -> u64 {
+    u64::from(from) * (frames - passed) + u64::from(to) * passed
+}
+
 /// Rates and pannings, never past either end: what is accepted at both is accepted between them.
 impl Tweenable for f64 {
     fn between(from: Self, to: Self, passed: u64, frames: u64) -> Self {
-        Self::part(from, to, passed as Self / frames as Self)
+        part_way(from, to, passed as Self / frames as Self)
     }
 
     fn part(from: Self, to: Self, way: f64) -> Self {
-        let value = from + (to - from) * way;
-        let (low, high) = if from <= to { (from, to) } else { (to, from) };
-        // By comparisons, which leave a zero its sign on every machine.
-        match value {
-            _ if value < low => low,
-            _ if value > high => high,
-            _ => value,
-        }
+        part_way(from, to, way)
     }
+}
+
+/// The number when this part of the way is done.
+fn part_way(from: f64, to: f64, way: f64) -> f64 {
+    let value = from + (to - from) * way;
+    let (low, high) = if from <= to { (from, to) } else { (to, from) };
+    // By comparisons, which leave a zero its sign on every machine.
+    let value = if value < low { low } else { value };
+    if value > high { high } else { value }
 }
 
 /// A number that tweens lead. Frames are counted from the player's first.
@@ -217,29 +223,174 @@ impl<T: Tweenable> Parameter<T> {
         self.starts.saturating_add(self.frames.saturating_sub(1))
     }
 
-    /// The lane of the frames from `frame` on: one number where it rests, else one for each.
-    pub fn lane<'a, N>(
+    /// Splits the lane of the frames from `frame` on: those before the tween, those on the way and
+    /// those at the end; beside them the number in the tween, from 1, of the first on the way.
+    fn split<'a, N>(&self, frame: u64, lane: &'a mut [N]) -> Split<'a, N> {
+        let frames = lane.len() as u64;
+        let waits = self.starts.saturating_sub(frame).min(frames);
+        let passed = frame.saturating_sub(self.starts).saturating_add(1);
+        let ahead = self.frames.saturating_sub(passed).min(frames - waits);
+        let (before, rest) = first_of(lane, waits);
+        let (on_the_way, at_the_end) = first_of(rest, ahead);
+        Split {
+            before,
+            passed,
+            on_the_way,
+            at_the_end,
+        }
+    }
+
+    /// The value of all these frames, if it rests.
+    fn at_rest(&self, frame: u64, frames: usize) -> Option<T> {
+        match frame {
+            _ if frame >= self.ends() => Some(self.to),
+            _ if frame.saturating_add(frames as u64) <= self.starts => Some(self.from),
+            _ => None,
+        }
+    }
+}
+
+/// A lane's frames before a tween, on the way and at its end.
+struct Split<'a, N> {
+    before: &'a mut [N],
+    passed: u64,
+    on_the_way: &'a mut [N],
+    at_the_end: &'a mut [N],
+}
+
+/// A slice's first numbers, and the others.
+fn first_of<N>(lane: &mut [N], count: u64) -> (&mut [N], &mut [N]) {
+    lane.split_at_mut_checked(count as usize)
+        .unwrap_or_default()
+}
+
+impl Parameter<u16> {
+    /// The lane of the frames from `frame` on, as many as `lane` has: one number where it rests, else
+    /// one for each. It computes a run of equal levels at once, with one division; where runs are
+    /// short, it steps from frame to frame without one.
+    pub fn lane<'a>(
         &self,
         frame: u64,
-        frames: usize,
-        room: &'a mut Vec<N>,
-        number: impl Fn(T) -> N,
-    ) -> Lane<'a, N> {
-        if frame >= self.ends() {
-            return Lane::Constant(number(self.to));
+        lane: &'a mut [f32],
+        number: impl Fn(u16) -> f32,
+    ) -> Lane<'a, f32> {
+        if let Some(level) = self.at_rest(frame, lane.len()) {
+            return Lane::Constant(number(level));
         }
-        if frame.saturating_add(frames as u64) <= self.starts {
-            return Lane::Constant(number(self.from));
+        let Split {
+            before,
+            passed,
+            on_the_way,
+            at_the_end,
+        } = self.split(frame, lane);
+        before.fill(number(self.from));
+        at_the_end.fill(number(self.to));
+        match self.easing {
+            _ if on_the_way.is_empty() => {}
+            Easing::Linear if self.frames / 8 >= self.change().unsigned_abs() => {
+                self.by_runs(passed, on_the_way, number);
+            }
+            Easing::Linear => self.by_steps(passed, on_the_way, number),
+            _ => {
+                for (slot, passed) in on_the_way.iter_mut().zip(passed..) {
+                    *slot = number(self.after(passed));
+                }
+            }
         }
-        room.clear();
-        room.extend((frame..).take(frames).map(|frame| number(self.at(frame))));
-        Lane::PerFrame(room)
+        Lane::PerFrame(lane)
+    }
+
+    /// What the tween adds to the level in all.
+    fn change(&self) -> i64 {
+        i64::from(self.to) - i64::from(self.from)
+    }
+
+    /// The level of a frame on the way, and what its division leaves: the next frame's dividend is
+    /// larger by `change`.
+    fn divided(&self, passed: u64) -> (u64, u64) {
+        let sum = weighted(self.from, self.to, passed, self.frames);
+        (sum / self.frames, sum % self.frames)
+    }
+
+    /// Fills run after run of frames that have the same level.
+    fn by_runs(&self, mut passed: u64, mut lane: &mut [f32], number: impl Fn(u16) -> f32) {
+        let change = self.change();
+        while !lane.is_empty() {
+            let (level, rest) = self.divided(passed);
+            let run = match change {
+                0 => u64::MAX,
+                1.. => (self.frames - rest).div_ceil(change.unsigned_abs()),
+                _ => rest / change.unsigned_abs() + 1,
+            };
+            let run = run.min(lane.len() as u64);
+            let (now, later) = lane.split_at_mut_checked(run as usize).unwrap_or_default();
+            now.fill(number(level as u16));
+            (lane, passed) = (later, passed + run);
+        }
+    }
+
+    /// Fills frame after frame: quotient and remainder of the last one, plus `change`.
+    fn by_steps(&self, passed: u64, lane: &mut [f32], number: impl Fn(u16) -> f32) {
+        let (mut level, mut rest) = self.divided(passed);
+        let (change, frames) = (self.change(), self.frames as i64);
+        let (whole, part) = (change.div_euclid(frames), change.rem_euclid(frames) as u64);
+        for slot in lane {
+            *slot = number(level as u16);
+            rest += part;
+            let carry = rest >= self.frames;
+            rest -= if carry { self.frames } else { 0 };
+            level = level.wrapping_add_signed(whole + i64::from(carry));
+        }
+    }
+}
+
+impl Parameter<f64> {
+    /// The lane of the frames from `frame` on, as many as `lane` has: one number where it rests, else
+    /// one for each. The loop is written so that it vectorises.
+    pub fn lane<'a>(&self, frame: u64, lane: &'a mut [f64]) -> Lane<'a, f64> {
+        if let Some(number) = self.at_rest(frame, lane.len()) {
+            return Lane::Constant(number);
+        }
+        let Split {
+            before,
+            passed,
+            on_the_way,
+            at_the_end,
+        } = self.split(frame, lane);
+        before.fill(self.from);
+        at_the_end.fill(self.to);
+        match self.easing {
+            Easing::Linear => {
+                // Frames are counted exactly: a tween has at most 2^48.
+                let (first, frames) = (passed as f64, self.frames as f64);
+                for (i, slot) in on_the_way.iter_mut().enumerate() {
+                    let passed = first + f64::from(i as u32);
+                    *slot = part_way(self.from, self.to, passed / frames);
+                }
+            }
+            _ => {
+                for (slot, passed) in on_the_way.iter_mut().zip(passed..) {
+                    *slot = self.after(passed);
+                }
+            }
+        }
+        Lane::PerFrame(lane)
+    }
+
+    /// Whether a lane of its values can have both signs. The values lie between both ends.
+    pub fn may_turn(&self) -> bool {
+        !(self.from > 0.0 && self.to > 0.0 || self.from < 0.0 && self.to < 0.0)
     }
 }
 
 #[cfg(test)]
 mod test {
-    use super::*;
+    use random::Random;
+
+    use super::{
+        super::room::{gain_lanes, gains},
+        *,
+    };
     use crate::{Level, fade_ramp};
 
     fn straight(frames: u64) -> Ramp {
@@ -261,10 +412,10 @@ mod test {
         let values: Vec<f64> = (7..13).map(|frame| parameter.at(frame)).collect();
         assert_eq!(values, [1.0, 1.0, 1.0, 1.5, 2.0, 2.0]);
         assert_eq!((parameter.before(10), parameter.ends()), (1.0, 11));
-        let mut room = Vec::new();
-        let lane = parameter.lane(7, 3, &mut room, |value| value);
+        let mut room = [0.0; 3];
+        let lane = parameter.lane(7, &mut room);
         assert!(matches!(lane, Lane::Constant(1.0)));
-        let lane = parameter.lane(9, 3, &mut room, |value| value);
+        let lane = parameter.lane(9, &mut room);
         assert!(matches!(lane, Lane::PerFrame([1.0, 1.5, 2.0])));
     }
 
@@ -284,6 +435,83 @@ mod test {
                 assert_eq!(parameter.at(parameter.ends()), to);
             }
         }
+    }
+
+    /// Whether a lane has these numbers, by their bits.
+    fn has<N: Copy>(lane: Lane<N>, mut each: impl Iterator<Item = N>, bits: fn(N) -> u64) -> bool {
+        match lane {
+            Lane::Constant(number) => each.all(|value| bits(value) == bits(number)),
+            Lane::PerFrame(numbers) => numbers.iter().copied().map(bits).eq(each.map(bits)),
+        }
+    }
+
+    /// Levels, rates, pannings and gains of random tweens; PLAYER_ROUNDS says of how many.
+    #[test]
+    fn a_lane_has_the_value_of_each_frame() {
+        let rounds = std::env::var("PLAYER_ROUNDS").map_or(20_000, |word| word.parse().unwrap());
+        let bits = |number: f32| number.to_bits().into();
+        let mut random = Random::new(34);
+        let mut numbers = [0.0; 4_096];
+        let (mut left, mut right) = ([0.0; 4_096], [0.0; 4_096]);
+        let mut compared = 0;
+        for _ in 0..rounds {
+            let frames = match random.below(4) {
+                0 => random.below(20) as u64,
+                1 => random.below(2_000) as u64,
+                2 => random.below(100_000) as u64,
+                _ => random.word() >> (16 + random.below(48)),
+            };
+            let set_at = random.word() >> (2 + random.below(60));
+            let ramp = Ramp {
+                delay: match random.below(3) {
+                    0 => random.below(60) as u64,
+                    _ => 0,
+                },
+                frames,
+                easing: match random.below(6) {
+                    0 => Easing::InOutPowi(3),
+                    1 => Easing::OutPowf(1.5),
+                    _ => Easing::Linear,
+                },
+            };
+            let first = match random.coin() {
+                true => set_at + random.below(40) as u64,
+                false => set_at + frames.saturating_sub(random.below(5_000) as u64),
+            };
+            let most = [8, 100, 4_096][random.below(3)];
+            let count = random.below(1 + most);
+            compared += count;
+            let (left, right) = (&mut left[..count], &mut right[..count]);
+
+            let mut level = Parameter::new(random.below(602) as u16);
+            level.set(random.below(602) as u16, set_at, ramp);
+            let each = (first..).take(count).map(|frame| level.at(frame).into());
+            let lane = level.lane(first, left, f32::from);
+            assert!(has(lane, each, bits), "{level:?} {first} {count}");
+
+            let mut end = || match random.below(5) {
+                0 => [0.0, -0.0, 1.0, -1.0, 256.0][random.below(5)],
+                1 => random.with_exponent(-1_022..8),
+                2 => -random.with_exponent(-60..8),
+                _ => 2.0 * random.unit() - 1.0,
+            };
+            let mut number = Parameter::new(end());
+            number.set(end(), set_at, ramp);
+            let each = || (first..).take(count).map(|frame| number.at(frame));
+            let lane = number.lane(first, &mut numbers[..count]);
+            assert!(
+                has(lane, each(), f64::to_bits),
+                "{number:?} {first} {count}"
+            );
+            let negative = each().filter(|value| value.is_sign_negative()).count();
+            let turns = negative != 0 && negative != count;
+            assert!(!turns || number.may_turn(), "{number:?} {first} {count}");
+            let (left, right) = gain_lanes(lane, left, right);
+            let is_left = has(left, each().map(|panning| gains(panning).0), bits);
+            let is_right = has(right, each().map(|panning| gains(panning).1), bits);
+            assert!(is_left && is_right, "{number:?} {first} {count}");
+        }
+        println!("{rounds} tweens of each kind, {compared} frames");
     }
 
     #[test]
