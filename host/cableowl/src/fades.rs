@@ -27,7 +27,8 @@ pub const MAX_RAMP_FRAMES: usize = 65_536;
 pub struct Level(u32);
 
 impl Level {
-    /// Full level, amplitude 1.
+    /// Full level, amplitude 1: kira's `Decibels::IDENTITY`.
+    #[doc(alias = "IDENTITY")]
     pub const FULL: Self = Self(0);
 
     /// Silence, amplitude 0. The level before it, 600, is 60 decibels down and no silence.

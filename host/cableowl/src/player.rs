@@ -115,6 +115,7 @@ impl Player {
     ///
     /// Refusals 2 to 7, as [`StaticSound::new`]; then [`Refusal::OutputRate`] for an output rate of 0,
     /// and [`Refusal::TooFast`] for a playback rate that is too fast.
+    #[doc(alias = "AudioManager")]
     pub fn play(settings: Settings, output_rate: u32, sound: &[f32]) -> Result<Self, Refusal> {
         let voice = StaticSound::new(settings, sound)?;
         Self::of(voice, settings.playback_rate, output_rate)

@@ -57,6 +57,7 @@ pub struct SavedSettings {
     /// The rate before the pitch.
     pub playback_rate: f64,
     /// Whole semitones, -24 to 24; version 1 takes 0 alone.
+    #[doc(alias = "Semitones")]
     pub pitch: i8,
 }
 

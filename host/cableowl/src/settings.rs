@@ -105,7 +105,10 @@ impl Settings {
         self
     }
 
-    /// Lets the start wait for an answer, or not.
+    /// Lets the start wait for an answer, or not: kira's `start_time`, where it is not `Immediate`. A
+    /// player starts it by [`Player::start_after`](crate::Player::start_after) or
+    /// [`Player::start_at_tick`](crate::Player::start_at_tick).
+    #[doc(alias = "start_time")]
     #[must_use]
     pub fn start_waits(mut self, start_waits: bool) -> Self {
         self.start_waits = start_waits;
