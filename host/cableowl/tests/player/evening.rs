@@ -196,6 +196,18 @@ impl Evening {
         evening
     }
 
+    /// What a shrunk evening has less of.
+    fn size(&self) -> usize {
+        let settings = [
+            self.fade_in.is_some(),
+            self.settings.loop_region.is_some(),
+            self.settings.reverse,
+            self.settings.playback_rate != 1.0,
+        ];
+        let frames: usize = self.commands.iter().map(|(frame, _)| frame + 1).sum();
+        self.frames + frames + settings.into_iter().filter(|set| *set).count()
+    }
+
     /// A tween of about so many frames as the evening has, or few, or none.
     fn any_tween(&self, random: &mut Random) -> Tween {
         let most = [1, 4, 50, self.frames + 1][random.below(4)];
@@ -317,21 +329,31 @@ pub fn shrunk(mut evening: Evening, fails: impl Fn(&Evening) -> bool) -> Evening
         let mut with = |change: &dyn Fn(&mut Evening)| {
             let mut other = evening.clone();
             change(&mut other);
-            if other != *evening && other.frames > 0 {
+            // By its size: a NaN in a command is not even equal to itself.
+            if other.size() < evening.size() && other.frames > 0 {
                 smaller.push(other);
             }
         };
-        for place in 0..evening.commands.len() {
-            with(&|other| {
-                other.commands.remove(place);
-            });
-            with(&|other| other.commands[place].0 /= 2);
-        }
         for frames in [evening.frames / 2, evening.frames - 1] {
             with(&|other| {
                 other.frames = frames;
                 other.commands.retain(|(frame, _)| *frame < frames);
             });
+        }
+        let count = evening.commands.len();
+        // Many at once first: one by one takes minutes where there are many.
+        for length in [count / 2, count / 4, count / 8] {
+            for start in (0..count).step_by(length.max(1)).filter(|_| length > 1) {
+                with(&|other| {
+                    other.commands.drain(start..(start + length).min(count));
+                });
+            }
+        }
+        for place in 0..count {
+            with(&|other| {
+                other.commands.remove(place);
+            });
+            with(&|other| other.commands[place].0 /= 2);
         }
         with(&|other| other.fade_in = None);
         with(&|other| other.settings.loop_region = None);
