@@ -210,10 +210,10 @@ impl StaticSound {
     /// the voice and the sound would be refused with 1.
     ///
     /// ```
-    /// use cableowl::{Settings, StaticSound};
+    /// use cableowl::{Frames, Settings, StaticSound};
     ///
     /// let sound = [0.0, 0.5, 1.0, 1.5, 2.0, 2.5];
-    /// let voice = StaticSound::new(Settings::new(1).slice(1..3), &sound)?;
+    /// let voice = StaticSound::new(Settings::new(1).slice(Frames(1)..Frames(3)), &sound)?;
     /// let part = voice.stretch(&sound);
     /// assert_eq!(part, [1.0, 1.5, 2.0, 2.5]);
     /// assert_eq!(part.as_ptr(), sound[2..].as_ptr(), "the lent samples themselves");
@@ -263,10 +263,10 @@ impl StaticSound {
     /// wrap, creation's own three among them. [`Wraps`] says what is counted.
     ///
     /// ```
-    /// use cableowl::{Lanes, Settings, Signals, StaticSound};
+    /// use cableowl::{Frames, Lanes, Settings, Signals, StaticSound};
     ///
     /// let sound = [0.5; 20];
-    /// let mut voice = StaticSound::new(Settings::new(1).loop_region(2..5), &sound)?;
+    /// let mut voice = StaticSound::new(Settings::new(1).loop_region(Frames(2)..Frames(5)), &sound)?;
     /// let before = voice.wraps();
     /// let mut lanes = Lanes::new();
     /// voice.process(&sound, lanes.frames(30), 1.0, Signals::default(), &mut [0.0; 60])?;

@@ -19,7 +19,8 @@ use std::{
 mod student;
 
 use cableowl::{
-    Commands, Lanes, Level, MAX_BLOCK_FRAMES, Player, Refusal, Settings, StaticSound, Tween,
+    Commands, Frames, Lanes, Level, MAX_BLOCK_FRAMES, Player, Refusal, Settings, StaticSound,
+    Tween,
     trace::{
         Block, LOG_HEAD, Line, Log, MAX_RECORD_BYTES, MAX_SOUND_FRAMES, MAX_TRACED_FRAMES, Record,
         Recorder, ShortSound,
@@ -107,10 +108,11 @@ fn play(
 /// a traced block's lanes are constant.
 fn records() -> Result<Vec<Record>, Refusal> {
     let sound = ShortSound::new(&lesson(MAX_SOUND_FRAMES))?;
-    let settings = Settings::new(LESSON_RATE).loop_region(0..MAX_SOUND_FRAMES);
+    let settings = Settings::new(LESSON_RATE).loop_region(Frames(0)..Frames(MAX_SOUND_FRAMES));
     let mut records = vec![Record::Creation { settings, sound }];
     let short = MAX_SOUND_FRAMES as f64 / (f64::from(LESSON) * f64::from(LESSON_RATE));
-    let frame = |seconds: f64| (seconds / f64::from(LESSON) * MAX_SOUND_FRAMES as f64) as usize;
+    let frame =
+        |seconds: f64| Frames((seconds / f64::from(LESSON) * MAX_SOUND_FRAMES as f64) as usize);
     let (mut clock, mut rate, mut finished) = (0, 1.0, false);
     for (until, act) in acts() {
         while clock < until {
@@ -139,7 +141,7 @@ fn records() -> Result<Vec<Record>, Refusal> {
             Act::StepBack(seconds) => commands.seek_by(-seconds * short),
             Act::Resume => commands.resume(),
             Act::StartOver(seconds) => commands.seek_to(seconds * short),
-            Act::LeaveLoop => commands.set_loop_region(0..MAX_SOUND_FRAMES),
+            Act::LeaveLoop => commands.set_loop_region(Frames(0)..Frames(MAX_SOUND_FRAMES)),
             Act::Stop => commands.stop(),
         };
         finished = matches!(act, Act::Pause | Act::Resume | Act::Stop);

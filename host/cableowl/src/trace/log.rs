@@ -23,12 +23,12 @@ pub struct Since {
 /// Makes the lines of a log of the second form: it is told what happens between two blocks.
 ///
 /// ```
-/// use cableowl::{Commands, Lanes, Settings, Signals, StaticSound, trace::{LOG_HEAD, Line, Log}};
+/// use cableowl::{Commands, Frames, Lanes, Settings, Signals, StaticSound, trace::{LOG_HEAD, Line, Log}};
 ///
 /// let sound = [0.5; 20];
 /// let mut log = Log::new();
 /// let mut told = format!("{LOG_HEAD}\n");
-/// let mut voice = StaticSound::new(Settings::new(1).loop_region(2..5), &sound)?;
+/// let mut voice = StaticSound::new(Settings::new(1).loop_region(Frames(2)..Frames(5)), &sound)?;
 /// log.created();
 /// let (mut lanes, mut out) = (Lanes::new(), [0.0; 12]);
 /// for number in 1..=2 {

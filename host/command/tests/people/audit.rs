@@ -1,7 +1,7 @@
 //! `cableowl audit`.
 
 use cableowl::{
-    Lanes, Settings, StaticSound,
+    Frames, Lanes, Settings, StaticSound,
     trace::{Block, Line, Record, ShortSound},
 };
 
@@ -12,7 +12,7 @@ use crate::{
 
 /// An evening of blocks over a loop of a whole short sound, at these rates.
 pub fn evening(blocks: usize) -> Vec<Record> {
-    let sound = creation(Settings::new(44_100).loop_region(0..64), 64);
+    let sound = creation(Settings::new(44_100).loop_region(Frames(0)..Frames(64)), 64);
     let block = |rate| {
         Record::Block(Block {
             rate,
