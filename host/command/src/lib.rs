@@ -32,7 +32,7 @@ use verbs::VERBS;
 use words::Asked;
 
 /// Does what the words ask for, and tells the exit status: 0; 1 where a file was refused or an audit
-/// found a difference; 2 where the words mean nothing.
+/// found a difference; 2 where the words mean nothing; 3 where an audit can say nothing of the box.
 pub fn run(
     words: impl IntoIterator<Item = OsString>,
     out: impl Write,
@@ -47,8 +47,8 @@ pub fn run(
     let mut complain = |fault: &Fault| {
         // There is nowhere to say that it could not be said.
         let _ = match fault {
-            Fault::Closed => Ok(()),
-            Fault::Refused(_) => writeln!(complaints, "cableowl: {fault}"),
+            Fault::Closed | Fault::Unsaid => Ok(()),
+            Fault::Refused(_) | Fault::Unknown(_) => writeln!(complaints, "cableowl: {fault}"),
             Fault::Usage(_) => {
                 writeln!(complaints, "cableowl: {fault}; '{help}' says more")
             }

@@ -4,7 +4,7 @@ use std::path::Path;
 
 use cableowl::{
     Commands, LoopCommand, PlaybackState, Refusal, ResumeCommand, Settings, State, StaticSound,
-    trace::{Block, Line, LogLine, Record, ShortSound, TraceReader},
+    trace::{Block, Line, Record, ShortSound, TraceReader},
 };
 
 use crate::{
@@ -95,7 +95,7 @@ impl Teller {
         let before = self.state();
         let line = self.run.play(record);
         match (record, line) {
-            (Record::Block(block), Some(line)) => self.block(block, &line, out),
+            (Record::Block(block), Some((line, _))) => self.block(block, line, out),
             (Record::Creation { settings, sound }, _) => self.creation(settings, sound, out),
             (Record::Commands(commands), _) => self.commands(commands, before, out),
             (Record::Block(_), None) => Ok(()),
@@ -161,9 +161,9 @@ impl Teller {
         }
     }
 
-    fn block(&mut self, block: &Block, line: &LogLine, out: &mut Out<'_>) -> Result<()> {
+    fn block(&mut self, block: &Block, line: Line, out: &mut Out<'_>) -> Result<()> {
         self.blocks += 1;
-        match line.line {
+        match line {
             Line::RefusedBlock { block, refusal } => {
                 self.all_refused += 1;
                 if let Some(refused) = &mut self.refused

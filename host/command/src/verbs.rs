@@ -145,8 +145,8 @@ pub const VERBS: &[Verb] = &[
         options: &[
             Opt {
                 name: "--log",
-                value: Some(("FORM", Kind::OneOf(&["1", "2"]))),
-                says: "The form of the lines. Form 2 also has window counts, turns of the loop, seeks and restarts. Without this option it is 1.",
+                value: Some(("FORM", Kind::OneOf(&["1", "3"]))),
+                says: "The form of the lines. Form 3 also says what the frames were spent on, the loop, the direction, window counts, turns of the loop, seeks and restarts. Without this option it is 1.",
             },
             Opt {
                 name: "--summary",
@@ -167,7 +167,7 @@ pub const VERBS: &[Verb] = &[
                 "Say what happened on Monday evening, and when.",
             ),
             (
-                "replay --log 2 monday.trace",
+                "replay --log 3 monday.trace",
                 "Print a log that report and audit can read in full.",
             ),
         ],
@@ -356,7 +356,7 @@ pub const VERBS: &[Verb] = &[
         name: "audit",
         says: "did this box play as proved? the first block that differs, and the creep",
         about: &[
-            "Plays the trace with the proved player and compares the box's own log with it, block by block.",
+            "Plays the trace with the proved player and compares the box's own log with it, at each frame where both have an edge. Where the two cannot be compared, or the trace is damaged, it says so and says nothing of the box.",
         ],
         options: &[
             Opt {
@@ -390,11 +390,12 @@ pub const VERBS: &[Verb] = &[
         )],
         statuses: &[
             (0, "The log agrees with the trace."),
-            (
-                1,
-                "The log differs, or a file was refused or could not be read or written.",
-            ),
+            (1, "The log differs."),
             USAGE,
+            (
+                3,
+                "Nothing can be said of the box: a file is damaged or cannot be read, or there was nothing to compare.",
+            ),
         ],
     },
     Verb {

@@ -286,7 +286,7 @@ impl Given {
             "replay" => Asked::Replay {
                 trace: self.path(0),
                 form: match self.number("--log") {
-                    Some(2) => Form::Second,
+                    Some(3) => Form::Third,
                     _ => Form::First,
                 },
             },
@@ -444,11 +444,11 @@ mod tests {
                 "replay a b",
                 "'b' is one word too many: the words are 'cableowl replay [--log FORM] [--summary] TRACE'",
             ),
-            ("replay --log 3 a", "--log must be 1 or 2, and not '3'"),
+            ("replay --log 2 a", "--log must be 1 or 3, and not '2'"),
             ("replay --csv a", "replay has no option --csv"),
             ("replay --log", "--log needs a word after it, FORM"),
             (
-                "replay --log 2 --summary a",
+                "replay --log 3 --summary a",
                 "--summary prints words and --log lines: give one of them",
             ),
             ("salvage a", "salvage needs OUT: the new file"),

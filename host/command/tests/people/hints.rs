@@ -11,7 +11,7 @@ use crate::{
 fn room(name: &str) -> Room {
     let room = Room::new(name);
     room.put("evening.trace", looped());
-    let log = room.run(&["replay", "--log", "2", "evening.trace"]).out;
+    let log = room.run(&["replay", "--log", "3", "evening.trace"]).out;
     room.put("evening.log", log);
     let mut record = [0; 26];
     let saved = SavedSettings::default();
@@ -57,18 +57,6 @@ fn the_wrong_file_is_named_with_what_reads_it() {
             "a log or a trace",
         ),
         ("report page.html", "page.html", page, "a log or a trace"),
-        (
-            "audit evening.log evening.log",
-            "evening.log",
-            log,
-            "a trace, which audit reads first",
-        ),
-        (
-            "audit evening.trace evening.trace",
-            "evening.trace",
-            trace,
-            "a log, which audit reads second",
-        ),
     ] {
         let words: Vec<&str> = words.split(' ').collect();
         let says = says.replace("{}", wanted);
@@ -77,6 +65,25 @@ fn the_wrong_file_is_named_with_what_reads_it() {
     let log = room.read("evening.log");
     room.run_on(&["replay", "-"], log.as_bytes())
         .refuses("standard input: this is a log, not a trace: 'cableowl report -' reads it");
+}
+
+#[test]
+fn audit_names_a_file_of_another_kind() {
+    let room = room("hints-audit");
+    for (words, sentence) in [
+        (
+            ["audit", "evening.log", "evening.log"],
+            "evening.log: this is a log, not a trace, which audit reads first: 'cableowl report evening.log' reads it",
+        ),
+        (
+            ["audit", "evening.trace", "evening.trace"],
+            "evening.trace: this is a trace, not a log, which audit reads second: 'cableowl replay evening.trace' plays it",
+        ),
+    ] {
+        let ran = room.run(&words);
+        let told = format!("cableowl: {sentence}: nothing is said of the box\n");
+        assert_eq!((ran.status, &*ran.err, &*ran.out), (3, &*told, ""));
+    }
 }
 
 #[test]

@@ -2,6 +2,7 @@
 
 mod audit;
 mod browser;
+mod cuttings;
 mod explain;
 mod files;
 mod hints;
