@@ -88,6 +88,7 @@ mod saved_settings;
 mod settings;
 mod state;
 mod static_sound;
+mod stopping;
 pub mod trace;
 
 pub use commands::{Commands, LoopCommand, ResumeCommand};
@@ -102,7 +103,7 @@ pub use saved::Unreadable;
 pub use saved_settings::{SavedSettings, SettingsVersion};
 pub use settings::Settings;
 pub use state::{Frame, RecentFrame, State, Wraps};
-pub use static_sound::{Processed, StaticSound};
+pub use static_sound::{Processed, StaticSound, Usage};
 
 /// The examples of README.md, tried with the others.
 #[cfg(doctest)]

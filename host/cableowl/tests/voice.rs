@@ -85,6 +85,41 @@ fn a_block_reports_the_lowest_count_it_read() {
     assert_eq!(lowest_counts(waiting, &one, &[2]), [4]);
 }
 
+#[test]
+fn a_block_says_what_its_frames_were_spent_on() {
+    let sound = ramp(50);
+    let settings = Settings::new(1).start_waits(true).reverse(true);
+    let mut voice = StaticSound::new(settings, &sound).unwrap();
+    let mut lanes = Lanes::new();
+    let mut spent = |commands: Commands, rates: &[f64], signals: Signals| {
+        voice.on_start_processing(&sound, commands).unwrap();
+        let lanes = lanes.frames(rates.len()).rate(rates);
+        let mut out = vec![0.0; 2 * rates.len()];
+        let block = voice
+            .process(&sound, lanes, 1.0, signals, &mut out)
+            .unwrap();
+        let usage = block.usage;
+        let frames = [usage.played, usage.paused, usage.silent, usage.still];
+        (frames, block.steps, block.steps_back)
+    };
+    let none = Commands::new;
+    let started = Signals::new().start(StartAnswer::Now);
+    let finished = Signals::new().finished(true);
+    let rates = [1.0, 0.0, -0.0, 2.0];
+    assert_eq!(spent(none(), &rates, Signals::new()), ([0, 0, 4, 0], 0, 0));
+    assert_eq!(spent(none(), &rates, started), ([4, 0, 0, 2], 3, 3));
+    assert_eq!(
+        spent(none().pause(), &rates, Signals::new()),
+        ([4, 0, 0, 2], 3, 3)
+    );
+    assert_eq!(spent(none(), &rates, finished), ([0, 4, 0, 0], 0, 0));
+    let turned = none().resume().set_playback_rate(-1.0);
+    assert_eq!(spent(turned, &[1.0], finished), ([1, 0, 0, 0], 1, 0));
+    // It runs off in this block, and is silent in the next.
+    assert_eq!(spent(none(), &[30.0; 3], Signals::new()).0, [3, 0, 0, 0]);
+    assert_eq!(spent(none(), &[30.0; 3], Signals::new()).0, [0, 0, 3, 0]);
+}
+
 fn wraps(voice: &StaticSound) -> (u32, u32) {
     let Wraps {
         forward, backward, ..

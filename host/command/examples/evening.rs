@@ -63,7 +63,7 @@ fn play(
     let mut teller = Log::new();
     teller.created();
     let mut out = vec![0.0; 2 * MAX_BLOCK_FRAMES];
-    let (mut number, mut digest) = (0, 0xcbf2_9ce4_8422_2325);
+    let mut digest = 0xcbf2_9ce4_8422_2325;
     if let Some(log) = &mut log {
         writeln!(log, "{LOG_HEAD}")?;
     }
@@ -74,12 +74,14 @@ fn play(
             let heard = &mut out[..2 * frames];
             let answer = player.process(sound, heard);
             digest = heard.iter().fold(digest, digested);
-            number += 1;
             if let Some(log) = &mut log {
-                let line = Line::of_block(number, frames, player.voice(), answer);
-                let lowest = answer?.lowest_count;
-                writeln!(log, "{}", teller.line(line, Some(player.voice()), lowest))?;
+                writeln!(
+                    log,
+                    "{}",
+                    teller.block(frames, Some(player.voice()), answer)
+                )?;
             }
+            answer?;
             if slip {
                 let mut state = player.voice().state();
                 state.fractional_position = 0.0;
