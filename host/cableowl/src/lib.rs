@@ -97,7 +97,7 @@ pub use lanes::{BlockLanes, Lane, Lanes};
 pub use loop_table::{Hall, LoopTable};
 pub use playback_position::{EndPosition, Frames, PlaybackPosition, Region};
 pub use playback_state::{PlaybackState, Signals, StartAnswer, StartSignal};
-pub use player::{Command, Easing, Part, Player, RecordedPlayer, SharedPlayer, Ticks, Tween};
+pub use player::{Command, Easing, Player, RecordedPlayer, SharedPlayer, Ticks, Tween};
 pub use refusal::{LaneName, Refusal};
 pub use saved::Unreadable;
 pub use saved_settings::{SavedSettings, SettingsVersion};

@@ -3,7 +3,6 @@
 mod block;
 mod command;
 mod easing;
-mod part;
 mod playing;
 mod queue;
 mod recorded;
@@ -16,13 +15,11 @@ use std::{hint::black_box, time::Duration};
 
 pub use command::{Command, Ticks};
 pub use easing::Easing;
-pub use part::Part;
 pub use recorded::RecordedPlayer;
 pub use shared::SharedPlayer;
 pub use tween::Tween;
 
 use self::{
-    part::Parts,
     playing::Place,
     queue::{Press, Queue, Seek},
     room::{Amplitudes, Room, amplitudes},
@@ -393,33 +390,6 @@ impl Player {
     /// As [`Player::process`].
     pub fn mix(&mut self, sound: &[f32], out: &mut [f32]) -> Result<Processed, Refusal> {
         self.run(sound, out, Place::Mix, &mut ())
-    }
-
-    /// As [`Player::process`], and reports the call in parts, each played in one state. However the
-    /// host cuts time, the same frames have the same states: sums over them do not depend on it.
-    ///
-    /// ```
-    /// use cableowl::{PlaybackState, Player, Settings, Tween};
-    ///
-    /// let sound = [0.5; 200];
-    /// let mut player = Player::play(Settings::new(1_000), 1_000, &sound)?;
-    /// player.pause(Tween::from_millis(4));
-    /// let mut parts = Vec::new();
-    /// player.process_parts(&sound, &mut [0.0; 20], |part| parts.push((part.frames, part.state)))?;
-    /// assert_eq!(parts, [(3, PlaybackState::Pausing), (7, PlaybackState::Paused)]);
-    /// # Ok::<(), cableowl::Refusal>(())
-    /// ```
-    ///
-    /// # Errors
-    ///
-    /// As [`Player::process`].
-    pub fn process_parts(
-        &mut self,
-        sound: &[f32],
-        out: &mut [f32],
-        report: impl FnMut(Part),
-    ) -> Result<Processed, Refusal> {
-        self.run(sound, out, Place::Out, &mut Parts(report))
     }
 
     /// What it is doing.

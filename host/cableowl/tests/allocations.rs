@@ -148,7 +148,7 @@ fn player_evening(player: &mut Player, sound: &[f32], out: &mut [f32]) -> Result
     player.set_panning(-0.3, tween.easing(Easing::InOutPowf(1.5)))?;
     let refused = (0..100).filter(|_| player.seek_by(-0.001).is_err()).count();
     assert_eq!(refused, 100 - 64);
-    player.process_parts(sound, &mut out[..2_000], |_| {})?;
+    player.process(sound, &mut out[..2_000])?;
     // Past the sound's end: it stops within a block.
     player.process(sound, out)?;
     let (state, _) = (player.voice().state(), player.position());

@@ -5,7 +5,6 @@ use std::hint::black_box;
 use super::{
     Player,
     block::Given,
-    part,
     queue::Press,
     recorded::Watch,
     room::{first, gain_lanes, gains},
@@ -137,7 +136,6 @@ impl Player {
                 .finished(clock == self.fade.ends())
                 .start(start),
         };
-        let told = self.voice.playback_state();
         let (voice, lanes) = (&mut self.voice, &mut room.lanes);
         let out = out.get_mut(..2 * frames).unwrap_or_default();
         let (frames, counts) = match place {
@@ -152,9 +150,6 @@ impl Player {
         };
         if W::RECORDS {
             watch.played(given.record(frames, lanes), voice, counts);
-        }
-        if W::PARTS {
-            watch.part(part::of(&given, frames, told, voice, counts));
         }
         self.clock = clock.saturating_add(frames as u64);
         Ok((frames, counts))

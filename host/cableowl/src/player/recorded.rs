@@ -1,6 +1,6 @@
 //! A player that is recorded as it plays: its constant stretches become the records of a trace.
 
-use super::{Command, Part, Player, Tween, playing::Place};
+use super::{Command, Player, Tween, playing::Place};
 use crate::{
     Commands, Processed, Refusal, Settings, StaticSound,
     trace::{Block, Line, Record, Recorded, ShortSound, write},
@@ -10,17 +10,12 @@ use crate::{
 pub trait Watch {
     /// Whether a block must be one that a record can hold; then `played` is called.
     const RECORDS: bool = false;
-    /// Whether `part` is called.
-    const PARTS: bool = false;
 
     /// The voice was told these.
     fn told(&mut self, _: Commands) {}
 
     /// The voice, as it is now, played this block.
     fn played(&mut self, _: Result<Block, Refusal>, _: &StaticSound, _: Processed) {}
-
-    /// This part of the call was played.
-    fn part(&mut self, _: Part) {}
 }
 
 /// Nobody.

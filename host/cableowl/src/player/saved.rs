@@ -8,7 +8,7 @@ use super::{
 };
 use crate::{
     EndPosition, Level, LoopCommand, PlaybackPosition, Processed, Region, State, StaticSound,
-    Unreadable,
+    Unreadable, Usage,
     saved::{Reader, crc_32},
 };
 
@@ -38,7 +38,8 @@ impl Player {
     /// | 156 | the voice, as [`State::to_bytes`] |
     /// | 4, 8 | the output rate; the frames played |
     /// | 9 | whether a start is set, its frame (0 if not) |
-    /// | 8, 4 | the steps and the lowest count so far |
+    /// | 4 | the lowest count so far |
+    /// | 48 | the steps so far, those backward; the frames played, paused, silent and still, 8 each |
     /// | 4 times 41 | volume, fade, rate, panning: old value (8), new value (8), first frame (8), frames (8), easing (9) |
     /// | 27 | the last of pause, resume and stop: 0 none, or 1, 2, 3 (1); how many seeks came before the first of them (1); the last one's fade: delay (8), frames (8), easing (9). All 0 for none |
     /// | 19 | the loop command after the last seek |
@@ -77,8 +78,18 @@ impl Player {
         bytes.extend(self.clock.to_le_bytes());
         bytes.push(self.starts_at.is_some().into());
         bytes.extend(self.starts_at.unwrap_or_default().to_le_bytes());
-        bytes.extend(self.counts.steps.to_le_bytes());
-        bytes.extend(self.counts.lowest_count.to_le_bytes());
+        let (counts, usage) = (self.counts, self.counts.usage);
+        bytes.extend(counts.lowest_count.to_le_bytes());
+        for count in [
+            counts.steps,
+            counts.steps_back,
+            usage.played,
+            usage.paused,
+            usage.silent,
+            usage.still,
+        ] {
+            bytes.extend(count.to_le_bytes());
+        }
         put_parameter(&mut bytes, self.volume, u64::from);
         put_parameter(&mut bytes, self.fade, u64::from);
         put_parameter(&mut bytes, self.rate, f64::to_bits);
@@ -234,8 +245,15 @@ impl Reader<'_> {
             _ => return None,
         };
         player.counts = Processed {
-            steps: self.double_word()?,
             lowest_count: self.word().filter(|count| *count <= 4)?,
+            steps: self.double_word()?,
+            steps_back: self.double_word()?,
+            usage: Usage {
+                played: self.double_word()?,
+                paused: self.double_word()?,
+                silent: self.double_word()?,
+                still: self.double_word()?,
+            },
         };
         player.volume = self.parameter(level)?;
         player.fade = self.parameter(level)?;

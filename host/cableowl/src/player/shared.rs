@@ -5,7 +5,7 @@ use std::{
     sync::Arc,
 };
 
-use crate::{Part, Player, Processed, Refusal, Settings, Tween, Unreadable};
+use crate::{Player, Processed, Refusal, Settings, Tween, Unreadable};
 
 /// A [`Player`] bound to a shared sound: one value to send to the audio thread. It is a player by
 /// `Deref`, for the commands; its own [`process`](SharedPlayer::process()) and
@@ -80,19 +80,6 @@ impl SharedPlayer {
     /// [`Refusal::OddOutput`].
     pub fn mix(&mut self, out: &mut [f32]) -> Result<Processed, Refusal> {
         self.player.mix(&self.sound, out)
-    }
-
-    /// As [`Player::process_parts`].
-    ///
-    /// # Errors
-    ///
-    /// [`Refusal::OddOutput`].
-    pub fn process_parts(
-        &mut self,
-        out: &mut [f32],
-        report: impl FnMut(Part),
-    ) -> Result<Processed, Refusal> {
-        self.player.process_parts(&self.sound, out, report)
     }
 
     /// The sound.

@@ -32,7 +32,8 @@ pub struct Since {
 /// let sound = [0.5; 20];
 /// let mut log = Log::new();
 /// let mut text = format!("{LOG_HEAD}\n");
-/// let mut player = Player::play(Settings::new(1).loop_region(Frames(2)..Frames(5)), 1, &sound)?;
+/// let settings = Settings::new(1).loop_region(Frames(2)..Frames(5));
+/// let mut player = Player::play(settings, 1, &sound)?;
 /// log.created();
 /// let mut out = [0.0; 12];
 /// for _ in 0..2 {

@@ -50,7 +50,7 @@ fn a_player_made_from_its_bytes_goes_on_bit_for_bit() {
                     .unwrap();
                 clock = some;
                 let bytes = player.to_bytes();
-                queued += usize::from(bytes.len() > 413);
+                queued += usize::from(bytes.len() > 453);
                 let again = Player::from_bytes(&bytes, &evening.sound).unwrap();
                 assert_eq!(again.to_bytes(), bytes, "seed {seed}");
                 saved = Some((clock, number, again));
@@ -179,7 +179,7 @@ fn bytes_that_no_player_writes_are_refused_for_it() {
     let other = Player::from_bytes(&bytes, &sound[2..]).unwrap_err();
     assert_eq!(other, Unreadable::Sound);
     // The output rate 0, a lowest count of 5, a press of kind 4, an easing of kind 7.
-    let (rate, count, press) = (165, 165 + 4 + 8 + 9 + 8, 165 + 4 + 8 + 9 + 12 + 4 * 41);
+    let (rate, count, press) = (165, 165 + 4 + 8 + 9, 165 + 4 + 8 + 9 + 52 + 4 * 41);
     let value = |place, byte| refused(&mended(changed(place, byte)));
     let mut none = bytes.clone();
     none[rate..rate + 4].fill(0);
