@@ -452,6 +452,8 @@ static inline const char *cableowl_refusal_text(uint64_t number) {
                "version 1), and in bytes the length of their version, 21 or 22";
     case CABLEOWL_REFUSAL_OUTPUT:
         return "the output of a salvage must be at least as long as the trace";
+    case 26: /* of the Rust crate's player alone; a log may have it */
+        return "64 seeks wait for the next frame already: play a frame, then seek again";
     default:
         return "no refusal has this number";
     }

@@ -94,6 +94,7 @@ fn play(
             match act {
                 Act::StepBack(_) => teller.seeked(false),
                 Act::StartOver(_) => teller.seeked(true),
+                Act::Pause => teller.paused(),
                 _ => {}
             }
         }

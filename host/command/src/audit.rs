@@ -17,7 +17,7 @@ use crate::{
     fault::{Fault, Result},
     input::{FileKind, Input},
     log::{Form, Log},
-    out::{Fresh, Out, free_for_a_page, shown},
+    out::{self, Fresh, Out, free_for_a_page},
     plot::grouped,
     report::not_an_input,
 };
@@ -264,7 +264,7 @@ fn opened(trace: &Path, log: &Path) -> Result<(Input, Log)> {
     let mut files = (Input::open(trace)?, Input::open(log)?);
     let kinds = (files.0.kind()?, files.1.kind()?);
     if kinds == (FileKind::Log, FileKind::Trace) {
-        let (first, second) = (shown(trace), shown(log));
+        let (first, second) = (out::shown(trace), out::shown(log));
         return Err(Fault::usage(format!(
             "the two files are swapped: {first} is a log and {second} is a trace; say 'cableowl audit {second} {first}'"
         )));

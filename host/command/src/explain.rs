@@ -78,7 +78,7 @@ const READING: &str = "reading a trace, or saved settings";
 const TRACE: &str = "reading or writing a trace";
 
 /// All refusals.
-const REFUSALS: [Explained; 25] = [
+const REFUSALS: [Explained; 26] = [
     explained(
         1,
         "a state or a sound that does not fit",
@@ -229,7 +229,16 @@ const REFUSALS: [Explained; 25] = [
         "a salvage",
         "Give the call an output as long as the trace. The command does that itself",
     ),
+    explained(
+        26,
+        "a seek too many",
+        "a command to a player",
+        "Play a frame before the next seek: a player keeps 64 seeks and loop commands until then",
+    ),
 ];
+
+/// The last refusal's number.
+pub const LAST: usize = REFUSALS.len();
 
 /// A state's name, for people.
 pub fn state_name(state: PlaybackState) -> &'static str {
@@ -346,7 +355,7 @@ mod tests {
         for name in ["waiting-to-resume", "WaitingToResume", "waiting to resume"] {
             assert_eq!(read(name), Some(Meaning::State(3)), "{name}");
         }
-        for word in ["26", "state=7", "refused=0", "-1", "play", "block=1", ""] {
+        for word in ["27", "state=7", "refused=0", "-1", "play", "block=1", ""] {
             assert_eq!(read(word), None, "{word}");
         }
     }

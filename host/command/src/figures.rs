@@ -33,6 +33,10 @@ pub struct Figures {
     pub seeks: Option<u64>,
     /// Restarts by hand.
     pub restarts: Option<u64>,
+    /// Pauses; form 3 alone.
+    pub pauses: Option<u64>,
+    /// 1 where a voice has reached an end of its sound, else 0; form 3 alone.
+    pub ended: Option<u64>,
     /// The lowest window count.
     pub lowest: Option<u64>,
     /// Refused blocks: one count for each of `REFUSALS`.
@@ -93,6 +97,8 @@ impl Count {
         Self {
             figures: Figures {
                 still: (form == Form::Third).then_some(0),
+                pauses: (form == Form::Third).then_some(0),
+                ended: (form == Form::Third).then_some(0),
                 jumps: (form == Form::First).then_some(0),
                 rounds: from_second,
                 seeks: from_second,
@@ -170,6 +176,8 @@ impl Count {
         raise(&mut figures.paused, usage.paused);
         raise(&mut figures.silent, usage.silent);
         add(&mut figures.still, usage.still);
+        let ended = third.is_some_and(|third| third.ended);
+        figures.ended = figures.ended.map(|before| before.max(ended.into()));
         let lowest = block.more.map(|more| more.lowest);
         figures.lowest = figures.lowest.min(lowest.map(u64::from));
         Told {
@@ -193,6 +201,7 @@ impl Count {
         };
         add(&mut self.figures.seeks, before.seeks);
         add(&mut self.figures.restarts, before.restarts);
+        add(&mut self.figures.pauses, before.pauses.unwrap_or(0));
         if before.created > 0 {
             self.turns = Some((0, 0));
             self.position = None;

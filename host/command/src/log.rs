@@ -110,10 +110,12 @@ pub struct Before {
     pub seeks: u64,
     /// Of both, those that started over.
     pub restarts: u64,
+    /// Pauses obeyed; form 3 alone.
+    pub pauses: Option<u64>,
 }
 
 /// The longest line: form 3 with every number at its longest has fewer bytes.
-const LONGEST: usize = 512;
+const LONGEST: usize = 576;
 
 /// A line of this form, without its line feed.
 pub fn parse(text: &[u8], form: Form) -> std::result::Result<Line, Wrong> {
@@ -129,7 +131,7 @@ pub fn parse(text: &[u8], form: Form) -> std::result::Result<Line, Wrong> {
         let refusal = words.number(b" refused=", 255)? as u8;
         let before = match form {
             Form::First => None,
-            Form::Second | Form::Third => Some(words.before()?),
+            Form::Second | Form::Third => Some(words.before(form)?),
         };
         words.end()?;
         return Ok(Line::Refused {
@@ -153,7 +155,7 @@ pub fn parse(text: &[u8], form: Form) -> std::result::Result<Line, Wrong> {
                 Form::Third => Some(words.third(frames, steps)?),
                 _ => None,
             },
-            before: words.before()?,
+            before: words.before(form)?,
         }),
     };
     words.end()?;
@@ -259,11 +261,15 @@ impl Words<'_> {
         })
     }
 
-    fn before(&mut self) -> std::result::Result<Before, Wrong> {
+    fn before(&mut self, form: Form) -> std::result::Result<Before, Wrong> {
         Ok(Before {
             created: self.number(b" created=", u64::MAX)?,
             seeks: self.number(b" seeks=", u64::MAX)?,
             restarts: self.number(b" restarts=", u64::MAX)?,
+            pauses: match form {
+                Form::Third => Some(self.number(b" pauses=", u64::MAX)?),
+                _ => None,
+            },
         })
     }
 

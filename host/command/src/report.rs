@@ -77,7 +77,7 @@ impl Row {
 }
 
 /// The columns: the name in a table, and the words for people.
-pub const COLUMNS: [(&str, &str); 21] = [
+pub const COLUMNS: [(&str, &str); 23] = [
     ("blocks", "Blocks"),
     ("frames", "Frames"),
     ("minutes", "Minutes"),
@@ -90,6 +90,8 @@ pub const COLUMNS: [(&str, &str); 21] = [
     ("rounds", "Times round the loop"),
     ("seeks", "Seeks"),
     ("restarts", "Restarts by hand"),
+    ("pauses", "Pauses"),
+    ("ended", "Reached the end"),
     ("lowest_count", "Lowest window count"),
     ("refused", "Refused blocks"),
     ("refused_1", "Refused with 1"),
@@ -119,6 +121,8 @@ fn cells(figures: &Figures) -> Cells {
         figures.rounds,
         figures.seeks,
         figures.restarts,
+        figures.pauses,
+        figures.ended,
         figures.lowest,
         Some(figures.all_refused()),
         one,
@@ -482,6 +486,10 @@ fn put_one(evening: &Evening, rate: u32, out: &mut Out<'_>) -> Result<()> {
         Some(still) => format!(", {} of them at a rate of 0", minutes(still, rate)),
     };
     let jumps = figures.jumps.map(|jumps| ("jumps", grouped(jumps)));
+    let ended = figures.ended.map(|ended| match ended {
+        0 => ("reached the end", "no".to_owned()),
+        _ => ("reached the end", "yes".to_owned()),
+    });
     let lines = [
         ("blocks", grouped(figures.blocks)),
         (
@@ -497,10 +505,11 @@ fn put_one(evening: &Evening, rate: u32, out: &mut Out<'_>) -> Result<()> {
         ("times round the loop", told(figures.rounds)),
         ("seeks", told(figures.seeks)),
         ("restarts by hand", told(figures.restarts)),
+        ("pauses", told(figures.pauses)),
         ("lowest window count", told(figures.lowest)),
         ("refused blocks", refused(figures)),
     ];
-    for (name, says) in lines.into_iter().chain(jumps).chain(more) {
+    for (name, says) in lines.into_iter().chain(jumps).chain(more).chain(ended) {
         out.put(format!("  {name:<21}{says}\n"))?;
     }
     if let Some((refusal, at)) = figures.broken {

@@ -3,6 +3,8 @@
 
 use std::ffi::OsString;
 
+use crate::explain;
+
 /// A verb: what follows `cableowl`.
 pub struct Verb {
     /// Its words.
@@ -90,9 +92,10 @@ impl Kind {
             Self::Part => Some(
                 "a part of the sound: two places with .. between them, such as 6.2s..10.9s".into(),
             ),
-            Self::Meaning => Some(
-                "a refusal's number from 1 to 25, a state's from 0 to 6, or a state's name".into(),
-            ),
+            Self::Meaning => Some(format!(
+                "a refusal's number from 1 to {}, a state's from 0 to 6, or a state's name",
+                explain::LAST
+            )),
             Self::File | Self::NewFile | Self::Verb => None,
         }
     }

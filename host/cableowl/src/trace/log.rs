@@ -18,6 +18,8 @@ pub struct Since {
     /// Restarts by hand: a voice created in place of an earlier one, or a `seek_to` that leaves the
     /// place behind where it was (ahead of it, where the voice plays backward).
     pub restarts: u64,
+    /// Pauses obeyed.
+    pub pauses: u64,
 }
 
 /// Makes the lines of a log of form 3. The host says what happens between two blocks; each line says
@@ -47,10 +49,10 @@ pub struct Since {
 ///     "log=3\n\
 ///      block=1 frames=6 steps=6 state=0 position=3 lowest=4 forward=2 backward=0 started=1 \
 ///      played=6 paused=0 silent=0 still=0 loop_start=2 loop_end=5 direction=0 steps_back=0 ended=0 \
-///      created=1 seeks=0 restarts=0\n\
+///      created=1 seeks=0 restarts=0 pauses=0\n\
 ///      block=2 frames=6 steps=6 state=0 position=2 lowest=4 forward=4 backward=0 started=1 \
 ///      played=6 paused=0 silent=0 still=0 loop_start=2 loop_end=5 direction=0 steps_back=0 ended=0 \
-///      created=0 seeks=1 restarts=1\n"
+///      created=0 seeks=1 restarts=1 pauses=0\n"
 /// );
 /// # Ok::<(), cableowl::Refusal>(())
 /// ```
@@ -81,8 +83,16 @@ impl Log {
         raise(&mut self.since.restarts, restart.into());
     }
 
+    /// A pause was obeyed.
+    pub fn paused(&mut self) {
+        raise(&mut self.since.pauses, 1);
+    }
+
     /// A command set was obeyed: the voice's states before it and after it.
     pub fn commanded(&mut self, commands: &Commands, before: &State, after: &State) {
+        if commands.pause {
+            self.paused();
+        }
         if commands.seek_by.is_some() {
             self.seeked(false);
         }
@@ -180,8 +190,12 @@ impl fmt::Display for LogLine {
             created,
             seeks,
             restarts,
+            pauses,
         } = self.since;
-        write!(f, " created={created} seeks={seeks} restarts={restarts}")
+        write!(
+            f,
+            " created={created} seeks={seeks} restarts={restarts} pauses={pauses}"
+        )
     }
 }
 

@@ -498,6 +498,7 @@ fn as_said(bare: &Proved, full: &LogLine, form: Form) -> Line {
         created: full.since.created,
         seeks: full.since.seeks,
         restarts: full.since.restarts,
+        pauses: Some(full.since.pauses),
     });
     let line = match form {
         Form::Third => &full.line,

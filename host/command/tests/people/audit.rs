@@ -93,7 +93,8 @@ fn second_form(third: &str) -> String {
         }
         None => format!("{line}\n"),
     });
-    lines.collect::<String>().replace("log=3", "log=2")
+    let text = lines.collect::<String>().replace(" pauses=0", "");
+    text.replace("log=3", "log=2")
 }
 
 #[test]

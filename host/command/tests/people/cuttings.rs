@@ -84,6 +84,7 @@ fn evening(mut callback: impl FnMut() -> usize) -> Kept {
         match command {
             Some(Command::SeekBy(_)) => log.seeked(false),
             Some(Command::SeekTo(_)) => log.seeked(true),
+            Some(Command::Pause(_)) => log.paused(),
             _ => {}
         }
         if let Some(command) = command {
@@ -153,7 +154,8 @@ fn the_same_evening_has_the_same_figures_for_every_block_size() {
         "before the start, and after the end: {silent}"
     );
     assert_eq!(cell(first, "jumps"), "", "it depends on the block size");
-    assert_eq!((cell(first, "seeks"), cell(first, "restarts")), ("2", "1"));
+    let counted = ["seeks", "restarts", "pauses", "ended"].map(|column| cell(first, column));
+    assert_eq!(counted, ["2", "1", "5", "1"]);
 }
 
 #[test]

@@ -9,7 +9,7 @@ use crate::room::Room;
 const FIRST: &str = "block=1 frames=6 steps=6 state=6 position=3\n";
 const SECOND: &str = "log=2\nblock=1 frames=6 steps=6 state=6 position=3 lowest=0 forward=0 backward=0 started=1 created=1 seeks=0 restarts=0\n";
 
-const THIRD: &str = "log=3\nblock=1 frames=6 steps=6 state=6 position=3 lowest=0 forward=0 backward=0 started=1 played=4 paused=0 silent=2 still=1 loop_start=0 loop_end=0 direction=0 steps_back=0 ended=1 created=1 seeks=0 restarts=0\n";
+const THIRD: &str = "log=3\nblock=1 frames=6 steps=6 state=6 position=3 lowest=0 forward=0 backward=0 started=1 played=4 paused=0 silent=2 still=1 loop_start=0 loop_end=0 direction=0 steps_back=0 ended=1 created=1 seeks=0 restarts=0 pauses=0\n";
 
 #[test]
 fn damage_is_told_by_its_line() {
@@ -84,8 +84,8 @@ fn damage_is_told_by_its_line() {
             "line 3 (byte 119): a count of turns is lower than before, and no voice was created",
         ),
         (
-            "x".repeat(600),
-            "line 1 (byte 0): no line of a log has more than 512 bytes: this is no log",
+            "x".repeat(700),
+            "line 1 (byte 0): no line of a log has more than 576 bytes: this is no log",
         ),
     ];
     for (log, told) in cases {

@@ -41,28 +41,28 @@ fn the_third_form_says_what_was_done() {
         looped_at(
             "block=1 frames=5 steps=5 state=0 position=4 lowest=4 forward=1 backward=0",
             5,
-            "created=1 seeks=0 restarts=0",
+            "created=1 seeks=0 restarts=0 pauses=0",
         ),
         looped_at(
             "block=2 frames=4 steps=4 state=0 position=4 lowest=4 forward=2 backward=0",
             4,
-            "created=0 seeks=0 restarts=0",
+            "created=0 seeks=0 restarts=0 pauses=0",
         ),
         looped_at(
             "block=3 frames=3 steps=3 state=0 position=5 lowest=4 forward=2 backward=0",
             3,
-            "created=0 seeks=1 restarts=1",
+            "created=0 seeks=1 restarts=1 pauses=0",
         ),
-        "block=4 refused=10 created=0 seeks=1 restarts=0\n".into(),
+        "block=4 refused=10 created=0 seeks=1 restarts=0 pauses=0\n".into(),
         looped_at(
             "block=5 frames=2 steps=2 state=0 position=2 lowest=4 forward=3 backward=0",
             2,
-            "created=0 seeks=0 restarts=0",
+            "created=0 seeks=0 restarts=0 pauses=0",
         ),
         looped_at(
             "block=6 frames=1 steps=1 state=0 position=4 lowest=4 forward=0 backward=0",
             1,
-            "created=1 seeks=0 restarts=1",
+            "created=1 seeks=0 restarts=1 pauses=0",
         ),
     ];
     let says = says.concat();
@@ -76,7 +76,7 @@ fn a_block_in_which_the_sound_ends_is_played_up_to_the_frame_where_it_stops() {
     // Three frames of sound; the voice stops in the fourth. Form 1 has the block's own steps, 6.
     room.run_on(&["replay", "--log", "3", "-"], &three()).says(
         "log=3\n\
-         block=1 frames=6 steps=4 state=6 position=3 lowest=1 forward=0 backward=0 started=1 played=4 paused=0 silent=2 still=0 loop_start=0 loop_end=0 direction=0 steps_back=0 ended=1 created=1 seeks=0 restarts=0\n",
+         block=1 frames=6 steps=4 state=6 position=3 lowest=1 forward=0 backward=0 started=1 played=4 paused=0 silent=2 still=0 loop_start=0 loop_end=0 direction=0 steps_back=0 ended=1 created=1 seeks=0 restarts=0 pauses=0\n",
     );
 }
 

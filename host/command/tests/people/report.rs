@@ -27,12 +27,14 @@ fn one_evening_in_words() {
          \x20 times round the loop 3\n\
          \x20 seeks                2\n\
          \x20 restarts by hand     2\n\
+         \x20 pauses               0\n\
          \x20 lowest window count  4\n\
-         \x20 refused blocks       1 with 10\n",
+         \x20 refused blocks       1 with 10\n\
+         \x20 reached the end      no\n",
     );
     let log = room.run_on(&["replay", "-"], &looped()).out;
     let ran = room.run_on(&["report", "-"], log.as_bytes());
-    assert_eq!(ran.out.matches("not told").count(), 4, "{}", ran.out);
+    assert_eq!(ran.out.matches("not told").count(), 5, "{}", ran.out);
     assert!(
         ran.out.contains("\n  jumps                2\n"),
         "{}",
@@ -79,6 +81,8 @@ fn made(random: &mut Random) -> Made {
     }
     add(&mut made.each[0], "jumps", 0);
     add(&mut made.each[2], "still", 0);
+    add(&mut made.each[2], "pauses", 0);
+    add(&mut made.each[2], "ended", 0);
     for column in [
         "frames",
         "steps",
@@ -99,6 +103,8 @@ fn made(random: &mut Random) -> Made {
             _ => (0, 0),
         };
         let since = format!(" created={created} seeks={seeks} restarts={restarts}");
+        let pauses = random.below(3) as u64;
+        add(&mut made.each[2], "pauses", pauses);
         add(&mut made.all, "seeks", seeks);
         add(&mut made.all, "restarts", restarts);
         if created > 0 {
@@ -110,7 +116,7 @@ fn made(random: &mut Random) -> Made {
             add(&mut made.all, column, 1);
             let line = format!("block={number} refused={refusal}");
             made.logs[1].push(format!("{line}{since}"));
-            made.logs[2].push(format!("{line}{since}"));
+            made.logs[2].push(format!("{line}{since} pauses={pauses}"));
             made.logs[0].push(line);
             created = 0;
             continue;
@@ -135,12 +141,15 @@ fn made(random: &mut Random) -> Made {
             frames - played - paused,
             random.below(played as usize + 1) as u64,
         );
+        let ended = u64::from(random.one_in(200));
+        let so_far = made.each[2]["ended"];
+        made.each[2].insert("ended", so_far.max(ended));
         let third = format!(
-            "{second} played={played} paused={paused} silent={silent} still={still} loop_start=3 loop_end=9 direction=0 steps_back=0 ended=0"
+            "{second} played={played} paused={paused} silent={silent} still={still} loop_start=3 loop_end=9 direction=0 steps_back=0 ended={ended}"
         );
         made.logs[0].push(line);
         made.logs[1].push(format!("{second}{since}"));
-        made.logs[2].push(format!("{third}{since}"));
+        made.logs[2].push(format!("{third}{since} pauses={pauses}"));
         add(&mut made.all, "frames", frames);
         add(&mut made.all, "steps", steps);
         add(&mut made.all, "rounds", gone);
@@ -208,9 +217,11 @@ fn unsaid(form: usize) -> &'static [&'static str] {
             "seeks",
             "restarts",
             "lowest_count",
+            "pauses",
+            "ended",
             "minutes_still",
         ],
-        2 => &["jumps", "minutes_still"],
+        2 => &["jumps", "minutes_still", "pauses", "ended"],
         _ => &["jumps"],
     }
 }
