@@ -69,7 +69,8 @@ impl Kit {
     }
 
     /// The kit's clang for a processor, with the kit's own options; no product is fused with a sum. A frame of the ride
-    /// is a deeper expression than clang by itself looks through for vector code: the last two let it see the whole.
+    /// is a deeper expression than clang by itself looks through for vector code: two options let it see the whole. The
+    /// last has the inner functions inlined: each hands a whole voice on, and the copies wait for one another.
     fn compiler(&self, arch: &str) -> Command {
         let mut clang = self.tool("clang");
         clang
@@ -89,6 +90,8 @@ impl Kit {
                 "-slp-recursion-max-depth=16",
                 "-mllvm",
                 "-slp-max-look-ahead-depth=4",
+                "-mllvm",
+                "-inline-threshold=1000",
                 "--no-default-config",
                 "-Werror",
             ]);
