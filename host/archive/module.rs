@@ -68,9 +68,8 @@ impl Kit {
         Command::new(self.machine().join("toolchain/bin").join(name))
     }
 
-    /// The kit's clang for a processor, with the kit's own options; no product is fused with a sum. A frame of the ride
-    /// is a deeper expression than clang by itself looks through for vector code: two options let it see the whole. The
-    /// last has the inner functions inlined: each hands a whole voice on, and the copies wait for one another.
+    /// The kit's clang for a processor, with the kit's own options; no product is fused with a sum. The option
+    /// beyond the kit's own has the inner functions inlined: each hands a whole voice on, and the copies wait for one another.
     fn compiler(&self, arch: &str) -> Command {
         let mut clang = self.tool("clang");
         clang
@@ -86,10 +85,6 @@ impl Kit {
                 "-trap-unreachable",
                 "-mllvm",
                 "-no-trap-after-noreturn",
-                "-mllvm",
-                "-slp-recursion-max-depth=16",
-                "-mllvm",
-                "-slp-max-look-ahead-depth=4",
                 "-mllvm",
                 "-inline-threshold=1000",
                 "--no-default-config",
