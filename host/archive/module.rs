@@ -75,8 +75,8 @@ impl Kit {
         Command::new(self.machine().join("toolchain/bin").join(name))
     }
 
-    /// The kit's clang for a processor, with the kit's own options; no product is fused with a sum. A frame of the ride
-    /// is a deeper expression than clang by itself looks through for vector code: the last two let it see the whole.
+    /// The kit's clang for a processor, with the kit's own options; no product is fused with a sum. The option
+    /// beyond the kit's own has the inner functions inlined: each hands a whole voice on, and the copies wait for one another.
     fn compiler(&self, arch: &str) -> Command {
         let mut clang = self.tool("clang");
         clang
@@ -93,9 +93,7 @@ impl Kit {
                 "-mllvm",
                 "-no-trap-after-noreturn",
                 "-mllvm",
-                "-slp-recursion-max-depth=16",
-                "-mllvm",
-                "-slp-max-look-ahead-depth=4",
+                "-inline-threshold=1000",
                 "--no-default-config",
                 "-Werror",
             ]);

@@ -1,3 +1,6 @@
 -- What is known of the cubic beyond its definition.
 pub mod Silence
 pub mod AtZero
+pub mod Difference
+pub mod MinusZero
+pub mod Turned

@@ -21,7 +21,7 @@ use Rattle.playing.proofs.Lowest.{lowest, lower-assoc, lower-four, four
 abbrev pub joined : Played → Played → Played
 joined p q = record { voice = q .voice; samples = p .samples ++ q .samples; steps = p .steps + q .steps; «lowest_count» = lower (p .«lowest_count») (q .«lowest_count») }
 
-then-joined : (f : Frame) (n t : ℕ) (p q : Played) → then f n t (joined p q) ≡ joined (then f n t p) q
+pub then-joined : (f : Frame) (n t : ℕ) (p q : Played) → then f n t (joined p q) ≡ joined (then f n t p) q
 then-joined f n t p q =
     ap₂ (λ (k m : ℕ). record { voice = q .voice; samples = f .left ∷ f .right ∷ (p .samples ++ q .samples); steps = k; «lowest_count» = m })
     (sym (add-assoc n (p .steps) (q .steps))) (lower-assoc t (p .«lowest_count») (q .«lowest_count»))

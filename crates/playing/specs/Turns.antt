@@ -9,8 +9,9 @@ use Rattle.numbers.specs.Words.{positiveZero, proper, narrowed, whole, part, ad
 use Rattle.numbers.specs.Lists.{all}
 use Rattle.frame.specs.declared.Frame.{Frame}
 use Rattle.frame.specs.Frames.{interpolated}
+use Rattle.resampler.specs.declared.Reading.{Reading}
 use Rattle.resampler.specs.declared.Resampler.{Resampler}
-use Rattle.resampler.specs.Windows.{nth}
+use Rattle.resampler.specs.Windows.{nth, reading}
 use Rattle.lanes.specs.Lanes.{Lanes, rows, sized, near, slow}
 use Rattle.moving.specs.declared.Course.{Course}
 use Rattle.moving.specs.declared.Moving.{Moving}
@@ -28,10 +29,13 @@ frameAt a b c d f fade volume left right =
       right = mul binary32 (mul binary32 (mul binary32 (x .right) fade) volume) right;
     }
 
--- frame i of the lanes heard: the window read at a fraction
-abbrev pub heardAt : Resampler → Float → List Float → List Float → List Float → List Float → ℕ → Frame
+-- frame i of the lanes heard: the window read at a fraction, with the count that the read returns
+abbrev pub heardAt : Resampler → Float → List Float → List Float → List Float → List Float → ℕ → Reading
 heardAt w f fade volume left right i =
-    frameAt (nth w 0) (nth w 1) (nth w 2) (nth w 3) f (getD fade i nan) (getD volume i nan) (getD left i nan) (getD right i nan)
+    record {
+      frame = frameAt (nth w 0) (nth w 1) (nth w 2) (nth w 3) f (getD fade i nan) (getD volume i nan) (getD left i nan) (getD right i nan);
+      count = (reading w (narrowed f)) .count;
+    }
 
 -- what one frame leaves of the moving parts and the fraction
 unfoldable pub turnOf : List Float → Course → ℕ → Float → Float → Moving → Float → Turned

@@ -10,6 +10,7 @@ ghost use Rattle.playing.specs.Turns.{heardAt, turnOf, Turning, Playable
 use frame::Frame;
 use moving::Course;
 use moving::Moving;
+use resampler::Reading;
 use resampler::Resampler;
 use voice::StaticSound;
 
@@ -41,7 +42,7 @@ fn lower(a: usize, b: usize) -> usize
     if a <= b { a } else { b }
 }
 
-// The window's reading times fade, times volume, times each channel's gain, all of frame i.
+// The window's reading, with the count that it was read at: its frame times fade, times volume, times each channel's gain, all of frame i.
 fn frame_heard(
     window: Resampler,
     fractional_position: f64,
@@ -50,7 +51,7 @@ fn frame_heard(
     left: &[f32],
     right: &[f32],
     i: usize,
-) -> Frame
+) -> Reading
     requires { ⌜ T (proper «fractional_position») ⌝ }
     requires { ⌜ i < length (now fade) ⌝ }
     requires { ⌜ i < length (now volume) ⌝ }
@@ -64,9 +65,13 @@ fn frame_heard(
     let volume = volume[i];
     let left = left[i];
     let right = right[i];
-    Frame {
+    let frame = Frame {
         left: out.left * fade * volume * left,
         right: out.right * fade * volume * right,
+    };
+    Reading {
+        frame,
+        count: read.count,
     }
 }
 
@@ -115,10 +120,10 @@ pub fn play(
     let mut i: usize = 0;
     while i < rate.len() {
         let window = moving.resampler;
-        let frame = frame_heard(window, fractional_position, fade, volume, left, right, i);
-        out[2 * i] = frame.left;
-        out[2 * i + 1] = frame.right;
-        lowest_count = lower(lowest_count, window.time_until_empty);
+        let read = frame_heard(window, fractional_position, fade, volume, left, right, i);
+        out[2 * i] = read.frame.left;
+        out[2 * i + 1] = read.frame.right;
+        lowest_count = lower(lowest_count, read.count);
         let next = turn(
             moving,
             fractional_position,

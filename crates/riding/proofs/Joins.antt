@@ -33,8 +33,9 @@ use Rattle.playing.specs.Turns.{Playable}
 use Rattle.playing.proofs.Lowest.{lower-four}
 use Rattle.playing.proofs.Plays.{joined, plays-append, plays-length, plays-lowest}
 use Rattle.playing.proofs.Keeps.{plays-steps}
-use Rattle.riding.specs.declared.Ridden.{Ridden}
-use Rattle.riding.specs.Rides.{riddenTo, Rode, playedFrom}
+use Rattle.along.specs.declared.Ridden.{Ridden}
+use Rattle.riding.specs.Rides.{riddenTo, playedFrom}
+use Rattle.riding.proofs.Rides.{Heard}
 
 -- ---- the lanes from frame i on, as code cuts them
 
@@ -148,7 +149,7 @@ lies-of snd v w len =
 
 -- ---- together
 
-pub ridden-on : (snd : List Float) (dt : Float) (b : Lanes) (v u : StaticSound) (k : Track) (r : Ridden) (q : Processed) (out end : List Float) → Rode snd dt b v k r out
+pub ridden-on : (snd : List Float) (dt : Float) (b : Lanes) (v u : StaticSound) (k : Track) (r : Ridden) (q : Processed) (out end : List Float) → Heard snd dt b v k r out
     → u ≡ moved v (r .«fractional_position») (riddenTo snd k v (r .steps) (r .at)) → record { answer = q; samples = end } ≡ playedFrom snd dt b (r .next) u out
     → record { answer = record { refusal = 0; sound = q .sound; steps = r .steps + q .steps; «lowest_count» = q .«lowest_count» }; samples = end } ≡ acceptedAs (plays snd dt (rows b) v)
 ridden-on snd dt b v u k r q out end h eu e =
@@ -164,7 +165,7 @@ ridden-on snd dt b v u k r q out end h eu e =
     ∙ ap (λ (u : StaticSound). joined (record { voice = u; samples = take (2 * i) out; steps = r .steps; «lowest_count» = 4 }) (plays snd dt (drop i (rows b)) u)) (sym eu)))
 
 -- a ride of all frames: nothing is left
-pub ridden-whole : (snd : List Float) (dt : Float) (b : Lanes) (v u : StaticSound) (k : Track) (r : Ridden) (out : List Float) → Playable snd u dt b (length out) → Rode snd dt b v k r out
+pub ridden-whole : (snd : List Float) (dt : Float) (b : Lanes) (v u : StaticSound) (k : Track) (r : Ridden) (out : List Float) → Playable snd u dt b (length out) → Heard snd dt b v k r out
     → u ≡ moved v (r .«fractional_position») (riddenTo snd k v (r .steps) (r .at)) → r .next ≡ length (b .rate)
     → record { answer = record { refusal = 0; sound = u; steps = r .steps; «lowest_count» = 4 }; samples = out } ≡ acceptedAs (plays snd dt (rows b) v)
 ridden-whole snd dt b v u k r out p h eu e =

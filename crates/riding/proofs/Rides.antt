@@ -1,248 +1,188 @@
--- A block along a track: a frame there is the definition's, and so are two frames more. By the trail's law of n updates. Assumes nothing.
+-- A ride whose readings are multiplied by their gains is the block's definition, frame by frame, as far as it goes. By the trail's law
+-- of n updates, and by induction on the rates. Assumes nothing.
 use mathlib.Core.Path.{_≡_, refl, sym, ap, ap₂, _∙_, subst}
 use mathlib.Core.List.{List, [], _∷_, _++_}
-use Prim.Native.Nat.{ℕ, zero, suc, _+_, _-_, _*_, _≤_, _<_}
-use native.Mathlib.Nat.{le-refl, add-assoc, add-comm}
+use Prim.Native.Nat.{ℕ, zero, suc, _+_, _*_, _≤_, _<_}
+use native.Mathlib.Nat.{le-refl, add-assoc, add-comm, add-zero, zero-add}
 use native.Mathlib.Omega.{arith}
-use mathlib.Core.Bool.{Bool, true, false, not}
 use lib.Dec.{T}
-use lib.IntN.{pos}
-use lib.ListN.{length, getD, take, drop, set, length-set}
-use lib.Ieee.{Float, nan, inf, fin, binary32, binary64, add, mul, ofInt, lt, le, isNan}
-use Rattle.numbers.specs.declared.Stepped.{Stepped}
-use Rattle.numbers.specs.Words.{positiveZero, proper, magnitude, narrowed, whole, part, stepped, advance}
+use lib.ListN.{length, getD, take, drop, take-append-drop}
+use lib.Seq.{length-take-le}
+use lib.Ieee.{Float, nan, binary64, add}
+use Rattle.numbers.specs.Words.{whole, part, advance}
 use Rattle.numbers.specs.Lists.{all}
-use Rattle.numbers.proofs.Fractions.{advance-finite-clear, sum-steps}
-use Rattle.numbers.proofs.Stepping.{sum-proper}
-use Rattle.frame.specs.declared.Frame.{Frame}
-use Rattle.frame.specs.Frames.{frameOf, interpolated}
-use Rattle.lanes.specs.Lanes.{Lane, Lanes, rows, near, slow}
+use Rattle.numbers.proofs.Lists.{all-front}
+use Rattle.lanes.specs.Lanes.{Lane, Lanes, beside, rows, near, slow}
+use Rattle.lanes.proofs.Rows.{near-all, sized-parts}
+use Rattle.resampler.specs.Windows.{reading}
 use Rattle.moving.specs.declared.Moving.{Moving}
 use Rattle.moving.specs.declared.Wraps.{Wraps}
 use Rattle.moving.specs.Updates.{updates}
 use Rattle.voice.specs.declared.StaticSound.{StaticSound}
 use Rattle.voice.specs.Voices.{courseOf, moved}
 use Rattle.voice.specs.WellFormed.{Formed}
-use Rattle.voice.proofs.Formed.{able-of}
 use Rattle.trail.specs.declared.Track.{Track}
 use Rattle.trail.specs.Tracks.{next, nexts, counts, On, roomy}
 use Rattle.trail.specs.Trails.{ahead, trailOf, firstPlace, Trailing}
 use Rattle.trail.proofs.Tracks.{on-nexts, nexts-add}
 use Rattle.trail.proofs.Counts.{counts-add}
-use Rattle.trail.proofs.Trails.{Fits, Inside, inside-first, inside-rest, updates-trail}
-use Rattle.playing.specs.declared.Turned.{Turned}
-use Rattle.playing.specs.Plays.{Played, lower, plays}
-use Rattle.playing.specs.Turns.{frameAt, turnOf, Turning}
+use Rattle.trail.proofs.Trails.{Fits, inside-of, updates-trail}
+use Rattle.along.specs.declared.Way.{Way}
+use Rattle.along.specs.declared.Ridden.{Ridden}
+use Rattle.along.specs.Rides.{Ride, rides, readOn, Rideable, Rode}
+use Rattle.along.proofs.Moves.{roomy-first, roomy-rest}
+use Rattle.along.proofs.Rides.{rode-none}
+use Rattle.gains.specs.Gained.{gained}
+use Rattle.gains.proofs.Gained.{gained-take, gained-length}
+use Rattle.playing.specs.Plays.{Played, lower, then, plays, turned, total, frameHeard, readBy}
+use Rattle.playing.specs.Turns.{Playable}
 use Rattle.playing.proofs.Lowest.{lower-four}
-use Rattle.playing.proofs.Loops.{laneAt, played, played-none, played-more, turned-on}
-use Rattle.riding.specs.declared.Gains.{Gains}
-use Rattle.riding.specs.declared.Passed.{Passed}
-use Rattle.riding.specs.declared.Ridden.{Ridden}
-use Rattle.riding.specs.Rides.{Passing, passOf, gainsAt, heardOn, Tracked, riddenTo, Rode}
-
--- ---- one frame's steps
-
-abbrev product : ℕ → Float → Float → Float
-product hz m dt = mul binary64 (mul binary64 (ofInt binary64 (pos hz)) m) dt
-
-pub sum-is : (hz : ℕ) (r dt m f : Float) (a : Stepped) → m ≡ magnitude r → a ≡ stepped (add binary64 f (product hz m dt)) → a ≡ stepped (add binary64 f (advance hz r dt))
-unfolding advance
-sum-is hz r dt m f a e h = h ∙ ap (λ (x : Float). stepped (add binary64 f (product hz x dt))) e
-
--- a slow rate is no NaN: its advance would be one
-mul-nan : (x : Float) → mul binary64 x nan ≡ nan
-unfolding mul
-mul-nan nan = refl
-mul-nan (inf s) = refl
-mul-nan (fin s m e) = refl
-
-nan-fast : (x dt : Float) → x ≡ nan → T (le (mul binary64 x dt) (fin false 1 (pos 8))) → ⊥
-unfolding mul le
-nan-fast x dt e h = subst (λ (x : Float). T (le (mul binary64 x dt) (fin false 1 (pos 8)))) e h
-
-pub slow-number : (hz : ℕ) (dt q : Float) → T (slow hz dt q) → T (not (isNan q))
-unfolding advance magnitude isNan
-slow-number hz dt nan h = absurd (nan-fast _ dt (mul-nan (ofInt binary64 (pos hz))) h)
-slow-number hz dt (inf s) h = tt
-slow-number hz dt (fin s m e) h = tt
-
-module _ (k : Track) (hz : ℕ) (r dt : Float) (q : ℕ) (f : Float) where
-  pub sum-few : (a : Stepped) → Passing k hz r dt q f → a ≡ stepped (add binary64 f (advance hz r dt)) → a .steps ≤ 257
-  unfolding ofInt
-  sum-few a h e =
-      subst (λ (a : Stepped). a .steps ≤ 257) (sym e)
-      (sum-steps f (advance hz r dt) 256 (le-refl 256) (h .below) (advance-finite-clear hz r dt (h .timeStep) (h .slow)) (h .slow))
-
-  pub sum-below : (a : Stepped) → Passing k hz r dt q f → a ≡ stepped (add binary64 f (advance hz r dt)) → T (proper (a .rest))
-  sum-below a h e =
-      subst (λ (a : Stepped). T (proper (a .rest))) (sym e)
-      (sum-proper f (advance hz r dt) (h .below) (advance-finite-clear hz r dt (h .timeStep) (h .slow)) (h .slow))
-
-  pub passed-as : (a : Stepped) (z : ℕ) → a ≡ stepped (add binary64 f (advance hz r dt)) → z ≡ nexts (a .steps) k q
-      → record { at = z; «fractional_position» = a .rest; steps = a .steps } ≡ passOf k hz r dt q f
-  unfolding passOf
-  passed-as a z e h =
-      ap (λ (z : ℕ). record { at = z; «fractional_position» = a .rest; steps = a .steps }) h
-      ∙ ap (λ (b : Stepped). record { at = nexts (b .steps) k q; «fractional_position» = b .rest; steps = b .steps }) e
-
-pub passed-at : (k : Track) (hz : ℕ) (r dt : Float) (q : ℕ) (f : Float) (h : Passed) → h ≡ passOf k hz r dt q f → h .at ≡ nexts (h .steps) k q
-unfolding passOf
-passed-at k hz r dt q f h e = ap (λ (h : Passed). h .at) e ∙ ap (λ (n : ℕ). nexts n k q) (sym (ap (λ (h : Passed). h .steps) e))
-
--- a reading times its gains
-abbrev pub scaled : Frame → Gains → Frame
-scaled x g =
-    record {
-      left = mul binary32 (mul binary32 (mul binary32 (x .left) (g .fade)) (g .volume)) (g .left);
-      right = mul binary32 (mul binary32 (mul binary32 (x .right) (g .fade)) (g .volume)) (g .right);
-    }
-
--- the frame, from the four that were read
-pub heard-as : (snd : List Float) (k : Track) (q b c d : ℕ) (f n : Float) (g : Gains) (w x y z r : Frame)
-    → b ≡ next k q → c ≡ next k b → d ≡ next k c
-    → w ≡ frameOf snd (k .start + q) → x ≡ frameOf snd (k .start + b) → y ≡ frameOf snd (k .start + c) → z ≡ frameOf snd (k .start + d)
-    → n ≡ narrowed f → r ≡ interpolated w x y z n → scaled r g ≡ heardOn snd k q f g
-unfolding heardOn frameAt
-heard-as snd k q b c d f n g w x y z r eb ec ed ew ex ey ez en er =
-    ap (λ (r : Frame). scaled r g) (er ∙ rw (ew, ex, ey, ez, ed, ec, eb, en))
-
--- ---- along the track
+use Rattle.playing.proofs.Loops.{played}
+use Rattle.playing.proofs.Keeps.{plays-formed}
+use Rattle.riding.specs.Rides.{begun, Tracked, riddenTo}
 
 pub fits-of : (snd : List Float) (v : StaticSound) (k : Track) → Tracked snd v k → Formed v → Fits k (v .moving .transport .«loop_region») (courseOf v)
 fits-of snd v k t w = record { is = t .is; held = w .transportFormed .loop }
-
--- four places on, then n: n places on, then four
-ahead-on : (n : ℕ) (k : Track) (q : ℕ) → ahead k (nexts n k q) ≡ nexts n k (ahead k q)
-unfolding nexts
-ahead-on n k q = sym (nexts-add n 4 k q) ∙ ap (λ (m : ℕ). nexts m k q) (add-comm n 4) ∙ nexts-add 4 n k q
-
-module _ (snd : List Float) (k : Track) (v : StaticSound) (t : Tracked snd v k) (w : Formed v) where
-  abbrev first : ℕ
-  first = v .moving .transport .position
-
-  -- what a frame leaves of the moving parts, after n steps so far
-  abbrev pub ridden : ℕ → Passed → Turned
-  ridden n h = record { moving = riddenTo snd k v (n + h .steps) (h .at); «fractional_position» = h .«fractional_position»; steps = h .steps }
-
-  pub ridden-as : (hz : ℕ) (r dt : Float) (n q : ℕ) (f : Float) (h : Passed) → ahead k q ≡ nexts n k first → h ≡ passOf k hz r dt q f → Inside k (h .steps) q
-      → ridden n h ≡ turnOf snd (courseOf v) hz r dt (riddenTo snd k v n q) f
-  unfolding turnOf passOf
-  ridden-as hz r dt n q f h came e i =
-      let x = add binary64 f (advance hz r dt) in
-      let m : h .steps ≡ whole x = ap (λ (h : Passed). h .steps) e in
-      let c₀ = counts n k first (v .moving .wraps) in
-      ap (ridden n) e
-      ∙ ap (λ (u : Moving). record { moving = u; «fractional_position» = part x; steps = whole x })
-      (ap (λ (c : Wraps). trailOf snd k (v .moving) c (nexts (whole x) k q))
-      (counts-add n (whole x) k first (v .moving .wraps) ∙ ap (λ (p : ℕ). counts (whole x) k p c₀) (sym came))
-      ∙ sym (updates-trail (whole x) snd k (v .moving) (courseOf v) c₀ q (fits-of snd v k t w) (subst (λ (n : ℕ). Inside k n q) m i)))
-
-  -- and the transport has come as far
-  pub came-on : (hz : ℕ) (r dt : Float) (n q : ℕ) (f : Float) (h : Passed) → ahead k q ≡ nexts n k first → h ≡ passOf k hz r dt q f
-      → ahead k (h .at) ≡ nexts (n + h .steps) k first
-  came-on hz r dt n q f h came e =
-      ap (ahead k) (passed-at k hz r dt q f h e)
-      ∙ ahead-on (h .steps) k q
-      ∙ ap (nexts (h .steps) k) came
-      ∙ sym (nexts-add n (h .steps) k first)
-
--- ---- two frames more
-
-module _ (snd : List Float) (dt : Float) (b : Lanes) (v : StaticSound) (k : Track) (t : Tracked snd v k) (w : Formed v) where
-  abbrev hz : ℕ
-  hz = v .setup .«sample_rate»
-
-  abbrev begun : ℕ
-  begun = v .moving .transport .position
-
-  abbrev heard : ℕ → ℕ → Float → Frame
-  heard i q f = heardOn snd k q f (gainsAt (b .fade) (b .volume) (b .left) (b .right) i)
-
-  abbrev passes : ℕ → ℕ → Float → Passed
-  passes i q f = passOf k hz (getD (b .rate) i nan) dt q f
-
-  one-more : (i steps q : ℕ) (out : List Float) (f : Float) (x : Frame) (h : Passed) → i < length (b .rate) → 2 * i + 1 < length out
-      → plays snd dt (take i (rows b)) v ≡ played (moved v f (riddenTo snd k v steps q)) (take (2 * i) out) steps 4
-      → ahead k q ≡ nexts steps k begun → x ≡ heard i q f → h ≡ passes i q f → Inside k (h .steps) q
-      → plays snd dt (take (i + 1) (rows b)) v
-      ≡ played (moved v (h .«fractional_position») (riddenTo snd k v (steps + h .steps) (h .at))) (take (2 * (i + 1)) (set (set out (2 * i) (x .left)) (2 * i + 1) (x .right))) (steps + h .steps) 4
-  unfolding heardOn
-  one-more i steps q out f x h l m e came ex eh ih =
-      played-more snd dt b v i steps 4 out (riddenTo snd k v steps q) f x 4 (ridden snd k v t w steps h) l m e ex (sym (lower-four 4 (le-refl 4)))
-      (ridden-as snd k v t w hz (getD (b .rate) i nan) dt steps q f h came eh ih)
-
-  pub two-more : (i steps q : ℕ) (out : List Float) (f : Float) (x y : Frame) (g h : Passed) → i + 1 < length (b .rate) → 2 * i + 3 < length out
-      → plays snd dt (take i (rows b)) v ≡ played (moved v f (riddenTo snd k v steps q)) (take (2 * i) out) steps 4
-      → ahead k q ≡ nexts steps k begun
-      → x ≡ heard i q f → g ≡ passes i q f → y ≡ heard (i + 1) (g .at) (g .«fractional_position») → h ≡ passes (i + 1) (g .at) (g .«fractional_position»)
-      → Inside k (g .steps + h .steps) q
-      → plays snd dt (take (i + 2) (rows b)) v
-      ≡ played (moved v (h .«fractional_position») (riddenTo snd k v (steps + (g .steps + h .steps)) (h .at)))
-      (take (2 * (i + 2)) (set (set (set (set out (2 * i) (x .left)) (2 * i + 1) (x .right)) (2 * i + 2) (y .left)) (2 * i + 3) (y .right))) (steps + (g .steps + h .steps)) 4
-  two-more i steps q out f x y g h l m e came ex eg ey eh ih =
-      let half = set (set out (2 * i) (x .left)) (2 * i + 1) (x .right) in
-      let first = one-more i steps q out f x g (omega arith) (omega arith) e came ex eg (inside-first (g .steps) (h .steps) k q ih) in
-      let long : 2 * (i + 1) + 1 < length half = simp length-set (omega arith) in
-      let on = came-on snd k v t w hz (getD (b .rate) i nan) dt steps q f g came eg in
-      let at = passed-at k hz (getD (b .rate) i nan) dt q f g eg in
-      let second = one-more (i + 1) (steps + g .steps) (g .at) half (g .«fractional_position») y h l long first on ey eh
-      (subst (Inside k (h .steps)) (sym at) (inside-rest (g .steps) (h .steps) k q ih)) in
-      let n : i + 1 + 1 ≡ i + 2 = omega arith in
-      let a : 2 * (i + 1) ≡ 2 * i + 2 = omega arith in
-      let c : 2 * (i + 1) + 1 ≡ 2 * i + 3 = omega arith in
-      ap (λ (n : ℕ). plays snd dt (take n (rows b)) v) (sym n)
-      ∙ second
-      ∙ ap₂ (λ (a c : ℕ). played (moved v (h .«fractional_position») (riddenTo snd k v (steps + g .steps + h .steps) (h .at))) (take (2 * (i + 1 + 1)) (set (set half a (y .left)) c (y .right))) (steps + g .steps + h .steps) 4) a c
-      ∙ ap₂ (λ (n s : ℕ). played (moved v (h .«fractional_position») (riddenTo snd k v s (h .at))) (take (2 * n) (set (set half (2 * i + 2) (y .left)) (2 * i + 3) (y .right))) s 4) n (add-assoc steps (g .steps) (h .steps))
-
-  -- the voice stays well formed
-  ridden-formed : (r : Float) (n q : ℕ) (f : Float) (h : Passed) → length snd ≡ 2 * v .setup .«num_frames» → Formed (moved v f (riddenTo snd k v n q)) → T (lt positiveZero dt) → T (slow hz dt r)
-      → ahead k q ≡ nexts n k begun → h ≡ passOf k hz r dt q f → Inside k (h .steps) q → Formed (moved v (h .«fractional_position») (riddenTo snd k v (n + h .steps) (h .at)))
-  ridden-formed r n q f h len u tm sl came e i =
-      turned-on snd dt v r (riddenTo snd k v n q) f (ridden snd k v t w n h) u
-      (record { able = able-of snd (moved v f (riddenTo snd k v n q)) u len; below = u .fraction; timeStep = tm; slow = sl })
-      (ridden-as snd k v t w hz r dt n q f h came e i)
-
-  pub two-formed : (i n q : ℕ) (f : Float) (g h : Passed) → length snd ≡ 2 * v .setup .«num_frames» → Formed (moved v f (riddenTo snd k v n q)) → T (lt positiveZero dt)
-      → T (slow hz dt (getD (b .rate) i nan)) → T (slow hz dt (getD (b .rate) (i + 1) nan)) → ahead k q ≡ nexts n k begun
-      → g ≡ passes i q f → h ≡ passes (i + 1) (g .at) (g .«fractional_position») → Inside k (g .steps + h .steps) q
-      → Formed (moved v (h .«fractional_position») (riddenTo snd k v (n + (g .steps + h .steps)) (h .at)))
-  two-formed i n q f g h len u tm s₁ s₂ came eg eh ih =
-      let half = ridden-formed (getD (b .rate) i nan) n q f g len u tm s₁ came eg (inside-first (g .steps) (h .steps) k q ih) in
-      let on = came-on snd k v t w hz (getD (b .rate) i nan) dt n q f g came eg in
-      let at = passed-at k hz (getD (b .rate) i nan) dt q f g eg in
-      let full = ridden-formed (getD (b .rate) (i + 1) nan) (n + g .steps) (g .at) (g .«fractional_position») h len half tm s₂ on eh
-      (subst (Inside k (h .steps)) (sym at) (inside-rest (g .steps) (h .steps) k q ih)) in
-      subst (λ (s : ℕ). Formed (moved v (h .«fractional_position») (riddenTo snd k v s (h .at)))) (add-assoc n (g .steps) (h .steps)) full
-
-  pub two-came : (i n q : ℕ) (f : Float) (g h : Passed) → ahead k q ≡ nexts n k begun → g ≡ passes i q f → h ≡ passes (i + 1) (g .at) (g .«fractional_position»)
-      → ahead k (h .at) ≡ nexts (n + (g .steps + h .steps)) k begun
-  two-came i n q f g h came eg eh =
-      came-on snd k v t w hz (getD (b .rate) (i + 1) nan) dt (n + g .steps) (g .at) (g .«fractional_position») h (came-on snd k v t w hz (getD (b .rate) i nan) dt n q f g came eg) eh
-      ∙ ap (λ (s : ℕ). nexts s k begun) (add-assoc n (g .steps) (h .steps))
-
--- ---- where a ride begins
 
 -- the transport is on the track
 pub position-on : (snd : List Float) (k : Track) (m : Moving) → Trailing snd k m → On k (m .transport .position)
 unfolding nexts
 position-on snd k m t = subst (On k) (sym (ap (λ (m : Moving). m .transport .position) (t .is))) (on-nexts 4 k (firstPlace m) (t .on))
 
-abbrev pub place : ℕ → Float → ℕ → ℕ → Ridden
-place q f steps i = record { at = q; «fractional_position» = f; steps = steps; next = i }
+-- four places on, then n: n places on, then four
+ahead-on : (n : ℕ) (k : Track) (q : ℕ) → ahead k (nexts n k q) ≡ nexts n k (ahead k q)
+unfolding nexts
+ahead-on n k q = sym (nexts-add n 4 k q) ∙ ap (λ (m : ℕ). nexts m k q) (add-comm n 4) ∙ nexts-add 4 n k q
 
-pub ride-none : (snd : List Float) (dt : Float) (b : Lanes) (v : StaticSound) (k : Track) (out : List Float) → Formed v → length out ≡ 2 * length (b .rate) → Trailing snd k (v .moving)
-    → Rode snd dt b v k (place (firstPlace (v .moving)) (v .«fractional_position») 0 0) out
-unfolding counts nexts
-ride-none snd dt b v k out w len t =
-    let q = firstPlace (v .moving) in
-    let e : v .moving ≡ trailOf snd k (v .moving) (v .moving .wraps) q = t .is in
-    record {
-      within = omega arith;
-      few = omega arith;
-      asLong = len;
-      on = t .on;
-      came = sym (ap (λ (m : Moving). m .transport .position) e);
-      formed = subst (λ (m : Moving). Formed (moved v (v .«fractional_position») m)) e w;
-      soFar = played-none snd dt b v out ∙ ap (λ (m : Moving). played (moved v (v .«fractional_position») m) (take (2 * 0) out) 0 4) e;
-    }
+module _ (snd : List Float) (dt : Float) (v : StaticSound) (k : Track) (t : Tracked snd v k) (w : Formed v) where
+  abbrev hz : ℕ
+  hz = v .setup .«sample_rate»
+
+  abbrev first : ℕ
+  first = v .moving .transport .position
+
+  -- the voice once n steps have brought its trail to q
+  abbrev at : Float → ℕ → ℕ → StaticSound
+  at f n q = moved v f (riddenTo snd k v n q)
+
+  -- one frame's steps
+  one-turned : (l : Lane) (n q : ℕ) (f : Float) → ahead k q ≡ nexts n k first → On k q → T (roomy k (whole (add binary64 f (advance hz (l .rate) dt))) q)
+      → let x = add binary64 f (advance hz (l .rate) dt) in
+      turned snd dt (at f n q) l ≡ at (part x) (n + whole x) (nexts (whole x) k q)
+  unfolding turned total
+  one-turned l n q f came o r =
+      let x = add binary64 f (advance hz (l .rate) dt) in
+      let c₀ = counts n k first (v .moving .wraps) in
+      ap (moved v (part x))
+      (updates-trail (whole x) snd k (v .moving) (courseOf v) c₀ q (fits-of snd v k t w) (inside-of k (whole x) q o r)
+      ∙ ap (λ (c : Wraps). trailOf snd k (v .moving) c (nexts (whole x) k q))
+      (ap (λ (p : ℕ). counts (whole x) k p c₀) came ∙ sym (counts-add n (whole x) k first (v .moving .wraps))))
+
+  -- one frame, and what follows it
+  first-frame : (l : Lane) (ls : List Lane) (n q : ℕ) (f : Float)
+      → plays snd dt (l ∷ ls) (at f n q) ≡ then (frameHeard (at f n q) l) (whole (add binary64 f (advance hz (l .rate) dt))) 4 (plays snd dt ls (turned snd dt (at f n q) l))
+  unfolding plays total reading
+  first-frame l ls n q f = refl
+
+  -- joined with the frames after it
+  then-played : (x : Float) (y : Float) (m s n q : ℕ) (f : Float) (samples : List Float)
+      → then (record { left = x; right = y }) m 4 (played (at f (n + m + s) q) samples s 4) ≡ played (at f (n + (m + s)) q) (x ∷ y ∷ samples) (m + s) 4
+  then-played x y m s n q f samples =
+      ap₂ (λ (a c : ℕ). played (at f a q) (x ∷ y ∷ samples) (m + s) c) (add-assoc n m s) (lower-four 4 (le-refl 4))
+
+  pub rides-plays : (fs vs ls rs qs : List Float) (n q : ℕ) (f : Float) → ahead k q ≡ nexts n k first → On k q → T (roomy k ((rides snd k hz dt qs q f) .steps) q)
+      → let z = rides snd k hz dt qs q f in
+      plays snd dt (beside fs vs ls rs qs) (at f n q) ≡ played (at (z .«fractional_position») (n + z .steps) (z .at)) (gained fs vs ls rs (length qs) (z .samples)) (z .steps) 4
+  unfolding rides plays gained frameHeard reading readOn
+  rides-plays fs vs ls rs [] n q f came o r = ap (λ (m : ℕ). played (at f m q) [] 0 4) (sym (add-zero n))
+  rides-plays fs vs ls rs (p ∷ qs) n q f came o r =
+      let x = add binary64 f (advance hz p dt) in
+      let m = whole x in
+      let p₂ = nexts m k q in
+      let z = rides snd k hz dt qs p₂ (part x) in
+      let l : Lane = record { fade = getD fs 0 nan; volume = getD vs 0 nan; left = getD ls 0 nan; right = getD rs 0 nan; rate = p } in
+      let rest = beside (drop 1 fs) (drop 1 vs) (drop 1 ls) (drop 1 rs) qs in
+      let h = frameHeard (at f n q) l in
+      first-frame l rest n q f
+      ∙ ap (λ (u : StaticSound). then h m 4 (plays snd dt rest u)) (one-turned l n q f came o (roomy-first k q m (z .steps) o r))
+      ∙ ap (then h m 4)
+      (rides-plays (drop 1 fs) (drop 1 vs) (drop 1 ls) (drop 1 rs) qs (n + m) p₂ (part x)
+      (ahead-on m k q ∙ ap (nexts m k) came ∙ sym (nexts-add n m k first)) (on-nexts m k q o) (roomy-rest k q m (z .steps) o r))
+      ∙ then-played (h .left) (h .right) m (z .steps) n (z .at) (z .«fractional_position») (gained (drop 1 fs) (drop 1 vs) (drop 1 ls) (drop 1 rs) (length qs) (z .samples))
+
+-- ---- as the block has it
+
+-- the way of a voice's ride
+abbrev pub wayOf : StaticSound → Track → Float → Way
+wayOf v k dt = record { track = k; at = firstPlace (v .moving); «fractional_position» = v .«fractional_position»; dt = dt; «sample_rate» = v .setup .«sample_rate» }
+
+beside-first : (i : ℕ) (fs vs ls rs qs : List Float) → take i (beside fs vs ls rs qs) ≡ beside fs vs ls rs (take i qs)
+beside-first zero fs vs ls rs qs = refl
+beside-first (suc i) fs vs ls rs [] = refl
+beside-first (suc i) fs vs ls rs (q ∷ qs) =
+    ap (λ (r : List Lane). record { fade = getD fs 0 nan; volume = getD vs 0 nan; left = getD ls 0 nan; right = getD rs 0 nan; rate = q } ∷ r) (beside-first i (drop 1 fs) (drop 1 vs) (drop 1 ls) (drop 1 rs) qs)
+
+-- what is heard so far is the definition's of the lanes so far, and what moves is the trail from r's place on
+pub record Heard (snd : List Float) (dt : Float) (b : Lanes) (v : StaticSound) (k : Track) (r : Ridden) (out : List Float) : Type 0 where
+  pub within : r .next ≤ length (b .rate)
+  pub few : r .steps ≤ 257 * r .next
+  pub asLong : length out ≡ 2 * length (b .rate)
+  pub on : On k (r .at)
+  pub formed : Formed (moved v (r .«fractional_position») (riddenTo snd k v (r .steps) (r .at)))
+  pub soFar :
+      plays snd dt (take (r .next) (rows b)) v
+      ≡ record {
+        voice = moved v (r .«fractional_position») (riddenTo snd k v (r .steps) (r .at));
+        samples = take (2 * r .next) out;
+        steps = r .steps;
+        «lowest_count» = 4;
+      }
+
+module _ (snd : List Float) (dt : Float) (b : Lanes) (v : StaticSound) (k : Track) (t : Tracked snd v k) (tr : Trailing snd k (v .moving)) {m : ℕ} (p : Playable snd v dt b m) where
+  pub rideable : Rideable snd (wayOf v k dt) (b .rate)
+  rideable =
+      record {
+        lies = t .lies;
+        timeStep = p .timeStep;
+        slow = subst T (near-all (v .setup .«sample_rate») dt (b .fade) (b .volume) (b .left) (b .right) (b .rate)) (p .near);
+        most = sized-parts b (p .sized) .most;
+      }
+
+  pub ride-begins : (out : List Float) → length out ≡ 2 * length (b .rate) → Rode snd (wayOf v k dt) (b .rate) (begun (wayOf v k dt)) out
+  ride-begins out len = rode-none snd (wayOf v k dt) (b .rate) out len (tr .on) (p .formed .fraction) (tr .room)
+
+  so-far : (r : Ridden) (out o : List Float) → Rode snd (wayOf v k dt) (b .rate) r out → o ≡ gained (b .fade) (b .volume) (b .left) (b .right) (r .next) out
+      → plays snd dt (take (r .next) (rows b)) v ≡ played (moved v (r .«fractional_position») (riddenTo snd k v (r .steps) (r .at))) (take (2 * r .next) o) (r .steps) 4
+  unfolding counts nexts
+  so-far r out o h e =
+      let q = firstPlace (v .moving) in
+      let i = r .next in
+      let hz = v .setup .«sample_rate» in
+      let f = v .«fractional_position» in
+      let rates = take i (b .rate) in
+      let ev : v .moving ≡ trailOf snd k (v .moving) (v .moving .wraps) q = tr .is in
+      let room : T (roomy k ((rides snd k hz dt rates q f) .steps) q) = subst (λ (z : Ride). T (roomy k (z .steps) q)) (sym (h .soFar)) (h .room) in
+      ap (λ (l : List Lane). plays snd dt l v) (beside-first i (b .fade) (b .volume) (b .left) (b .right) (b .rate))
+      ∙ ap (λ (m : Moving). plays snd dt (beside (b .fade) (b .volume) (b .left) (b .right) rates) (moved v f m)) ev
+      ∙ rides-plays snd dt v k t (p .formed) (b .fade) (b .volume) (b .left) (b .right) rates 0 q f (sym (ap (λ (m : Moving). m .transport .position) ev)) (tr .on) room
+      ∙ ap (λ (z : Ride). played (moved v (z .«fractional_position») (riddenTo snd k v (0 + z .steps) (z .at))) (gained (b .fade) (b .volume) (b .left) (b .right) (length rates) (z .samples)) (z .steps) 4) (h .soFar)
+      ∙ ap₂ (λ (s n : ℕ). played (moved v (r .«fractional_position») (riddenTo snd k v s (r .at))) (gained (b .fade) (b .volume) (b .left) (b .right) n (take (2 * i) out)) (r .steps) 4) (zero-add (r .steps)) (length-take-le i (b .rate) (h .within))
+      ∙ ap (λ (l : List Float). played (moved v (r .«fractional_position») (riddenTo snd k v (r .steps) (r .at))) l (r .steps) 4)
+      (sym (ap (take (2 * i)) e ∙ gained-take (b .fade) (b .volume) (b .left) (b .right) i out))
+
+  pub heard-of : (r : Ridden) (out o : List Float) → Rode snd (wayOf v k dt) (b .rate) r out → o ≡ gained (b .fade) (b .volume) (b .left) (b .right) (r .next) out → Heard snd dt b v k r o
+  heard-of r out o h e =
+      let s = so-far r out o h e in
+      let i = r .next in
+      record {
+        within = h .within;
+        few = h .few;
+        asLong = ap length e ∙ gained-length (b .fade) (b .volume) (b .left) (b .right) i out ∙ h .asLong;
+        on = h .on;
+        formed =
+            subst (λ (p : Played). Formed (p .voice)) s
+            (plays-formed snd dt (p .timeStep) (take i (rows b)) v
+            (all-front (near (v .setup .«sample_rate») dt) (take i (rows b)) (drop i (rows b)) (subst (λ (l : List Lane). T (all (near (v .setup .«sample_rate») dt) l)) (sym (take-append-drop i (rows b))) (p .near)))
+            (p .formed));
+        soFar = s;
+      }

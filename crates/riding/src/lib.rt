@@ -1,34 +1,19 @@
-// A started, advancing block where the window is the transport's trail: the four frames are read in the sound, two frames a turn.
-// Where it is not, and where a ride ends, the block goes on frame by frame (crate playing).
+// A started, advancing block where the window is the transport's trail: the four frames are read in the sound (crates straight
+// and round), and then every reading is multiplied by its gains (crate gains).
+// Where the window is no trail, and where a ride ends, the block goes on frame by frame (crate playing).
 ghost use mathlib.Core.Path.{_≡_};
-ghost use mathlib.Core.Bool.{not};
-ghost use Prim.Native.Nat.{_≤_, _<_};
-ghost use lib.Dec.{T};
+ghost use Prim.Native.Nat.{_≤_};
 ghost use lib.ListN.{length};
-ghost use lib.Ieee.{isNan};
-ghost use Rattle.numbers.specs.Words.{magnitude};
 ghost use Rattle.lanes.specs.Lanes.{five, rows};
-ghost use Rattle.trail.specs.Trails.{Trailing};
+ghost use Rattle.along.specs.Rides.{Rideable, Rode};
 ghost use Rattle.playing.specs.Plays.{plays, acceptedAs};
 ghost use Rattle.playing.specs.Turns.{Playable};
-ghost use Rattle.riding.specs.Rides.{gainsAt, Tracked, Rode, playedFrom};
-
-mod backward;
-mod forward;
-
-use backward::ride_back;
-use forward::ride_on;
+ghost use Rattle.riding.specs.Rides.{begun, playedFrom};
+use along::Ridden;
+use along::Way;
 use playing::Processed;
 use playing::Timed;
-use trail::Track;
 use voice::StaticSound;
-
-// A voice, the seconds that each frame of its block takes, and the track that it goes along.
-pub struct Along {
-    pub voice: StaticSound,
-    pub dt: f64,
-    pub track: Track,
-}
 
 // A voice, the seconds that each frame of its block takes, and the first frame that is left.
 pub struct Rest {
@@ -37,74 +22,42 @@ pub struct Rest {
     pub next: usize,
 }
 
-// What a frame's reading is multiplied by.
-pub struct Gains {
-    pub fade: f32,
-    pub volume: f32,
-    pub left: f32,
-    pub right: f32,
-}
-
-// What one frame's steps leave: the place of the window's first frame, the fraction, and the steps made.
-pub struct Passed {
-    pub at: usize,
-    pub fractional_position: f64,
-    pub steps: usize,
-}
-
-// How far a ride has come: the place and the fraction, the steps made, and the next frame.
-pub struct Ridden {
-    pub at: usize,
-    pub fractional_position: f64,
-    pub steps: usize,
-    pub next: usize,
-}
-
-// A rate without its sign. It is no NaN, so its bits need no test.
-fn magnitude_of(rate: f64) -> f64
-    requires { ⌜ T (not (isNan rate)) ⌝ }
-    ensures { λ r. ⌜ r ≡ magnitude rate ⌝ }
+// Straight, and then round the loop.
+fn stretch(way: Way, from: Ridden, sound: &[f32], rate: &[f64], out: &mut [f32]) -> Ridden
+    requires { ⌜ Rideable (now sound) way (now rate) ⌝ }
+    requires { ⌜ Rode (now sound) way (now rate) from (now out) ⌝ }
+    ensures { λ r. ⌜ Rode (now (sound .entry)) way (now (rate .entry)) r (now (out .exit)) ⌝ }
 {
-    f64::from_bits(f64::to_bits(rate) & 0x7fff_ffff_ffff_ffff)
-}
-
-pub fn gains_at(fade: &[f32], volume: &[f32], left: &[f32], right: &[f32], i: usize) -> Gains
-    requires { ⌜ i < length (now fade) ⌝ }
-    requires { ⌜ i < length (now volume) ⌝ }
-    requires { ⌜ i < length (now left) ⌝ }
-    requires { ⌜ i < length (now right) ⌝ }
-    ensures { λ r. ⌜ r ≡ gainsAt (now (fade .entry)) (now (volume .entry)) (now (left .entry)) (now (right .entry)) i ⌝ }
-{
-    Gains {
-        fade: fade[i],
-        volume: volume[i],
-        left: left[i],
-        right: right[i],
+    if way.track.backwards {
+        let fours = straight::straight_back(way, from, sound, rate, out);
+        let ones = straight::ones_back(way, fours, sound, rate, out);
+        return round::round_back(way, ones, sound, rate, out);
     }
+    let fours = straight::straight_on(way, from, sound, rate, out);
+    let ones = straight::ones_on(way, fours, sound, rate, out);
+    round::round_on(way, ones, sound, rate, out)
 }
 
-// From a trail on, as far as the track and pairs of frames go.
-fn ride(
-    along: Along,
-    sound: &[f32],
-    fade: &[f32],
-    volume: &[f32],
-    left: &[f32],
-    right: &[f32],
-    rate: &[f64],
-    out: &mut [f32],
-) -> Ridden
-    requires { ⌜ Playable (now sound) (along .voice) (along .dt) (five (now fade) (now volume) (now left) (now right) (now rate)) (length (now out)) ⌝ }
-    requires { ⌜ Tracked (now sound) (along .voice) (along .track) ⌝ }
-    requires { ⌜ Trailing (now sound) (along .track) (along .voice .moving) ⌝ }
-    ensures { λ r. ⌜ Rode (now (sound .entry)) (along .dt) (five (now (fade .entry)) (now (volume .entry)) (now (left .entry)) (now (right .entry)) (now (rate .entry))) (along .voice) (along .track) r (now (out .exit)) ⌝ }
+// From a trail on, as far as the track goes.
+fn ride(way: Way, sound: &[f32], rate: &[f64], out: &mut [f32]) -> Ridden
+    requires { ⌜ Rideable (now sound) way (now rate) ⌝ }
+    requires { ⌜ Rode (now sound) way (now rate) (begun way) (now out) ⌝ }
+    ensures { λ r. ⌜ Rode (now (sound .entry)) way (now (rate .entry)) r (now (out .exit)) ⌝ }
 {
-    if along.track.backwards {
-        return ride_back(along, sound, fade, volume, left, right, rate, out);
+    let mut r = Ridden {
+        at: way.at,
+        fractional_position: way.fractional_position,
+        steps: 0,
+        next: 0,
+    };
+    let mut more = true;
+    while more {
+        let s = stretch(way, r, sound, rate, out);
+        more = (r.next < s.next) & (s.next < rate.len());
+        r = s;
     }
-    ride_on(along, sound, fade, volume, left, right, rate, out)
+    r
 }
-
 // Frame by frame from the first frame that is left on.
 fn play_from(
     rest: Rest,
@@ -159,8 +112,17 @@ pub fn play(
     if !trail::is_trail(moving, sound, track) {
         return playing::play(timed, sound, fade, volume, left, right, rate, out);
     }
-    let along = Along { voice, dt, track };
-    let ridden = ride(along, sound, fade, volume, left, right, rate, out);
+    let window = moving.resampler;
+    let first = window.frames[0];
+    let way = Way {
+        track,
+        at: first.frame_index,
+        fractional_position: voice.fractional_position,
+        dt,
+        sample_rate: voice.setup.sample_rate,
+    };
+    let ridden = ride(way, sound, rate, out);
+    gains::by_frame(fade, volume, left, right, ridden.next, out);
     let wraps = trail::wraps_after(track, transport.position, ridden.steps, moving.wraps);
     let passed = StaticSound {
         fractional_position: ridden.fractional_position,

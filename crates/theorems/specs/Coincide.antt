@@ -19,6 +19,8 @@ use Rattle.voice.proofs as voice
 use Rattle.creation.proofs as creation
 use Rattle.command_set.proofs as command_set
 use Rattle.playing.proofs as playing
+use Rattle.along.proofs as along
+use Rattle.gains.proofs as gains
 use Rattle.riding.proofs as riding
 use Rattle.block.proofs as block
 use Rattle.static_sound.proofs as static_sound
@@ -119,6 +121,7 @@ pub record Coincide : Type 0 where
   pub trail-before-steps : Decides trail.before_steps.Reads.Post
   pub trail-has-room-before : Decides trail.has_room_before.Reads.Post
   pub trail-wraps-after : Decides trail.wraps_after.Reads.Post
+  pub trail-frame-in : Decides trail.frame_in.Reads.Post
   pub trail-frame-at : Decides trail.frame_at.Reads.Post
   pub trail-trail-at : Decides trail.trail_at.Reads.Post
   pub trail-is-trail : Decides trail.is_trail.Reads.Post
@@ -129,7 +132,9 @@ pub record Coincide : Type 0 where
   pub command-set-on-start-processing : Decides command_set.on_start_processing.Reads.Post
   -- playing, riding and block
   pub playing-play : DecidesWith (λ k r s. s .1 .1 .1 .1 .1 .1 .1 .0 .now) playing.play.Reads.Post
-  pub riding-gains-at : Decides riding.gains_at.Reads.Post
+  pub along-moved : Decides along.moved.Reads.Post
+  pub along-store : DecidesWith (λ k r s. s .0 .now) along.store.Reads.Post
+  pub gains-by-frame : DecidesWith (λ k r s. s .1 .1 .1 .1 .1 .0 .now) gains.by_frame.Reads.Post
   pub riding-play : DecidesWith (λ k r s. s .1 .1 .1 .1 .1 .1 .1 .0 .now) riding.play.Reads.Post
   pub block-block : DecidesWith (λ k r s. s .1 .1 .1 .1 .1 .1 .1 .0 .now) block.block.Reads.Post
   -- static_sound

@@ -227,7 +227,8 @@ pub fn wraps_after(track: Track, at: usize, n: usize, wraps: Wraps) -> Wraps
 
 // ---- frames
 
-fn frame_in(sound: &[f32], i: usize) -> Frame
+// Frame i of the sound.
+pub fn frame_in(sound: &[f32], i: usize) -> Frame
     requires { ⌜ 2 * i + 1 < length (now sound) ⌝ }
     ensures { λ r. ⌜ r ≡ frameOf (now (sound .entry)) i ⌝ }
 {

@@ -1,13 +1,15 @@
--- `interpolate` meets its contract: its operations are the cubic's, one by one.
-use mathlib.Core.Path.{refl}
+-- `interpolate` meets its contract: its operations are the cubic's, one by one, but for the third coefficient, which is a
+-- difference (Turned.antt).
+use mathlib.Core.Path.{sym, subst}
+use lib.Dec.{T}
 use lib.Ieee.{ofBits}
-use Rattle.frame.specs.Frames.{cubic}
+use Rattle.frame.proofs.Turned.{cubic-turned}
 use Rattle.frame.proofs.interpolate.Statement.{statement}
 use Rattle.frame.proofs.interpolate.Tie as tie
 
 returns : tie.Need-returns
-unfolding cubic ofBits
-returns c = refl
+unfolding ofBits
+returns c = cubic-turned (c .args .previous) (c .args .current) (c .args .next-1) (c .args .next-2) (c .args .fraction) (subst T (sym (c .good .0 .1)) tt)
 
 pub interpolate-spec : {M : Type 1} → statement M
 interpolate-spec = tie.close (tie.spec returns)

@@ -15,7 +15,9 @@ use Rattle.voice.specs.declared.StaticSound.{StaticSound}
 use Rattle.voice.specs.Voices.{courseOf, moved}
 use Rattle.voice.specs.WellFormed.{Formed}
 use Rattle.voice.proofs.Formed.{able-of}
-use Rattle.playing.specs.Plays.{plays}
+use Rattle.resampler.specs.declared.Reading.{Reading}
+use Rattle.resampler.specs.Windows.{reading}
+use Rattle.playing.specs.Plays.{plays, lower}
 use Rattle.playing.specs.Turns.{turnOf, Turning}
 use Rattle.playing.proofs.Loops.{laneAt, played, played-none, played-more, played-all, slow-at, turned-few, turned-on}
 use Rattle.playing.proofs.play.Statement.{statement}
@@ -180,6 +182,7 @@ loop-less : tie.Need-loop-less Inv-loop μ-loop
 loop-less c = omega (arith, numbers (after-turn (c .before .before)))
 
 loop-again : tie.Need-loop-again Inv-loop μ-loop
+unfolding reading
 loop-again c =
     let a = c .before .before in
     let t = after-turn a in
@@ -187,6 +190,7 @@ loop-again c =
     let st = start at in
     let n = numbers t in
     let w = few a in
+    let read = a .before .before .before .frame-heard in
     record {
       within = omega (arith, n);
       few = omega (arith, n, w);
@@ -194,8 +198,8 @@ loop-again c =
       formed = turned-on (now (st .args .sound)) (st .args .timed .dt) (voice at) _ (at .loop .moving) (at .loop .fractional-position) (a .turn .result) (at .loop .inv .formed) (turning t) (turn-is a);
       so-far =
           played-more (now (st .args .sound)) (st .args .timed .dt) (lent at) (voice at) (at .loop .i) (at .loop .steps) (at .loop .lowest-count) (at .loop .out) (at .loop .moving) (at .loop .fractional-position)
-          (a .before .before .before .frame-heard .result) (a .before .before .lower .result) (a .turn .result) (t .loop-test .taken) (omega (arith, n)) (at .loop .inv .so-far)
-          (a .before .before .before .frame-heard .ensures) (a .before .before .lower .ensures) (turn-is a);
+          (read .result .frame) (a .before .before .lower .result) (a .turn .result) (t .loop-test .taken) (omega (arith, n)) (at .loop .inv .so-far)
+          (ap (λ (r : Reading). r .frame) (read .ensures)) (a .before .before .lower .ensures ∙ ap (λ (r : Reading). lower (at .loop .lowest-count) (r .count)) (read .ensures)) (turn-is a);
     }
 
 same-length : tie.Need-same-length Inv-loop μ-loop

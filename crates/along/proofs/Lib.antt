@@ -1,0 +1,3 @@
+-- Laws of rides along a track.
+pub mod Moves
+pub mod Rides

@@ -1,0 +1,2 @@
+-- A ride along a track.
+pub mod Rides

@@ -1,0 +1,2 @@
+-- Laws of readings times their gains.
+pub mod Gained

@@ -1,0 +1,2 @@
+-- Readings times their gains.
+pub mod Gained

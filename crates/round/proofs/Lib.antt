@@ -1,0 +1,2 @@
+-- Laws of a ride round a track.
+pub mod Readings

@@ -1,0 +1,2 @@
+-- Laws of a ride that does not wrap.
+pub mod Straight
