@@ -7,6 +7,7 @@ ghost use Rattle.cableowl.specs.Entries.{after, createdC, commandedC, an
 
 mod fades;
 mod loops;
+mod once;
 mod saved;
 mod traces;
 
@@ -16,6 +17,8 @@ use inputs::CableowlSignals;
 use inputs::commands_of;
 use inputs::settings_of;
 use inputs::signals_of;
+pub use once::cableowl_process_held;
+pub use once::cableowl_process_held_into;
 use playing::Processed;
 use records::CableowlState;
 use records::decode;

@@ -17,6 +17,7 @@ use Rattle.voice.proofs as voice
 use Rattle.creation.proofs as creation
 use Rattle.command_set.proofs as command_set
 use Rattle.playing.proofs as playing
+use Rattle.held.proofs as held
 use Rattle.block.proofs as block
 use Rattle.static_sound.proofs as static_sound
 use Rattle.records.proofs as records
@@ -104,12 +105,16 @@ pub record Coincide : Type 0 where
   pub creation-new : Decides creation.new.Reads.Post
   -- command_set
   pub command-set-on-start-processing : Decides command_set.on_start_processing.Reads.Post
-  -- playing and block
+  -- playing, held and block
   pub playing-play : DecidesWith (λ k s. s .1 .1 .1 .1 .1 .1 .1 .0 .now) playing.play.Reads.Post
+  pub held-play : DecidesWith (λ k s. s .1 .1 .1 .0 .now) held.play.Reads.Post
+  pub block-block-held : DecidesWith (λ k s. s .1 .1 .1 .0 .now) block.block_held.Reads.Post
   pub block-block : DecidesWith (λ k s. s .1 .1 .1 .1 .1 .1 .1 .0 .now) block.block.Reads.Post
   -- static_sound
   pub static-sound-process : DecidesWith (λ k s. s .1 .1 .1 .1 .1 .1 .1 .1 .1 .0 .now) static_sound.process.Reads.Post
   pub static-sound-process-into : DecidesWith (λ k s. s .1 .1 .1 .1 .1 .1 .1 .1 .1 .0 .now) static_sound.process_into.Reads.Post
+  pub static-sound-process-held : DecidesWith (λ k s. s .1 .1 .1 .1 .1 .0 .now) static_sound.process_held.Reads.Post
+  pub static-sound-process-held-into : DecidesWith (λ k s. s .1 .1 .1 .1 .1 .0 .now) static_sound.process_held_into.Reads.Post
   pub static-sound-stretch : DecidesPart static_sound.stretch.Reads.Post
   -- records and inputs
   pub records-decode : Decides records.decode.Reads.Post
@@ -123,4 +128,6 @@ pub record Coincide : Type 0 where
   pub cableowl-cableowl-on-start-processing : Decides cableowl.cableowl_on_start_processing.Reads.Post
   pub cableowl-cableowl-process : DecidesWith (λ k s. s .1 .1 .1 .1 .1 .1 .1 .1 .1 .0 .now) cableowl.cableowl_process.Reads.Post
   pub cableowl-cableowl-process-into : DecidesWith (λ k s. s .1 .1 .1 .1 .1 .1 .1 .1 .1 .0 .now) cableowl.cableowl_process_into.Reads.Post
+  pub cableowl-cableowl-process-held : DecidesWith (λ k s. s .1 .1 .1 .1 .1 .1 .1 .1 .1 .0 .now) cableowl.cableowl_process_held.Reads.Post
+  pub cableowl-cableowl-process-held-into : DecidesWith (λ k s. s .1 .1 .1 .1 .1 .1 .1 .1 .1 .0 .now) cableowl.cableowl_process_held_into.Reads.Post
   pub cableowl-cableowl-stretch : Decides cableowl.cableowl_stretch.Reads.Post
