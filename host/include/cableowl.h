@@ -338,6 +338,18 @@ CableowlProcessed cableowl_process_into(CableowlState state, const float *sound,
                                         size_t rate_len, double dt, CableowlSignals signals, float *mix,
                                         size_t mix_len, uint64_t from);
 
+/* Plays a block of out_len / 2 frames that all have the same five numbers: cableowl_process with lanes that repeat them.
+ * An odd out_len is refused with 9; with no frames the five numbers are not judged. */
+CableowlProcessed cableowl_process_held(CableowlState state, const float *sound, size_t sound_len, float fade,
+                                        float volume, float left, float right, double rate, double dt,
+                                        CableowlSignals signals, float *out, size_t out_len);
+
+/* Plays such a block of so many frames into a longer buffer from frame `from` on, as cableowl_process_into does. */
+CableowlProcessed cableowl_process_held_into(CableowlState state, const float *sound, size_t sound_len, float fade,
+                                             float volume, float left, float right, double rate, double dt,
+                                             CableowlSignals signals, float *mix, size_t mix_len, uint64_t from,
+                                             uint64_t frames);
+
 /* The part of the sound that the voice plays; where it would be refused with 1, the empty part at 0. */
 CableowlPart cableowl_stretch(CableowlState state, const float *sound, size_t sound_len);
 

@@ -6,7 +6,11 @@ ghost use Rattle.lanes.specs.Lanes.{five, rows};
 ghost use Rattle.playing.specs.Plays.{acceptedAs};
 ghost use Rattle.playing.specs.Turns.{Playable};
 ghost use Rattle.block.specs.Blocks.{begun, live, block};
+
+mod once;
+
 use moving::Moving;
+pub use once::block_held;
 use playback_state_manager::PlaybackState;
 use playback_state_manager::StartAnswer;
 use playing::Processed;

@@ -1,11 +1,13 @@
 -- The entries of the C ABI, accepted and refused together: each is the entry below it, between records of numbers.
-use Prim.Native.Nat.{ℕ}
+use Prim.Native.Nat.{ℕ, _/_}
 use mathlib.Core.Bool.{cond}
 use mathlib.Core.List.{List}
 use lib.Dec.{eqb}
 use lib.ListN.{length}
 use lib.Ieee.{Float}
 use Rattle.lanes.specs.Lanes.{Lanes}
+use Rattle.held.specs.declared.Held.{Held}
+use Rattle.held.specs.Held.{once}
 use Rattle.voice.specs.declared.StaticSound.{StaticSound}
 use Rattle.creation.specs.Creation.{created}
 use Rattle.command_set.specs.Commands.{commanded}
@@ -56,6 +58,14 @@ unfoldable pub processedIntoC : List Float → CableowlState → Float → Lanes
 processedIntoC snd c dt b g mix from =
     let o = processedInto snd (decoded c) dt b (signalsOf g) mix from in
     record { answer = answered (o .answer) c; samples = o .samples }
+
+-- a block whose numbers are given once: that of lanes which repeat them, a frame for each two samples of the output
+abbrev pub processedHeldC : List Float → CableowlState → Float → Held → CableowlSignals → List Float → OutcomeC
+processedHeldC snd c dt x g out = processedC snd c dt (once x (length out / 2)) g out
+
+-- n frames of it into a mix
+abbrev pub processedHeldIntoC : List Float → CableowlState → Float → Held → CableowlSignals → List Float → ℕ → ℕ → OutcomeC
+processedHeldIntoC snd c dt x g mix from n = processedIntoC snd c dt (once x n) g mix from
 
 -- the stretch, by where it begins in the lent sound and how long it is
 unfoldable pub partC : List Float → CableowlState → CableowlPart

@@ -7,6 +7,7 @@ ghost use Rattle.cableowl.specs.Entries.{after, createdC, commandedC, an
 
 mod fades;
 mod loops;
+mod once;
 mod saved;
 mod traces;
 
@@ -23,6 +24,8 @@ pub use loops::cableowl_loop_table;
 pub use loops::cableowl_read_loop;
 pub use loops::cableowl_take_loop;
 pub use loops::cableowl_write_loop;
+pub use once::cableowl_process_held;
+pub use once::cableowl_process_held_into;
 use playing::Processed;
 use records::CableowlState;
 use records::decode;

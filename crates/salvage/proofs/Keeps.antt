@@ -2,17 +2,21 @@
 use mathlib.Core.Path.{_≡_, refl, sym, ap, _∙_}
 use Prim.Native.Nat.{ℕ, zero, suc, _+_, _-_, _*_, _≤_, _<_}
 use native.Mathlib.Omega.{arith}
-use mathlib.Core.Bool.{Bool, true, false, cond}
+use mathlib.Core.Bool.{Bool, true, false, _&&_, cond}
 use mathlib.Core.List.{List, [], _∷_, _++_, append-assoc}
-use lib.Dec.{eqb}
+use lib.Dec.{eqb, ltb, leb}
 use lib.ListN.{length, getD, take, drop, set, length-append, length-drop, drop-of-length-le}
 use native.Mathlib.Numerals.{add-one}
 use lib.Seq.{take-at, drop-at, drop-cons, drop-drop, sets, length-sets, length-take-le}
 use Rattle.layout.proofs.Puts.{sets-append}
 use Rattle.salvage.specs.declared.Turn.{Turn}
-use borrow.Author.Tests.{eqb-true, eqb-false, ne-eqb, eq-eqb, lt-ltb, le-ltb}
+use borrow.Author.Tests.{eqb-true, eqb-false, ne-eqb, eq-eqb, lt-ltb, le-ltb, ltb-true, ltb-false, leb-true, le-leb, lt-leb}
 use Rattle.trace.specs.declared.Record.{Record}
-use Rattle.trace.specs.Records.{Found, refused, found, readRecord, valued, recordAt}
+use Rattle.layout.specs.Numbers.{num}
+use Rattle.layout.specs.Rows.{rowAt, rows, stands, within}
+use Rattle.layout.specs.Reads.{steps, step, taken}
+use Rattle.trace.specs.Tables.{headTable, headRows}
+use Rattle.trace.specs.Records.{Found, refused, found, readRecord, bodied, valued, recordAt}
 use Rattle.salvage.specs.Salvage.{kept, skipped, records, first, sizeIn, sizeOf, placed, Turned, Salvaged, salvageOf}
 
 none : {A : Type 0} → ⊥ → A
@@ -117,6 +121,28 @@ size-none s at r e h = size-refused (length s) at (length (drop at s)) (readReco
 pub size-some : (s : List ℕ) (at : ℕ) (r : Record) → r ≡ recordAt s at → r .next - at ≡ sizeOf (drop at s)
 unfolding recordAt sizeOf
 size-some s at r e = ap (λ (x : Record). x .next - at) e ∙ size-found (length s) at (length (drop at s)) (readRecord (drop at s)) (length-drop at s)
+
+-- no record begins past the end, or with another byte than A5
+pub size-past : (s : List ℕ) (at : ℕ) → length s ≤ at → 0 ≡ sizeOf (drop at s)
+size-past s at h = omega (arith, size-le s at)
+
+not-a5 : (x : ℕ) → (x ≡ 165 → ⊥) → (leb 165 x && leb x 165) ≡ false
+not-a5 x h = go (leb 165 x) refl
+  where
+    go : (t : Bool) → leb 165 x ≡ t → (t && leb x 165) ≡ false
+    go true e = let l = leb-true 165 x e in lt-leb x 165 (above (ltb 165 x) refl l)
+      where
+        above : (t : Bool) → ltb 165 x ≡ t → 165 ≤ x → 165 < x
+        above true f l = ltb-true 165 x f
+        above false f l = let m = ltb-false 165 x f in none (h (omega arith))
+    go false e = refl
+
+other-byte : (b : ℕ) (bs : List ℕ) → (b ≡ 165 → ⊥) → 0 ≡ sizeOf (b ∷ bs)
+unfolding sizeOf sizeIn readRecord bodied steps step taken stands within num headRows rows rowAt headTable
+other-byte b bs h = let x : b + 0 ≡ b = omega arith in rw (x, not-a5 b h, le-leb 1 (length (b ∷ bs)) (omega arith)) refl
+
+pub size-unmarked : (s : List ℕ) (at : ℕ) → at < length s → (getD s at 0 ≡ 165 → ⊥) → 0 ≡ sizeOf (drop at s)
+size-unmarked s at l h = rw (drop-cons s at 0 l) (other-byte (getD s at 0) (drop (suc at) s) h)
 
 module _ (s out : List ℕ) (t : Turn) (a : t .at < length s) (b : t .w ≤ t .at) (c : t .skip ≤ t .at) (g : t .records ≤ t .at) where
   pub keeps : (new : List ℕ) (n : ℕ) → n ≡ sizeOf (drop (t .at) s) → 0 < n → new ≡ sets out (t .w) (take (t .at + n - t .at) (drop (t .at) s))

@@ -26,10 +26,16 @@ pub struct Saved {
     pub first: usize,
 }
 
-// The bytes of the complete record at a place, or 0.
+// The bytes of the complete record at a place, or 0. A record begins with A5: the reader is not asked at any other byte.
 fn record_size(s: &[u8], at: usize) -> usize
     ensures { λ n. ⌜ n ≡ sizeOf (drop at (now (s .entry))) ⌝ }
 {
+    if s.len() <= at {
+        return 0;
+    }
+    if s[at] != 0xa5 {
+        return 0;
+    }
     let r = trace::read(s, at);
     if r.refusal != 0 {
         return 0;

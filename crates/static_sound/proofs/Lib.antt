@@ -1,5 +1,6 @@
 -- Laws of the entries' definitions.
 pub mod Calls
 pub mod Entries
+pub mod Held
 pub mod Places
 pub mod Refusals

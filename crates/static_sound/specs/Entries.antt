@@ -12,6 +12,8 @@ use Rattle.numbers.specs.Lists.{all}
 use Rattle.voice.specs.declared.StaticSound.{StaticSound}
 use Rattle.voice.specs.Voices.{offset}
 use Rattle.voice.specs.WellFormed.{ours}
+use Rattle.held.specs.declared.Held.{Held}
+use Rattle.held.specs.Held.{once}
 use Rattle.block.specs.declared.Signals.{Signals}
 use Rattle.voice.specs.Refusals.{unless}
 use Rattle.playing.specs.Plays.{Outcome, acceptedWith}
@@ -56,6 +58,14 @@ processedInto snd v dt b g mix from =
     let k = refusedBlock (length snd) v dt b (room from n mix) in
     let p = block snd dt (rows b) g v in
     cond (eqb k 0) (acceptedWith p (mixed from n mix (p .samples))) (refusedWith k v mix)
+
+-- a block whose numbers are given once: that of lanes which repeat them, a frame for each two samples of the output
+abbrev pub processedHeld : List Float → StaticSound → Float → Held → Signals → List Float → Outcome
+processedHeld snd v dt x g out = processed snd v dt (once x (length out / 2)) g out
+
+-- n frames of it into a mix
+abbrev pub processedHeldInto : List Float → StaticSound → Float → Held → Signals → List Float → ℕ → ℕ → Outcome
+processedHeldInto snd v dt x g mix from n = processedInto snd v dt (once x n) g mix from
 
 -- the sound's own part: twice start to twice end of the slice, or all of it
 abbrev pub sliced : FrameRange → List Float → List Float

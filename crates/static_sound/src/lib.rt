@@ -6,12 +6,15 @@ ghost use Rattle.lanes.specs.Lanes.{five};
 ghost use Rattle.static_sound.specs.Entries.{refusedBlock, processed};
 
 mod mix;
+mod once;
 mod stretches;
 
 use block::Signals;
 use block::Told;
 use block::block;
 pub use mix::process_into;
+pub use once::process_held;
+pub use once::process_held_into;
 use playing::Processed;
 use playing::Timed;
 pub use stretches::stretch;

@@ -14,7 +14,7 @@ use playing::Timed;
 use voice::StaticSound;
 
 // Whether a mix of so many samples has whole frames, and so many of them from the frame given on.
-fn has_room(from: usize, frames: usize, samples: usize) -> bool
+pub(crate) fn has_room(from: usize, frames: usize, samples: usize) -> bool
     ensures { λ r. ⌜ r ≡ (eqb (samples % 2) 0 && leb (from + frames) (samples / 2)) ⌝ }
 {
     if samples % 2 != 0 {

@@ -12,6 +12,7 @@ pub mod Reports
 pub mod AnyOrder
 pub mod InTheLoop
 pub mod Budget
+pub mod Held
 pub mod StartTicks
 pub mod Plain
 pub mod Rounds

@@ -22,6 +22,7 @@ use Rattle.theorems.proofs.Reports.{creation-feeds, commands-feed, bloc
 use Rattle.theorems.proofs.AnyOrder.{any-order, there-and-back, permutations}
 use Rattle.theorems.proofs.InTheLoop.{in-the-loop}
 use Rattle.theorems.proofs.Rounds.{updates-fit, blocks-fit, mixes-fit}
+use Rattle.theorems.proofs.Held.{held-blocks}
 use Rattle.theorems.proofs.Budget.{block-budget, mix-budget, stream-budget, two-steps}
 use Rattle.theorems.proofs.StartTicks.{half-reached, moved-together, tick-starts, mix-tick-starts}
 use Rattle.theorems.proofs.Archive.{archive-cut-blocks, archive-cut-mixes}
@@ -87,6 +88,7 @@ promises =
       mix-budget = mix-budget;
       stream-budget = stream-budget;
       two-steps = two-steps;
+      held-blocks = held-blocks;
       creation-feeds = creation-feeds;
       commands-feed = commands-feed;
       blocks-feed = blocks-feed;

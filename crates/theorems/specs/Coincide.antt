@@ -22,6 +22,7 @@ use Rattle.playing.proofs as playing
 use Rattle.along.proofs as along
 use Rattle.gains.proofs as gains
 use Rattle.riding.proofs as riding
+use Rattle.held.proofs as held
 use Rattle.block.proofs as block
 use Rattle.static_sound.proofs as static_sound
 use Rattle.loop_table.proofs as loop_table
@@ -130,16 +131,20 @@ pub record Coincide : Type 0 where
   pub creation-new : Decides creation.new.Reads.Post
   -- command_set
   pub command-set-on-start-processing : Decides command_set.on_start_processing.Reads.Post
-  -- playing, riding and block
+  -- playing, riding, held and block
   pub playing-play : DecidesWith (λ k r s. s .1 .1 .1 .1 .1 .1 .1 .0 .now) playing.play.Reads.Post
   pub along-moved : Decides along.moved.Reads.Post
   pub along-store : DecidesWith (λ k r s. s .0 .now) along.store.Reads.Post
   pub gains-by-frame : DecidesWith (λ k r s. s .1 .1 .1 .1 .1 .0 .now) gains.by_frame.Reads.Post
   pub riding-play : DecidesWith (λ k r s. s .1 .1 .1 .1 .1 .1 .1 .0 .now) riding.play.Reads.Post
+  pub held-play : DecidesWith (λ k r s. s .1 .1 .1 .0 .now) held.play.Reads.Post
+  pub block-block-held : DecidesWith (λ k r s. s .1 .1 .1 .0 .now) block.block_held.Reads.Post
   pub block-block : DecidesWith (λ k r s. s .1 .1 .1 .1 .1 .1 .1 .0 .now) block.block.Reads.Post
   -- static_sound
   pub static-sound-process : DecidesWith (λ k r s. s .1 .1 .1 .1 .1 .1 .1 .1 .1 .0 .now) static_sound.process.Reads.Post
   pub static-sound-process-into : DecidesWith (λ k r s. s .1 .1 .1 .1 .1 .1 .1 .1 .1 .0 .now) static_sound.process_into.Reads.Post
+  pub static-sound-process-held : DecidesWith (λ k r s. s .1 .1 .1 .1 .1 .0 .now) static_sound.process_held.Reads.Post
+  pub static-sound-process-held-into : DecidesWith (λ k r s. s .1 .1 .1 .1 .1 .0 .now) static_sound.process_held_into.Reads.Post
   pub static-sound-stretch : DecidesPart static_sound.stretch.Reads.Post
   -- loop_table and take_loop
   pub loop-table-looptable-new : Decides loop_table.LoopTable.new.Reads.Post

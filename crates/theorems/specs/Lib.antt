@@ -12,6 +12,7 @@ pub mod AnyOrder
 pub mod InTheLoop
 pub mod Rounds
 pub mod Budget
+pub mod Held
 pub mod StartTicks
 pub mod Stays
 pub mod AtZero

@@ -12,6 +12,7 @@ use Rattle.theorems.specs.AnyOrder.{AnyOrder, ThereAndBack, Permutations
 use Rattle.theorems.specs.InTheLoop.{InTheLoop}
 use Rattle.theorems.specs.Rounds.{UpdatesFit, BlocksFit, MixesFit}
 use Rattle.theorems.specs.Budget.{BlockBudget, MixBudget, StreamBudget, TwoSteps}
+use Rattle.theorems.specs.Held.{HeldBlocks}
 use Rattle.theorems.specs.StartTicks.{HalfReached, MovedTogether, TickStarts, MixTickStarts}
 use Rattle.theorems.specs.AtZero.{ReadsB}
 use Rattle.theorems.specs.Wraps.{RustAgrees}
@@ -61,6 +62,8 @@ pub record Promises : Type 0 where
   pub mix-budget : MixBudget
   pub stream-budget : StreamBudget
   pub two-steps : TwoSteps
+  -- the same of blocks whose numbers are given once
+  pub held-blocks : HeldBlocks
   -- what the lowest count tells a monitor of a voice that creation and its calls have fed
   pub creation-feeds : CreationFeeds
   pub commands-feed : CommandsFeed

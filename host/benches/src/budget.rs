@@ -4,7 +4,7 @@ use std::fmt::Write;
 
 use crate::{
     measure,
-    workload::{HZ, Looped, Safe, Workload},
+    workload::{HZ, LaneKind, Looped, Safe, Workload},
 };
 
 /// The blocks of the table, in frames.
@@ -28,6 +28,7 @@ pub fn table() -> String {
                 rate: f64::from(steps),
                 block,
                 looped: Looped::Long,
+                lanes: LaneKind::PerFrame,
                 start: None,
             };
             let least = measure::least(&mut Safe::new(&workload, &sound), block);

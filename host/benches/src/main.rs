@@ -1,9 +1,11 @@
 // Times ours against kira's text:
 //   benches [--write DIR]
+//   benches --tables                                                        (the page's tables, in Markdown, on standard output)
 //   benches --modes                                                         (what the float mode costs a call)
 //   benches --budget                                                        (voices a core by block size and steps a frame)
 //   benches --players                                                       (64 players into one buffer, against bare voices)
-//   benches --play ours|safe|kira|player|moving|none --rate R --block N --looped long|3|subnormal --start N --frames N
+//   benches --play ours|safe|kira|player|moving|none --rate R --block N --looped long|3|subnormal
+//           --lanes once|constant|frames|rates --start N --frames N
 //                                                                          (one workload, to be counted)
 
 mod budget;
@@ -16,7 +18,7 @@ mod workload;
 use std::{env, error::Error, fs, path::Path, process::ExitCode};
 
 use players::One;
-use workload::{Kira, Looped, Ours, Safe, Voice, Workload};
+use workload::{Kira, LaneKind, Looped, Ours, Safe, Voice, Workload};
 
 fn main() -> ExitCode {
     match run(&env::args().skip(1).collect::<Vec<_>>()) {
@@ -46,6 +48,10 @@ fn run(words: &[String]) -> Result<(), Box<dyn Error>> {
         return Ok(());
     }
     let rows = measure::all();
+    if words.iter().any(|word| word == "--tables") {
+        print!("{}", report::tables(&rows, &players::table()));
+        return Ok(());
+    }
     let table = report::table(&rows);
     print!("{table}");
     if let Some(folder) = option(words, "--write") {
@@ -82,6 +88,13 @@ fn play(who: &str, words: &[String]) -> Result<(), Box<dyn Error>> {
             Some("subnormal") => Looped::Tail,
             Some(word) => {
                 return Err(format!("--looped takes long, 3 or subnormal, not {word}").into());
+            }
+        },
+        lanes: match option(words, "--lanes") {
+            None => LaneKind::PerFrame,
+            Some(word) => {
+                let found = LaneKind::ALL.into_iter().find(|kind| kind.word() == word);
+                found.ok_or("--lanes takes once, constant, frames or rates")?
             }
         },
         start: option(words, "--start").map(str::parse).transpose()?,

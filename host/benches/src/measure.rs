@@ -2,7 +2,7 @@
 
 use std::time::Instant;
 
-use crate::workload::{Kira, Looped, Ours, Safe, Voice, Workload};
+use crate::workload::{Kira, LaneKind, Looped, Ours, Safe, Voice, Workload};
 
 /// The rates played forward.
 pub const FORWARD: [f64; 5] = [0.5, 0.93, 1.0, 2.0, 16.0];
@@ -37,13 +37,17 @@ pub struct Row {
     pub kira: Time,
 }
 
-/// Every workload.
+/// Every workload: each kind of lane in the long loop, lanes per frame in the others.
 #[must_use]
 pub fn all() -> Vec<Row> {
-    Looped::ALL.into_iter().flat_map(rows).collect()
+    let long = LaneKind::ALL.map(|lanes| (Looped::Long, lanes));
+    let others = [Looped::Three, Looped::Tail].map(|looped| (looped, LaneKind::PerFrame));
+    let all = long.into_iter().chain(others);
+    all.flat_map(|(looped, lanes)| rows(looped, lanes))
+        .collect()
 }
 
-fn rows(looped: Looped) -> Vec<Row> {
+fn rows(looped: Looped, lanes: LaneKind) -> Vec<Row> {
     let sound = looped.sound();
     let with_rate = BLOCKS.into_iter().flat_map(|block| {
         let rates = FORWARD.into_iter().chain(BACKWARD);
@@ -51,6 +55,7 @@ fn rows(looped: Looped) -> Vec<Row> {
             rate,
             block,
             looped,
+            lanes,
             start: None,
         })
     });

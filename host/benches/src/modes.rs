@@ -2,7 +2,7 @@
 
 use std::time::Instant;
 
-use crate::workload::{Looped, Safe, Voice, Workload};
+use crate::workload::{LaneKind, Looped, Safe, Voice, Workload};
 
 #[path = "../../cableowl/tests/mode/mod.rs"]
 mod mode;
@@ -20,6 +20,7 @@ pub fn cost() -> [f64; 2] {
         rate: 0.93,
         block: BLOCK,
         looped: Looped::Long,
+        lanes: LaneKind::PerFrame,
         start: None,
     };
     let sound = workload.looped.sound();

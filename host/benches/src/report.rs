@@ -4,21 +4,22 @@ use std::{fmt::Write, fs, process::Command};
 
 use crate::{
     measure::{BLOCKS, FORWARD, Row},
-    workload::{HZ, Looped},
+    workload::{HZ, LaneKind, Looped},
 };
 
 /// The table, one line a workload.
 #[must_use]
 pub fn table(rows: &[Row]) -> String {
     let mut text = String::from(
-        "| loop | block | rate | ours: least | median | safe crate: least | kira: least | median | ours / kira | safe / kira | our voices a core |\n|---|---|---|---|---|---|---|---|---|---|---|\n",
+        "| loop | lanes | block | rate | ours: least | median | safe crate: least | kira: least | median | ours / kira | safe / kira | our voices a core |\n|---|---|---|---|---|---|---|---|---|---|---|---|\n",
     );
     for row in rows {
         let looped = row.workload.looped.name();
         let voices = 1e9 / (row.ours.least * f64::from(HZ));
         writeln!(
             text,
-            "| {looped} | {} | {} | {:.2} | {:.2} | {:.2} | {:.2} | {:.2} | {:.2} | {:.2} | {voices:.0} |",
+            "| {looped} | {} | {} | {} | {:.2} | {:.2} | {:.2} | {:.2} | {:.2} | {:.2} | {:.2} | {voices:.0} |",
+            row.workload.lanes.name(),
             row.workload.block,
             row.workload.rate,
             row.ours.least,
@@ -34,6 +35,86 @@ pub fn table(rows: &[Row]) -> String {
     text
 }
 
+/// The rates, in either direction, that the ratios of a kind of lane are taken over.
+const SLOW: [f64; 3] = [0.5, 0.93, 1.0];
+
+/// Ours over kira's text for each kind of lane: the least and the most of its cells, blocks of 512 and 4,096 beside blocks of 64.
+#[must_use]
+pub fn ratios(rows: &[Row]) -> String {
+    let mut text = String::from("| lanes | 512 and 4,096 | 64 |\n|---|---|---|\n");
+    let mut line = |name: &str, is_of: &dyn Fn(&Row) -> bool| {
+        let cell = |is_small: bool| {
+            let is_cell = |row: &&Row| is_of(row) && (row.workload.block == 64) == is_small;
+            let ratios = rows
+                .iter()
+                .filter(is_cell)
+                .map(|row| row.ours.least / row.kira.least);
+            let ends = (f64::INFINITY, f64::NEG_INFINITY);
+            let (least, most) =
+                ratios.fold(ends, |(low, high), ratio| (low.min(ratio), high.max(ratio)));
+            format!("{least:.2} to {most:.2}")
+        };
+        writeln!(text, "| {name} | {} | {} |", cell(false), cell(true))
+            .expect("a string takes all");
+    };
+    let is_at = |row: &Row, rates: &[f64]| rates.contains(&row.workload.rate.abs());
+    for lanes in LaneKind::ALL {
+        line(lanes.name(), &|row| {
+            row.workload.looped == Looped::Long && row.workload.lanes == lanes && is_at(row, &SLOW)
+        });
+    }
+    line("rate 2, any of these", &|row| {
+        row.workload.looped == Looped::Long && is_at(row, &[2.0])
+    });
+    line("loops of 3 frames, per frame", &|row| {
+        row.workload.looped == Looped::Three && is_at(row, &SLOW)
+    });
+    text
+}
+
+/// The nanoseconds of a call that do not depend on its frames, at rate 0.93 in the long loop: by the times of blocks of 64 and
+/// of 4,096.
+#[must_use]
+pub fn fixed_parts(rows: &[Row]) -> String {
+    let mut text = String::from("| lanes | ours | safe crate | kira's text |\n|---|---|---|---|\n");
+    for lanes in LaneKind::ALL {
+        let found = |block: usize| {
+            rows.iter().find(|row| {
+                let workload = row.workload;
+                workload.looped == Looped::Long
+                    && (workload.lanes, workload.block, workload.rate) == (lanes, block, 0.93)
+            })
+        };
+        let (Some(few), Some(many)) = (found(64), found(4_096)) else {
+            continue;
+        };
+        // A call takes the fixed part and so much a frame.
+        let fixed = |few: f64, many: f64| (few - many) / (1.0 / 64.0 - 1.0 / 4_096.0);
+        writeln!(
+            text,
+            "| {} | {:.0} | {:.0} | {:.0} |",
+            lanes.name(),
+            fixed(few.ours.least, many.ours.least),
+            fixed(few.safe.least, many.safe.least),
+            fixed(few.kira.least, many.kira.least),
+        )
+        .expect("a string takes all");
+    }
+    text
+}
+
+/// All tables of the page, in Markdown.
+#[must_use]
+pub fn tables(rows: &[Row], players: &str) -> String {
+    format!(
+        "Measured on {}.\n\n{}\n{}\n{}\n{players}",
+        machine(),
+        ratios(rows),
+        fixed_parts(rows),
+        table(rows),
+    )
+}
+
 /// The page.
 #[must_use]
 pub fn document(rows: &[Row], players: &str) -> String {
@@ -46,18 +127,27 @@ Measured on {}.
 
 ```
 cd host && cargo run --release --offline -p benches -- --write ../docs    # writes this page and the plot
+cd host && cargo run --release --offline -p benches -- --tables           # prints its tables alone
 cd host && cargo run --release --offline -p benches -- --modes            # what the float mode costs a call
 cd host && cargo run --release --offline -p benches -- --players          # many players into one buffer, below
 tools/instructions                                                        # instructions a frame, by callgrind
 tools/divisions                                                           # divisions in a loop of 3 frames, by callgrind
 ```
 
+Ours over kira's text, the least and the most of rates 0.5, 0.93 and 1, forward and backward, in the long loop. \"Given once\" is `cableowl_process_held` with amplitudes and gains of 1, 0.5, 0.8 and 0.9; \"constant\" are lanes of ones through `cableowl_process`; \"per frame\" are lanes of random amplitudes and gains, the rate one number or a number for each frame. Ratios depend on the processor: kira's text gained more than ours from a Neoverse N1 to a Neoverse V1, so a ratio of 0.65 on the one was 0.85 on the other.
+
+{}
+The nanoseconds of a call that do not depend on its frames, at rate 0.93 in the long loop, from the times of blocks of 64 and of 4,096:
+
+{}
 ![Nanoseconds a frame, ours and kira's text](benchmark.svg)
 
 {}
 {}
 {REST}",
         machine(),
+        ratios(rows),
+        fixed_parts(rows),
         table(rows),
         players_section(players)
     )
@@ -109,10 +199,11 @@ fn machine() -> String {
             let line = text.lines().find(|line| line.starts_with(name))?;
             Some(line.split_once(':')?.1.trim().to_string())
         };
-        // Arm tells numbers and no name.
+        // Arm's file has numbers and no name.
         told("model name").or_else(|| {
             let [implementer, part] = [told("CPU implementer")?, told("CPU part")?];
-            Some(format!("processor {implementer} {part}"))
+            let name = arm_name(&implementer, &part);
+            Some(name.map_or(format!("processor {implementer} {part}"), str::to_owned))
         })
     };
     [
@@ -125,12 +216,38 @@ fn machine() -> String {
     .join(", ")
 }
 
+/// The name of a processor by the two numbers in Linux's /proc/cpuinfo: Arm's own designs.
+fn arm_name(implementer: &str, part: &str) -> Option<&'static str> {
+    if implementer != "0x41" {
+        return None;
+    }
+    Some(match part {
+        "0xd03" => "Cortex-A53",
+        "0xd05" => "Cortex-A55",
+        "0xd07" => "Cortex-A57",
+        "0xd08" => "Cortex-A72",
+        "0xd0b" => "Cortex-A76",
+        "0xd0c" => "Neoverse N1",
+        "0xd0d" => "Cortex-A77",
+        "0xd40" => "Neoverse V1",
+        "0xd41" => "Cortex-A78",
+        "0xd44" => "Cortex-X1",
+        "0xd49" => "Neoverse N2",
+        "0xd4f" => "Neoverse V2",
+        "0xd84" => "Neoverse V3",
+        "0xd8e" => "Neoverse N3",
+        _ => return None,
+    })
+}
+
 /// The long loop, forward, as bars: a panel a block size, a pair of bars a rate.
 #[must_use]
 pub fn plot(rows: &[Row]) -> String {
     let long: Vec<&Row> = rows
         .iter()
-        .filter(|row| row.workload.looped == Looped::Long)
+        .filter(|row| {
+            (row.workload.looped, row.workload.lanes) == (Looped::Long, LaneKind::PerFrame)
+        })
         .collect();
     let most = long
         .iter()

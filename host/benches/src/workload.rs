@@ -2,7 +2,9 @@
 // lanes and blocks.
 
 use random::Random;
-use raw::{CableowlPlace, CableowlRegion, CableowlSettings, CableowlSignals, CableowlState, Lanes};
+use raw::{
+    CableowlPlace, CableowlRegion, CableowlSettings, CableowlSignals, CableowlState, Held, Lanes,
+};
 
 /// Frames a second, of the sound and of the output.
 pub const HZ: u32 = 48_000;
@@ -18,8 +20,50 @@ pub struct Workload {
     pub block: usize,
     /// What is looped.
     pub looped: Looped,
+    /// What the frames are given.
+    pub lanes: LaneKind,
     /// The frame it starts at; none is the loop's first.
     pub start: Option<usize>,
+}
+
+/// What the frames of a block are given.
+#[derive(Debug, Clone, Copy, PartialEq, Eq)]
+pub enum LaneKind {
+    /// Five numbers for the whole block, given once: amplitudes and gains 1, 0.5, 0.8 and 0.9.
+    Once,
+    /// Lanes that repeat a number, amplitudes and gains of 1.
+    Constant,
+    /// Amplitudes and gains of each frame, and one rate in all of the lane.
+    PerFrame,
+    /// The same with a rate of each frame, up to a thousandth above the workload's.
+    Rates,
+}
+
+impl LaneKind {
+    /// All of them.
+    pub const ALL: [Self; 4] = [Self::Once, Self::Constant, Self::PerFrame, Self::Rates];
+
+    /// The words for it in tables.
+    #[must_use]
+    pub fn name(self) -> &'static str {
+        match self {
+            Self::Once => "given once",
+            Self::Constant => "constant",
+            Self::PerFrame => "per frame, one rate",
+            Self::Rates => "per frame, rates vary",
+        }
+    }
+
+    /// The word for it in options.
+    #[must_use]
+    pub fn word(self) -> &'static str {
+        match self {
+            Self::Once => "once",
+            Self::Constant => "constant",
+            Self::PerFrame => "frames",
+            Self::Rates => "rates",
+        }
+    }
 }
 
 /// What is looped, and what it sounds like.
@@ -34,9 +78,6 @@ pub enum Looped {
 }
 
 impl Looped {
-    /// All of them.
-    pub const ALL: [Self; 3] = [Self::Long, Self::Three, Self::Tail];
-
     /// The word for it in tables and options.
     #[must_use]
     pub fn name(self) -> &'static str {
@@ -88,11 +129,20 @@ impl Workload {
 
     fn numbers(&self) -> Numbers {
         let mut random = Random::new(3);
-        let mut lane = || (0..self.block).map(|_| random.unit() as f32).collect();
-        Numbers {
-            amplitudes: [lane(), lane(), lane(), lane()],
-            rate: vec![self.rate; self.block],
-        }
+        let amplitudes = match self.lanes {
+            LaneKind::Once => [1.0, 0.5, 0.8, 0.9].map(|number| vec![number; self.block]),
+            LaneKind::Constant => [1.0; 4].map(|number| vec![number; self.block]),
+            LaneKind::PerFrame | LaneKind::Rates => {
+                let mut lane = || (0..self.block).map(|_| random.unit() as f32).collect();
+                [lane(), lane(), lane(), lane()]
+            }
+        };
+        let mut rate = || match self.lanes {
+            LaneKind::Rates => self.rate * (1.0 + 0.001 * random.unit()),
+            _ => self.rate,
+        };
+        let rate = (0..self.block).map(|_| rate()).collect();
+        Numbers { amplitudes, rate }
     }
 }
 
@@ -118,6 +168,7 @@ fn bits(samples: &[f32]) -> Vec<u32> {
 pub struct Ours<'a> {
     state: CableowlState,
     sound: &'a [f32],
+    lanes: LaneKind,
     numbers: Numbers,
     out: Vec<f32>,
 }
@@ -147,6 +198,7 @@ impl<'a> Ours<'a> {
         Self {
             state: created.state,
             sound,
+            lanes: workload.lanes,
             numbers: workload.numbers(),
             out: vec![0.0; 2 * workload.block],
         }
@@ -164,14 +216,20 @@ impl Voice for Ours<'_> {
             rate: &self.numbers.rate,
         };
         let signals = CableowlSignals::default();
-        let answer = raw::process(
-            self.state,
-            self.sound,
-            &lanes,
-            step(),
-            signals,
-            &mut self.out,
-        );
+        let (state, sound, out) = (self.state, self.sound, &mut self.out);
+        let answer = match self.lanes {
+            LaneKind::Once => {
+                let held = Held {
+                    fade: fade[0],
+                    volume: volume[0],
+                    left: left[0],
+                    right: right[0],
+                    rate: self.numbers.rate[0],
+                };
+                raw::process_held(state, sound, held, step(), signals, out)
+            }
+            _ => raw::process(state, sound, &lanes, step(), signals, out),
+        };
         debug_assert_eq!(answer.refusal, 0);
         self.state = answer.state;
     }
@@ -185,6 +243,7 @@ impl Voice for Ours<'_> {
 pub struct Safe<'a> {
     voice: cableowl::StaticSound,
     sound: &'a [f32],
+    kind: LaneKind,
     lanes: cableowl::Lanes,
     numbers: Numbers,
     out: Vec<f32>,
@@ -205,6 +264,7 @@ impl<'a> Safe<'a> {
         Self {
             voice: cableowl::StaticSound::new(settings, sound).expect("accepted settings"),
             sound,
+            kind: workload.lanes,
             lanes: cableowl::Lanes::new(),
             numbers: workload.numbers(),
             out: vec![0.0; 2 * workload.block],
@@ -216,8 +276,17 @@ impl Voice for Safe<'_> {
     fn block(&mut self) {
         let [fade, volume, left, right] = &self.numbers.amplitudes;
         let rate = &self.numbers.rate;
-        let lanes = self.lanes.frames(rate.len()).fade(fade).volume(volume);
-        let lanes = lanes.left(left).right(right).rate(rate);
+        let lanes = self.lanes.frames(rate.len());
+        let lanes = match self.kind {
+            LaneKind::Once => {
+                let lanes = lanes.fade(fade[0]).volume(volume[0]).left(left[0]);
+                lanes.right(right[0]).rate(rate[0])
+            }
+            _ => {
+                let lanes = lanes.fade(fade).volume(volume).left(left);
+                lanes.right(right).rate(rate)
+            }
+        };
         let signals = cableowl::Signals::new();
         let answer = self
             .voice

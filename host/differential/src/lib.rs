@@ -20,5 +20,5 @@ pub mod wrong;
 pub use any::tick;
 pub use call::{Ask, Block, Call, Outcome, Place, Sound, blank, is_identical, pattern};
 pub use harness::{Harness, differs, judged};
-pub use player::{DOCUMENT, Kira, Model, Ours, Player, refusal};
+pub use player::{DOCUMENT, Kira, Model, Ours, OursHeld, Player, refusal};
 pub use tally::{Found, Kind, Tally};

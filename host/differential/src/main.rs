@@ -1,5 +1,6 @@
 // Compares ours and kira's text with the rules:
-// `differential [--seed N] [--rounds N] [--long] [--without-ours] [--wrong]`.
+// `differential [--seed N] [--rounds N] [--long] [--held] [--without-ours] [--wrong]`; with --held the blocks whose numbers are
+// given once, and nothing else.
 // The same seed and rounds give the same table on every machine; progress and time go to standard error.
 
 use std::{
@@ -11,14 +12,14 @@ use std::{
 };
 
 use differential::{
-    Harness, Kira, Ours, Player, Tally,
+    Harness, Kira, Ours, OursHeld, Player, Tally,
     runs::{self, Big, Extent},
     wrong,
 };
 use random::Random;
 
 const USAGE: &str =
-    "usage: differential [--seed N] [--rounds N] [--long] [--without-ours] [--wrong]";
+    "usage: differential [--seed N] [--rounds N] [--long] [--held] [--without-ours] [--wrong]";
 
 /// Random rounds, unless others are asked for.
 const ROUNDS: u64 = 10_000;
@@ -29,6 +30,7 @@ struct Options {
     rounds: Option<u64>,
     /// Every tiny sound in full, and more rounds unless so many are asked for.
     long: bool,
+    held: bool,
     without_ours: bool,
     wrong: bool,
 }
@@ -68,6 +70,7 @@ fn options() -> Result<Options, String> {
         seed: 1,
         rounds: None,
         long: false,
+        held: false,
         without_ours: false,
         wrong: false,
     };
@@ -82,6 +85,7 @@ fn options() -> Result<Options, String> {
             "--seed" => options.seed = number()?,
             "--rounds" => options.rounds = Some(number()?),
             "--long" => options.long = true,
+            "--held" => options.held = true,
             "--without-ours" => options.without_ours = true,
             "--wrong" => options.wrong = true,
             _ => return Err(format!("{word} is not known")),
@@ -143,7 +147,8 @@ impl Work {
 fn whole_run(options: &Options) -> Tally {
     let threads = thread::available_parallelism().map_or(1, usize::from);
     let work = Work {
-        next: Mutex::new(0),
+        // The first five are no rounds.
+        next: Mutex::new(if options.held { 5 } else { 0 }),
         rounds: options.rounds(),
         said: Mutex::new(Instant::now()),
     };
@@ -161,6 +166,8 @@ fn whole_run(options: &Options) -> Tally {
 fn one_thread(options: &Options, work: &Work) -> Tally {
     let players: Vec<&dyn Player> = if options.without_ours {
         vec![&Kira]
+    } else if options.held {
+        vec![&Kira, &Ours, &OursHeld]
     } else {
         vec![&Kira, &Ours]
     };
@@ -181,6 +188,10 @@ fn one_thread(options: &Options, work: &Work) -> Tally {
                 // Each round has a seed of its own, so that a round can be run again by itself.
                 let seed = options.seed.wrapping_mul(1 << 32).wrapping_add(round);
                 let random = &mut Random::new(seed);
+                if options.held {
+                    runs::held(&mut harness, random);
+                    continue;
+                }
                 runs::large(&mut harness, random);
                 runs::rides(&mut harness, random);
                 runs::refusals(&mut harness, random);

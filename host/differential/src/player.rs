@@ -1,6 +1,6 @@
 // Who answers calls: ours through the C entries, kira's text, and a model of the rules.
 
-use oracle::{Oracle, State};
+use oracle::{LaneBuffers, Oracle, State};
 use raw::convert;
 use rules::{Document, Rules, Voice, refusals};
 
@@ -73,6 +73,65 @@ fn our_block(
             raw::process_into(given, sound, &lanes, block.dt, signals, samples, from)
         }
     }
+}
+
+/// Ours, through the C entries that are given five numbers for a whole block; it has no opinion on
+/// other calls, and where a lane has two numbers.
+pub struct OursHeld;
+
+impl Player for OursHeld {
+    fn name(&self) -> &str {
+        "ours, numbers given once"
+    }
+
+    fn answer(&self, call: &Call) -> Option<Outcome> {
+        let Ask::Block(state, block) = &call.ask else {
+            return None;
+        };
+        let mut outcome = Outcome::untouched(call);
+        let held = held(&block.lanes)?;
+        let (given, sound, samples) = (
+            convert::state_in(state),
+            call.sound.samples(),
+            &mut outcome.samples,
+        );
+        let signals = convert::signals_in(block.signals, block.tick);
+        let (frames, dt) = (block.lanes.rate.len(), block.dt);
+        let answer = match block.place {
+            Place::Whole(lent) if lent / 2 != frames => return None,
+            Place::Whole(_) => raw::process_held(given, sound, held, dt, signals, samples),
+            Place::Mix(_, from) => {
+                let (from, frames) = (from as u64, frames as u64);
+                raw::process_held_into(given, sound, held, dt, signals, samples, from, frames)
+            }
+        };
+        outcome.refusal = answer.refusal;
+        outcome.state = convert::state_out(&answer.state);
+        outcome.steps = answer.steps;
+        outcome.lowest_count = answer.lowest_count;
+        Some(outcome)
+    }
+}
+
+/// The numbers of a block's lanes, where all have one length and each one number. With no frames any
+/// will do, since none is judged: here none that would be accepted.
+fn held(lanes: &LaneBuffers) -> Option<raw::Held> {
+    let frames = lanes.rate.len();
+    let one = |lane: &[f32]| {
+        let first = lane.first().copied().unwrap_or(f32::NAN);
+        let same = |number: &f32| number.to_bits() == first.to_bits();
+        (lane.len() == frames && lane.iter().all(same)).then_some(first)
+    };
+    let rate = lanes.rate.first().copied().unwrap_or(f64::INFINITY);
+    let same = |number: &f64| number.to_bits() == rate.to_bits();
+    lanes.rate.iter().all(same).then_some(())?;
+    Some(raw::Held {
+        fade: one(&lanes.fade)?,
+        volume: one(&lanes.volume)?,
+        left: one(&lanes.left)?,
+        right: one(&lanes.right)?,
+        rate,
+    })
 }
 
 /// A voice by rules, with the rules' refusals.

@@ -2,7 +2,7 @@
 // refusals, cuts. The program `differential` runs the same for longer.
 
 use differential::{
-    Harness, Kind, Kira, Ours,
+    Harness, Kind, Kira, Ours, OursHeld,
     runs::{self, Big, Extent},
 };
 use random::Random;
@@ -51,6 +51,19 @@ fn random_voices() {
 #[test]
 fn voices_that_play_on() {
     rounds(10_000, runs::rides);
+}
+
+/// The entries that are given each number once, against those with lanes, kira's text and the rules.
+#[test]
+fn numbers_given_once() {
+    let mut harness = Harness::new(vec![&Kira, &Ours, &OursHeld]);
+    for seed in 0..4_000 {
+        runs::held(&mut harness, &mut Random::new(seed));
+    }
+    println!("{}", harness.tally);
+    assert_eq!(harness.tally.differences(), 0, "\n{}", harness.tally);
+    let refusals = &harness.tally.refusals[9..];
+    assert!(refusals.iter().all(|count| *count >= 200), "{refusals:?}");
 }
 
 #[test]

@@ -7,7 +7,7 @@ use oracle::LaneBuffers;
 use random::Random;
 use raw::{
     CableowlCommands, CableowlEntry, CableowlPlace, CableowlRegion, CableowlSettings,
-    CableowlSignals, CableowlState, STATE_BYTES, convert,
+    CableowlSignals, CableowlState, Held, STATE_BYTES, convert,
 };
 
 /// What is asked, as the entries take it.
@@ -17,6 +17,10 @@ enum Kind {
     Commands(CableowlState, CableowlCommands),
     Process(CableowlState, CableowlSignals, f64),
     Into(CableowlState, CableowlSignals, f64, u64),
+    /// The lanes are the numbers, repeated.
+    Held(CableowlState, CableowlSignals, f64, Held),
+    /// The same, from a frame on.
+    HeldInto(CableowlState, CableowlSignals, f64, Held, u64),
     Stretch(CableowlState),
 }
 
@@ -73,6 +77,36 @@ impl Case {
         }
     }
 
+    /// A block's twin: the first frame's numbers, given once. With no frames they are any.
+    pub fn held(&self) -> Option<Self> {
+        let lanes = self.lanes.lend();
+        let first = |lane: &[f32]| lane.first().copied().unwrap_or(f32::NAN);
+        let held = Held {
+            fade: first(lanes.fade),
+            volume: first(lanes.volume),
+            left: first(lanes.left),
+            right: first(lanes.right),
+            rate: lanes.rate.first().copied().unwrap_or(f64::NAN),
+        };
+        let (kind, frames) = match self.kind {
+            Kind::Process(state, signals, dt) => {
+                (Kind::Held(state, signals, dt, held), self.lent / 2)
+            }
+            Kind::Into(state, signals, dt, from) => {
+                let kind = Kind::HeldInto(state, signals, dt, held, from);
+                (kind, lanes.rate.len())
+            }
+            _ => return None,
+        };
+        let gains = (held.left, held.right);
+        let lanes = LaneBuffers::constant(frames, held.fade, held.volume, gains, held.rate);
+        Some(Self {
+            kind,
+            lanes,
+            ..self.clone()
+        })
+    }
+
     /// What the entry answers.
     pub fn answer(&self) -> Answer {
         let sound = self.sound.samples();
@@ -104,6 +138,18 @@ impl Case {
             Kind::Into(state, signals, dt, from) => {
                 let mix = &mut answer.samples;
                 let raw = raw::process_into(state, sound, &lanes, dt, signals, mix, from);
+                (answer.state, answer.refusal) = (raw.state, raw.refusal);
+                (answer.steps, answer.lowest_count) = (raw.steps, raw.lowest_count);
+            }
+            Kind::Held(state, signals, dt, held) => {
+                let raw = raw::process_held(state, sound, held, dt, signals, &mut answer.samples);
+                (answer.state, answer.refusal) = (raw.state, raw.refusal);
+                (answer.steps, answer.lowest_count) = (raw.steps, raw.lowest_count);
+            }
+            Kind::HeldInto(state, signals, dt, held, from) => {
+                let (mix, frames) = (&mut answer.samples, lanes.rate.len() as u64);
+                let raw =
+                    raw::process_held_into(state, sound, held, dt, signals, mix, from, frames);
                 (answer.state, answer.refusal) = (raw.state, raw.refusal);
                 (answer.steps, answer.lowest_count) = (raw.steps, raw.lowest_count);
             }
@@ -169,6 +215,8 @@ impl Case {
             Kind::Commands(state, _)
             | Kind::Process(state, ..)
             | Kind::Into(state, ..)
+            | Kind::Held(state, ..)
+            | Kind::HeldInto(state, ..)
             | Kind::Stretch(state) => Some(state),
         }
     }
@@ -191,11 +239,11 @@ impl Case {
             Kind::Commands(state, commands) => {
                 Ask::Command(held(state)?, convert::commands_out(commands))
             }
-            Kind::Process(state, signals, dt) => {
+            Kind::Process(state, signals, dt) | Kind::Held(state, signals, dt, _) => {
                 let place = Place::Whole(self.lent);
                 Ask::Block(held(state)?, block(signals, *dt, place))
             }
-            Kind::Into(state, signals, dt, from) => {
+            Kind::Into(state, signals, dt, from) | Kind::HeldInto(state, signals, dt, _, from) => {
                 let place = Place::Mix(self.lent, *from as usize);
                 Ask::Block(held(state)?, block(signals, *dt, place))
             }
@@ -210,7 +258,9 @@ impl Case {
     /// The output as it is lent, the same as the model's where the call has one.
     fn pattern(&self) -> Vec<f32> {
         match self.kind {
-            Kind::Process(..) | Kind::Into(..) => differential::pattern(self.lent),
+            Kind::Process(..) | Kind::Into(..) | Kind::Held(..) | Kind::HeldInto(..) => {
+                differential::pattern(self.lent)
+            }
             _ => Vec::new(),
         }
     }

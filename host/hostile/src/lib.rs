@@ -21,6 +21,8 @@ use random::Random;
 pub struct Report {
     /// Answers by number, at 0 the accepted calls.
     pub answers: [u64; 13],
+    /// The same of the blocks asked again, the first frame's numbers given once.
+    pub held: [u64; 13],
     /// The longest call.
     pub longest: Duration,
     /// How many calls went wrong.
@@ -39,20 +41,31 @@ pub fn run(seed: u64, calls: u64) -> Report {
     let mut report = Report::default();
     for _ in 0..calls {
         let case = Case::any(&mut random);
-        let begun = Instant::now();
-        let answer = case.answer();
-        report.longest = report.longest.max(begun.elapsed());
-        if let Some(count) = report.answers.get_mut(answer.refusal as usize) {
-            *count += 1;
-        }
-        if let Some(fault) = case.fault(&answer) {
-            report.faults += 1;
-            if report.shown.len() < SHOWN {
-                report.shown.push(format!("{fault}\n{case:?}"));
-            }
+        let number = report.judge(&case);
+        report.answers[number] += 1;
+        if let Some(held) = case.held() {
+            let number = report.judge(&held);
+            report.held[number] += 1;
         }
     }
     report
+}
+
+impl Report {
+    /// Asks, and notes what is wrong with the answer: its number comes back.
+    fn judge(&mut self, case: &Case) -> usize {
+        let begun = Instant::now();
+        let answer = case.answer();
+        self.longest = self.longest.max(begun.elapsed());
+        if let Some(fault) = case.fault(&answer) {
+            self.faults += 1;
+            if self.shown.len() < SHOWN {
+                self.shown.push(format!("{fault}\n{case:?}"));
+            }
+        }
+        // A number above 12 is a fault.
+        (answer.refusal as usize).min(12)
+    }
 }
 
 /// So many calls from a seed, of which only their return is told.
@@ -70,6 +83,12 @@ impl fmt::Display for Report {
         for (number, count) in self.answers.iter().enumerate().skip(1) {
             writeln!(f, "refusal {number:<2}{count:>12}")?;
         }
+        let held = self.held.iter().sum::<u64>();
+        let accepted = self.held[0];
+        writeln!(
+            f,
+            "blocks again, numbers given once {held}: accepted {accepted}"
+        )?;
         writeln!(f, "longest call {:?}", self.longest)?;
         writeln!(f, "faults    {:>12}", self.faults)?;
         self.shown

@@ -13,6 +13,21 @@ pub use structs::*;
 /// The lanes of a block, lent; each may have a length of its own.
 pub use oracle::Lanes;
 
+/// The five numbers of a block that all its frames have.
+#[derive(Debug, Clone, Copy)]
+pub struct Held {
+    /// The fade's amplitude.
+    pub fade: f32,
+    /// The volume's amplitude.
+    pub volume: f32,
+    /// The left channel's gain.
+    pub left: f32,
+    /// The right channel's gain.
+    pub right: f32,
+    /// The rate.
+    pub rate: f64,
+}
+
 /// The entries themselves. A slice goes as its pointer and its count of elements.
 pub mod entries {
     use super::*;
@@ -73,6 +88,38 @@ pub mod entries {
             mix: *mut f32,
             mix_length: usize,
             from: u64,
+        ) -> CableowlProcessed;
+        /// A block whose numbers are given once, into an output of its own.
+        pub fn cableowl_process_held(
+            state: CableowlState,
+            sound: *const f32,
+            sound_length: usize,
+            fade: f32,
+            volume: f32,
+            left: f32,
+            right: f32,
+            rate: f64,
+            dt: f64,
+            signals: CableowlSignals,
+            out: *mut f32,
+            out_length: usize,
+        ) -> CableowlProcessed;
+        /// Frames of it into a longer mix, from a frame on.
+        pub fn cableowl_process_held_into(
+            state: CableowlState,
+            sound: *const f32,
+            sound_length: usize,
+            fade: f32,
+            volume: f32,
+            left: f32,
+            right: f32,
+            rate: f64,
+            dt: f64,
+            signals: CableowlSignals,
+            mix: *mut f32,
+            mix_length: usize,
+            from: u64,
+            frames: u64,
         ) -> CableowlProcessed;
         /// The sound's own stretch.
         pub fn cableowl_stretch(
@@ -226,6 +273,69 @@ pub fn process_into(
             mix.as_mut_ptr(),
             mix.len(),
             from,
+        )
+    }
+}
+
+/// A block whose numbers are given once, into an output of its own.
+#[must_use]
+pub fn process_held(
+    state: CableowlState,
+    sound: &[f32],
+    held: Held,
+    dt: f64,
+    signals: CableowlSignals,
+    out: &mut [f32],
+) -> CableowlProcessed {
+    // SAFETY: pointers and lengths are those of lent slices; no other slice overlaps the output.
+    unsafe {
+        entries::cableowl_process_held(
+            state,
+            sound.as_ptr(),
+            sound.len(),
+            held.fade,
+            held.volume,
+            held.left,
+            held.right,
+            held.rate,
+            dt,
+            signals,
+            out.as_mut_ptr(),
+            out.len(),
+        )
+    }
+}
+
+/// So many frames of it into the middle of a longer mix, from the given frame on.
+#[must_use]
+#[allow(clippy::too_many_arguments)]
+pub fn process_held_into(
+    state: CableowlState,
+    sound: &[f32],
+    held: Held,
+    dt: f64,
+    signals: CableowlSignals,
+    mix: &mut [f32],
+    from: u64,
+    frames: u64,
+) -> CableowlProcessed {
+    // SAFETY: pointers and lengths are those of lent slices; no other slice overlaps the mix.
+    unsafe {
+        entries::cableowl_process_held_into(
+            state,
+            sound.as_ptr(),
+            sound.len(),
+            held.fade,
+            held.volume,
+            held.left,
+            held.right,
+            held.rate,
+            dt,
+            signals,
+            mix.as_mut_ptr(),
+            mix.len(),
+            from,
+            frames,
         )
     }
 }

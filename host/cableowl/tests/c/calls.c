@@ -68,6 +68,34 @@ int main(void) {
     expect(refused.refusal == 10 && refused.lowest_count == 4, "process: refused");
     expect(memcmp(mix, mixture, sizeof mix) == 0, "process_into: frames");
 
+    const uint32_t nan_bits = 0x7fc00000;
+    float nan;
+    memcpy(&nan, &nan_bits, sizeof nan);
+    memset(out, 0x77, sizeof out);
+    const CableowlProcessed held =
+        cableowl_process_held(commanded.state, sound, 6, 1, 1, 1, 1, 1, 1.0, signals, out, 12);
+    expect(held.refusal == 0 && held.steps == 6 && held.lowest_count == 0, "process_held: answer");
+    expect(memcmp(&held.state, &processed.state, sizeof held.state) == 0, "process_held: state");
+    expect(memcmp(out, heard, sizeof out) == 0, "process_held: frames");
+    expect(cableowl_process_held(commanded.state, sound, 6, nan, 1, 1, 1, 1, 1.0, signals, out, 11).refusal == 9,
+           "process_held: an odd output");
+    expect(cableowl_process_held(commanded.state, sound, 6, nan, 1, 1, 1, 1, 0.0, signals, out, 0).refusal == 10,
+           "process_held: the time step, with no frames too");
+    expect(cableowl_process_held(commanded.state, sound, 6, nan, 1, 1, 1, 1, 1.0, signals, out, 0).refusal == 0,
+           "process_held: no frames, and no number judged");
+    expect(cableowl_process_held(commanded.state, sound, 6, -0.0f, 1, 1, 1, 300, 1.0, signals, out, 2).refusal == 11,
+           "process_held: minus zero");
+    expect(cableowl_process_held(commanded.state, sound, 6, 1, 1, 1, 1, 300, 1.0, signals, out, 2).refusal == 12,
+           "process_held: too fast");
+    float again_mix[8] = {9, 9, 9, 9, 9, 9, 9, 9};
+    expect(cableowl_process_held_into(commanded.state, sound, 6, 1, 1, 1, 1, 1, 1.0, signals, again_mix, 8, 3, 2)
+                   .refusal == 9,
+           "process_held_into: no room");
+    expect(cableowl_process_held_into(commanded.state, sound, 6, 1, 1, 1, 1, 1, 1.0, signals, again_mix, 8, 1, 2)
+                   .steps == 2,
+           "process_held_into: steps");
+    expect(memcmp(again_mix, mixture, sizeof mix) == 0, "process_held_into: frames");
+
     const CableowlPart all = cableowl_stretch(created.state, sound, 6);
     expect(all.offset == 0 && all.length == 6, "stretch");
 

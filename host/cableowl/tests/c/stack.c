@@ -36,6 +36,15 @@ static void process_into(void) {
                                     FRAMES, 1.0, none, mix, 2 * FRAMES + 6, 2)
                   .refusal;
 }
+static void process_held_at(double rate) {
+    refusal = cableowl_process_held(voice, sound, SOUND, 1, 1, 1, 1, rate, 1.0, none, out, 2 * FRAMES).refusal;
+}
+static void process_held_slow(void) { process_held_at(0.7); }
+static void process_held_fast(void) { process_held_at(256); }
+static void process_held_into(void) {
+    refusal = cableowl_process_held_into(voice, sound, SOUND, 1, 1, 1, 1, 256, 1.0, none, mix, 2 * FRAMES + 6, 2, FRAMES)
+                  .refusal;
+}
 static uint8_t trace[575], saved[575];
 static uint64_t numbers[80];
 static void read_record(void) { refusal = (uint32_t)cableowl_read_record(trace, sizeof trace, 0).refusal; }
@@ -84,6 +93,9 @@ int main(void) {
         {"process, advance 256", process_fast, PLAYER, 0},
         {"process, refused", process_refused, PLAYER, 1},
         {"process_into, advance 256", process_into, PLAYER, 0},
+        {"process_held, advance 0.7", process_held_slow, PLAYER, 0},
+        {"process_held, advance 256", process_held_fast, PLAYER, 0},
+        {"process_held_into, advance 256", process_held_into, PLAYER, 0},
         {"stretch", stretch, PLAYER, 0},
         {"read_record", read_record, TRACE, 0},
         {"write_record", write_record, TRACE, 0},

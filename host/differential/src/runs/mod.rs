@@ -1,6 +1,7 @@
-//! The runs: tiny sounds exhaustively, held zeros, random calls, voices that play on, refusals by construction, cuts, rows of calls inside a loop, starts due at a tick.
+//! The runs: tiny sounds exhaustively, held zeros, random calls, voices that play on, refusals by construction, cuts, rows of calls inside a loop, starts due at a tick, blocks whose numbers are given once.
 
 mod cuts;
+mod held;
 mod in_the_loop;
 mod large;
 mod refusals;
@@ -10,6 +11,7 @@ mod tiny;
 mod zeros;
 
 pub use cuts::cuts;
+pub use held::held;
 pub use in_the_loop::{Seen, in_the_loop};
 pub use large::large;
 pub use refusals::{Big, refusals};

@@ -22,7 +22,10 @@ pub fn rides(harness: &mut Harness, random: &mut Random) {
         ask,
         sound: sound.clone(),
     };
-    let created = harness.ask(Kind::Creation, &call(Ask::Create(settings(random, total))));
+    let created = harness.ask(
+        Kind::Creation,
+        &call(Ask::Create(settings(random, total, 5))),
+    );
     let Some(mut state) = created.state else {
         return;
     };
@@ -42,9 +45,9 @@ pub fn rides(harness: &mut Harness, random: &mut Random) {
     }
 }
 
-/// A sound that is started, mostly with a short loop.
-fn settings(random: &mut Random, total: usize) -> Settings {
-    let short = 1 + random.below(total.min(5));
+/// A sound that is started, mostly with a loop of at most so many frames.
+pub fn settings(random: &mut Random, total: usize, longest: usize) -> Settings {
+    let short = 1 + random.below(total.min(longest));
     let from = random.below(total - short + 1);
     let loop_region = (!random.one_in(4)).then(|| any::samples(from, from + short));
     Settings {

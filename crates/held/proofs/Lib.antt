@@ -1,0 +1,2 @@
+-- Laws of lanes given once.
+pub mod Once

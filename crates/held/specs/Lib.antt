@@ -1,0 +1,2 @@
+-- Lanes given once.
+pub mod Held

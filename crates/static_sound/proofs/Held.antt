@@ -1,0 +1,121 @@
+-- A block whose numbers are given once, from its parts: the number that it gives, and what it plays. Assumes nothing.
+use mathlib.Core.Path.{_≡_, refl, sym, ap, ap₂, _∙_, subst}
+use mathlib.Core.Bool.{Bool, true, false, _&&_, cond}
+use mathlib.Core.List.{List, _++_}
+use Prim.Native.Nat.{ℕ, zero, suc, _+_, _-_, _*_, _/_, _≤_, _<_}
+use native.Mathlib.Omega.{arith}
+use lib.Dec.{leb, eqb}
+use lib.ListN.{length, take, drop, replicate, length-replicate}
+use lib.Ieee.{Float}
+use borrow.Author.Tests.{le-leb, lt-leb, eq-eqb}
+use Rattle.numbers.specs.Lists.{all}
+use Rattle.lanes.specs.Lanes.{Lane, rows, sized, laned, near, judged}
+use Rattle.held.specs.declared.Held.{Held}
+use Rattle.held.specs.Held.{once}
+use Rattle.held.proofs.Once.{lane, rows-once}
+use Rattle.voice.specs.declared.StaticSound.{StaticSound}
+use Rattle.block.specs.declared.Signals.{Signals}
+use Rattle.playing.specs.declared.Processed.{Processed}
+use Rattle.playing.specs.Plays.{Outcome, acceptedAs}
+use Rattle.playing.specs.Turns.{Playable}
+use Rattle.block.specs.Blocks.{block}
+use Rattle.static_sound.specs.Entries.{refusedBlock, refusedWith, room, processedHeld, processedHeldInto}
+use Rattle.static_sound.proofs.Calls.{refused-is, processed-is, playable-out, refused-into, processed-into, playable-part, inside}
+
+-- ---- the judging
+
+-- the sizes: the frames alone count
+sized-once : (x : Held) (n : ℕ) (b : Bool) → leb n 4096 ≡ b → sized (once x n) ≡ b
+sized-once x n b e =
+    rw (length-replicate n (x .rate), length-replicate n (x .fade), length-replicate n (x .volume), length-replicate n (x .left), length-replicate n (x .right), e, eq-eqb n n refl) (all-true b)
+  where
+    all-true : (b : Bool) → (b && true && true && true && true) ≡ b
+    all-true true = refl
+    all-true false = refl
+
+pub sized-few : (x : Held) (n : ℕ) → n ≤ 4096 → sized (once x n) ≡ true
+sized-few x n h = sized-once x n true (le-leb n 4096 h)
+
+pub sized-many : (x : Held) (n : ℕ) → 4096 < n → sized (once x n) ≡ false
+sized-many x n h = sized-once x n false (lt-leb n 4096 h)
+
+-- a number repeated passes where it passes once
+all-same : (p : Lane → Bool) (z : Lane) (n : ℕ) → all p (replicate (suc n) z) ≡ all p (replicate 1 z)
+all-same p z zero = refl
+all-same p z (suc n) = ap (λ (b : Bool). p z && b) (all-same p z n) ∙ twice (p z)
+  where
+    twice : (b : Bool) → (b && (b && true)) ≡ (b && true)
+    twice true = refl
+    twice false = refl
+
+all-once : (p : Lane → Bool) (x : Held) (n : ℕ) → all p (rows (once x (suc n))) ≡ all p (rows (once x 1))
+all-once p x n = ap (all p) (rows-once x (suc n)) ∙ all-same p (lane x) n
+
+judged-once : (hz : ℕ) (dt : Float) (x : Held) (n : ℕ) → judged hz dt (once x (suc n)) ≡ judged hz dt (once x 1)
+judged-once hz dt x n = ap₂ (λ (a b : Bool). cond a (cond b 0 12) 11) (all-once laned x n) (all-once (near hz dt) x n)
+
+pub judged-some : (hz : ℕ) (dt : Float) (x : Held) (n : ℕ) → (n ≡ 0 → ⊥) → judged hz dt (once x 1) ≡ judged hz dt (once x n)
+judged-some hz dt x zero h = absurd (h refl)
+judged-some hz dt x (suc n) h = sym (judged-once hz dt x n)
+
+-- with no frames nothing is judged
+pub judged-none : (hz : ℕ) (dt : Float) (x : Held) (n : ℕ) → n ≡ 0 → 0 ≡ judged hz dt (once x n)
+judged-none hz dt x n e = ap (λ (k : ℕ). judged hz dt (once x k)) (sym e)
+
+-- ---- the two entries
+
+module _ (snd : List Float) (v : StaticSound) (dt : Float) (x : Held) (g : Signals) where
+  abbrev number : ℕ → Bool → ℕ
+  number n placed = refusedBlock (length snd) v dt (once x n) placed
+
+  module _ (out : List Float) where
+    abbrev n : ℕ
+    n = length out / 2
+
+    as-held : number n (eqb (length out) (2 * n)) ≡ number n (eqb (length out) (2 * length (replicate n (x .rate))))
+    as-held = ap (λ (k : ℕ). number n (eqb (length out) (2 * k))) (sym (length-replicate n (x .rate)))
+
+    pub refused-held : (k : ℕ) → k ≡ number n (eqb (length out) (2 * n)) → (k ≡ 0 → ⊥) → refusedWith k v out ≡ processedHeld snd v dt x g out
+    refused-held k e h = refused-is snd v dt (once x n) g out k (e ∙ as-held) h
+
+    pub playable-held : number n (eqb (length out) (2 * n)) ≡ 0 → Playable snd v dt (once x n) (length out)
+    playable-held e = playable-out snd v dt (once x n) g out (sym as-held ∙ e)
+
+    pub held-is : (o : Outcome) → number n (eqb (length out) (2 * n)) ≡ 0 → o ≡ acceptedAs (block snd dt (rows (once x n)) g v) → o ≡ processedHeld snd v dt x g out
+    held-is o e h = processed-is snd v dt (once x n) g out o (sym as-held ∙ e) h
+
+  module _ (mix : List Float) (from n : ℕ) where
+    long : length (replicate n (x .rate)) ≡ n
+    long = length-replicate n (x .rate)
+
+    as-mixed : number n (room from n mix) ≡ number n (room from (length (replicate n (x .rate))) mix)
+    as-mixed = ap (λ (k : ℕ). number n (room from k mix)) (sym long)
+
+    pub refused-held-into : (k : ℕ) → k ≡ number n (room from n mix) → (k ≡ 0 → ⊥) → refusedWith k v mix ≡ processedHeldInto snd v dt x g mix from n
+    refused-held-into k e h = refused-into snd v dt (once x n) g mix from k (e ∙ as-mixed) h
+
+    module _ (e : number n (room from n mix) ≡ 0) where
+      -- the place holds the block
+      pub held-inside : 2 * (from + n) ≤ length mix
+      held-inside = subst (λ (k : ℕ). 2 * (from + k) ≤ length mix) long (inside snd v dt (once x n) g mix from (sym as-mixed ∙ e))
+
+      abbrev part : ℕ → List Float
+      part k = take (2 * from + 2 * k - 2 * from) (drop (2 * from) mix)
+
+      playable-frames : Playable snd v dt (once x n) (length (part n))
+      playable-frames = subst (λ (k : ℕ). Playable snd v dt (once x n) (length (part k))) long (playable-part snd v dt (once x n) g mix from (sym as-mixed ∙ e))
+
+      half : length (part n) / 2 ≡ n
+      half = halved (length (part n)) n (playable-frames .long ∙ ap (λ (k : ℕ). 2 * k) long)
+        where
+          halved : (m n : ℕ) → m ≡ 2 * n → m / 2 ≡ n
+          halved m n e = omega arith
+
+      pub playable-held-part : Playable snd v dt (once x (length (part n) / 2)) (length (part n))
+      playable-held-part = subst (λ (k : ℕ). Playable snd v dt (once x k) (length (part n))) (sym half) playable-frames
+
+      pub held-into : (r : Processed) (samples : List Float) → record { answer = r; samples = samples } ≡ acceptedAs (block snd dt (rows (once x (length (part n) / 2))) g v)
+          → record { answer = r; samples = take (2 * from) mix ++ (samples ++ drop (2 * from + 2 * n - 2 * from) (drop (2 * from) mix)) } ≡ processedHeldInto snd v dt x g mix from n
+      held-into r samples h =
+          ap (λ (k : ℕ). record { answer = r; samples = take (2 * from) mix ++ (samples ++ drop (2 * from + 2 * k - 2 * from) (drop (2 * from) mix)) }) (sym long)
+          ∙ processed-into snd v dt (once x n) g mix from r samples (sym as-mixed ∙ e) (h ∙ ap (λ (k : ℕ). acceptedAs (block snd dt (rows (once x k)) g v)) half)

@@ -1,0 +1,102 @@
+// A block whose five numbers are given once, into an output of its own or into the middle of a longer mix.
+ghost use mathlib.Core.Path.{_≡_};
+ghost use Rattle.held.specs.Held.{once};
+ghost use Rattle.static_sound.specs.Entries.{refusedBlock, processedHeld, processedHeldInto};
+use crate::holds;
+use crate::mix::has_room;
+use block::Signals;
+use block::Told;
+use block::block_held;
+use held::Held;
+use playing::Processed;
+use playing::Timed;
+use voice::StaticSound;
+
+// The lowest number that applies to a block of so many frames, 0 for none. Where there are frames, the numbers are judged as one frame's.
+fn refusal_held(timed: Timed, samples: usize, held: Held, frames: usize, placed: bool) -> u32
+    ensures { λ r. ⌜ r ≡ refusedBlock samples (timed .voice) (timed .dt) (once held frames) placed ⌝ }
+{
+    let voice = timed.voice;
+    if !voice.is_well_formed(samples) {
+        return 1;
+    }
+    if frames > 4096 {
+        return 9;
+    }
+    if !placed {
+        return 9;
+    }
+    if !lanes::is_time_step(timed.dt) {
+        return 10;
+    }
+    if frames == 0 {
+        return 0;
+    }
+    let fade = [held.fade];
+    let volume = [held.volume];
+    let left = [held.left];
+    let right = [held.right];
+    let rate = [held.rate];
+    lanes::judge(
+        voice.setup.sample_rate,
+        timed.dt,
+        &fade,
+        &volume,
+        &left,
+        &right,
+        &rate,
+    )
+}
+
+// A block into an output of its own: as many frames as it has room for.
+pub fn process_held(
+    voice: StaticSound,
+    sound: &[f32],
+    held: Held,
+    dt: f64,
+    signals: Signals,
+    out: &mut [f32],
+) -> Processed
+    ensures { λ r. ⌜ record { answer = r; samples = now (out .exit) } ≡ processedHeld (now (sound .entry)) voice dt held signals (now (out .entry)) ⌝ }
+{
+    let frames = out.len() / 2;
+    let placed = holds(out.len(), frames);
+    let refusal = refusal_held(Timed { voice, dt }, sound.len(), held, frames, placed);
+    if refusal != 0 {
+        return Processed {
+            refusal,
+            sound: voice,
+            steps: 0,
+            lowest_count: 4,
+        };
+    }
+    block_held(Told { voice, dt, signals }, sound, held, out)
+}
+
+// A block of so many frames into the middle of a longer mix, from the frame given on; every other sample stays.
+pub fn process_held_into(
+    voice: StaticSound,
+    sound: &[f32],
+    held: Held,
+    dt: f64,
+    signals: Signals,
+    mix: &mut [f32],
+    from: usize,
+    frames: usize,
+) -> Processed
+    ensures { λ r. ⌜ record { answer = r; samples = now (mix .exit) } ≡ processedHeldInto (now (sound .entry)) voice dt held signals (now (mix .entry)) from frames ⌝ }
+{
+    let placed = has_room(from, frames, mix.len());
+    let refusal = refusal_held(Timed { voice, dt }, sound.len(), held, frames, placed);
+    if refusal != 0 {
+        return Processed {
+            refusal,
+            sound: voice,
+            steps: 0,
+            lowest_count: 4,
+        };
+    }
+    let a = 2 * from;
+    let e = a + 2 * frames;
+    block_held(Told { voice, dt, signals }, sound, held, &mut mix[a..e])
+}
