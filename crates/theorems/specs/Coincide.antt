@@ -181,6 +181,8 @@ pub record Coincide : Type 0 where
   pub cableowl-cableowl-on-start-processing : Decides cableowl.cableowl_on_start_processing.Reads.Post
   pub cableowl-cableowl-process : DecidesWith (λ k r s. s .1 .1 .1 .1 .1 .1 .1 .1 .1 .0 .now) cableowl.cableowl_process.Reads.Post
   pub cableowl-cableowl-process-into : DecidesWith (λ k r s. s .1 .1 .1 .1 .1 .1 .1 .1 .1 .0 .now) cableowl.cableowl_process_into.Reads.Post
+  pub cableowl-cableowl-process-held : DecidesWith (λ k r s. s .1 .1 .1 .1 .1 .1 .1 .1 .1 .0 .now) cableowl.cableowl_process_held.Reads.Post
+  pub cableowl-cableowl-process-held-into : DecidesWith (λ k r s. s .1 .1 .1 .1 .1 .1 .1 .1 .1 .0 .now) cableowl.cableowl_process_held_into.Reads.Post
   pub cableowl-cableowl-stretch : Decides cableowl.cableowl_stretch.Reads.Post
   pub cableowl-cableowl-amplitude : DecidesWith (λ k r s. s .1 .0 .now) cableowl.cableowl_amplitude.Reads.Post
   pub cableowl-cableowl-fade-ramp : DecidesWith (λ k r s. s .1 .1 .1 .0 .now) cableowl.cableowl_fade_ramp.Reads.Post
