@@ -3,20 +3,26 @@ use mathlib.Core.Path.{_≡_, refl, sym, ap, _∙_, subst}
 use Prim.Native.Nat.{ℕ, _+_, _-_, _*_, _≤_, _<_}
 use native.Mathlib.Nat.{le-refl}
 use native.Mathlib.Omega.{arith}
-use mathlib.Core.Bool.{Bool, true, false, not, _||_, cond, true≢false}
+use mathlib.Core.Bool.{Bool, true, false, not, _&&_, _||_, cond}
+use mathlib.Core.List.{List, [], _∷_}
 use lib.Dec.{T, leb, ltb}
 use lib.IntN.{pos}
+use lib.ListN.{getD}
 use lib.Ieee.{Float, nan, inf, fin, binary64, add, mul, ofInt, lt, le, isNan}
-use borrow.Author.Tests.{le-leb, lt-ltb}
+use lib.Ieee.Fits.{and-i, and-l, and-r}
+use borrow.Author.Tests.{le-leb, lt-ltb, ltb-true, ltb-false}
 use Rattle.numbers.specs.declared.Stepped.{Stepped}
 use Rattle.numbers.specs.Words.{positiveZero, proper, finiteClear, magnitude, stepped, advance}
 use Rattle.numbers.proofs.Fractions.{advance-finite-clear, sum-steps}
 use Rattle.numbers.proofs.Stepping.{sum-proper}
+use Rattle.numbers.specs.Lists.{all}
 use Rattle.lanes.specs.Lanes.{slow}
 use Rattle.trail.specs.declared.Track.{Track}
 use Rattle.trail.specs.Tracks.{nexts, On, roomy}
 use Rattle.trail.proofs.Tracks.{far, on-nexts, nexts-within}
+use Rattle.trail.proofs.Same.{first-of, second-of}
 use Rattle.trail.proofs.Trails.{Inside, inside-of, inside-first, inside-rest}
+use Rattle.along.specs.Moves.{Slow, Move, Steady, number, Same}
 
 -- ---- the sum
 
@@ -24,7 +30,7 @@ use Rattle.trail.proofs.Trails.{Inside, inside-of, inside-first, inside-rest}
 abbrev product : ℕ → Float → Float → Float
 product hz m dt = mul binary64 (mul binary64 (ofInt binary64 (pos hz)) m) dt
 
-advance-is : (hz : ℕ) (r dt m : Float) → m ≡ magnitude r → product hz m dt ≡ advance hz r dt
+pub advance-is : (hz : ℕ) (r dt m : Float) → m ≡ magnitude r → product hz m dt ≡ advance hz r dt
 unfolding advance
 advance-is hz r dt m e = ap (λ (x : Float). product hz x dt) e
 
@@ -63,6 +69,48 @@ module _ (hz : ℕ) (dt f r : Float) (below : T (proper f)) (time : T (lt positi
   moved-below =
       subst (λ (a : Stepped). T (proper (a .rest))) (sym e)
       (sum-proper f (advance hz r dt) below (advance-finite-clear hz r dt time slows) slows)
+
+-- the same of an advance
+module _ (f a : Float) (below : T (proper f)) (slow : Slow a) (s : Stepped) (e : s ≡ stepped (add binary64 f a)) where
+  stepped-few : s .steps ≤ 257
+  unfolding ofInt
+  stepped-few = subst (λ (s : Stepped). s .steps ≤ 257) (sym e) (sum-steps f a 256 (le-refl 256) below (slow .finiteClear) (slow .most))
+
+  pub stepped-move : Move f a s
+  stepped-move =
+      record {
+        is = e;
+        few = less (s .steps) stepped-few;
+        below = subst (λ (s : Stepped). T (proper (s .rest))) (sym e) (sum-proper f a below (slow .finiteClear) (slow .most));
+      }
+    where
+      less : (n : ℕ) → n ≤ 257 → n < 258
+      less n h = omega arith
+
+pub slow-advance : (hz : ℕ) (dt r a : Float) → a ≡ advance hz r dt → T (lt positiveZero dt) → T (slow hz dt r) → Slow a
+slow-advance hz dt r a e t s = subst Slow (sym e) (record { finiteClear = advance-finite-clear hz r dt t s; most = s })
+
+-- ---- rates that are the same
+
+pub all-numbers : (hz : ℕ) (dt : Float) (qs : List Float) → T (all (slow hz dt) qs) → T (all number qs)
+all-numbers hz dt [] h = tt
+all-numbers hz dt (q ∷ qs) h =
+    and-i (number q) (all number qs) (slow-number hz dt q (and-l (slow hz dt q) (all (slow hz dt) qs) h)) (all-numbers hz dt qs (and-r (slow hz dt q) (all (slow hz dt) qs) h))
+
+pub same-steady : (hz : ℕ) (dt a : Float) (rates : List Float) → a ≡ advance hz (getD rates 0 nan) dt → Same rates → Steady hz dt a rates
+same-steady hz dt a rates e s = record { each = λ i h. ap (λ (r : Float). advance hz r dt) (s .each i h) ∙ sym e }
+
+-- one rate more
+pub same-more : (rates : List Float) (i : ℕ) (b s : Bool) → (s ≡ true → (j : ℕ) → j < i → getD rates j nan ≡ getD rates 0 nan) → (b ≡ true → getD rates i nan ≡ getD rates 0 nan)
+    → b && s ≡ true → (j : ℕ) → j < i + 1 → getD rates j nan ≡ getD rates 0 nan
+same-more rates i b s h k e j l = go (ltb j i) refl
+  where
+    last : (j i : ℕ) → i ≤ j → j < i + 1 → j ≡ i
+    last j i a c = omega arith
+
+    go : (t : Bool) → ltb j i ≡ t → getD rates j nan ≡ getD rates 0 nan
+    go true t = h (second-of b s e) j (ltb-true j i t)
+    go false t = ap (λ (n : ℕ). getD rates n nan) (last j i (ltb-false j i t) l) ∙ k (first-of b s e)
 
 -- ---- room on the track
 

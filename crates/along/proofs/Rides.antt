@@ -44,6 +44,10 @@ all-at p [] i h k = absurd (not-suc-le-zero h)
 all-at p (x ∷ l) zero h k = and-l (p x) (all p l) k
 all-at p (x ∷ l) (suc i) h k = all-at p l i (le-of-suc-le-suc h) (and-r (p x) (all p l) k)
 
+-- frame i begins at sample 2 * i, however code works that out
+pub stored-at : (o out : List Float) (k i : ℕ) (x : Frame) → k ≡ 2 * i → o ≡ set (set out k (x .left)) (k + 1) (x .right) → o ≡ set (set out (2 * i) (x .left)) (2 * i + 1) (x .right)
+stored-at o out k i x e h = h ∙ ap (λ (k : ℕ). set (set out k (x .left)) (k + 1) (x .right)) e
+
 -- an output stays as long when a frame is written
 pub stored-length : (o out : List Float) (i : ℕ) (x : Frame) → o ≡ set (set out (2 * i) (x .left)) (2 * i + 1) (x .right) → length o ≡ length out
 stored-length o out i x e = ap length e ∙ length-set (set out (2 * i) (x .left)) (2 * i + 1) (x .right) ∙ length-set out (2 * i) (x .left)

@@ -1,2 +1,3 @@
--- A ride along a track.
+-- One frame's steps, and a ride along a track.
+pub mod Moves
 pub mod Rides

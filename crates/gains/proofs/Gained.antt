@@ -5,11 +5,11 @@ use native.Mathlib.Nat.{not-suc-le-zero, le-of-suc-le-suc}
 use native.Mathlib.Numerals.{add-one}
 use native.Mathlib.Omega.{arith}
 use mathlib.Core.List.{List, [], _∷_}
-use lib.ListN.{length, getD, take, drop, set, length-set}
+use lib.ListN.{length, getD, take, drop, set}
 use lib.Ieee.{Float, nan}
 use Rattle.frame.specs.declared.Frame.{Frame}
 use Rattle.gains.specs.declared.Gains.{Gains}
-use Rattle.gains.specs.Gained.{gainsAt, scaled, gained, gainedAt, fourGained}
+use Rattle.gains.specs.Gained.{gainsAt, scaled, gained, gainedAt}
 
 at-drop : (l : List Float) (i : ℕ) → getD (drop 1 l) i nan ≡ getD l (suc i) nan
 at-drop [] i = refl
@@ -91,16 +91,6 @@ module _ (fs vs ls rs : List Float) (out : List Float) where
   pub unread : (i m : ℕ) (g : List Float) → g ≡ gained fs vs ls rs i out → 2 * i ≤ m → getD g m nan ≡ getD out m nan
   unread i m g e h = ap (λ (l : List Float). getD l m nan) e ∙ keeps fs vs ls rs i out m h
 
-  pub gained-four : (i n : ℕ) (g : List Float) → g ≡ gained fs vs ls rs i out → 2 * i + 7 < length out → n ≡ i + 4 → fourGained fs vs ls rs i g ≡ gained fs vs ls rs n out
-  gained-four i n g e h en =
-      let a = gained-one i (i + 1) g g e (unread i (2 * i) g e (omega arith)) (unread i (2 * i + 1) g e (omega arith)) (omega arith) refl in
-      let b = gained-one (i + 1) (i + 2) _ g a (unread i (2 * (i + 1)) g e (omega arith)) (unread i (2 * (i + 1) + 1) g e (omega arith)) (omega arith) (omega arith) in
-      let c = gained-one (i + 2) (i + 3) _ g b (unread i (2 * (i + 2)) g e (omega arith)) (unread i (2 * (i + 2) + 1) g e (omega arith)) (omega arith) (omega arith) in
-      gained-one (i + 3) n _ g c (unread i (2 * (i + 3)) g e (omega arith)) (unread i (2 * (i + 3) + 1) g e (omega arith)) (omega arith) (en ∙ last i)
-    where
-      last : (i : ℕ) → i + 4 ≡ i + 3 + 1
-      last i = omega arith
-
 -- the first n frames, alone
 first : (fs vs ls rs : List Float) (n m : ℕ) (out : List Float) → m ≡ 2 * n → take m (gained fs vs ls rs n out) ≡ gained fs vs ls rs n (take m out)
 unfolding gained
@@ -131,8 +121,3 @@ pub written : (fs vs ls rs : List Float) (i : ℕ) (o out out′ : List Float) (
 written fs vs ls rs i o out out′ x g eg ex e =
     e
     ∙ ap (λ (x : Frame). set (set out (2 * i) (x .left)) (2 * i + 1) (x .right)) (ex ∙ ap (scaled (getD o (2 * i) nan) (getD o (2 * i + 1) nan)) eg)
-
-pub put-length : (fs vs ls rs : List Float) (i : ℕ) (o out : List Float) → length (gainedAt fs vs ls rs i o out) ≡ length out
-put-length fs vs ls rs i o out =
-    let x = scaled (getD o (2 * i) nan) (getD o (2 * i + 1) nan) (gainsAt fs vs ls rs i) in
-    length-set (set out (2 * i) (x .left)) (2 * i + 1) (x .right) ∙ length-set out (2 * i) (x .left)

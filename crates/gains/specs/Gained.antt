@@ -33,8 +33,3 @@ abbrev pub gainedAt : List Float → List Float → List Float → List Float �
 gainedAt fs vs ls rs i o out =
     let x = scaled (getD o (2 * i) nan) (getD o (2 * i + 1) nan) (gainsAt fs vs ls rs i) in
     set (set out (2 * i) (x .left)) (2 * i + 1) (x .right)
-
--- frames i to i + 3 of an output
-abbrev pub fourGained : List Float → List Float → List Float → List Float → ℕ → List Float → List Float
-fourGained fs vs ls rs i o =
-    gainedAt fs vs ls rs (i + 3) o (gainedAt fs vs ls rs (i + 2) o (gainedAt fs vs ls rs (i + 1) o (gainedAt fs vs ls rs i o o)))

@@ -2,7 +2,7 @@
 ghost use mathlib.Core.Path.{_≡_};
 ghost use Prim.Native.Nat.{_+_, _*_, _≤_, _<_};
 ghost use lib.ListN.{length};
-ghost use Rattle.gains.specs.Gained.{gainsAt, scaled, gainedAt, fourGained, gained};
+ghost use Rattle.gains.specs.Gained.{gainsAt, scaled, gainedAt, gained};
 use frame::Frame;
 
 // What a frame's reading is multiplied by.
@@ -49,49 +49,10 @@ fn gain_one(fade: &[f32], volume: &[f32], left: &[f32], right: &[f32], i: usize,
 {
     let gains = gains_at(fade, volume, left, right, i);
     let x = scale(out[2 * i], out[2 * i + 1], gains);
-    along::store(out, i, x);
+    along::store(out, 2 * i, x);
 }
 
-// Frames i to i + 3: all are read before the first is written, so that they become vector code.
-fn gain_four(fade: &[f32], volume: &[f32], left: &[f32], right: &[f32], i: usize, out: &mut [f32])
-    requires { ⌜ i + 3 < length (now fade) ⌝ }
-    requires { ⌜ i + 3 < length (now volume) ⌝ }
-    requires { ⌜ i + 3 < length (now left) ⌝ }
-    requires { ⌜ i + 3 < length (now right) ⌝ }
-    requires { ⌜ 2 * i + 7 < length (now out) ⌝ }
-    requires { ⌜ i < 4096 ⌝ }
-    ensures { λ _. ⌜ now (out .exit) ≡ fourGained (now (fade .entry)) (now (volume .entry)) (now (left .entry)) (now (right .entry)) i (now (out .entry)) ⌝ }
-{
-    let j = i + 1;
-    let k = i + 2;
-    let l = i + 3;
-    let w = scale(
-        out[2 * i],
-        out[2 * i + 1],
-        gains_at(fade, volume, left, right, i),
-    );
-    let x = scale(
-        out[2 * j],
-        out[2 * j + 1],
-        gains_at(fade, volume, left, right, j),
-    );
-    let y = scale(
-        out[2 * k],
-        out[2 * k + 1],
-        gains_at(fade, volume, left, right, k),
-    );
-    let z = scale(
-        out[2 * l],
-        out[2 * l + 1],
-        gains_at(fade, volume, left, right, l),
-    );
-    along::store(out, i, w);
-    along::store(out, j, x);
-    along::store(out, k, y);
-    along::store(out, l, z);
-}
-
-// The first n frames of the output times their gains.
+// The first n frames of the output times their gains; clang makes vector code of it.
 pub fn by_frame(
     fade: &[f32],
     volume: &[f32],
@@ -109,10 +70,6 @@ pub fn by_frame(
     ensures { λ _. ⌜ now (out .exit) ≡ gained (now (fade .entry)) (now (volume .entry)) (now (left .entry)) (now (right .entry)) n (now (out .entry)) ⌝ }
 {
     let mut i: usize = 0;
-    while i + 3 < n {
-        gain_four(fade, volume, left, right, i, out);
-        i += 4;
-    }
     while i < n {
         gain_one(fade, volume, left, right, i, out);
         i += 1;

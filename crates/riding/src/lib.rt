@@ -5,6 +5,7 @@ ghost use mathlib.Core.Path.{_≡_};
 ghost use Prim.Native.Nat.{_≤_};
 ghost use lib.ListN.{length};
 ghost use Rattle.lanes.specs.Lanes.{five, rows};
+ghost use Rattle.along.specs.Moves.{Slow, Steady};
 ghost use Rattle.along.specs.Rides.{Rideable, Rode};
 ghost use Rattle.playing.specs.Plays.{plays, acceptedAs};
 ghost use Rattle.playing.specs.Turns.{Playable};
@@ -38,8 +39,33 @@ fn stretch(way: Way, from: Ridden, sound: &[f32], rate: &[f64], out: &mut [f32])
     round::round_on(way, ones, sound, rate, out)
 }
 
-// From a trail on, as far as the track goes.
-fn ride(way: Way, sound: &[f32], rate: &[f64], out: &mut [f32]) -> Ridden
+// The same where every frame makes one advance.
+fn stretch_held(
+    way: Way,
+    from: Ridden,
+    sound: &[f32],
+    advance: f64,
+    rate: &[f64],
+    out: &mut [f32],
+) -> Ridden
+    requires { ⌜ Rideable (now sound) way (now rate) ⌝ }
+    requires { ⌜ Rode (now sound) way (now rate) from (now out) ⌝ }
+    requires { ⌜ Slow advance ⌝ }
+    requires { ⌜ Steady (way .«sample_rate») (way .dt) advance (now rate) ⌝ }
+    ensures { λ r. ⌜ Rode (now (sound .entry)) way (now (rate .entry)) r (now (out .exit)) ⌝ }
+{
+    if way.track.backwards {
+        let fours = straight::held_back(way, from, sound, advance, rate, out);
+        let ones = straight::ones_back(way, fours, sound, rate, out);
+        return round::round_back(way, ones, sound, rate, out);
+    }
+    let fours = straight::held_on(way, from, sound, advance, rate, out);
+    let ones = straight::ones_on(way, fours, sound, rate, out);
+    round::round_on(way, ones, sound, rate, out)
+}
+
+// As far as the track goes, rates that differ.
+fn ride_varied(way: Way, sound: &[f32], rate: &[f64], out: &mut [f32]) -> Ridden
     requires { ⌜ Rideable (now sound) way (now rate) ⌝ }
     requires { ⌜ Rode (now sound) way (now rate) (begun way) (now out) ⌝ }
     ensures { λ r. ⌜ Rode (now (sound .entry)) way (now (rate .entry)) r (now (out .exit)) ⌝ }
@@ -58,6 +84,41 @@ fn ride(way: Way, sound: &[f32], rate: &[f64], out: &mut [f32]) -> Ridden
     }
     r
 }
+// As far as the track goes, one advance for every frame.
+fn ride_held(way: Way, sound: &[f32], advance: f64, rate: &[f64], out: &mut [f32]) -> Ridden
+    requires { ⌜ Rideable (now sound) way (now rate) ⌝ }
+    requires { ⌜ Rode (now sound) way (now rate) (begun way) (now out) ⌝ }
+    requires { ⌜ Slow advance ⌝ }
+    requires { ⌜ Steady (way .«sample_rate») (way .dt) advance (now rate) ⌝ }
+    ensures { λ r. ⌜ Rode (now (sound .entry)) way (now (rate .entry)) r (now (out .exit)) ⌝ }
+{
+    let mut r = Ridden {
+        at: way.at,
+        fractional_position: way.fractional_position,
+        steps: 0,
+        next: 0,
+    };
+    let mut more = true;
+    while more {
+        let s = stretch_held(way, r, sound, advance, rate, out);
+        more = (r.next < s.next) & (s.next < rate.len());
+        r = s;
+    }
+    r
+}
+// From a trail on, as far as the track goes: where the rates are all the same their advance is worked out once.
+fn ride(way: Way, sound: &[f32], rate: &[f64], out: &mut [f32]) -> Ridden
+    requires { ⌜ Rideable (now sound) way (now rate) ⌝ }
+    requires { ⌜ Rode (now sound) way (now rate) (begun way) (now out) ⌝ }
+    ensures { λ r. ⌜ Rode (now (sound .entry)) way (now (rate .entry)) r (now (out .exit)) ⌝ }
+{
+    if along::is_steady(rate) {
+        let advance = along::advance_of(way.sample_rate, way.dt, rate[0]);
+        return ride_held(way, sound, advance, rate, out);
+    }
+    ride_varied(way, sound, rate, out)
+}
+
 // Frame by frame from the first frame that is left on.
 fn play_from(
     rest: Rest,

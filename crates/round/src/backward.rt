@@ -50,8 +50,8 @@ pub fn round_back(way: Way, from: Ridden, sound: &[f32], rate: &[f64], out: &mut
         let half = trail::before_steps(track, r.at, a.steps);
         let x = read_before(sound, track, r.at, r.fractional_position);
         let y = read_before(sound, track, half, a.rest);
-        along::store(out, i, x);
-        along::store(out, i + 1, y);
+        along::store(out, 2 * i, x);
+        along::store(out, 2 * i + 2, y);
         r = Ridden {
             at: trail::before_steps(track, half, b.steps),
             fractional_position: b.rest,

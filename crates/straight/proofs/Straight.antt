@@ -15,10 +15,11 @@ use Rattle.trail.specs.declared.Track.{Track}
 use Rattle.trail.specs.Tracks.{next, nexts, On, roomy}
 use Rattle.trail.proofs.Tracks.{on-next, forth-on, after-on, back-on, before-on}
 use Rattle.along.specs.declared.Way.{Way}
+use Rattle.along.specs.Moves.{Move, Steady}
 use Rattle.along.specs.Rides.{readOn, Rideable, Rode}
 use Rattle.along.proofs.Rides.{place, rode-more}
 use Rattle.straight.specs.declared.Moves.{Moves}
-use Rattle.straight.specs.Moves.{Move, readFrom}
+use Rattle.straight.specs.Readings.{readFrom}
 
 -- the reading at a place, from the numbers of its four frames
 read-from : (snd : List Float) (k : Track) (q b c d p₁ p₂ p₃ p₄ : ℕ) (f : Float) → b ≡ next k q → c ≡ next k b → d ≡ next k c
@@ -29,6 +30,10 @@ read-from snd k q b c d p₁ p₂ p₃ p₄ f eb ec ed e₁ e₂ e₃ e₄ = rw 
 -- frame i written after the frames before it
 abbrev stored : List Float → ℕ → Frame → List Float
 stored out i x = set (set out (2 * i) (x .left)) (2 * i + 1) (x .right)
+
+-- where all rates make one advance, a frame's steps are those of that advance
+pub steady-move : (hz : ℕ) (dt a : Float) (rates : List Float) {f : Float} (s : Stepped) → Steady hz dt a rates → (i : ℕ) → i < length rates → Move f a s → Move f (advance hz (getD rates i nan) dt) s
+steady-move hz dt a rates {f} s st i h m = subst (λ (a : Float). Move f a s) (sym (st .each i h)) m
 
 -- ---- forward
 
@@ -73,7 +78,7 @@ module _ (snd : List Float) (w : Way) (rates : List Float) (able : Rideable snd 
 
   -- one frame more; p and z are numbers of frames of the sound
   pub on-more : (i steps p : ℕ) (f : Float) (out : List Float) (x : Frame) (a : Stepped) (z s n : ℕ) (o : List Float) → Rode snd w rates (place (p - s₀) f steps i) out → s₀ ≤ p → i < length rates
-      → x ≡ readFrom snd p (p + 1) (p + 2) (p + 3) f → Move (w .«sample_rate») (w .dt) f (getD rates i nan) a → z ≡ p + a .steps → z + 4 < s₀ + w .track .high
+      → x ≡ readFrom snd p (p + 1) (p + 2) (p + 3) f → Move f (advance (w .«sample_rate») (getD rates i nan) (w .dt)) a → z ≡ p + a .steps → z + 4 < s₀ + w .track .high
       → s ≡ steps + a .steps → n ≡ i + 1 → o ≡ stored out i x → Rode snd w rates (place (z - s₀) (a .rest) s n) o
   on-more i steps p f out x a z s n o h sp l ex ma ez ze es en eo =
       let k = w .track in
@@ -100,8 +105,8 @@ module _ (snd : List Float) (w : Way) (rates : List Float) (able : Rideable snd 
 
   pub on-four : (i steps p : ℕ) (f : Float) (out : List Float) (m : Moves) (x₁ x₂ x₃ x₄ : Frame) (p₁ p₂ p₃ p₄ s n : ℕ) (o₁ o₂ o₃ o₄ : List Float)
       → Rode snd w rates (place (p - s₀) f steps i) out → s₀ ≤ p → i + 3 < length rates
-      → Move (w .«sample_rate») (w .dt) f (getD rates i nan) (m .first) → Move (w .«sample_rate») (w .dt) (m .first .rest) (getD rates (i + 1) nan) (m .second)
-      → Move (w .«sample_rate») (w .dt) (m .second .rest) (getD rates (i + 2) nan) (m .third) → Move (w .«sample_rate») (w .dt) (m .third .rest) (getD rates (i + 3) nan) (m .fourth)
+      → Move f (advance (w .«sample_rate») (getD rates i nan) (w .dt)) (m .first) → Move (m .first .rest) (advance (w .«sample_rate») (getD rates (i + 1) nan) (w .dt)) (m .second)
+      → Move (m .second .rest) (advance (w .«sample_rate») (getD rates (i + 2) nan) (w .dt)) (m .third) → Move (m .third .rest) (advance (w .«sample_rate») (getD rates (i + 3) nan) (w .dt)) (m .fourth)
       → p₁ ≡ p + m .first .steps → p₂ ≡ p₁ + m .second .steps → p₃ ≡ p₂ + m .third .steps → p₄ ≡ p₃ + m .fourth .steps → p₄ + 4 < s₀ + w .track .high
       → x₁ ≡ readFrom snd p (p + 1) (p + 2) (p + 3) f → x₂ ≡ readFrom snd p₁ (p₁ + 1) (p₁ + 2) (p₁ + 3) (m .first .rest)
       → x₃ ≡ readFrom snd p₂ (p₂ + 1) (p₂ + 2) (p₂ + 3) (m .second .rest) → x₄ ≡ readFrom snd p₃ (p₃ + 1) (p₃ + 2) (p₃ + 3) (m .third .rest)
@@ -168,7 +173,7 @@ module _ (snd : List Float) (w : Way) (rates : List Float) (able : Rideable snd 
 
   -- one frame more; p and z are numbers of frames of the sound, the lowest of the window's four
   pub back-more : (i steps p : ℕ) (f : Float) (out : List Float) (x : Frame) (a : Stepped) (z s n : ℕ) (o : List Float) → Rode snd w rates (place (p + 3 - b₀) f steps i) out → i < length rates
-      → x ≡ readFrom snd (p + 3) (p + 2) (p + 1) p f → Move (w .«sample_rate») (w .dt) f (getD rates i nan) a → z ≡ p - a .steps → b₀ + l₀ + a .steps < p
+      → x ≡ readFrom snd (p + 3) (p + 2) (p + 1) p f → Move f (advance (w .«sample_rate») (getD rates i nan) (w .dt)) a → z ≡ p - a .steps → b₀ + l₀ + a .steps < p
       → s ≡ steps + a .steps → n ≡ i + 1 → o ≡ stored out i x → Rode snd w rates (place (z + 3 - b₀) (a .rest) s n) o
   back-more i steps p f out x a z s n o h l ex ma ez ze es en eo =
       let k = w .track in
@@ -195,8 +200,8 @@ module _ (snd : List Float) (w : Way) (rates : List Float) (able : Rideable snd 
 
   pub back-four : (i steps p : ℕ) (f : Float) (out : List Float) (m : Moves) (x₁ x₂ x₃ x₄ : Frame) (n₁ n₂ n₃ n₄ s n : ℕ) (o₁ o₂ o₃ o₄ : List Float)
       → Rode snd w rates (place (p + 3 - b₀) f steps i) out → i + 3 < length rates
-      → Move (w .«sample_rate») (w .dt) f (getD rates i nan) (m .first) → Move (w .«sample_rate») (w .dt) (m .first .rest) (getD rates (i + 1) nan) (m .second)
-      → Move (w .«sample_rate») (w .dt) (m .second .rest) (getD rates (i + 2) nan) (m .third) → Move (w .«sample_rate») (w .dt) (m .third .rest) (getD rates (i + 3) nan) (m .fourth)
+      → Move f (advance (w .«sample_rate») (getD rates i nan) (w .dt)) (m .first) → Move (m .first .rest) (advance (w .«sample_rate») (getD rates (i + 1) nan) (w .dt)) (m .second)
+      → Move (m .second .rest) (advance (w .«sample_rate») (getD rates (i + 2) nan) (w .dt)) (m .third) → Move (m .third .rest) (advance (w .«sample_rate») (getD rates (i + 3) nan) (w .dt)) (m .fourth)
       → n₁ ≡ m .first .steps → n₂ ≡ n₁ + m .second .steps → n₃ ≡ n₂ + m .third .steps → n₄ ≡ n₃ + m .fourth .steps → b₀ + l₀ + n₄ < p
       → x₁ ≡ readFrom snd (p + 3) (p + 2) (p + 1) p f → x₂ ≡ readFrom snd (p - n₁ + 3) (p - n₁ + 2) (p - n₁ + 1) (p - n₁) (m .first .rest)
       → x₃ ≡ readFrom snd (p - n₂ + 3) (p - n₂ + 2) (p - n₂ + 1) (p - n₂) (m .second .rest) → x₄ ≡ readFrom snd (p - n₃ + 3) (p - n₃ + 2) (p - n₃ + 1) (p - n₃) (m .third .rest)

@@ -1,2 +1,2 @@
--- The steps of one frame, and a reading of four frames.
-pub mod Moves
+-- A reading of four frames.
+pub mod Readings

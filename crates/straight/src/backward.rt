@@ -5,8 +5,10 @@ ghost use Prim.Native.Nat.{_+_, _*_, _<_};
 ghost use lib.Dec.{T};
 ghost use lib.ListN.{length};
 ghost use Rattle.numbers.specs.Words.{proper};
+ghost use Rattle.along.specs.Moves.{Slow, Steady};
 ghost use Rattle.along.specs.Rides.{Rideable, Rode};
-ghost use Rattle.straight.specs.Moves.{readFrom};
+ghost use Rattle.straight.specs.Readings.{readFrom};
+use crate::four_held;
 use crate::four_moves;
 use along::Ridden;
 use along::Way;
@@ -62,16 +64,75 @@ pub fn straight_back(way: Way, from: Ridden, sound: &[f32], rate: &[f64], out: &
         let x = read_back(sound, p - n1, m.first.rest);
         let y = read_back(sound, p - n2, m.second.rest);
         let z = read_back(sound, p - n3, m.third.rest);
-        along::store(out, i, w);
-        along::store(out, i + 1, x);
-        along::store(out, i + 2, y);
-        along::store(out, i + 3, z);
+        along::store(out, 2 * i, w);
+        along::store(out, 2 * i + 2, x);
+        along::store(out, 2 * i + 4, y);
+        along::store(out, 2 * i + 6, z);
         p -= n4;
         fractional_position = m.fourth.rest;
         i += 4;
     }
     Ridden {
         at: p + 3 - start,
+        fractional_position,
+        steps: from.steps + (first - p),
+        next: i,
+    }
+}
+
+// The same where every frame makes one advance.
+pub fn held_back(
+    way: Way,
+    from: Ridden,
+    sound: &[f32],
+    advance: f64,
+    rate: &[f64],
+    out: &mut [f32],
+) -> Ridden
+    requires { ⌜ Rideable (now sound) way (now rate) ⌝ }
+    requires { ⌜ Rode (now sound) way (now rate) from (now out) ⌝ }
+    requires { ⌜ way .track .backwards ≡ true ⌝ }
+    requires { ⌜ Slow advance ⌝ }
+    requires { ⌜ Steady (way .«sample_rate») (way .dt) advance (now rate) ⌝ }
+    ensures { λ r. ⌜ Rode (now (sound .entry)) way (now (rate .entry)) r (now (out .exit)) ⌝ }
+{
+    if from.at < way.track.low + 4 {
+        return from;
+    }
+    let start = way.track.start;
+    let limit = start + way.track.low;
+    let first = start + from.at - 3;
+    let mut p = first;
+    let mut fractional_position = from.fractional_position;
+    let mut i = from.next;
+    while i + 3 < rate.len() {
+        let m = four_held(fractional_position, advance);
+        let n1 = m.first.steps;
+        let n2 = n1 + m.second.steps;
+        let n3 = n2 + m.third.steps;
+        let n4 = n3 + m.fourth.steps;
+        if p <= limit + n4 {
+            return Ridden {
+                at: p + 3 - way.track.start,
+                fractional_position,
+                steps: from.steps + (first - p),
+                next: i,
+            };
+        }
+        let w = read_back(sound, p, fractional_position);
+        let x = read_back(sound, p - n1, m.first.rest);
+        let y = read_back(sound, p - n2, m.second.rest);
+        let z = read_back(sound, p - n3, m.third.rest);
+        along::store(out, 2 * i, w);
+        along::store(out, 2 * i + 2, x);
+        along::store(out, 2 * i + 4, y);
+        along::store(out, 2 * i + 6, z);
+        p -= n4;
+        fractional_position = m.fourth.rest;
+        i += 4;
+    }
+    Ridden {
+        at: p + 3 - way.track.start,
         fractional_position,
         steps: from.steps + (first - p),
         next: i,
@@ -94,7 +155,7 @@ pub fn ones_back(way: Way, from: Ridden, sound: &[f32], rate: &[f64], out: &mut 
             return r;
         }
         let x = read_back(sound, start + r.at - 3, r.fractional_position);
-        along::store(out, i, x);
+        along::store(out, 2 * i, x);
         r = Ridden {
             at: r.at - m.steps,
             fractional_position: m.rest,

@@ -5,8 +5,10 @@ ghost use Prim.Native.Nat.{_+_, _*_, _<_};
 ghost use lib.Dec.{T};
 ghost use lib.ListN.{length};
 ghost use Rattle.numbers.specs.Words.{proper};
+ghost use Rattle.along.specs.Moves.{Slow, Steady};
 ghost use Rattle.along.specs.Rides.{Rideable, Rode};
-ghost use Rattle.straight.specs.Moves.{readFrom};
+ghost use Rattle.straight.specs.Readings.{readFrom};
+use crate::four_held;
 use crate::four_moves;
 use along::Ridden;
 use along::Way;
@@ -62,16 +64,75 @@ pub fn straight_on(way: Way, from: Ridden, sound: &[f32], rate: &[f64], out: &mu
         let x = read_on(sound, p1, m.first.rest);
         let y = read_on(sound, p2, m.second.rest);
         let z = read_on(sound, p3, m.third.rest);
-        along::store(out, i, w);
-        along::store(out, i + 1, x);
-        along::store(out, i + 2, y);
-        along::store(out, i + 3, z);
+        along::store(out, 2 * i, w);
+        along::store(out, 2 * i + 2, x);
+        along::store(out, 2 * i + 4, y);
+        along::store(out, 2 * i + 6, z);
         p = p4;
         fractional_position = m.fourth.rest;
         i += 4;
     }
     Ridden {
         at: p - start,
+        fractional_position,
+        steps: from.steps + (p - first),
+        next: i,
+    }
+}
+
+// The same where every frame makes one advance.
+pub fn held_on(
+    way: Way,
+    from: Ridden,
+    sound: &[f32],
+    advance: f64,
+    rate: &[f64],
+    out: &mut [f32],
+) -> Ridden
+    requires { ⌜ Rideable (now sound) way (now rate) ⌝ }
+    requires { ⌜ Rode (now sound) way (now rate) from (now out) ⌝ }
+    requires { ⌜ way .track .backwards ≡ false ⌝ }
+    requires { ⌜ Slow advance ⌝ }
+    requires { ⌜ Steady (way .«sample_rate») (way .dt) advance (now rate) ⌝ }
+    ensures { λ r. ⌜ Rode (now (sound .entry)) way (now (rate .entry)) r (now (out .exit)) ⌝ }
+{
+    if way.track.high <= from.at + 4 {
+        return from;
+    }
+    let start = way.track.start;
+    let limit = start + way.track.high - 4;
+    let first = start + from.at;
+    let mut p = first;
+    let mut fractional_position = from.fractional_position;
+    let mut i = from.next;
+    while i + 3 < rate.len() {
+        let m = four_held(fractional_position, advance);
+        let p1 = p + m.first.steps;
+        let p2 = p1 + m.second.steps;
+        let p3 = p2 + m.third.steps;
+        let p4 = p3 + m.fourth.steps;
+        if limit <= p4 {
+            return Ridden {
+                at: p - way.track.start,
+                fractional_position,
+                steps: from.steps + (p - first),
+                next: i,
+            };
+        }
+        let w = read_on(sound, p, fractional_position);
+        let x = read_on(sound, p1, m.first.rest);
+        let y = read_on(sound, p2, m.second.rest);
+        let z = read_on(sound, p3, m.third.rest);
+        along::store(out, 2 * i, w);
+        along::store(out, 2 * i + 2, x);
+        along::store(out, 2 * i + 4, y);
+        along::store(out, 2 * i + 6, z);
+        p = p4;
+        fractional_position = m.fourth.rest;
+        i += 4;
+    }
+    Ridden {
+        at: p - way.track.start,
         fractional_position,
         steps: from.steps + (p - first),
         next: i,
@@ -94,7 +155,7 @@ pub fn ones_on(way: Way, from: Ridden, sound: &[f32], rate: &[f64], out: &mut [f
             return r;
         }
         let x = read_on(sound, start + r.at, r.fractional_position);
-        along::store(out, i, x);
+        along::store(out, 2 * i, x);
         r = Ridden {
             at: r.at + m.steps,
             fractional_position: m.rest,

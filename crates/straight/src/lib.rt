@@ -5,16 +5,18 @@ ghost use Prim.Native.Nat.{_+_, _<_};
 ghost use lib.Dec.{T};
 ghost use lib.ListN.{length, getD};
 ghost use lib.Ieee.{nan, lt};
-ghost use Rattle.numbers.specs.Words.{positiveZero, proper};
+ghost use Rattle.numbers.specs.Words.{positiveZero, proper, advance};
 ghost use Rattle.numbers.specs.Lists.{all};
 ghost use Rattle.lanes.specs.Lanes.{slow};
-ghost use Rattle.straight.specs.Moves.{Move};
+ghost use Rattle.along.specs.Moves.{Slow, Move};
 
 mod backward;
 mod forward;
 
+pub use backward::held_back;
 pub use backward::ones_back;
 pub use backward::straight_back;
+pub use forward::held_on;
 pub use forward::ones_on;
 pub use forward::straight_on;
 use numbers::Stepped;
@@ -40,15 +42,36 @@ pub fn four_moves(
     requires { ⌜ T (all (slow «sample_rate» dt) (now rate)) ⌝ }
     requires { ⌜ i + 3 < length (now rate) ⌝ }
     requires { ⌜ length (now rate) < 8192 ⌝ }
-    ensures { λ r. ⌜ Move «sample_rate» dt «fractional_position» (getD (now (rate .entry)) i nan) (r .first) ⌝ }
-    ensures { λ r. ⌜ Move «sample_rate» dt (r .first .rest) (getD (now (rate .entry)) (i + 1) nan) (r .second) ⌝ }
-    ensures { λ r. ⌜ Move «sample_rate» dt (r .second .rest) (getD (now (rate .entry)) (i + 2) nan) (r .third) ⌝ }
-    ensures { λ r. ⌜ Move «sample_rate» dt (r .third .rest) (getD (now (rate .entry)) (i + 3) nan) (r .fourth) ⌝ }
+    ensures { λ r. ⌜ Move «fractional_position» (advance «sample_rate» (getD (now (rate .entry)) i nan) dt) (r .first) ⌝ }
+    ensures { λ r. ⌜ Move (r .first .rest) (advance «sample_rate» (getD (now (rate .entry)) (i + 1) nan) dt) (r .second) ⌝ }
+    ensures { λ r. ⌜ Move (r .second .rest) (advance «sample_rate» (getD (now (rate .entry)) (i + 2) nan) dt) (r .third) ⌝ }
+    ensures { λ r. ⌜ Move (r .third .rest) (advance «sample_rate» (getD (now (rate .entry)) (i + 3) nan) dt) (r .fourth) ⌝ }
 {
     let first = along::moved(sample_rate, dt, fractional_position, rate[i]);
     let second = along::moved(sample_rate, dt, first.rest, rate[i + 1]);
     let third = along::moved(sample_rate, dt, second.rest, rate[i + 2]);
     let fourth = along::moved(sample_rate, dt, third.rest, rate[i + 3]);
+    Moves {
+        first,
+        second,
+        third,
+        fourth,
+    }
+}
+
+// The steps of four frames that make one advance.
+pub fn four_held(fractional_position: f64, advance: f64) -> Moves
+    requires { ⌜ T (proper «fractional_position») ⌝ }
+    requires { ⌜ Slow advance ⌝ }
+    ensures { λ r. ⌜ Move «fractional_position» advance (r .first) ⌝ }
+    ensures { λ r. ⌜ Move (r .first .rest) advance (r .second) ⌝ }
+    ensures { λ r. ⌜ Move (r .second .rest) advance (r .third) ⌝ }
+    ensures { λ r. ⌜ Move (r .third .rest) advance (r .fourth) ⌝ }
+{
+    let first = along::stepped_by(fractional_position, advance);
+    let second = along::stepped_by(first.rest, advance);
+    let third = along::stepped_by(second.rest, advance);
+    let fourth = along::stepped_by(third.rest, advance);
     Moves {
         first,
         second,

@@ -133,6 +133,8 @@ pub record Coincide : Type 0 where
   pub command-set-on-start-processing : Decides command_set.on_start_processing.Reads.Post
   -- playing, riding, held and block
   pub playing-play : DecidesWith (λ k r s. s .1 .1 .1 .1 .1 .1 .1 .0 .now) playing.play.Reads.Post
+  pub along-advance-of : Decides along.advance_of.Reads.Post
+  pub along-stepped-by : Decides along.stepped_by.Reads.Post
   pub along-moved : Decides along.moved.Reads.Post
   pub along-store : DecidesWith (λ k r s. s .0 .now) along.store.Reads.Post
   pub gains-by-frame : DecidesWith (λ k r s. s .1 .1 .1 .1 .1 .0 .now) gains.by_frame.Reads.Post

@@ -1,38 +1,25 @@
--- `moved` adds the advance to the fraction, and takes the whole part off.
-use Prim.Native.Nat.{ℕ, _≤_, _<_}
-use mathlib.Core.Path.{_≡_}
-use native.Mathlib.Omega.{arith}
-use lib.Ieee.{binary64, add}
-use Rattle.numbers.specs.Words.{stepped, advance}
-use Rattle.along.proofs.Moves.{asks, sum-is, slow-number, moved-few, moved-below}
+-- `moved` makes the steps of a rate's advance.
+use mathlib.Core.Path.{subst}
+use lib.Ieee.{Float}
 use borrow.Author.Needs.{needs}
+use Rattle.along.specs.Moves.{Move}
+use Rattle.along.proofs.Moves.{slow-advance}
 use Rattle.along.proofs.moved.Statement.{statement}
 use Rattle.along.proofs.moved.Tie as tie
-use Rattle.along.proofs.moved.Reads as reads
-use Rattle.along.proofs.moved.Lts as lts
 
-below : {n : ℕ} → n ≤ 257 → n < 258
-below h = omega arith
+advance-of-requires : tie.Need-advance-of-requires
+advance-of-requires c κs = c .pre .1 .1
 
-int-to-float-advance : tie.Need-int-to-float-advance
-int-to-float-advance c = search needs
-
-magnitude-of-requires : tie.Need-magnitude-of-requires
-magnitude-of-requires c κs = slow-number _ _ _ (c .before .pre .1 .1)
-
-advance-by-requires : tie.Need-advance-by-requires
-advance-by-requires c κs =
-    let s = c .before .before in
-    (s .pre .0, asks _ _ _ _ (c .magnitude-of .ensures) (s .pre .1 .0) (s .pre .1 .1))
+stepped-by-requires : tie.Need-stepped-by-requires
+stepped-by-requires c κs = let a = (c .before) .args in ((c .before) .pre .0, slow-advance (a .sample-rate) (a .dt) (a .rate) _ (c .advance-of .ensures) ((c .before) .pre .1 .0) ((c .before) .pre .1 .1))
 
 returns : tie.Need-returns
-returns c =
-    let s = c .before .before .before in
-    let a = s .args in
-    let e : c .advance-by .result ≡ stepped (add binary64 (a .fractional-position) (advance (a .sample-rate) (a .rate) (a .dt))) =
-    sum-is (a .sample-rate) (a .rate) (a .dt) _ (a .fractional-position) (c .advance-by .result) (c .before .magnitude-of .ensures) (c .advance-by .ensures) in
-    (e, (below (moved-few _ _ _ _ (s .pre .0) (s .pre .1 .0) (s .pre .1 .1) (c .advance-by .result) e), moved-below _ _ _ _ (s .pre .0) (s .pre .1 .0) (s .pre .1 .1) (c .advance-by .result) e))
+returns c = subst (λ (a : Float). Move ((c .before .before) .args .fractional-position) a (c .stepped-by .result)) ((c .before) .advance-of .ensures) (c .stepped-by .ensures)
 
 pub moved-spec : {M : Type 1} → statement M
 moved-spec =
-    tie.close (tie.spec int-to-float-advance magnitude-of-requires advance-by-requires returns)
+    tie.close
+    (tie.spec
+    advance-of-requires
+    stepped-by-requires
+    returns)

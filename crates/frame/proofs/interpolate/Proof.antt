@@ -1,5 +1,5 @@
 -- `interpolate` meets its contract: its operations are the cubic's, one by one, but for the third coefficient, which is a
--- difference (Turned.antt).
+-- difference (`cubic-turned`).
 use mathlib.Core.Path.{sym, subst}
 use lib.Dec.{T}
 use lib.Ieee.{ofBits}

@@ -35,6 +35,9 @@ slice-read-scale-2 c = search needs
 scale-requires : tie.Need-scale-requires
 scale-requires c κs = search needs
 
+mul-store : tie.Need-mul-store
+mul-store c = search needs
+
 store-requires : tie.Need-store-requires
 store-requires c κs = search needs
 
@@ -57,6 +60,7 @@ gain-one-spec =
     mul-scale-4
     slice-read-scale-2
     scale-requires
+    mul-store
     store-requires
     same-length
     returns)

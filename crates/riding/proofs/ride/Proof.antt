@@ -1,62 +1,51 @@
--- `ride` goes on while a stretch reads frames and some are left. The invariant: the ride so far.
-use Prim.Native.Nat.{ℕ, suc, _-_, _<_}
-use mathlib.Core.Path.{_≡_, refl, sym, _∙_, subst}
-use mathlib.Core.Bool.{Bool, true, false, _&&_, cond}
-use native.Mathlib.Omega.{arith}
-use lib.Dec.{ltb}
-use lib.ListN.{length}
-use borrow.Author.Tests.{ltb-true}
-use Rattle.along.specs.Rides.{Rideable, Rode}
+-- `ride` works the advance out once where all rates are the same.
+use lib.ListN.{getD}
+use lib.Ieee.{nan}
+use denote.Ref.{now}
+use borrow.Author.Needs.{needs}
+use Rattle.lanes.specs.Lanes.{slow}
+use Rattle.along.proofs.Moves.{all-numbers, slow-advance, same-steady}
+use Rattle.along.proofs.Rides.{all-at}
 use Rattle.riding.proofs.ride.Statement.{statement}
 use Rattle.riding.proofs.ride.Tie as tie
 
-abbrev Inv-loop : tie.InvT-loop
-Inv-loop way sound rate out₀ r₀ more₀ out r more = Rode sound way rate r out
+is-steady-requires : tie.Need-is-steady-requires
+is-steady-requires c κs = all-numbers ((c .before .before .before) .args .way .«sample_rate») ((c .before .before .before) .args .way .dt) (now ((c .before .before .before) .args .rate)) ((c .before .before .before) .pre .0 .slow)
 
-abbrev μ-loop : tie.MeasureT-loop
-μ-loop way sound rate out₀ r₀ more₀ out r more = cond more (suc (length rate - r .next)) 0
+shared-slice-read-advance-of : tie.Need-shared-slice-read-advance-of
+shared-slice-read-advance-of c = ((c .before .before) .is-steady .ensures ((c .before) .if1 .taken)) .some
 
-less : (m : Bool) (r s n : ℕ) → m ≡ true → cond (ltb r s && ltb s n) (suc (n - s)) 0 < cond m (suc (n - r)) 0
-less m r s n e = subst (λ (b : Bool). cond (ltb r s && ltb s n) (suc (n - s)) 0 < cond b (suc (n - r)) 0) (sym e) (go (ltb r s) (ltb s n) refl refl)
-  where
-    fewer : (r s n : ℕ) → r < s → s < n → suc (n - s) < suc (n - r)
-    fewer r s n h k = omega arith
+advance-of-requires : tie.Need-advance-of-requires
+advance-of-requires c κs = (all-at (slow ((c .before .before .before .before .before .before) .args .way .«sample_rate») ((c .before .before .before .before .before .before) .args .way .dt)) (now ((c .before .before .before .before .before .before) .args .rate)) 0 (((c .before .before) .is-steady .ensures ((c .before) .if1 .taken)) .some) ((c .before .before .before .before .before .before) .pre .0 .slow))
 
-    none : (n : ℕ) → 0 < suc n
-    none n = omega arith
+ride-held-requires : tie.Need-ride-held-requires
+ride-held-requires c κs = ((c .before .before .before .before .before .before .before .before) .pre .0, ((c .before .before .before .before .before .before .before .before) .pre .1, (slow-advance ((c .before .before .before .before .before .before .before .before) .args .way .«sample_rate») ((c .before .before .before .before .before .before .before .before) .args .way .dt) (getD (now ((c .before .before .before .before .before .before .before .before) .args .rate)) 0 nan) _ ((c .before) .advance-of .ensures) ((c .before .before .before .before .before .before .before .before) .pre .0 .timeStep) (all-at (slow ((c .before .before .before .before .before .before .before .before) .args .way .«sample_rate») ((c .before .before .before .before .before .before .before .before) .args .way .dt)) (now ((c .before .before .before .before .before .before .before .before) .args .rate)) 0 (((c .before .before .before .before) .is-steady .ensures ((c .before .before .before) .if1 .taken)) .some) ((c .before .before .before .before .before .before .before .before) .pre .0 .slow)), same-steady ((c .before .before .before .before .before .before .before .before) .args .way .«sample_rate») ((c .before .before .before .before .before .before .before .before) .args .way .dt) _ (now ((c .before .before .before .before .before .before .before .before) .args .rate)) ((c .before) .advance-of .ensures) ((c .before .before .before .before) .is-steady .ensures ((c .before .before .before) .if1 .taken)))))
 
-    go : (a b : Bool) → ltb r s ≡ a → ltb s n ≡ b → cond (a && b) (suc (n - s)) 0 < suc (n - r)
-    go true true h k = fewer r s n (ltb-true r s h) (ltb-true s n k)
-    go true false h k = none (n - r)
-    go false b h k = none (n - r)
+same-length : tie.Need-same-length
+same-length c = search needs
 
-loop-holds : tie.Need-loop-holds Inv-loop μ-loop
-loop-holds c = (c .before .before .before) .pre .1
+returns : tie.Need-returns
+returns c = (c .before .before) .ride-held .ensures
 
-stretch-requires : tie.Need-stretch-requires Inv-loop μ-loop
-stretch-requires c κs = ((c .before .before .before .before .before .before) .pre .0, (c .before .before) .loop .inv)
+ride-varied-requires : tie.Need-ride-varied-requires
+ride-varied-requires c κs = ((c .before .before .before .before .before .before) .pre .0, (c .before .before .before .before .before .before) .pre .1)
 
-loop-less : tie.Need-loop-less Inv-loop μ-loop
-loop-less c = less _ _ _ _ ((c .before .before .before .before .before .before .before) .loop-test .taken)
+same-length-2 : tie.Need-same-length-2
+same-length-2 c = search needs
 
-loop-again : tie.Need-loop-again Inv-loop μ-loop
-loop-again c = (c .before .before .before .before .before) .stretch .ensures
-
-same-length : tie.Need-same-length Inv-loop μ-loop
-same-length c = (c .before) .loop .inv .asLong ∙ sym ((c .before .before .before .before .before) .pre .1 .asLong)
-
-returns : tie.Need-returns Inv-loop μ-loop
-returns c = (c .before) .loop .inv
+returns-2 : tie.Need-returns-2
+returns-2 c = (c .before .before) .ride-varied .ensures
 
 pub ride-spec : {M : Type 1} → statement M
 ride-spec =
     tie.close
     (tie.spec
-    Inv-loop
-    μ-loop
-    loop-holds
-    stretch-requires
-    loop-less
-    loop-again
+    is-steady-requires
+    shared-slice-read-advance-of
+    advance-of-requires
+    ride-held-requires
     same-length
-    returns)
+    returns
+    ride-varied-requires
+    same-length-2
+    returns-2)

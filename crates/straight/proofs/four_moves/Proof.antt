@@ -39,7 +39,7 @@ shared-slice-read-moved-2 : tie.Need-shared-slice-read-moved-2
 shared-slice-read-moved-2 c = search needs
 
 moved-requires-2 : tie.Need-moved-requires-2
-moved-requires-2 c κs = ((c .before) .moved .ensures .1 .1, ((c .before .before .before .before) .pre .1 .0, all-at (slow ((c .before .before .before .before) .args .sample-rate) ((c .before .before .before .before) .args .dt)) (now ((c .before .before .before .before) .args .rate)) ((c .before .before .before .before) .args .i + 1) (less1 _ _ ((c .before .before .before .before) .pre .1 .1 .1 .0)) ((c .before .before .before .before) .pre .1 .1 .0)))
+moved-requires-2 c κs = ((c .before) .moved .ensures .below, ((c .before .before .before .before) .pre .1 .0, all-at (slow ((c .before .before .before .before) .args .sample-rate) ((c .before .before .before .before) .args .dt)) (now ((c .before .before .before .before) .args .rate)) ((c .before .before .before .before) .args .i + 1) (less1 _ _ ((c .before .before .before .before) .pre .1 .1 .1 .0)) ((c .before .before .before .before) .pre .1 .1 .0)))
 
 add-moved-2 : tie.Need-add-moved-2
 add-moved-2 c = search needs
@@ -51,7 +51,7 @@ shared-slice-read-moved-3 : tie.Need-shared-slice-read-moved-3
 shared-slice-read-moved-3 c = search needs
 
 moved-requires-3 : tie.Need-moved-requires-3
-moved-requires-3 c κs = ((c .before) .moved2 .ensures .1 .1, ((c .before .before .before .before .before .before) .pre .1 .0, all-at (slow ((c .before .before .before .before .before .before) .args .sample-rate) ((c .before .before .before .before .before .before) .args .dt)) (now ((c .before .before .before .before .before .before) .args .rate)) ((c .before .before .before .before .before .before) .args .i + 2) (less2 _ _ ((c .before .before .before .before .before .before) .pre .1 .1 .1 .0)) ((c .before .before .before .before .before .before) .pre .1 .1 .0)))
+moved-requires-3 c κs = ((c .before) .moved2 .ensures .below, ((c .before .before .before .before .before .before) .pre .1 .0, all-at (slow ((c .before .before .before .before .before .before) .args .sample-rate) ((c .before .before .before .before .before .before) .args .dt)) (now ((c .before .before .before .before .before .before) .args .rate)) ((c .before .before .before .before .before .before) .args .i + 2) (less2 _ _ ((c .before .before .before .before .before .before) .pre .1 .1 .1 .0)) ((c .before .before .before .before .before .before) .pre .1 .1 .0)))
 
 add-moved-3 : tie.Need-add-moved-3
 add-moved-3 c = search needs
@@ -63,10 +63,10 @@ shared-slice-read-moved-4 : tie.Need-shared-slice-read-moved-4
 shared-slice-read-moved-4 c = search needs
 
 moved-requires-4 : tie.Need-moved-requires-4
-moved-requires-4 c κs = ((c .before) .moved3 .ensures .1 .1, ((c .before .before .before .before .before .before .before .before) .pre .1 .0, all-at (slow ((c .before .before .before .before .before .before .before .before) .args .sample-rate) ((c .before .before .before .before .before .before .before .before) .args .dt)) (now ((c .before .before .before .before .before .before .before .before) .args .rate)) ((c .before .before .before .before .before .before .before .before) .args .i + 3) (less3 _ _ ((c .before .before .before .before .before .before .before .before) .pre .1 .1 .1 .0)) ((c .before .before .before .before .before .before .before .before) .pre .1 .1 .0)))
+moved-requires-4 c κs = ((c .before) .moved3 .ensures .below, ((c .before .before .before .before .before .before .before .before) .pre .1 .0, all-at (slow ((c .before .before .before .before .before .before .before .before) .args .sample-rate) ((c .before .before .before .before .before .before .before .before) .args .dt)) (now ((c .before .before .before .before .before .before .before .before) .args .rate)) ((c .before .before .before .before .before .before .before .before) .args .i + 3) (less3 _ _ ((c .before .before .before .before .before .before .before .before) .pre .1 .1 .1 .0)) ((c .before .before .before .before .before .before .before .before) .pre .1 .1 .0)))
 
 returns : tie.Need-returns
-returns c = (record { is = (c .before .before .before .before .before .before) .moved .ensures .0; few = (c .before .before .before .before .before .before) .moved .ensures .1 .0; below = (c .before .before .before .before .before .before) .moved .ensures .1 .1 }, (record { is = (c .before .before .before .before) .moved2 .ensures .0; few = (c .before .before .before .before) .moved2 .ensures .1 .0; below = (c .before .before .before .before) .moved2 .ensures .1 .1 }, (record { is = (c .before .before) .moved3 .ensures .0; few = (c .before .before) .moved3 .ensures .1 .0; below = (c .before .before) .moved3 .ensures .1 .1 }, record { is = c .moved4 .ensures .0; few = c .moved4 .ensures .1 .0; below = c .moved4 .ensures .1 .1 })))
+returns c = ((c .before .before .before .before .before .before) .moved .ensures, ((c .before .before .before .before) .moved2 .ensures, ((c .before .before) .moved3 .ensures, c .moved4 .ensures)))
 
 pub four-moves-spec : {M : Type 1} → statement M
 four-moves-spec =

@@ -1,6 +1,6 @@
 -- `read_back` reads four frames side by side.
 use borrow.Author.Needs.{needs}
-use Rattle.straight.specs.Moves.{readFrom}
+use Rattle.straight.specs.Readings.{readFrom}
 use Rattle.straight.proofs.backward.read_back.Statement.{statement}
 use Rattle.straight.proofs.backward.read_back.Tie as tie
 

@@ -11,7 +11,7 @@ use Rattle.along.specs.declared.Way.{Way}
 use Rattle.along.specs.declared.Ridden.{Ridden}
 use Rattle.along.specs.Rides.{Rideable, Rode}
 use Rattle.lanes.specs.Lanes.{slow}
-use Rattle.along.proofs.Rides.{place, rode-more, all-at, stored-length}
+use Rattle.along.proofs.Rides.{place, rode-more, all-at, stored-at, stored-length}
 use Rattle.straight.proofs.Straight.{back-four}
 use Rattle.straight.proofs.backward.straight_back.Statement.{statement}
 use Rattle.straight.proofs.backward.straight_back.Tie as tie
@@ -85,20 +85,29 @@ lower3 p e a b c d h = omega arith
 lower4 : (p e a b c d : ℕ) → e + (a + b + c + d) < p → a + b + c + d ≤ p
 lower4 p e a b c d h = omega arith
 
-stores0 : (o m i n : ℕ) → o ≡ m → m ≡ 2 * n → i + 3 < n → n ≤ 4096 → (2 * i + 1 < o) × (i < 8192)
-stores0 o m i n a b h l = (omega arith, omega arith)
+stores0 : (o m i n : ℕ) → o ≡ m → m ≡ 2 * n → i + 3 < n → n ≤ 4096 → 2 * i + 1 < o
+stores0 o m i n a b h l = omega arith
 
-stores1 : (o m i n : ℕ) → o ≡ m → m ≡ 2 * n → i + 3 < n → n ≤ 4096 → (2 * (i + 1) + 1 < o) × (i + 1 < 8192)
-stores1 o m i n a b h l = (omega arith, omega arith)
+stores1 : (o m i n : ℕ) → o ≡ m → m ≡ 2 * n → i + 3 < n → n ≤ 4096 → 2 * i + 2 + 1 < o
+stores1 o m i n a b h l = omega arith
 
-stores2 : (o m i n : ℕ) → o ≡ m → m ≡ 2 * n → i + 3 < n → n ≤ 4096 → (2 * (i + 2) + 1 < o) × (i + 2 < 8192)
-stores2 o m i n a b h l = (omega arith, omega arith)
+stores2 : (o m i n : ℕ) → o ≡ m → m ≡ 2 * n → i + 3 < n → n ≤ 4096 → 2 * i + 4 + 1 < o
+stores2 o m i n a b h l = omega arith
 
-stores3 : (o m i n : ℕ) → o ≡ m → m ≡ 2 * n → i + 3 < n → n ≤ 4096 → (2 * (i + 3) + 1 < o) × (i + 3 < 8192)
-stores3 o m i n a b h l = (omega arith, omega arith)
+stores3 : (o m i n : ℕ) → o ≡ m → m ≡ 2 * n → i + 3 < n → n ≤ 4096 → 2 * i + 6 + 1 < o
+stores3 o m i n a b h l = omega arith
 
 less : (i n : ℕ) → i + 3 < n → n - (i + 4) < n - i
 less i n h = omega arith
+
+even1 : (i : ℕ) → 2 * i + 2 ≡ 2 * (i + 1)
+even1 i = omega arith
+
+even2 : (i : ℕ) → 2 * i + 4 ≡ 2 * (i + 2)
+even2 i = omega arith
+
+even3 : (i : ℕ) → 2 * i + 6 ≡ 2 * (i + 3)
+even3 i = omega arith
 
 ends : (p e a b c d : ℕ) → e + (a + b + c + d) < p → e < p - (a + b + c + d)
 ends p e a b c d h = omega arith
@@ -208,26 +217,38 @@ sub-read-back-3 c = lower3 _ _ _ _ _ _ ((c .before .before .before) .if2 .left)
 read-back-requires-4 : tie.Need-read-back-requires-4 Inv-loop μ-loop
 read-back-requires-4 c κs = (reads1 _ _ _ _ _ _ (numbers (c .before .before .before .before .before .before .before .before .before)), (c .before .before .before .before .before .before .before) .four-moves .ensures .1 .1 .0 .below)
 
+mul-store : tie.Need-mul-store Inv-loop μ-loop
+mul-store c = omega (arith, numbers (c .before .before .before .before .before .before .before .before .before .before .before), (c .before .before .before .before .before .before .before .before .before .before) .loop-test .taken)
+
 store-requires : tie.Need-store-requires Inv-loop μ-loop
 store-requires c κs = stores0 _ (length ((c .before .before .before .before .before .before .before .before .before .before .before) .loop .out)) _ _ refl ((c .before .before .before .before .before .before .before .before .before .before .before) .loop .inv .rode .asLong) ((c .before .before .before .before .before .before .before .before .before .before) .loop-test .taken) ((c .before .before .before .before .before .before .before .before .before .before .before .before .before .before .before .before .before .before .before .before) .pre .0 .most)
+
+mul-store-2 : tie.Need-mul-store-2 Inv-loop μ-loop
+mul-store-2 c = omega (arith, numbers (c .before .before .before .before .before .before .before .before .before .before .before .before .before .before .before), (c .before .before .before .before .before .before .before .before .before .before .before .before .before .before) .loop-test .taken)
 
 add-store : tie.Need-add-store Inv-loop μ-loop
 add-store c = omega (arith, numbers (c .before .before .before .before .before .before .before .before .before .before .before .before .before .before .before), (c .before .before .before .before .before .before .before .before .before .before .before .before .before .before) .loop-test .taken)
 
 store-requires-2 : tie.Need-store-requires-2 Inv-loop μ-loop
-store-requires-2 c κs = stores1 _ (length ((c .before .before .before .before .before .before .before .before .before .before .before .before .before .before .before) .loop .out)) _ _ (stored-length ((c .before .before .before) .store .last .0) ((c .before .before .before .before .before .before .before .before .before .before .before .before .before .before .before) .loop .out) ((c .before .before .before .before .before .before .before .before .before .before .before .before .before .before .before) .loop .i) ((c .before .before .before .before .before .before .before .before) .read-back .result) ((c .before .before .before) .store .ensures)) ((c .before .before .before .before .before .before .before .before .before .before .before .before .before .before .before) .loop .inv .rode .asLong) ((c .before .before .before .before .before .before .before .before .before .before .before .before .before .before) .loop-test .taken) ((c .before .before .before .before .before .before .before .before .before .before .before .before .before .before .before .before .before .before .before .before .before .before .before .before) .pre .0 .most)
+store-requires-2 c κs = stores1 _ (length ((c .before .before .before .before .before .before .before .before .before .before .before .before .before .before .before) .loop .out)) _ _ (stored-length ((c .before .before .before) .store .last .0) ((c .before .before .before .before .before .before .before .before .before .before .before .before .before .before .before) .loop .out) ((c .before .before .before .before .before .before .before .before .before .before .before .before .before .before .before) .loop .i) ((c .before .before .before .before .before .before .before .before) .read-back .result) (stored-at ((c .before .before .before) .store .last .0) ((c .before .before .before .before .before .before .before .before .before .before .before .before .before .before .before) .loop .out) (2 * (c .before .before .before .before .before .before .before .before .before .before .before .before .before .before .before) .loop .i) ((c .before .before .before .before .before .before .before .before .before .before .before .before .before .before .before) .loop .i) ((c .before .before .before .before .before .before .before .before) .read-back .result) refl ((c .before .before .before) .store .ensures))) ((c .before .before .before .before .before .before .before .before .before .before .before .before .before .before .before) .loop .inv .rode .asLong) ((c .before .before .before .before .before .before .before .before .before .before .before .before .before .before) .loop-test .taken) ((c .before .before .before .before .before .before .before .before .before .before .before .before .before .before .before .before .before .before .before .before .before .before .before .before) .pre .0 .most)
+
+mul-store-3 : tie.Need-mul-store-3 Inv-loop μ-loop
+mul-store-3 c = omega (arith, numbers (c .before .before .before .before .before .before .before .before .before .before .before .before .before .before .before .before .before .before .before), (c .before .before .before .before .before .before .before .before .before .before .before .before .before .before .before .before .before .before) .loop-test .taken)
 
 add-store-2 : tie.Need-add-store-2 Inv-loop μ-loop
 add-store-2 c = omega (arith, numbers (c .before .before .before .before .before .before .before .before .before .before .before .before .before .before .before .before .before .before .before), (c .before .before .before .before .before .before .before .before .before .before .before .before .before .before .before .before .before .before) .loop-test .taken)
 
 store-requires-3 : tie.Need-store-requires-3 Inv-loop μ-loop
-store-requires-3 c κs = stores2 _ (length ((c .before .before .before .before .before .before .before .before .before .before .before .before .before .before .before .before .before .before .before) .loop .out)) _ _ (stored-length ((c .before .before .before) .store2 .last .0) ((c .before .before .before .before .before .before .before) .store .last .0) ((c .before .before .before .before .before .before .before .before .before .before .before .before .before .before .before .before .before .before .before) .loop .i + 1) ((c .before .before .before .before .before .before .before .before .before .before .before) .read-back2 .result) ((c .before .before .before) .store2 .ensures) ∙ stored-length ((c .before .before .before .before .before .before .before) .store .last .0) ((c .before .before .before .before .before .before .before .before .before .before .before .before .before .before .before .before .before .before .before) .loop .out) ((c .before .before .before .before .before .before .before .before .before .before .before .before .before .before .before .before .before .before .before) .loop .i) ((c .before .before .before .before .before .before .before .before .before .before .before .before) .read-back .result) ((c .before .before .before .before .before .before .before) .store .ensures)) ((c .before .before .before .before .before .before .before .before .before .before .before .before .before .before .before .before .before .before .before) .loop .inv .rode .asLong) ((c .before .before .before .before .before .before .before .before .before .before .before .before .before .before .before .before .before .before) .loop-test .taken) ((c .before .before .before .before .before .before .before .before .before .before .before .before .before .before .before .before .before .before .before .before .before .before .before .before .before .before .before .before) .pre .0 .most)
+store-requires-3 c κs = stores2 _ (length ((c .before .before .before .before .before .before .before .before .before .before .before .before .before .before .before .before .before .before .before) .loop .out)) _ _ (stored-length ((c .before .before .before) .store2 .last .0) ((c .before .before .before .before .before .before .before) .store .last .0) ((c .before .before .before .before .before .before .before .before .before .before .before .before .before .before .before .before .before .before .before) .loop .i + 1) ((c .before .before .before .before .before .before .before .before .before .before .before) .read-back2 .result) (stored-at ((c .before .before .before) .store2 .last .0) ((c .before .before .before .before .before .before .before) .store .last .0) (2 * (c .before .before .before .before .before .before .before .before .before .before .before .before .before .before .before .before .before .before .before) .loop .i + 2) ((c .before .before .before .before .before .before .before .before .before .before .before .before .before .before .before .before .before .before .before) .loop .i + 1) ((c .before .before .before .before .before .before .before .before .before .before .before) .read-back2 .result) (even1 _) ((c .before .before .before) .store2 .ensures)) ∙ stored-length ((c .before .before .before .before .before .before .before) .store .last .0) ((c .before .before .before .before .before .before .before .before .before .before .before .before .before .before .before .before .before .before .before) .loop .out) ((c .before .before .before .before .before .before .before .before .before .before .before .before .before .before .before .before .before .before .before) .loop .i) ((c .before .before .before .before .before .before .before .before .before .before .before .before) .read-back .result) (stored-at ((c .before .before .before .before .before .before .before) .store .last .0) ((c .before .before .before .before .before .before .before .before .before .before .before .before .before .before .before .before .before .before .before) .loop .out) (2 * (c .before .before .before .before .before .before .before .before .before .before .before .before .before .before .before .before .before .before .before) .loop .i) ((c .before .before .before .before .before .before .before .before .before .before .before .before .before .before .before .before .before .before .before) .loop .i) ((c .before .before .before .before .before .before .before .before .before .before .before .before) .read-back .result) refl ((c .before .before .before .before .before .before .before) .store .ensures))) ((c .before .before .before .before .before .before .before .before .before .before .before .before .before .before .before .before .before .before .before) .loop .inv .rode .asLong) ((c .before .before .before .before .before .before .before .before .before .before .before .before .before .before .before .before .before .before) .loop-test .taken) ((c .before .before .before .before .before .before .before .before .before .before .before .before .before .before .before .before .before .before .before .before .before .before .before .before .before .before .before .before) .pre .0 .most)
+
+mul-store-4 : tie.Need-mul-store-4 Inv-loop μ-loop
+mul-store-4 c = omega (arith, numbers (c .before .before .before .before .before .before .before .before .before .before .before .before .before .before .before .before .before .before .before .before .before .before .before), (c .before .before .before .before .before .before .before .before .before .before .before .before .before .before .before .before .before .before .before .before .before .before) .loop-test .taken)
 
 add-store-3 : tie.Need-add-store-3 Inv-loop μ-loop
 add-store-3 c = omega (arith, numbers (c .before .before .before .before .before .before .before .before .before .before .before .before .before .before .before .before .before .before .before .before .before .before .before), (c .before .before .before .before .before .before .before .before .before .before .before .before .before .before .before .before .before .before .before .before .before .before) .loop-test .taken)
 
 store-requires-4 : tie.Need-store-requires-4 Inv-loop μ-loop
-store-requires-4 c κs = stores3 _ (length ((c .before .before .before .before .before .before .before .before .before .before .before .before .before .before .before .before .before .before .before .before .before .before .before) .loop .out)) _ _ (stored-length ((c .before .before .before) .store3 .last .0) ((c .before .before .before .before .before .before .before) .store2 .last .0) ((c .before .before .before .before .before .before .before .before .before .before .before .before .before .before .before .before .before .before .before .before .before .before .before) .loop .i + 2) ((c .before .before .before .before .before .before .before .before .before .before .before .before .before .before) .read-back3 .result) ((c .before .before .before) .store3 .ensures) ∙ stored-length ((c .before .before .before .before .before .before .before) .store2 .last .0) ((c .before .before .before .before .before .before .before .before .before .before .before) .store .last .0) ((c .before .before .before .before .before .before .before .before .before .before .before .before .before .before .before .before .before .before .before .before .before .before .before) .loop .i + 1) ((c .before .before .before .before .before .before .before .before .before .before .before .before .before .before .before) .read-back2 .result) ((c .before .before .before .before .before .before .before) .store2 .ensures) ∙ stored-length ((c .before .before .before .before .before .before .before .before .before .before .before) .store .last .0) ((c .before .before .before .before .before .before .before .before .before .before .before .before .before .before .before .before .before .before .before .before .before .before .before) .loop .out) ((c .before .before .before .before .before .before .before .before .before .before .before .before .before .before .before .before .before .before .before .before .before .before .before) .loop .i) ((c .before .before .before .before .before .before .before .before .before .before .before .before .before .before .before .before) .read-back .result) ((c .before .before .before .before .before .before .before .before .before .before .before) .store .ensures)) ((c .before .before .before .before .before .before .before .before .before .before .before .before .before .before .before .before .before .before .before .before .before .before .before) .loop .inv .rode .asLong) ((c .before .before .before .before .before .before .before .before .before .before .before .before .before .before .before .before .before .before .before .before .before .before) .loop-test .taken) ((c .before .before .before .before .before .before .before .before .before .before .before .before .before .before .before .before .before .before .before .before .before .before .before .before .before .before .before .before .before .before .before .before) .pre .0 .most)
+store-requires-4 c κs = stores3 _ (length ((c .before .before .before .before .before .before .before .before .before .before .before .before .before .before .before .before .before .before .before .before .before .before .before) .loop .out)) _ _ (stored-length ((c .before .before .before) .store3 .last .0) ((c .before .before .before .before .before .before .before) .store2 .last .0) ((c .before .before .before .before .before .before .before .before .before .before .before .before .before .before .before .before .before .before .before .before .before .before .before) .loop .i + 2) ((c .before .before .before .before .before .before .before .before .before .before .before .before .before .before) .read-back3 .result) (stored-at ((c .before .before .before) .store3 .last .0) ((c .before .before .before .before .before .before .before) .store2 .last .0) (2 * (c .before .before .before .before .before .before .before .before .before .before .before .before .before .before .before .before .before .before .before .before .before .before .before) .loop .i + 4) ((c .before .before .before .before .before .before .before .before .before .before .before .before .before .before .before .before .before .before .before .before .before .before .before) .loop .i + 2) ((c .before .before .before .before .before .before .before .before .before .before .before .before .before .before) .read-back3 .result) (even2 _) ((c .before .before .before) .store3 .ensures)) ∙ stored-length ((c .before .before .before .before .before .before .before) .store2 .last .0) ((c .before .before .before .before .before .before .before .before .before .before .before) .store .last .0) ((c .before .before .before .before .before .before .before .before .before .before .before .before .before .before .before .before .before .before .before .before .before .before .before) .loop .i + 1) ((c .before .before .before .before .before .before .before .before .before .before .before .before .before .before .before) .read-back2 .result) (stored-at ((c .before .before .before .before .before .before .before) .store2 .last .0) ((c .before .before .before .before .before .before .before .before .before .before .before) .store .last .0) (2 * (c .before .before .before .before .before .before .before .before .before .before .before .before .before .before .before .before .before .before .before .before .before .before .before) .loop .i + 2) ((c .before .before .before .before .before .before .before .before .before .before .before .before .before .before .before .before .before .before .before .before .before .before .before) .loop .i + 1) ((c .before .before .before .before .before .before .before .before .before .before .before .before .before .before .before) .read-back2 .result) (even1 _) ((c .before .before .before .before .before .before .before) .store2 .ensures)) ∙ stored-length ((c .before .before .before .before .before .before .before .before .before .before .before) .store .last .0) ((c .before .before .before .before .before .before .before .before .before .before .before .before .before .before .before .before .before .before .before .before .before .before .before) .loop .out) ((c .before .before .before .before .before .before .before .before .before .before .before .before .before .before .before .before .before .before .before .before .before .before .before) .loop .i) ((c .before .before .before .before .before .before .before .before .before .before .before .before .before .before .before .before) .read-back .result) (stored-at ((c .before .before .before .before .before .before .before .before .before .before .before) .store .last .0) ((c .before .before .before .before .before .before .before .before .before .before .before .before .before .before .before .before .before .before .before .before .before .before .before) .loop .out) (2 * (c .before .before .before .before .before .before .before .before .before .before .before .before .before .before .before .before .before .before .before .before .before .before .before) .loop .i) ((c .before .before .before .before .before .before .before .before .before .before .before .before .before .before .before .before .before .before .before .before .before .before .before) .loop .i) ((c .before .before .before .before .before .before .before .before .before .before .before .before .before .before .before .before) .read-back .result) refl ((c .before .before .before .before .before .before .before .before .before .before .before) .store .ensures))) ((c .before .before .before .before .before .before .before .before .before .before .before .before .before .before .before .before .before .before .before .before .before .before .before) .loop .inv .rode .asLong) ((c .before .before .before .before .before .before .before .before .before .before .before .before .before .before .before .before .before .before .before .before .before .before) .loop-test .taken) ((c .before .before .before .before .before .before .before .before .before .before .before .before .before .before .before .before .before .before .before .before .before .before .before .before .before .before .before .before .before .before .before .before) .pre .0 .most)
 
 sub-p : tie.Need-sub-p Inv-loop μ-loop
 sub-p c = lower4 _ _ _ _ _ _ ((c .before .before .before .before .before .before .before .before .before .before .before .before .before .before .before .before .before .before .before .before) .if2 .left)
@@ -247,7 +268,7 @@ loop-again c =
       rode = back-four (now (a .sound)) (a .way) (now (a .rate)) ((c .before .before .before .before .before .before .before .before .before .before .before .before .before .before .before .before .before .before .before .before .before .before .before .before .before .before .before .before .before .before .before .before .before .before .before) .pre .0) ((c .before .before .before .before .before .before .before .before .before .before .before .before .before .before .before .before .before .before .before .before .before .before .before .before .before .before .before .before .before .before .before .before .before .before .before) .pre .1 .1) (at .loop .i) (a .from .steps + (a .way .track .start + a .from .at - 3 - at .loop .p)) (at .loop .p) (at .loop .fractional-position) (at .loop .out) (m .result) ((c .before .before .before .before .before .before .before .before .before .before .before .before .before .before .before .before .before .before .before) .read-back .result) ((c .before .before .before .before .before .before .before .before .before .before .before .before .before .before .before .before .before .before) .read-back2 .result) ((c .before .before .before .before .before .before .before .before .before .before .before .before .before .before .before .before .before) .read-back3 .result) ((c .before .before .before .before .before .before .before .before .before .before .before .before .before .before .before .before) .read-back4 .result) (m .result .first .steps) (m .result .first .steps + m .result .second .steps) (m .result .first .steps + m .result .second .steps + m .result .third .steps) (m .result .first .steps + m .result .second .steps + m .result .third .steps + m .result .fourth .steps) _ _ ((c .before .before .before .before .before .before .before .before .before .before .before .before .before .before) .store .last .0) ((c .before .before .before .before .before .before .before .before .before .before) .store2 .last .0) ((c .before .before .before .before .before .before) .store3 .last .0) ((c .before .before) .store4 .last .0)
           (at .loop .inv .rode) ((c .before .before .before .before .before .before .before .before .before .before .before .before .before .before .before .before .before .before .before .before .before .before .before .before .before) .loop-test .taken) (m .ensures .0) (m .ensures .1 .0) (m .ensures .1 .1 .0) (m .ensures .1 .1 .1) refl refl refl refl ((c .before .before .before .before .before .before .before .before .before .before .before .before .before .before .before .before .before .before .before .before) .if2 .left)
           ((c .before .before .before .before .before .before .before .before .before .before .before .before .before .before .before .before .before .before .before) .read-back .ensures) ((c .before .before .before .before .before .before .before .before .before .before .before .before .before .before .before .before .before .before) .read-back2 .ensures) ((c .before .before .before .before .before .before .before .before .before .before .before .before .before .before .before .before .before) .read-back3 .ensures) ((c .before .before .before .before .before .before .before .before .before .before .before .before .before .before .before .before) .read-back4 .ensures)
-          ((c .before .before .before .before .before .before .before .before .before .before .before .before .before .before) .store .ensures) ((c .before .before .before .before .before .before .before .before .before .before) .store2 .ensures) ((c .before .before .before .before .before .before) .store3 .ensures) ((c .before .before) .store4 .ensures) (further _ _ _ _ _ _ _ _ _ (at .loop .inv .here) ((c .before .before .before .before .before .before .before .before .before .before .before .before .before .before .before .before .before .before .before .before) .if2 .left)) refl;
+          (stored-at ((c .before .before .before .before .before .before .before .before .before .before .before .before .before .before) .store .last .0) ((c .before .before .before .before .before .before .before .before .before .before .before .before .before .before .before .before .before .before .before .before .before .before .before .before .before .before) .loop .out) (2 * (c .before .before .before .before .before .before .before .before .before .before .before .before .before .before .before .before .before .before .before .before .before .before .before .before .before .before) .loop .i) ((c .before .before .before .before .before .before .before .before .before .before .before .before .before .before .before .before .before .before .before .before .before .before .before .before .before .before) .loop .i) ((c .before .before .before .before .before .before .before .before .before .before .before .before .before .before .before .before .before .before .before) .read-back .result) refl ((c .before .before .before .before .before .before .before .before .before .before .before .before .before .before) .store .ensures)) (stored-at ((c .before .before .before .before .before .before .before .before .before .before) .store2 .last .0) ((c .before .before .before .before .before .before .before .before .before .before .before .before .before .before) .store .last .0) (2 * (c .before .before .before .before .before .before .before .before .before .before .before .before .before .before .before .before .before .before .before .before .before .before .before .before .before .before) .loop .i + 2) ((c .before .before .before .before .before .before .before .before .before .before .before .before .before .before .before .before .before .before .before .before .before .before .before .before .before .before) .loop .i + 1) ((c .before .before .before .before .before .before .before .before .before .before .before .before .before .before .before .before .before .before) .read-back2 .result) (even1 _) ((c .before .before .before .before .before .before .before .before .before .before) .store2 .ensures)) (stored-at ((c .before .before .before .before .before .before) .store3 .last .0) ((c .before .before .before .before .before .before .before .before .before .before) .store2 .last .0) (2 * (c .before .before .before .before .before .before .before .before .before .before .before .before .before .before .before .before .before .before .before .before .before .before .before .before .before .before) .loop .i + 4) ((c .before .before .before .before .before .before .before .before .before .before .before .before .before .before .before .before .before .before .before .before .before .before .before .before .before .before) .loop .i + 2) ((c .before .before .before .before .before .before .before .before .before .before .before .before .before .before .before .before .before) .read-back3 .result) (even2 _) ((c .before .before .before .before .before .before) .store3 .ensures)) (stored-at ((c .before .before) .store4 .last .0) ((c .before .before .before .before .before .before) .store3 .last .0) (2 * (c .before .before .before .before .before .before .before .before .before .before .before .before .before .before .before .before .before .before .before .before .before .before .before .before .before .before) .loop .i + 6) ((c .before .before .before .before .before .before .before .before .before .before .before .before .before .before .before .before .before .before .before .before .before .before .before .before .before .before) .loop .i + 3) ((c .before .before .before .before .before .before .before .before .before .before .before .before .before .before .before .before) .read-back4 .result) (even3 _) ((c .before .before) .store4 .ensures)) (further _ _ _ _ _ _ _ _ _ (at .loop .inv .here) ((c .before .before .before .before .before .before .before .before .before .before .before .before .before .before .before .before .before .before .before .before) .if2 .left)) refl;
       here = on _ _ _ (at .loop .inv .here);
       over = ends _ _ _ _ _ _ ((c .before .before .before .before .before .before .before .before .before .before .before .before .before .before .before .before .before .before .before .before) .if2 .left);
       below = at .loop .inv .below;
@@ -302,11 +323,15 @@ straight-back-spec =
     read-back-requires-3
     sub-read-back-3
     read-back-requires-4
+    mul-store
     store-requires
+    mul-store-2
     add-store
     store-requires-2
+    mul-store-3
     add-store-2
     store-requires-3
+    mul-store-4
     add-store-3
     store-requires-4
     sub-p

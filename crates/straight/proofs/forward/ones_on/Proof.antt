@@ -11,7 +11,7 @@ use Rattle.along.specs.declared.Way.{Way}
 use Rattle.along.specs.declared.Ridden.{Ridden}
 use Rattle.along.specs.Rides.{Rideable, Rode}
 use Rattle.lanes.specs.Lanes.{slow}
-use Rattle.along.proofs.Rides.{place, rode-more, all-at, stored-length}
+use Rattle.along.proofs.Rides.{place, rode-more, all-at, stored-at, stored-length}
 use Rattle.straight.proofs.Straight.{on-more}
 use Rattle.straight.proofs.forward.ones_on.Statement.{statement}
 use Rattle.straight.proofs.forward.ones_on.Tie as tie
@@ -41,8 +41,8 @@ numbers c =
     let v = c .loop .inv in
     record { here = v .on .here; lent = p .lies .lent; small = p .lies .short; within = v .within; most = p .most; few = v .few; some = p .lies .some; inside = p .lies .inside }
 
-stores : (m i n : ℕ) → m ≡ 2 * n → i < n → n ≤ 4096 → (2 * i + 1 < m) × (i < 8192)
-stores m i n b h l = (omega arith, omega arith)
+stores : (m i n : ℕ) → m ≡ 2 * n → i < n → n ≤ 4096 → 2 * i + 1 < m
+stores m i n b h l = omega arith
 
 less : (i n : ℕ) → i < n → n - (i + 1) < n - i
 less i n h = omega arith
@@ -75,10 +75,10 @@ moved-requires : tie.Need-moved-requires Inv-loop μ-loop
 moved-requires c κs = ((c .before .before .before) .loop .inv .below, ((c .before .before .before .before .before .before .before) .pre .0 .timeStep, all-at (slow ((c .before .before .before .before .before .before .before) .args .way .«sample_rate») ((c .before .before .before .before .before .before .before) .args .way .dt)) (now ((c .before .before .before .before .before .before .before) .args .rate)) ((c .before .before .before) .loop .r .next) ((c .before) .if1 .taken) ((c .before .before .before .before .before .before .before) .pre .0 .slow)))
 
 add-if2 : tie.Need-add-if2 Inv-loop μ-loop
-add-if2 c = omega (arith, numbers (c .before .before .before .before .before .before), (c .before .before) .moved .ensures .1 .0, (c .before .before .before .before) .if1 .taken)
+add-if2 c = omega (arith, numbers (c .before .before .before .before .before .before), (c .before .before) .moved .ensures .few, (c .before .before .before .before) .if1 .taken)
 
 add-if2-2 : tie.Need-add-if2-2 Inv-loop μ-loop
-add-if2-2 c = omega (arith, numbers (c .before .before .before .before .before .before), (c .before .before) .moved .ensures .1 .0, (c .before .before .before .before) .if1 .taken)
+add-if2-2 c = omega (arith, numbers (c .before .before .before .before .before .before), (c .before .before) .moved .ensures .few, (c .before .before .before .before) .if1 .taken)
 
 same-length : tie.Need-same-length Inv-loop μ-loop
 same-length c = (c .before .before .before .before .before .before .before .before) .loop .inv .asLong ∙ sym ((c .before .before .before .before .before .before .before .before .before .before .before .before) .pre .1 .0 .asLong)
@@ -87,22 +87,25 @@ returns : tie.Need-returns Inv-loop μ-loop
 returns c = (c .before .before .before .before .before .before .before .before) .loop .inv
 
 add-read-on : tie.Need-add-read-on Inv-loop μ-loop
-add-read-on c = omega (arith, numbers (c .before .before .before .before .before .before .before .before .before), (c .before .before .before .before .before) .moved .ensures .1 .0, (c .before .before .before .before .before .before .before) .if1 .taken)
+add-read-on c = omega (arith, numbers (c .before .before .before .before .before .before .before .before .before), (c .before .before .before .before .before) .moved .ensures .few, (c .before .before .before .before .before .before .before) .if1 .taken)
 
 read-on-requires : tie.Need-read-on-requires Inv-loop μ-loop
 read-on-requires c κs = (reads _ _ _ _ _ _ ((c .before .before .before .before .before .before .before .before .before .before .before .before .before) .pre .0 .lies .lent) ((c .before .before .before .before .before .before .before .before .before .before .before .before .before) .pre .0 .lies .inside) ((c .before) .if2 .left), (c .before .before .before .before .before .before .before .before .before) .loop .inv .below)
 
+mul-store : tie.Need-mul-store Inv-loop μ-loop
+mul-store c = omega (arith, numbers (c .before .before .before .before .before .before .before .before .before .before .before), (c .before .before .before .before .before .before .before) .moved .ensures .few, (c .before .before .before .before .before .before .before .before .before) .if1 .taken)
+
 store-requires : tie.Need-store-requires Inv-loop μ-loop
 store-requires c κs = stores _ _ _ ((c .before .before .before .before .before .before .before .before .before .before .before) .loop .inv .asLong) ((c .before .before .before .before .before .before .before .before .before) .if1 .taken) ((c .before .before .before .before .before .before .before .before .before .before .before .before .before .before .before) .pre .0 .most)
 
-add-t15 : tie.Need-add-t15 Inv-loop μ-loop
-add-t15 c = omega (arith, numbers (c .before .before .before .before .before .before .before .before .before .before .before .before .before .before .before .before), (c .before .before .before .before .before .before .before .before .before .before .before .before) .moved .ensures .1 .0, (c .before .before .before .before .before .before .before .before .before .before .before .before .before .before) .if1 .taken)
-
 add-t11 : tie.Need-add-t11 Inv-loop μ-loop
-add-t11 c = omega (arith, numbers (c .before .before .before .before .before .before .before .before .before .before .before .before .before .before .before .before .before .before), (c .before .before .before .before .before .before .before .before .before .before .before .before .before .before) .moved .ensures .1 .0, (c .before .before .before .before .before .before .before .before .before .before .before .before .before .before .before .before) .if1 .taken)
+add-t11 c = omega (arith, numbers (c .before .before .before .before .before .before .before .before .before .before .before .before .before .before .before .before), (c .before .before .before .before .before .before .before .before .before .before .before .before) .moved .ensures .few, (c .before .before .before .before .before .before .before .before .before .before .before .before .before .before) .if1 .taken)
+
+add-t15 : tie.Need-add-t15 Inv-loop μ-loop
+add-t15 c = omega (arith, numbers (c .before .before .before .before .before .before .before .before .before .before .before .before .before .before .before .before .before .before), (c .before .before .before .before .before .before .before .before .before .before .before .before .before .before) .moved .ensures .few, (c .before .before .before .before .before .before .before .before .before .before .before .before .before .before .before .before) .if1 .taken)
 
 add-t19 : tie.Need-add-t19 Inv-loop μ-loop
-add-t19 c = omega (arith, numbers (c .before .before .before .before .before .before .before .before .before .before .before .before .before .before .before .before .before .before), (c .before .before .before .before .before .before .before .before .before .before .before .before .before .before) .moved .ensures .1 .0, (c .before .before .before .before .before .before .before .before .before .before .before .before .before .before .before .before) .if1 .taken)
+add-t19 c = omega (arith, numbers (c .before .before .before .before .before .before .before .before .before .before .before .before .before .before .before .before .before .before), (c .before .before .before .before .before .before .before .before .before .before .before .before .before .before) .moved .ensures .few, (c .before .before .before .before .before .before .before .before .before .before .before .before .before .before .before .before) .if1 .taken)
 
 loop-less : tie.Need-loop-less Inv-loop μ-loop
 loop-less c = less _ _ ((c .before .before .before .before .before .before .before .before .before .before .before .before .before .before .before .before) .if1 .taken)
@@ -115,7 +118,7 @@ loop-again c =
     subst (λ (q : ℕ). Rode (now (a .sound)) (a .way) (now (a .rate)) (place q (m .result .rest) (at .loop .r .steps + m .result .steps) (at .loop .r .next + 1)) ((c .before .before .before .before .before .before) .store .last .0)) (back (a .way .track .start) (at .loop .r .at) (m .result .steps))
     (on-more (now (a .sound)) (a .way) (now (a .rate)) ((c .before .before .before .before .before .before .before .before .before .before .before .before .before .before .before .before .before .before .before .before .before .before) .pre .0) ((c .before .before .before .before .before .before .before .before .before .before .before .before .before .before .before .before .before .before .before .before .before .before) .pre .1 .1) (at .loop .r .next) (at .loop .r .steps) (a .way .track .start + at .loop .r .at) (at .loop .r .«fractional_position») (at .loop .out) ((c .before .before .before .before .before .before .before .before) .read-on .result) (m .result) (a .way .track .start + at .loop .r .at + m .result .steps) (at .loop .r .steps + m .result .steps) (at .loop .r .next + 1) ((c .before .before .before .before .before .before) .store .last .0)
     (subst (λ (q : ℕ). Rode (now (a .sound)) (a .way) (now (a .rate)) (place q (at .loop .r .«fractional_position») (at .loop .r .steps) (at .loop .r .next)) (at .loop .out)) (there (a .way .track .start) (at .loop .r .at)) (at .loop .inv))
-    (above _ _) ((c .before .before .before .before .before .before .before .before .before .before .before .before .before .before .before .before) .if1 .taken) ((c .before .before .before .before .before .before .before .before) .read-on .ensures) (record { is = m .ensures .0; few = m .ensures .1 .0; below = m .ensures .1 .1 }) refl (ends _ _ _ _ ((c .before .before .before .before .before .before .before .before .before .before) .if2 .left)) refl refl ((c .before .before .before .before .before .before) .store .ensures))
+    (above _ _) ((c .before .before .before .before .before .before .before .before .before .before .before .before .before .before .before .before) .if1 .taken) ((c .before .before .before .before .before .before .before .before) .read-on .ensures) (m .ensures) refl (ends _ _ _ _ ((c .before .before .before .before .before .before .before .before .before .before) .if2 .left)) refl refl (stored-at ((c .before .before .before .before .before .before) .store .last .0) (at .loop .out) (2 * at .loop .r .next) (at .loop .r .next) ((c .before .before .before .before .before .before .before .before) .read-on .result) refl ((c .before .before .before .before .before .before) .store .ensures)))
 
 same-length-2 : tie.Need-same-length-2 Inv-loop μ-loop
 same-length-2 c = (c .before .before) .loop .inv .asLong ∙ sym ((c .before .before .before .before .before .before) .pre .1 .0 .asLong)
@@ -139,9 +142,10 @@ ones-on-spec =
     returns
     add-read-on
     read-on-requires
+    mul-store
     store-requires
-    add-t15
     add-t11
+    add-t15
     add-t19
     loop-less
     loop-again

@@ -1,6 +1,6 @@
 -- `read_on` reads four frames side by side.
 use borrow.Author.Needs.{needs}
-use Rattle.straight.specs.Moves.{readFrom}
+use Rattle.straight.specs.Readings.{readFrom}
 use Rattle.straight.proofs.forward.read_on.Statement.{statement}
 use Rattle.straight.proofs.forward.read_on.Tie as tie
 

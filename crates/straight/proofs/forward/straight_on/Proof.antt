@@ -11,7 +11,7 @@ use Rattle.along.specs.declared.Way.{Way}
 use Rattle.along.specs.declared.Ridden.{Ridden}
 use Rattle.along.specs.Rides.{Rideable, Rode}
 use Rattle.lanes.specs.Lanes.{slow}
-use Rattle.along.proofs.Rides.{place, rode-more, all-at, stored-length}
+use Rattle.along.proofs.Rides.{place, rode-more, all-at, stored-at, stored-length}
 use Rattle.straight.proofs.Straight.{on-four}
 use Rattle.straight.proofs.forward.straight_on.Statement.{statement}
 use Rattle.straight.proofs.forward.straight_on.Tie as tie
@@ -80,20 +80,29 @@ reads2 p s h k l a b e d n z = omega (arith, n)
 reads3 : (p s h k l a b e d : ℕ) {f i n t : ℕ} → Numbers p s h k l f i n t → p + a + b + e + d < s + h - 4 → 2 * (p + a + b + e) + 7 < l
 reads3 p s h k l a b e d n z = omega (arith, n)
 
-stores0 : (o m i n : ℕ) → o ≡ m → m ≡ 2 * n → i + 3 < n → n ≤ 4096 → (2 * i + 1 < o) × (i < 8192)
-stores0 o m i n a b h l = (omega arith, omega arith)
+stores0 : (o m i n : ℕ) → o ≡ m → m ≡ 2 * n → i + 3 < n → n ≤ 4096 → 2 * i + 1 < o
+stores0 o m i n a b h l = omega arith
 
-stores1 : (o m i n : ℕ) → o ≡ m → m ≡ 2 * n → i + 3 < n → n ≤ 4096 → (2 * (i + 1) + 1 < o) × (i + 1 < 8192)
-stores1 o m i n a b h l = (omega arith, omega arith)
+stores1 : (o m i n : ℕ) → o ≡ m → m ≡ 2 * n → i + 3 < n → n ≤ 4096 → 2 * i + 2 + 1 < o
+stores1 o m i n a b h l = omega arith
 
-stores2 : (o m i n : ℕ) → o ≡ m → m ≡ 2 * n → i + 3 < n → n ≤ 4096 → (2 * (i + 2) + 1 < o) × (i + 2 < 8192)
-stores2 o m i n a b h l = (omega arith, omega arith)
+stores2 : (o m i n : ℕ) → o ≡ m → m ≡ 2 * n → i + 3 < n → n ≤ 4096 → 2 * i + 4 + 1 < o
+stores2 o m i n a b h l = omega arith
 
-stores3 : (o m i n : ℕ) → o ≡ m → m ≡ 2 * n → i + 3 < n → n ≤ 4096 → (2 * (i + 3) + 1 < o) × (i + 3 < 8192)
-stores3 o m i n a b h l = (omega arith, omega arith)
+stores3 : (o m i n : ℕ) → o ≡ m → m ≡ 2 * n → i + 3 < n → n ≤ 4096 → 2 * i + 6 + 1 < o
+stores3 o m i n a b h l = omega arith
 
 less : (i n : ℕ) → i + 3 < n → n - (i + 4) < n - i
 less i n h = omega arith
+
+even1 : (i : ℕ) → 2 * i + 2 ≡ 2 * (i + 1)
+even1 i = omega arith
+
+even2 : (i : ℕ) → 2 * i + 4 ≡ 2 * (i + 2)
+even2 i = omega arith
+
+even3 : (i : ℕ) → 2 * i + 6 ≡ 2 * (i + 3)
+even3 i = omega arith
 
 above : (s f p : ℕ) → s + f ≤ p → s ≤ p
 above s f p h = omega arith
@@ -190,26 +199,38 @@ read-on-requires-3 c κs = (reads2 _ _ _ _ _ _ _ _ _ (numbers (c .before .before
 read-on-requires-4 : tie.Need-read-on-requires-4 Inv-loop μ-loop
 read-on-requires-4 c κs = (reads3 _ _ _ _ _ _ _ _ _ (numbers (c .before .before .before .before .before .before .before .before .before .before)) ((c .before .before .before) .if2 .left), (c .before .before .before .before .before .before .before .before) .four-moves .ensures .1 .1 .0 .below)
 
+mul-store : tie.Need-mul-store Inv-loop μ-loop
+mul-store c = omega (arith, numbers (c .before .before .before .before .before .before .before .before .before .before .before .before), (c .before .before .before .before .before .before .before .before .before .before .before) .loop-test .taken)
+
 store-requires : tie.Need-store-requires Inv-loop μ-loop
 store-requires c κs = stores0 _ (length ((c .before .before .before .before .before .before .before .before .before .before .before .before) .loop .out)) _ _ refl ((c .before .before .before .before .before .before .before .before .before .before .before .before) .loop .inv .rode .asLong) ((c .before .before .before .before .before .before .before .before .before .before .before) .loop-test .taken) ((c .before .before .before .before .before .before .before .before .before .before .before .before .before .before .before .before .before .before .before .before .before) .pre .0 .most)
+
+mul-store-2 : tie.Need-mul-store-2 Inv-loop μ-loop
+mul-store-2 c = omega (arith, numbers (c .before .before .before .before .before .before .before .before .before .before .before .before .before .before .before .before), (c .before .before .before .before .before .before .before .before .before .before .before .before .before .before .before) .loop-test .taken)
 
 add-store : tie.Need-add-store Inv-loop μ-loop
 add-store c = omega (arith, numbers (c .before .before .before .before .before .before .before .before .before .before .before .before .before .before .before .before), (c .before .before .before .before .before .before .before .before .before .before .before .before .before .before .before) .loop-test .taken)
 
 store-requires-2 : tie.Need-store-requires-2 Inv-loop μ-loop
-store-requires-2 c κs = stores1 _ (length ((c .before .before .before .before .before .before .before .before .before .before .before .before .before .before .before .before) .loop .out)) _ _ (stored-length ((c .before .before .before) .store .last .0) ((c .before .before .before .before .before .before .before .before .before .before .before .before .before .before .before .before) .loop .out) ((c .before .before .before .before .before .before .before .before .before .before .before .before .before .before .before .before) .loop .i) ((c .before .before .before .before .before .before .before .before) .read-on .result) ((c .before .before .before) .store .ensures)) ((c .before .before .before .before .before .before .before .before .before .before .before .before .before .before .before .before) .loop .inv .rode .asLong) ((c .before .before .before .before .before .before .before .before .before .before .before .before .before .before .before) .loop-test .taken) ((c .before .before .before .before .before .before .before .before .before .before .before .before .before .before .before .before .before .before .before .before .before .before .before .before .before) .pre .0 .most)
+store-requires-2 c κs = stores1 _ (length ((c .before .before .before .before .before .before .before .before .before .before .before .before .before .before .before .before) .loop .out)) _ _ (stored-length ((c .before .before .before) .store .last .0) ((c .before .before .before .before .before .before .before .before .before .before .before .before .before .before .before .before) .loop .out) ((c .before .before .before .before .before .before .before .before .before .before .before .before .before .before .before .before) .loop .i) ((c .before .before .before .before .before .before .before .before) .read-on .result) (stored-at ((c .before .before .before) .store .last .0) ((c .before .before .before .before .before .before .before .before .before .before .before .before .before .before .before .before) .loop .out) (2 * (c .before .before .before .before .before .before .before .before .before .before .before .before .before .before .before .before) .loop .i) ((c .before .before .before .before .before .before .before .before .before .before .before .before .before .before .before .before) .loop .i) ((c .before .before .before .before .before .before .before .before) .read-on .result) refl ((c .before .before .before) .store .ensures))) ((c .before .before .before .before .before .before .before .before .before .before .before .before .before .before .before .before) .loop .inv .rode .asLong) ((c .before .before .before .before .before .before .before .before .before .before .before .before .before .before .before) .loop-test .taken) ((c .before .before .before .before .before .before .before .before .before .before .before .before .before .before .before .before .before .before .before .before .before .before .before .before .before) .pre .0 .most)
+
+mul-store-3 : tie.Need-mul-store-3 Inv-loop μ-loop
+mul-store-3 c = omega (arith, numbers (c .before .before .before .before .before .before .before .before .before .before .before .before .before .before .before .before .before .before .before .before), (c .before .before .before .before .before .before .before .before .before .before .before .before .before .before .before .before .before .before .before) .loop-test .taken)
 
 add-store-2 : tie.Need-add-store-2 Inv-loop μ-loop
 add-store-2 c = omega (arith, numbers (c .before .before .before .before .before .before .before .before .before .before .before .before .before .before .before .before .before .before .before .before), (c .before .before .before .before .before .before .before .before .before .before .before .before .before .before .before .before .before .before .before) .loop-test .taken)
 
 store-requires-3 : tie.Need-store-requires-3 Inv-loop μ-loop
-store-requires-3 c κs = stores2 _ (length ((c .before .before .before .before .before .before .before .before .before .before .before .before .before .before .before .before .before .before .before .before) .loop .out)) _ _ (stored-length ((c .before .before .before) .store2 .last .0) ((c .before .before .before .before .before .before .before) .store .last .0) ((c .before .before .before .before .before .before .before .before .before .before .before .before .before .before .before .before .before .before .before .before) .loop .i + 1) ((c .before .before .before .before .before .before .before .before .before .before .before) .read-on2 .result) ((c .before .before .before) .store2 .ensures) ∙ stored-length ((c .before .before .before .before .before .before .before) .store .last .0) ((c .before .before .before .before .before .before .before .before .before .before .before .before .before .before .before .before .before .before .before .before) .loop .out) ((c .before .before .before .before .before .before .before .before .before .before .before .before .before .before .before .before .before .before .before .before) .loop .i) ((c .before .before .before .before .before .before .before .before .before .before .before .before) .read-on .result) ((c .before .before .before .before .before .before .before) .store .ensures)) ((c .before .before .before .before .before .before .before .before .before .before .before .before .before .before .before .before .before .before .before .before) .loop .inv .rode .asLong) ((c .before .before .before .before .before .before .before .before .before .before .before .before .before .before .before .before .before .before .before) .loop-test .taken) ((c .before .before .before .before .before .before .before .before .before .before .before .before .before .before .before .before .before .before .before .before .before .before .before .before .before .before .before .before .before) .pre .0 .most)
+store-requires-3 c κs = stores2 _ (length ((c .before .before .before .before .before .before .before .before .before .before .before .before .before .before .before .before .before .before .before .before) .loop .out)) _ _ (stored-length ((c .before .before .before) .store2 .last .0) ((c .before .before .before .before .before .before .before) .store .last .0) ((c .before .before .before .before .before .before .before .before .before .before .before .before .before .before .before .before .before .before .before .before) .loop .i + 1) ((c .before .before .before .before .before .before .before .before .before .before .before) .read-on2 .result) (stored-at ((c .before .before .before) .store2 .last .0) ((c .before .before .before .before .before .before .before) .store .last .0) (2 * (c .before .before .before .before .before .before .before .before .before .before .before .before .before .before .before .before .before .before .before .before) .loop .i + 2) ((c .before .before .before .before .before .before .before .before .before .before .before .before .before .before .before .before .before .before .before .before) .loop .i + 1) ((c .before .before .before .before .before .before .before .before .before .before .before) .read-on2 .result) (even1 _) ((c .before .before .before) .store2 .ensures)) ∙ stored-length ((c .before .before .before .before .before .before .before) .store .last .0) ((c .before .before .before .before .before .before .before .before .before .before .before .before .before .before .before .before .before .before .before .before) .loop .out) ((c .before .before .before .before .before .before .before .before .before .before .before .before .before .before .before .before .before .before .before .before) .loop .i) ((c .before .before .before .before .before .before .before .before .before .before .before .before) .read-on .result) (stored-at ((c .before .before .before .before .before .before .before) .store .last .0) ((c .before .before .before .before .before .before .before .before .before .before .before .before .before .before .before .before .before .before .before .before) .loop .out) (2 * (c .before .before .before .before .before .before .before .before .before .before .before .before .before .before .before .before .before .before .before .before) .loop .i) ((c .before .before .before .before .before .before .before .before .before .before .before .before .before .before .before .before .before .before .before .before) .loop .i) ((c .before .before .before .before .before .before .before .before .before .before .before .before) .read-on .result) refl ((c .before .before .before .before .before .before .before) .store .ensures))) ((c .before .before .before .before .before .before .before .before .before .before .before .before .before .before .before .before .before .before .before .before) .loop .inv .rode .asLong) ((c .before .before .before .before .before .before .before .before .before .before .before .before .before .before .before .before .before .before .before) .loop-test .taken) ((c .before .before .before .before .before .before .before .before .before .before .before .before .before .before .before .before .before .before .before .before .before .before .before .before .before .before .before .before .before) .pre .0 .most)
+
+mul-store-4 : tie.Need-mul-store-4 Inv-loop μ-loop
+mul-store-4 c = omega (arith, numbers (c .before .before .before .before .before .before .before .before .before .before .before .before .before .before .before .before .before .before .before .before .before .before .before .before), (c .before .before .before .before .before .before .before .before .before .before .before .before .before .before .before .before .before .before .before .before .before .before .before) .loop-test .taken)
 
 add-store-3 : tie.Need-add-store-3 Inv-loop μ-loop
 add-store-3 c = omega (arith, numbers (c .before .before .before .before .before .before .before .before .before .before .before .before .before .before .before .before .before .before .before .before .before .before .before .before), (c .before .before .before .before .before .before .before .before .before .before .before .before .before .before .before .before .before .before .before .before .before .before .before) .loop-test .taken)
 
 store-requires-4 : tie.Need-store-requires-4 Inv-loop μ-loop
-store-requires-4 c κs = stores3 _ (length ((c .before .before .before .before .before .before .before .before .before .before .before .before .before .before .before .before .before .before .before .before .before .before .before .before) .loop .out)) _ _ (stored-length ((c .before .before .before) .store3 .last .0) ((c .before .before .before .before .before .before .before) .store2 .last .0) ((c .before .before .before .before .before .before .before .before .before .before .before .before .before .before .before .before .before .before .before .before .before .before .before .before) .loop .i + 2) ((c .before .before .before .before .before .before .before .before .before .before .before .before .before .before) .read-on3 .result) ((c .before .before .before) .store3 .ensures) ∙ stored-length ((c .before .before .before .before .before .before .before) .store2 .last .0) ((c .before .before .before .before .before .before .before .before .before .before .before) .store .last .0) ((c .before .before .before .before .before .before .before .before .before .before .before .before .before .before .before .before .before .before .before .before .before .before .before .before) .loop .i + 1) ((c .before .before .before .before .before .before .before .before .before .before .before .before .before .before .before) .read-on2 .result) ((c .before .before .before .before .before .before .before) .store2 .ensures) ∙ stored-length ((c .before .before .before .before .before .before .before .before .before .before .before) .store .last .0) ((c .before .before .before .before .before .before .before .before .before .before .before .before .before .before .before .before .before .before .before .before .before .before .before .before) .loop .out) ((c .before .before .before .before .before .before .before .before .before .before .before .before .before .before .before .before .before .before .before .before .before .before .before .before) .loop .i) ((c .before .before .before .before .before .before .before .before .before .before .before .before .before .before .before .before) .read-on .result) ((c .before .before .before .before .before .before .before .before .before .before .before) .store .ensures)) ((c .before .before .before .before .before .before .before .before .before .before .before .before .before .before .before .before .before .before .before .before .before .before .before .before) .loop .inv .rode .asLong) ((c .before .before .before .before .before .before .before .before .before .before .before .before .before .before .before .before .before .before .before .before .before .before .before) .loop-test .taken) ((c .before .before .before .before .before .before .before .before .before .before .before .before .before .before .before .before .before .before .before .before .before .before .before .before .before .before .before .before .before .before .before .before .before) .pre .0 .most)
+store-requires-4 c κs = stores3 _ (length ((c .before .before .before .before .before .before .before .before .before .before .before .before .before .before .before .before .before .before .before .before .before .before .before .before) .loop .out)) _ _ (stored-length ((c .before .before .before) .store3 .last .0) ((c .before .before .before .before .before .before .before) .store2 .last .0) ((c .before .before .before .before .before .before .before .before .before .before .before .before .before .before .before .before .before .before .before .before .before .before .before .before) .loop .i + 2) ((c .before .before .before .before .before .before .before .before .before .before .before .before .before .before) .read-on3 .result) (stored-at ((c .before .before .before) .store3 .last .0) ((c .before .before .before .before .before .before .before) .store2 .last .0) (2 * (c .before .before .before .before .before .before .before .before .before .before .before .before .before .before .before .before .before .before .before .before .before .before .before .before) .loop .i + 4) ((c .before .before .before .before .before .before .before .before .before .before .before .before .before .before .before .before .before .before .before .before .before .before .before .before) .loop .i + 2) ((c .before .before .before .before .before .before .before .before .before .before .before .before .before .before) .read-on3 .result) (even2 _) ((c .before .before .before) .store3 .ensures)) ∙ stored-length ((c .before .before .before .before .before .before .before) .store2 .last .0) ((c .before .before .before .before .before .before .before .before .before .before .before) .store .last .0) ((c .before .before .before .before .before .before .before .before .before .before .before .before .before .before .before .before .before .before .before .before .before .before .before .before) .loop .i + 1) ((c .before .before .before .before .before .before .before .before .before .before .before .before .before .before .before) .read-on2 .result) (stored-at ((c .before .before .before .before .before .before .before) .store2 .last .0) ((c .before .before .before .before .before .before .before .before .before .before .before) .store .last .0) (2 * (c .before .before .before .before .before .before .before .before .before .before .before .before .before .before .before .before .before .before .before .before .before .before .before .before) .loop .i + 2) ((c .before .before .before .before .before .before .before .before .before .before .before .before .before .before .before .before .before .before .before .before .before .before .before .before) .loop .i + 1) ((c .before .before .before .before .before .before .before .before .before .before .before .before .before .before .before) .read-on2 .result) (even1 _) ((c .before .before .before .before .before .before .before) .store2 .ensures)) ∙ stored-length ((c .before .before .before .before .before .before .before .before .before .before .before) .store .last .0) ((c .before .before .before .before .before .before .before .before .before .before .before .before .before .before .before .before .before .before .before .before .before .before .before .before) .loop .out) ((c .before .before .before .before .before .before .before .before .before .before .before .before .before .before .before .before .before .before .before .before .before .before .before .before) .loop .i) ((c .before .before .before .before .before .before .before .before .before .before .before .before .before .before .before .before) .read-on .result) (stored-at ((c .before .before .before .before .before .before .before .before .before .before .before) .store .last .0) ((c .before .before .before .before .before .before .before .before .before .before .before .before .before .before .before .before .before .before .before .before .before .before .before .before) .loop .out) (2 * (c .before .before .before .before .before .before .before .before .before .before .before .before .before .before .before .before .before .before .before .before .before .before .before .before) .loop .i) ((c .before .before .before .before .before .before .before .before .before .before .before .before .before .before .before .before .before .before .before .before .before .before .before .before) .loop .i) ((c .before .before .before .before .before .before .before .before .before .before .before .before .before .before .before .before) .read-on .result) refl ((c .before .before .before .before .before .before .before .before .before .before .before) .store .ensures))) ((c .before .before .before .before .before .before .before .before .before .before .before .before .before .before .before .before .before .before .before .before .before .before .before .before) .loop .inv .rode .asLong) ((c .before .before .before .before .before .before .before .before .before .before .before .before .before .before .before .before .before .before .before .before .before .before .before) .loop-test .taken) ((c .before .before .before .before .before .before .before .before .before .before .before .before .before .before .before .before .before .before .before .before .before .before .before .before .before .before .before .before .before .before .before .before .before) .pre .0 .most)
 
 add-i : tie.Need-add-i Inv-loop μ-loop
 add-i c = omega (arith, numbers (c .before .before .before .before .before .before .before .before .before .before .before .before .before .before .before .before .before .before .before .before .before .before .before .before .before .before .before), (c .before .before .before .before .before .before .before .before .before .before .before .before .before .before .before .before .before .before .before .before .before .before .before .before .before .before) .loop-test .taken)
@@ -226,7 +247,7 @@ loop-again c =
       rode = on-four (now (a .sound)) (a .way) (now (a .rate)) ((c .before .before .before .before .before .before .before .before .before .before .before .before .before .before .before .before .before .before .before .before .before .before .before .before .before .before .before .before .before .before .before .before .before .before .before .before) .pre .0) ((c .before .before .before .before .before .before .before .before .before .before .before .before .before .before .before .before .before .before .before .before .before .before .before .before .before .before .before .before .before .before .before .before .before .before .before .before) .pre .1 .1) (at .loop .i) (a .from .steps + (at .loop .p - (a .way .track .start + a .from .at))) (at .loop .p) (at .loop .fractional-position) (at .loop .out) (m .result) ((c .before .before .before .before .before .before .before .before .before .before .before .before .before .before .before .before .before .before .before) .read-on .result) ((c .before .before .before .before .before .before .before .before .before .before .before .before .before .before .before .before .before .before) .read-on2 .result) ((c .before .before .before .before .before .before .before .before .before .before .before .before .before .before .before .before .before) .read-on3 .result) ((c .before .before .before .before .before .before .before .before .before .before .before .before .before .before .before .before) .read-on4 .result) (at .loop .p + m .result .first .steps) (at .loop .p + m .result .first .steps + m .result .second .steps) (at .loop .p + m .result .first .steps + m .result .second .steps + m .result .third .steps) (at .loop .p + m .result .first .steps + m .result .second .steps + m .result .third .steps + m .result .fourth .steps) _ _ ((c .before .before .before .before .before .before .before .before .before .before .before .before .before .before) .store .last .0) ((c .before .before .before .before .before .before .before .before .before .before) .store2 .last .0) ((c .before .before .before .before .before .before) .store3 .last .0) ((c .before .before) .store4 .last .0)
           (at .loop .inv .rode) (above _ _ _ (at .loop .inv .here)) ((c .before .before .before .before .before .before .before .before .before .before .before .before .before .before .before .before .before .before .before .before .before .before .before .before .before .before) .loop-test .taken) (m .ensures .0) (m .ensures .1 .0) (m .ensures .1 .1 .0) (m .ensures .1 .1 .1) refl refl refl refl (ends _ _ _ ((c .before .before .before .before .before .before .before .before .before .before .before .before .before .before .before .before .before .before .before .before) .if2 .left))
           ((c .before .before .before .before .before .before .before .before .before .before .before .before .before .before .before .before .before .before .before) .read-on .ensures) ((c .before .before .before .before .before .before .before .before .before .before .before .before .before .before .before .before .before .before) .read-on2 .ensures) ((c .before .before .before .before .before .before .before .before .before .before .before .before .before .before .before .before .before) .read-on3 .ensures) ((c .before .before .before .before .before .before .before .before .before .before .before .before .before .before .before .before) .read-on4 .ensures)
-          ((c .before .before .before .before .before .before .before .before .before .before .before .before .before .before) .store .ensures) ((c .before .before .before .before .before .before .before .before .before .before) .store2 .ensures) ((c .before .before .before .before .before .before) .store3 .ensures) ((c .before .before) .store4 .ensures) (further _ _ _ _ _ _ _ _ (at .loop .inv .here)) refl;
+          (stored-at ((c .before .before .before .before .before .before .before .before .before .before .before .before .before .before) .store .last .0) ((c .before .before .before .before .before .before .before .before .before .before .before .before .before .before .before .before .before .before .before .before .before .before .before .before .before .before .before) .loop .out) (2 * (c .before .before .before .before .before .before .before .before .before .before .before .before .before .before .before .before .before .before .before .before .before .before .before .before .before .before .before) .loop .i) ((c .before .before .before .before .before .before .before .before .before .before .before .before .before .before .before .before .before .before .before .before .before .before .before .before .before .before .before) .loop .i) ((c .before .before .before .before .before .before .before .before .before .before .before .before .before .before .before .before .before .before .before) .read-on .result) refl ((c .before .before .before .before .before .before .before .before .before .before .before .before .before .before) .store .ensures)) (stored-at ((c .before .before .before .before .before .before .before .before .before .before) .store2 .last .0) ((c .before .before .before .before .before .before .before .before .before .before .before .before .before .before) .store .last .0) (2 * (c .before .before .before .before .before .before .before .before .before .before .before .before .before .before .before .before .before .before .before .before .before .before .before .before .before .before .before) .loop .i + 2) ((c .before .before .before .before .before .before .before .before .before .before .before .before .before .before .before .before .before .before .before .before .before .before .before .before .before .before .before) .loop .i + 1) ((c .before .before .before .before .before .before .before .before .before .before .before .before .before .before .before .before .before .before) .read-on2 .result) (even1 _) ((c .before .before .before .before .before .before .before .before .before .before) .store2 .ensures)) (stored-at ((c .before .before .before .before .before .before) .store3 .last .0) ((c .before .before .before .before .before .before .before .before .before .before) .store2 .last .0) (2 * (c .before .before .before .before .before .before .before .before .before .before .before .before .before .before .before .before .before .before .before .before .before .before .before .before .before .before .before) .loop .i + 4) ((c .before .before .before .before .before .before .before .before .before .before .before .before .before .before .before .before .before .before .before .before .before .before .before .before .before .before .before) .loop .i + 2) ((c .before .before .before .before .before .before .before .before .before .before .before .before .before .before .before .before .before) .read-on3 .result) (even2 _) ((c .before .before .before .before .before .before) .store3 .ensures)) (stored-at ((c .before .before) .store4 .last .0) ((c .before .before .before .before .before .before) .store3 .last .0) (2 * (c .before .before .before .before .before .before .before .before .before .before .before .before .before .before .before .before .before .before .before .before .before .before .before .before .before .before .before) .loop .i + 6) ((c .before .before .before .before .before .before .before .before .before .before .before .before .before .before .before .before .before .before .before .before .before .before .before .before .before .before .before) .loop .i + 3) ((c .before .before .before .before .before .before .before .before .before .before .before .before .before .before .before .before) .read-on4 .result) (even3 _) ((c .before .before) .store4 .ensures)) (further _ _ _ _ _ _ _ _ (at .loop .inv .here)) refl;
       here = on _ _ _ _ _ _ _ (at .loop .inv .here);
       short = ends _ _ _ ((c .before .before .before .before .before .before .before .before .before .before .before .before .before .before .before .before .before .before .before .before) .if2 .left);
     }
@@ -273,11 +294,15 @@ straight-on-spec =
     read-on-requires-2
     read-on-requires-3
     read-on-requires-4
+    mul-store
     store-requires
+    mul-store-2
     add-store
     store-requires-2
+    mul-store-3
     add-store-2
     store-requires-3
+    mul-store-4
     add-store-3
     store-requires-4
     add-i
