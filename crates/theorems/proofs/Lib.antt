@@ -21,4 +21,5 @@ pub mod Examples
 pub mod Archive
 pub mod ArchiveSchedules
 pub mod Coincide
+pub mod Witnesses
 pub mod Promises

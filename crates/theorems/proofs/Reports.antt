@@ -290,12 +290,12 @@ module _ (snd : List Float) (dt : Float) where
       four a n t c e h = omega arith
 
 pub blocks-tell : BlocksTell
-blocks-tell snd v dt b g out h e l =
-    rw (processed-done snd v dt b g out (processed-passed snd v dt b g out e), block-live snd dt (rows b) g v l) (plays-tells snd dt (rows b) (begun g v) (begun-fed snd dt g v h))
+blocks-tell snd v dt b g out x =
+    rw (processed-done snd v dt b g out (processed-passed snd v dt b g out (x .accepted)), block-live snd dt (rows b) g v (x .live)) (plays-tells snd dt (rows b) (begun g v) (begun-fed snd dt g v (x .fed)))
 
 pub mixes-tell : MixesTell
-mixes-tell snd v dt b g mix from h e l =
-    rw (into-done snd v dt b g mix from (into-passed snd v dt b g mix from e), block-live snd dt (rows b) g v l) (plays-tells snd dt (rows b) (begun g v) (begun-fed snd dt g v h))
+mixes-tell snd v dt b g mix from x =
+    rw (into-done snd v dt b g mix from (into-passed snd v dt b g mix from (x .accepted)), block-live snd dt (rows b) g v (x .live)) (plays-tells snd dt (rows b) (begun g v) (begun-fed snd dt g v (x .fed)))
 
 pub silence-tells : SilenceTells
 unfolding processed

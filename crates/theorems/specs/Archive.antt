@@ -35,11 +35,20 @@ pub record CutInMixC (uncut first rest : OutcomeC) : Type 0 where
   pub answers : PartsC (uncut .answer) (first .answer) (rest .answer)
   pub samples : uncut .samples ≡ rest .samples
 
+-- what is asked: an accepted block, and a number of its frames
+pub record MayCutC (snd : List Float) (c : CableowlState) (dt : Float) (b : Lanes) (g : CableowlSignals) (out : List Float) (k : ℕ) : Type 0 where
+  pub accepted : (processedC snd c dt b g out) .answer .refusal ≡ 0
+  pub inside : k ≤ length (b .rate)
+
+pub record MayCutMixC (snd : List Float) (c : CableowlState) (dt : Float) (b : Lanes) (g : CableowlSignals) (mix : List Float) (from k : ℕ) : Type 0 where
+  pub accepted : (processedIntoC snd c dt b g mix from) .answer .refusal ≡ 0
+  pub inside : k ≤ length (b .rate)
+
 -- cableowl_process
 abbrev pub CutBlocksC : Type 0
 CutBlocksC =
     (snd : List Float) (c : CableowlState) (dt : Float) (b : Lanes) (g : CableowlSignals) (out : List Float) (k : ℕ)
-    → (processedC snd c dt b g out) .answer .refusal ≡ 0 → k ≤ length (b .rate)
+    → MayCutC snd c dt b g out k
     → let first = processedC snd c dt (firstLanes k b) g (take (2 * k) out) in
     let rest = processedC snd (first .answer .state) dt (restLanes k b) (quietC g) (drop (2 * k) out) in
     CutInTwoC (processedC snd c dt b g out) first rest
@@ -48,7 +57,7 @@ CutBlocksC =
 abbrev pub CutMixesC : Type 0
 CutMixesC =
     (snd : List Float) (c : CableowlState) (dt : Float) (b : Lanes) (g : CableowlSignals) (mix : List Float) (from k : ℕ)
-    → (processedIntoC snd c dt b g mix from) .answer .refusal ≡ 0 → k ≤ length (b .rate)
+    → MayCutMixC snd c dt b g mix from k
     → let first = processedIntoC snd c dt (firstLanes k b) g mix from in
     let rest = processedIntoC snd (first .answer .state) dt (restLanes k b) (quietC g) (first .samples) (from + k) in
     CutInMixC (processedIntoC snd c dt b g mix from) first rest

@@ -20,6 +20,7 @@ use Rattle.theorems.specs.Archive.{CutBlocksC, CutMixesC}
 use Rattle.theorems.specs.ArchiveSchedules.{AnySizesC, AnySizesMixC, AllAcceptedC, AllAcceptedMixC}
 use Rattle.theorems.specs.ArchiveKept.{ArchiveKeeps, ReadBack, UnlawfulRefused, TagsRefused, PartIsStretch}
 use Rattle.theorems.specs.Coincide.{Coincide}
+use Rattle.theorems.specs.Witnesses.{Witnesses}
 
 pub record Promises : Type 0 where
   -- a block cut in two is the same block
@@ -93,3 +94,5 @@ pub record Promises : Type 0 where
   pub examples-hold : ExamplesHold
   -- each contract says enough: any two outcomes that it allows coincide
   pub coincide : Coincide
+  -- for each theorem that asks something, an input that meets it
+  pub witnesses : Witnesses

@@ -25,6 +25,7 @@ use Rattle.block.specs.declared.Signals.{Signals}
 use Rattle.block.specs.Blocks.{begun, live}
 use Rattle.playing.specs.Plays.{plays}
 use Rattle.static_sound.specs.Entries.{processed, processedInto}
+use Rattle.theorems.specs.Accepted.{AcceptedBlock, AcceptedMix}
 
 -- ---- how a window came about
 
@@ -46,8 +47,12 @@ FedVoice snd v = Fed snd (offset (v .setup)) (v .moving)
 
 -- ---- every call leaves a voice that was fed
 
+-- an accepted creation
+abbrev pub AcceptedNew : List Float → Settings → Type 0
+AcceptedNew snd s = (created snd s) .refusal ≡ 0
+
 abbrev pub CreationFeeds : Type 0
-CreationFeeds = (snd : List Float) (s : Settings) → (created snd s) .refusal ≡ 0 → FedVoice snd ((created snd s) .sound)
+CreationFeeds = (snd : List Float) (s : Settings) → AcceptedNew snd s → FedVoice snd ((created snd s) .sound)
 
 abbrev pub CommandsFeed : Type 0
 CommandsFeed = (snd : List Float) (v : StaticSound) (c : Commands) → FedVoice snd v → FedVoice snd ((commanded snd v c) .sound)
@@ -88,20 +93,32 @@ pub record Tells (snd : List Float) (dt : Float) (ls : List Lane) (u : StaticSou
   pub full : t ≡ 4 → (k : ℕ) → k < length ls → Sounding snd (atRead snd dt ls u k)
   pub tail : t < 4 → Tail snd dt ls u t
 
+-- what is asked: a fed voice, and an accepted block of it that sounds
+pub record Reporting (snd : List Float) (v : StaticSound) (dt : Float) (b : Lanes) (g : Signals) (out : List Float) : Type 0 where
+  pub fed : FedVoice snd v
+  pub accepted : AcceptedBlock snd v dt b g out
+  pub live : live (begun g v) ≡ true
+
+pub record ReportingMix (snd : List Float) (v : StaticSound) (dt : Float) (b : Lanes) (g : Signals) (mix : List Float) (from : ℕ) : Type 0 where
+  pub fed : FedVoice snd v
+  pub accepted : AcceptedMix snd v dt b g mix from
+  pub live : live (begun g v) ≡ true
+
 abbrev pub BlocksTell : Type 0
 BlocksTell =
     (snd : List Float) (v : StaticSound) (dt : Float) (b : Lanes) (g : Signals) (out : List Float)
-    → let a = (processed snd v dt b g out) .answer in
-    FedVoice snd v → a .refusal ≡ 0 → live (begun g v) ≡ true → Tells snd dt (rows b) (begun g v) (a .«lowest_count»)
+    → Reporting snd v dt b g out → Tells snd dt (rows b) (begun g v) ((processed snd v dt b g out) .answer .«lowest_count»)
 
 abbrev pub MixesTell : Type 0
 MixesTell =
     (snd : List Float) (v : StaticSound) (dt : Float) (b : Lanes) (g : Signals) (mix : List Float) (from : ℕ)
-    → let a = (processedInto snd v dt b g mix from) .answer in
-    FedVoice snd v → a .refusal ≡ 0 → live (begun g v) ≡ true → Tells snd dt (rows b) (begun g v) (a .«lowest_count»)
+    → ReportingMix snd v dt b g mix from → Tells snd dt (rows b) (begun g v) ((processedInto snd v dt b g mix from) .answer .«lowest_count»)
 
 -- a block that does not sound, or has no frames, reports 4, and so does a refused one
+abbrev pub Silent : Signals → StaticSound → Type 0
+Silent g v = live (begun g v) ≡ false
+
 abbrev pub SilenceTells : Type 0
 SilenceTells =
     (snd : List Float) (v : StaticSound) (dt : Float) (b : Lanes) (g : Signals) (out : List Float)
-    → live (begun g v) ≡ false → (processed snd v dt b g out) .answer .«lowest_count» ≡ 4
+    → Silent g v → (processed snd v dt b g out) .answer .«lowest_count» ≡ 4
