@@ -29,10 +29,14 @@ pub record Lines (i k m : ℕ) (uncut first rest : List ℕ) : Type 0 where
   -- 6 is Stopped
   pub sum : T (not (eqb state-between 6)) → all ≡ early + late
 
+-- what is asked: a block that is accepted, of as many frames as a record may have
+pub record MayCutRecord (c : Course) (k m a v l r p t f s u : ℕ) : Type 0 where
+  pub few : k + m ≤ 1024
+  pub accepted : answered (c .sound) (c .voice) (blockOf (blockNumbers (k + m) a v l r p t f s u)) .refusal ≡ 0
+
 abbrev pub CutRecords : Type 0
 CutRecords =
-    (c : Course) (k m a v l r p t f s u : ℕ) → k + m ≤ 1024
-    → answered (c .sound) (c .voice) (blockOf (blockNumbers (k + m) a v l r p t f s u)) .refusal ≡ 0
+    (c : Course) (k m a v l r p t f s u : ℕ) → MayCutRecord c k m a v l r p t f s u
     → let uncut = after c 3 (blockNumbers (k + m) a v l r p t f s u) in
     let first = after c 3 (blockNumbers k a v l r p t f s u) in
     let rest = after (first .course) 3 (blockNumbers m a v l r p t 0 0 0) in

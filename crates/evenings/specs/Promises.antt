@@ -2,8 +2,11 @@
 use Rattle.evenings.specs.Streams.{Streams}
 use Rattle.evenings.specs.Cuts.{CutRecords}
 use Rattle.evenings.specs.Example.{ThreeFrames}
+use Rattle.evenings.specs.Witnesses.{Witnesses}
 
 pub record Promises : Type 0 where
   pub streams : Streams
   pub cut-records : CutRecords
   pub three-frames : ThreeFrames
+  -- an input for each that meets what it asks
+  pub witnesses : Witnesses

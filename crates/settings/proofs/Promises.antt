@@ -1,7 +1,17 @@
 -- What is promised of saved settings beyond the contracts, put together. Assumes nothing.
 use Rattle.settings.specs.Promises.{Promises}
 use Rattle.settings.proofs.Fields.{rates}
+use Rattle.settings.proofs.Witnesses.{witnesses}
 use Rattle.settings.proofs.Rounds.{first, second-back, unknown, first-again, second-again}
 
 pub all-kept : Promises
-all-kept = record { first = first; second = second-back; unknown = unknown; first-again = first-again; second-again = second-again; rates = rates }
+all-kept =
+    record {
+      first = λ reader s rest x. first reader s rest (x .word) (x .may);
+      second = λ s rest x. second-back s rest (x .word) (x .pitch-word) (x .may);
+      unknown = unknown;
+      first-again = λ reader s bytes x. first-again reader s bytes (x .small) (x .shown);
+      second-again = λ reader s bytes x. second-again reader s bytes (x .small) (x .shown);
+      rates = rates;
+      witnesses = witnesses;
+    }
