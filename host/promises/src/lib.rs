@@ -2,6 +2,8 @@
 //! among the laws that two outcomes of one promise coincide or a row in docs/EXCEPTIONS.md. And whether docs/EXCEPTIONS.md
 //! names every function that asks something of its callers, and those callers.
 
+pub mod records;
+
 use std::fs;
 use std::path::Path;
 
