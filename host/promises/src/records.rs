@@ -121,8 +121,7 @@ impl Specs {
         }
         let mut steps: Vec<String> = split(&says, '→').iter().map(|s| open(s).into()).collect();
         let promised = steps.pop().expect("what is promised");
-        let asked = steps.into_iter().filter(|step| !is_binder(step));
-        let asked: Vec<String> = asked.map(|step| unlet(&step).to_string()).collect();
+        let asked: Vec<String> = steps.iter().flat_map(|step| asked_in(step)).collect();
         let mut found = Vec::new();
         if !asked.is_empty() {
             found.push(asked);
@@ -283,22 +282,35 @@ fn is_name(text: &str) -> bool {
     text.starts_with(char::is_uppercase) && text.chars().all(char::is_alphanumeric)
 }
 
-/// Binders and nothing else: `(a : A) (b c : B)`.
-fn is_binder(step: &str) -> bool {
+/// What one step of a theorem asks: all of it, or of binders what is no plain input, as in `(k : ℕ) (none : k ≡ 0)`.
+fn asked_in(step: &str) -> Vec<String> {
+    let Some(types) = bound(step) else {
+        return vec![unlet(step).to_string()];
+    };
+    types.into_iter().filter(|of| !is_input(of)).collect()
+}
+
+/// The type of an input: a name, a list, or a function between such.
+fn is_input(of: &str) -> bool {
+    split(of, '→').iter().all(|part| {
+        let part = open(part).trim_start_matches("List ");
+        part == "ℕ" || is_name(open(part))
+    })
+}
+
+/// The types of binders, where there are binders and nothing else: `(a : A) (b c : B)`.
+fn bound(step: &str) -> Option<Vec<String>> {
     let mut rest = step.trim();
+    let mut types = Vec::new();
     while let Some(inside) = rest.strip_prefix('(') {
-        let Some(end) = closing(inside) else {
-            return false;
-        };
-        let binds = inside[..end]
+        let end = closing(inside)?;
+        let (colon, _) = inside[..end]
             .match_indices(" : ")
-            .any(|(at, _)| depth(&inside[..at]) == 0);
-        if !binds {
-            return false;
-        }
+            .find(|(at, _)| depth(&inside[..*at]) == 0)?;
+        types.push(inside[colon + 3..end].to_string());
         rest = inside[end + 1..].trim();
     }
-    rest.is_empty()
+    rest.is_empty().then_some(types)
 }
 
 /// Where the bracket that is open at the beginning closes.
@@ -339,7 +351,7 @@ fn split(text: &str, sign: char) -> Vec<String> {
 /// A text without the brackets that stand around all of it. Binders keep theirs.
 fn open(text: &str) -> &str {
     let text = text.trim();
-    let inside = text.strip_prefix('(').filter(|_| !is_binder(text));
+    let inside = text.strip_prefix('(').filter(|_| bound(text).is_none());
     let inside = inside.filter(|inside| closing(inside) == Some(inside.len() - 1));
     inside.map_or(text, |inside| open(&inside[..inside.len() - 1]))
 }
