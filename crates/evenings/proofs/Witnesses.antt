@@ -21,4 +21,4 @@ unfolding answered processed refusedBlock ours wellFormed created made refusedNe
 accepted = refl
 
 pub witnesses : Witnesses
-witnesses = record { streams = record { bytes = small-of threeFrames tt; wide = omega arith }; cut-records = record { few = omega arith; accepted = accepted } }
+witnesses = record { streams = record { bytes = small-of threeFrames tt; wide = omega arith }; cut-records = (record { few = omega arith; accepted = accepted }, tt) }

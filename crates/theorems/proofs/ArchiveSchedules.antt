@@ -144,10 +144,10 @@ agree : (m n : RunC) (r s : Run) → AsBelow m r → AsBelow n s → Agree r s �
 agree m n r s x y a =
     record {
       samples = x .samples ∙ a .samples ∙ sym (y .samples);
-      same = λ c d.
-          let z = a .same (x .cuts c) (y .cuts d) in
+      same = λ c.
+          let z = a .same (x .cuts (c .0), y .cuts (c .1)) in
           (x .state ∙ ap encoded (z .0) ∙ sym (y .state), x .steps ∙ z .1 ∙ sym (y .steps));
-      lowest = λ c d. x .lowest ∙ a .lowest (x .cuts c) (y .cuts d) ∙ sym (y .lowest);
+      lowest = λ c. x .lowest ∙ a .lowest (x .cuts (c .0), y .cuts (c .1)) ∙ sym (y .lowest);
       alike = ap bare (means m r x) ∙ a .alike ∙ sym (ap bare (means n s y));
     }
   where

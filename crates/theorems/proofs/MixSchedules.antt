@@ -126,12 +126,12 @@ any-sizes-mix snd dt b g v k ks j js mix from ways =
     let a = any-sizes snd dt b g v k ks out j js out (record { all-of-it = e; accepted = x .accepted }, record { all-of-it = f; accepted = y .accepted }) in
     record {
       samples = x .samples ∙ ap (mixed from (length (b .rate)) mix) (a .samples) ∙ sym (y .samples);
-      same = λ c d.
-          let z = a .same (subst (λ (us : List StaticSound). T (all awake us)) (x .cuts) c) (subst (λ (us : List StaticSound). T (all awake us)) (y .cuts) d) in
+      same = λ c.
+          let z = a .same (subst (λ (us : List StaticSound). T (all awake us)) (x .cuts) (c .0), subst (λ (us : List StaticSound). T (all awake us)) (y .cuts) (c .1)) in
           (x .sound ∙ z .0 ∙ sym (y .sound), x .steps ∙ z .1 ∙ sym (y .steps));
-      lowest = λ c d.
+      lowest = λ c.
           x .lowest
-          ∙ a .lowest (subst (λ (us : List StaticSound). T (all awake us)) (x .cuts) c) (subst (λ (us : List StaticSound). T (all awake us)) (y .cuts) d)
+          ∙ a .lowest (subst (λ (us : List StaticSound). T (all awake us)) (x .cuts) (c .0), subst (λ (us : List StaticSound). T (all awake us)) (y .cuts) (c .1))
           ∙ sym (y .lowest);
       alike = ap bare (x .sound) ∙ a .alike ∙ sym (ap bare (y .sound));
     }

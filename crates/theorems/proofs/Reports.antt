@@ -267,12 +267,12 @@ module _ (snd : List Float) (dt : Float) where
   plays-tells : (ls : List Lane) (v : StaticSound) → FedVoice snd v → Tells snd dt ls v ((plays snd dt ls v) .«lowest_count»)
   plays-tells ls v h =
       record {
-        full = λ e k q.
+        full = λ k x.
             let u = atRead snd dt ls v k in
             let f = plays-fed snd dt (take k ls) v h in
-            let a = lowest-least ls v k q in
+            let a = lowest-least ls v k (x .1) in
             let c = fed-count snd u f in
-            fed-newest snd u f (four (countOf u) _ _ c e a);
+            fed-newest snd u f (four (countOf u) _ _ c (x .0) a);
         tail = λ k.
             let q = lowest-read ls v k in
             let f = plays-fed snd dt (take (q .read) ls) v h in

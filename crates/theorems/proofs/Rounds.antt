@@ -268,8 +268,8 @@ updates-fit snd c s e n m x =
     let w = updates n snd c m in
     let g = updates-grow snd c n m in
     record {
-      forward = λ d l. less-on (e - s) (m .wraps .forward) (w .wraps .forward) (g .0) (w .transport .position) (m .transport .position) n (ahead s e snd c k d n m h .fit l);
-      backward = λ d l. less-back (e - s) (m .wraps .backward) (w .wraps .backward) (g .1) (w .transport .position) (m .transport .position) n (astern s e snd c k d n m h .fit l);
+      forward = λ d. less-on (e - s) (m .wraps .forward) (w .wraps .forward) (g .0) (w .transport .position) (m .transport .position) n (ahead s e snd c k (d .0) n m h .fit (d .1));
+      backward = λ d. less-back (e - s) (m .wraps .backward) (w .wraps .backward) (g .1) (w .transport .position) (m .transport .position) n (astern s e snd c k (d .0) n m h .fit (d .1));
       other = (λ d. ahead s e snd c k d n m h .other, λ d. astern s e snd c k d n m h .other);
       grows = g;
     }

@@ -124,7 +124,7 @@ any-sizes snd dt b g v k ks out j js mix ways =
     let y = run-whole snd dt j js b g v mix (ways .1 .all-of-it) (ways .1 .accepted) in
     record {
       samples = x .samples ∙ sym (y .samples);
-      same = λ a c. (x .same a .0 ∙ sym (y .same c .0), x .same a .1 ∙ sym (y .same c .1));
-      lowest = λ a c. x .lowest a ∙ sym (y .lowest c);
+      same = λ a. (x .same (a .0) .0 ∙ sym (y .same (a .1) .0), x .same (a .0) .1 ∙ sym (y .same (a .1) .1));
+      lowest = λ a. x .lowest (a .0) ∙ sym (y .lowest (a .1));
       alike = x .alike ∙ sym (y .alike);
     }

@@ -70,10 +70,13 @@ mixedByC snd dt k (j ∷ ks) b g c mix from =
 abbrev pub awakeC : CableowlState → Bool
 awakeC c = awake (decoded c)
 
+abbrev pub BothAwakeC : RunC → RunC → Type 0
+BothAwakeC r s = T (all awakeC (r .cuts)) × T (all awakeC (s .cuts))
+
 pub record AgreeC (r s : RunC) : Type 0 where
   pub samples : r .samples ≡ s .samples
-  pub same : T (all awakeC (r .cuts)) → T (all awakeC (s .cuts)) → (r .state ≡ s .state) × (r .steps ≡ s .steps)
-  pub lowest : T (all awakeC (r .cuts)) → T (all awakeC (s .cuts)) → r .«lowest_count» ≡ s .«lowest_count»
+  pub same : BothAwakeC r s → (r .state ≡ s .state) × (r .steps ≡ s .steps)
+  pub lowest : BothAwakeC r s → r .«lowest_count» ≡ s .«lowest_count»
   pub alike : bare (decoded (r .state)) ≡ bare (decoded (s .state))
 
 -- a way to cut a stream, all of whose blocks are accepted, and two such ways

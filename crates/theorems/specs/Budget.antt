@@ -18,7 +18,7 @@ use Rattle.playing.specs.declared.Processed.{Processed}
 use Rattle.block.specs.Blocks.{begun, live}
 use Rattle.static_sound.specs.Entries.{processed, processedInto}
 use Rattle.theorems.specs.Sums.{sum}
-use Rattle.theorems.specs.Accepted.{AcceptedBlock, AcceptedMix}
+use Rattle.theorems.specs.Accepted.{AcceptedBlock, AcceptedMix, Silent}
 use Rattle.theorems.specs.Steps.{stepsOf}
 use Rattle.theorems.specs.Schedules.{playedBy, Way}
 
@@ -36,7 +36,7 @@ pub record Within (k : ℕ) (snd : List Float) (v : StaticSound) (dt : Float) (b
   pub reported : a .steps ≡ cond (live (begun g v)) (sum (stepsOf snd dt (rows b) (begun g v))) 0
   pub frames : T (all (λ (n : ℕ). leb n (k + 1)) (stepsOf snd dt (rows b) (begun g v)))
   pub block : a .steps ≤ length (b .rate) * (k + 1)
-  pub silent : live (begun g v) ≡ false → a .steps ≡ 0
+  pub silent : Silent g v → a .steps ≡ 0
 
 -- what is asked: an accepted block, or an accepted way to cut a stream, with advances of at most k
 pub record SlowBlock (k : ℕ) (snd : List Float) (v : StaticSound) (dt : Float) (b : Lanes) (g : Signals) (out : List Float) : Type 0 where

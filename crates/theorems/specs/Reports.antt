@@ -25,7 +25,7 @@ use Rattle.block.specs.declared.Signals.{Signals}
 use Rattle.block.specs.Blocks.{begun, live}
 use Rattle.playing.specs.Plays.{plays}
 use Rattle.static_sound.specs.Entries.{processed, processedInto}
-use Rattle.theorems.specs.Accepted.{AcceptedBlock, AcceptedMix}
+use Rattle.theorems.specs.Accepted.{AcceptedBlock, AcceptedMix, Silent}
 
 -- ---- how a window came about
 
@@ -88,10 +88,17 @@ pub record Tail (snd : List Float) (dt : Float) (ls : List Lane) (u : StaticSoun
   pub pushes : t ≡ 4 - length (fed .since)
   pub ended : (atRead snd dt ls u read) .moving .transport .playing ≡ false
 
+-- the two cases of a count: 4, and a read of the block; less
+abbrev pub Full : ℕ → List Lane → ℕ → Type 0
+Full t ls k = (t ≡ 4) × (k < length ls)
+
+abbrev pub Short : ℕ → Type 0
+Short t = t < 4
+
 -- what t, the lowest count of a block of the lanes ls that begins with u, tells
 pub record Tells (snd : List Float) (dt : Float) (ls : List Lane) (u : StaticSound) (t : ℕ) : Type 0 where
-  pub full : t ≡ 4 → (k : ℕ) → k < length ls → Sounding snd (atRead snd dt ls u k)
-  pub tail : t < 4 → Tail snd dt ls u t
+  pub full : (k : ℕ) → Full t ls k → Sounding snd (atRead snd dt ls u k)
+  pub tail : Short t → Tail snd dt ls u t
 
 -- what is asked: a fed voice, and an accepted block of it that sounds
 pub record Reporting (snd : List Float) (v : StaticSound) (dt : Float) (b : Lanes) (g : Signals) (out : List Float) : Type 0 where
@@ -115,9 +122,6 @@ MixesTell =
     → ReportingMix snd v dt b g mix from → Tells snd dt (rows b) (begun g v) ((processedInto snd v dt b g mix from) .answer .«lowest_count»)
 
 -- a block that does not sound, or has no frames, reports 4, and so does a refused one
-abbrev pub Silent : Signals → StaticSound → Type 0
-Silent g v = live (begun g v) ≡ false
-
 abbrev pub SilenceTells : Type 0
 SilenceTells =
     (snd : List Float) (v : StaticSound) (dt : Float) (b : Lanes) (g : Signals) (out : List Float)

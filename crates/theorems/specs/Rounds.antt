@@ -17,13 +17,26 @@ use Rattle.block.specs.declared.Signals.{Signals}
 use Rattle.static_sound.specs.Entries.{processed, processedInto}
 use Rattle.theorems.specs.Accepted.{AcceptedBlock, AcceptedMix}
 
+-- the directions; and each with a count that has not reached its limit
+abbrev pub Onward : Bool → Type 0
+Onward backwards = backwards ≡ false
+
+abbrev pub Back : Bool → Type 0
+Back backwards = backwards ≡ true
+
+abbrev pub CountsOnward : Bool → Moving → Type 0
+CountsOnward backwards w = Onward backwards × (w .wraps .forward < 4294967295)
+
+abbrev pub CountsBack : Bool → Moving → Type 0
+CountsBack backwards w = Back backwards × (w .wraps .backward < 4294967295)
+
 -- so many steps in the loop (s, e), in one direction, from m to w
 pub record Fits (s e : ℕ) (backwards : Bool) (steps : ℕ) (m w : Moving) : Type 0 where
-  pub forward : backwards ≡ false → w .wraps .forward < 4294967295
+  pub forward : CountsOnward backwards w
       → w .transport .position + (e - s) * (w .wraps .forward - m .wraps .forward) ≡ m .transport .position + steps
-  pub backward : backwards ≡ true → w .wraps .backward < 4294967295
+  pub backward : CountsBack backwards w
       → w .transport .position + steps ≡ m .transport .position + (e - s) * (w .wraps .backward - m .wraps .backward)
-  pub other : (backwards ≡ false → w .wraps .backward ≡ m .wraps .backward) × (backwards ≡ true → w .wraps .forward ≡ m .wraps .forward)
+  pub other : (Onward backwards → w .wraps .backward ≡ m .wraps .backward) × (Back backwards → w .wraps .forward ≡ m .wraps .forward)
   pub grows : (m .wraps .forward ≤ w .wraps .forward) × (m .wraps .backward ≤ w .wraps .backward)
 
 -- what is asked: inside the loop, which lies in the frames; and of a block, that it is accepted

@@ -60,10 +60,14 @@ playedBy snd dt k (j ∷ ks) b g v out =
     let o = processed snd v dt (firstLanes k b) g (take (2 * k) out) in
     followed o (playedBy snd dt j ks (restLanes k b) (quiet g) (o .answer .sound) (drop (2 * k) out))
 
+-- no block of two rows has left a Stopped voice at a cut
+abbrev pub BothAwake : Run → Run → Type 0
+BothAwake r s = T (all awake (r .cuts)) × T (all awake (s .cuts))
+
 pub record Agree (r s : Run) : Type 0 where
   pub samples : r .samples ≡ s .samples
-  pub same : T (all awake (r .cuts)) → T (all awake (s .cuts)) → (r .sound ≡ s .sound) × (r .steps ≡ s .steps)
-  pub lowest : T (all awake (r .cuts)) → T (all awake (s .cuts)) → r .«lowest_count» ≡ s .«lowest_count»
+  pub same : BothAwake r s → (r .sound ≡ s .sound) × (r .steps ≡ s .steps)
+  pub lowest : BothAwake r s → r .«lowest_count» ≡ s .«lowest_count»
   pub alike : bare (r .sound) ≡ bare (s .sound)
 
 -- a way to cut a stream, all of whose blocks are accepted

@@ -112,8 +112,8 @@ impl Specs {
         file.map(|(file, _)| file.as_str())
     }
 
-    /// What a type asks: a list for each theorem in it that asks something, with all that it asks. A name is looked up, and
-    /// a record's fields are theorems of their own.
+    /// What a type asks: a list for each statement in it that asks something, with all that it asks. A name is looked up,
+    /// and the fields of a record are statements of their own.
     pub fn asked(&self, says: &str) -> Vec<Vec<String>> {
         let says = open(&says.split_whitespace().collect::<Vec<_>>().join(" ")).to_string();
         if is_name(&says) {
@@ -126,25 +126,30 @@ impl Specs {
         if !asked.is_empty() {
             found.push(asked);
         }
-        let parts = split(unlet(&promised), '×');
-        for part in parts.iter().filter(|part| part.len() < says.len()) {
-            found.extend(self.asked(part));
+        for part in split(unlet(&promised), '×') {
+            if part.len() < says.len() {
+                found.extend(self.asked(&part));
+            } else if let Some(name) = head(&part) {
+                found.extend(self.asked_by_record(name));
+            }
         }
         found
     }
 
     fn asked_by_name(&self, name: &str) -> Vec<Vec<String>> {
         let text = self.home(name).and_then(|file| self.file(file));
-        let Some(text) = text else {
-            return Vec::new();
-        };
-        if let Some(fields) = fields(text, name) {
-            return fields.iter().flat_map(|f| self.asked(&f.says)).collect();
-        }
-        match body(text, name) {
+        match text.and_then(|text| body(text, name)) {
             Some(body) => self.asked(&body),
-            None => Vec::new(),
+            None => self.asked_by_record(name),
         }
+    }
+
+    /// What the fields of a record ask: conditions of what a theorem promises are asked as its hypothesis is.
+    fn asked_by_record(&self, name: &str) -> Vec<Vec<String>> {
+        let text = self.home(name).and_then(|file| self.file(file));
+        let fields = text.and_then(|text| fields(text, name));
+        let fields = fields.unwrap_or_default();
+        fields.iter().flat_map(|f| self.asked(&f.says)).collect()
     }
 }
 

@@ -127,7 +127,7 @@ fn a_contract_that_is_one_name_is_found() {
 fn unmet_in(theorem: &str, witness: &str) -> Vec<String> {
     let promises = format!("pub record Promises : Type 0 where\n  pub cut : {theorem}\n");
     let text = format!(
-        "pub record MayCut (k : ℕ) : Type 0 where\n  pub few : k < 4\n\nabbrev pub Empty : ℕ → Type 0\nEmpty k = k ≡ 0\n\nabbrev pub Cut : Type 0\nCut =\n    (k : ℕ) (ks : List ℕ)\n    → let j = k in MayCut j → k < 5\n\npub record Witnesses : Type 0 where\n  {witness}\n"
+        "pub record MayCut (k : ℕ) : Type 0 where\n  pub few : k < 4\n\nabbrev pub Empty : ℕ → Type 0\nEmpty k = k ≡ 0\n\npub record Parts (k : ℕ) : Type 0 where\n  pub none : Empty k → k < 1\n  pub some : (j : ℕ) → j < 5\n\nabbrev pub Cut : Type 0\nCut =\n    (k : ℕ) (ks : List ℕ)\n    → let j = k in MayCut j → k < 5\n\npub record Witnesses : Type 0 where\n  {witness}\n"
     );
     let specs = Specs(vec![
         ("Promises".into(), promises.clone()),
@@ -183,6 +183,11 @@ fn a_hypothesis_without_a_witness_is_found() {
             "k < 3",
         ),
         ("(k : ℕ) → k < 5", met, "the witness cut has no promise"),
+        (
+            "(k : ℕ) → MayCut k → Parts k",
+            met,
+            "its witness meets MayCut",
+        ),
     ] {
         let wrong = unmet_in(theorem, witness).join("\n");
         assert!(wrong.contains(says), "{theorem}: {wrong}");
