@@ -1,5 +1,5 @@
 -- Once in the loop, always in the loop, of the archive's own entries, as InTheLoop says of the entries below: each call is given the record that the one before answered.
--- Records, commands and signals are judged by what they mean: a loop command is one that `loop_command` names, a stop is a `stop` that is not 0.
+-- Records, commands and signals are judged by what they mean: a loop command is a `loop_command` that is not 0, a stop command a `stop` that is not 0.
 use Prim.Native.Nat.{ℕ}
 use mathlib.Core.Path.{_≡_}
 use mathlib.Core.Bool.{Bool, true, false, _&&_, _||_, not}
