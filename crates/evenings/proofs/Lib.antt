@@ -3,5 +3,6 @@ pub mod Streams
 pub mod Cuts
 pub mod Played
 pub mod Example
+pub mod Coincide
 pub mod Witnesses
 pub mod Promises

@@ -3,7 +3,8 @@ use Rattle.evenings.specs.Promises.{Promises}
 use Rattle.evenings.proofs.Streams.{streams}
 use Rattle.evenings.proofs.Cuts.{cut-records}
 use Rattle.evenings.proofs.Example.{three-frames}
+use Rattle.evenings.proofs.Coincide.{coincide}
 use Rattle.evenings.proofs.Witnesses.{witnesses}
 
 pub all-kept : Promises
-all-kept = record { streams = streams; cut-records = cut-records; three-frames = three-frames; witnesses = witnesses }
+all-kept = record { streams = streams; cut-records = cut-records; three-frames = three-frames; coincide = coincide; witnesses = witnesses }

@@ -2,5 +2,6 @@
 pub mod Streams
 pub mod Cuts
 pub mod Example
+pub mod Coincide
 pub mod Witnesses
 pub mod Promises

@@ -3,6 +3,7 @@ use Rattle.settings.specs.Promises.{Promises}
 use Rattle.settings.proofs.Fields.{rates}
 use Rattle.settings.proofs.Witnesses.{witnesses}
 use Rattle.settings.proofs.Rounds.{first, second-back, unknown, first-again, second-again}
+use Rattle.settings.proofs.Buffers.{store-loads, load-stores}
 
 pub all-kept : Promises
 all-kept =
@@ -13,5 +14,7 @@ all-kept =
       first-again = λ reader s bytes x. first-again reader s bytes (x .small) (x .shown);
       second-again = λ reader s bytes x. second-again reader s bytes (x .small) (x .shown);
       rates = rates;
+      store-loads = λ version s buffer x. store-loads version s buffer (x .word) (x .pitch-word) (x .takes);
+      load-stores = λ reader version s bytes buffer x. load-stores reader version s bytes buffer (x .small) (x .known) (x .shown) (x .room);
       witnesses = witnesses;
     }

@@ -34,4 +34,6 @@ witnesses =
       second = record { word = omega arith; pitch-word = omega arith; may = refl };
       first-again = record { small = small-of (encoded 1 (looping 0)) first-bytes; shown = first-shown };
       second-again = record { small = small-of (encoded 2 (looping 2)) second-bytes; shown = second-shown };
+      store-loads = record { word = omega arith; pitch-word = omega arith; takes = refl };
+      load-stores = record { small = small-of (encoded 2 (looping 2)) second-bytes; known = omega arith; shown = second-shown; room = omega arith };
     }

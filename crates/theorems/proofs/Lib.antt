@@ -20,6 +20,7 @@ pub mod AtZero
 pub mod Examples
 pub mod Archive
 pub mod ArchiveSchedules
+pub mod ArchiveInTheLoop
 pub mod Coincide
 pub mod Witnesses
 pub mod Promises

@@ -1,8 +1,8 @@
 -- Each hypothesis at its input, by computing. Assumes nothing.
-use mathlib.Core.Path.{_≡_, refl, sym, subst}
+use mathlib.Core.Path.{_≡_, refl, sym, ap, _∙_, subst}
 use Prim.Native.Nat.{ℕ, _≤_, _<_}
 use native.Mathlib.Omega.{arith}
-use mathlib.Core.Bool.{true, false, not}
+use mathlib.Core.Bool.{Bool, true, false, not}
 use mathlib.Core.List.{List, [], _∷_}
 use lib.Dec.{T, leb, leb→le}
 use lib.ListN.{take}
@@ -33,6 +33,7 @@ use Rattle.theorems.specs.Schedules.{playedBy, mixedBy, BothAwake, Strea
 use Rattle.theorems.specs.Reports.{FedVoice, AcceptedNew, Full, Short}
 use Rattle.theorems.specs.AnyOrder.{Forward, Backward, InLoop, swapped}
 use Rattle.theorems.specs.InTheLoop.{afterAll, someAccepted, reloops, EndsStopped}
+use Rattle.theorems.specs.ArchiveInTheLoop.{someAcceptedC, reloopsC, EndsStoppedC}
 use Rattle.theorems.specs.Stays.{PlaysAfter}
 use Rattle.theorems.specs.Budget.{Slow}
 use Rattle.theorems.specs.AtZero.{SmallFrame}
@@ -40,10 +41,11 @@ use Rattle.theorems.specs.ArchiveKept.{Lawful, Unlawful}
 use Rattle.theorems.specs.ArchiveSchedules.{playedByC, mixedByC, BothAwakeC}
 use Rattle.theorems.specs.Rounds.{Onward, Back, CountsOnward, CountsBack}
 use Rattle.theorems.specs.Examples.{looped, ten, from}
-use Rattle.theorems.specs.Witnesses.{voice, unstarted, reversed, single, ending, lanes, due, waiting, output, mix, stopping, state, stateOf7, dueC, full, Witnesses}
+use Rattle.theorems.specs.Witnesses.{voice, unstarted, reversed, single, ending, lanes, due, waiting, output, mix, stopping, state, stateOf7, dueC, stoppingC, full, Witnesses}
 use Rattle.theorems.proofs.Streams.{all-accepted}
 use Rattle.theorems.proofs.MixSchedules.{all-accepted-mix}
 use Rattle.theorems.proofs.ArchiveSchedules.{archive-all-accepted, archive-all-accepted-mix}
+use Rattle.theorems.proofs.ArchiveInTheLoop.{row-meant, some-meant, reloops-meant}
 use Rattle.theorems.proofs.Reports.{creation-feeds}
 
 accepted-new : AcceptedNew ten (from 0 false)
@@ -246,6 +248,23 @@ seek-plays : PlaysAfter 10 (looped 4) 8
 unfolding seek
 seek-plays = refl
 
+-- the archive's row of calls means the other
+formedC : T (wellFormed (decoded state))
+formedC = subst (λ (v : StaticSound). T (wellFormed v)) (sym decoded-state) formed
+
+insideC : Inside 3 6 (decoded state .moving .transport)
+insideC = subst (λ (v : StaticSound). Inside 3 6 (v .moving .transport)) (sym decoded-state) inside
+
+no-loop-commandC : T (not (someAcceptedC reloopsC stoppingC state))
+no-loop-commandC =
+    subst (λ (b : Bool). T (not b)) (sym (some-meant reloopsC reloops reloops-meant stoppingC state))
+    (subst (λ (v : StaticSound). T (not (someAccepted reloops stopping v))) (sym decoded-state) no-loop-command)
+
+stoppedC : EndsStoppedC stoppingC state
+stoppedC =
+    ap (λ (v : StaticSound). v .moving .state) (row-meant stoppingC state)
+    ∙ subst (λ (v : StaticSound). EndsStopped stopping v) (sym decoded-state) stopped
+
 pub witnesses : Witnesses
 witnesses =
     record {
@@ -307,6 +326,7 @@ witnesses =
       there-and-back = in-loop;
       permutations = record { loop = in-loop; permuted = swapped Forward Backward [] };
       in-the-loop = (record { formed = formed; inside = inside; no-loop-command = no-loop-command }, stopped);
+      archive-in-the-loop = (record { formed = formedC; inside = insideC; no-loop-command = no-loop-commandC }, stoppedC);
       updates-fit = (record { fits = omega (arith, frames); inside = inside }, counts, counts-back, onward, back);
       blocks-fit = (record { accepted = accepted; inside = inside }, counts-block, counts-back-block, onward, back);
       mixes-fit = (record { accepted = accepted-mix; inside = inside }, counts-mix, counts-back-mix, onward, back);

@@ -21,6 +21,7 @@ pub mod Examples
 pub mod Archive
 pub mod ArchiveSchedules
 pub mod ArchiveKept
+pub mod ArchiveInTheLoop
 pub mod Coincide
 pub mod Witnesses
 pub mod Promises

@@ -26,6 +26,8 @@ use Rattle.command_set.specs.declared.Commands.{Commands}
 use Rattle.block.specs.declared.Signals.{Signals}
 use Rattle.records.specs.declared.CableowlState.{CableowlState}
 use Rattle.records.specs.Records.{decoded, encoded}
+use Rattle.inputs.specs.declared.CableowlPlace.{CableowlPlace}
+use Rattle.inputs.specs.declared.CableowlCommands.{CableowlCommands}
 use Rattle.inputs.specs.declared.CableowlSignals.{CableowlSignals}
 use Rattle.theorems.specs.Accepted.{AcceptedBlock, AcceptedMix, Silent}
 use Rattle.theorems.specs.Alike.{Awake}
@@ -46,6 +48,8 @@ use Rattle.theorems.specs.Examples.{looped, ten, from}
 use Rattle.theorems.specs.Archive.{MayCutC, MayCutMixC}
 use Rattle.theorems.specs.ArchiveSchedules.{playedByC, mixedByC, BothAwakeC, TwoWaysC, TwoWaysMixC}
 use Rattle.theorems.specs.ArchiveKept.{Lawful, Unlawful, Unknown}
+use Rattle.theorems.specs.ArchiveInTheLoop as archive
+use Rattle.theorems.specs.ArchiveInTheLoop.{CallC, EndsStoppedC, EnteredC}
 
 -- ---- the input
 
@@ -147,6 +151,32 @@ stateOf7 =
 abbrev pub dueC : CableowlSignals
 dueC = record { finished = 0; start = 3; resume = 0; due = 4294967295; now = 0 }
 
+abbrev pub noPlace : CableowlPlace
+noPlace = record { seconds = positiveZero; samples = 0; kind = 0 }
+
+-- the same stop, and the same block
+abbrev pub stopC : CableowlCommands
+stopC =
+    record {
+      «has_rate» = 0;
+      «loop_command» = 0;
+      pause = 0;
+      resume = 0;
+      stop = 1;
+      «has_seek_by» = 0;
+      «has_seek_to» = 0;
+      rate = one;
+      «seek_by» = positiveZero;
+      «seek_to» = positiveZero;
+      «loop_region» = record { start = noPlace; end = noPlace };
+    }
+
+abbrev pub fadedC : CableowlSignals
+fadedC = record { finished = 1; start = 0; resume = 0; due = 0; now = 0 }
+
+abbrev pub stoppingC : List CallC
+stoppingC = archive.Command ten stopC ∷ archive.Block ten one lanes fadedC output ∷ []
+
 abbrev pub full : Frame
 full = record { left = one; right = one }
 
@@ -187,6 +217,7 @@ pub record Witnesses : Type 0 where
   pub there-and-back : InLoop 10 3 6 (looped 4)
   pub permutations : Rearranged 10 3 6 (Forward ∷ Backward ∷ []) (Backward ∷ Forward ∷ []) (looped 4)
   pub in-the-loop : Entered 3 6 stopping voice × EndsStopped stopping voice
+  pub archive-in-the-loop : EnteredC 3 6 stoppingC state × EndsStoppedC stoppingC state
   pub updates-fit : MovesInLoop (courseOf voice) 3 6 (voice .moving) × CountsOnward (courseOf voice .backwards) (updates 4 ten (courseOf voice) (voice .moving)) × CountsBack (courseOf reversed .backwards) (updates 4 ten (courseOf reversed) (reversed .moving)) × Onward (courseOf voice .backwards) × Back (courseOf reversed .backwards)
   pub blocks-fit : BlockInLoop ten voice one lanes due output 3 6 × CountsOnward (courseOf voice .backwards) ((processed ten voice one lanes due output) .answer .sound .moving) × CountsBack (courseOf reversed .backwards) ((processed ten reversed one lanes due output) .answer .sound .moving) × Onward (courseOf voice .backwards) × Back (courseOf reversed .backwards)
   pub mixes-fit : MixInLoop ten voice one lanes due mix 1 3 6 × CountsOnward (courseOf voice .backwards) ((processedInto ten voice one lanes due mix 1) .answer .sound .moving) × CountsBack (courseOf reversed .backwards) ((processedInto ten reversed one lanes due mix 1) .answer .sound .moving) × Onward (courseOf voice .backwards) × Back (courseOf reversed .backwards)

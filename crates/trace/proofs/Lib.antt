@@ -4,5 +4,6 @@ pub mod Rounds
 pub mod Sends
 pub mod Traces
 pub mod Windows
+pub mod Answers
 pub mod Witnesses
 pub mod Promises

@@ -3,6 +3,7 @@ use Rattle.trace.specs.Promises.{Promises}
 use Rattle.trace.proofs.Rounds.{read-record, written-record}
 use Rattle.trace.proofs.Traces.{read-trace, written-trace, appended}
 use Rattle.trace.proofs.Windows.{window}
+use Rattle.trace.proofs.Answers.{answer-written, written-answer}
 use Rattle.trace.proofs.Witnesses.{witnesses}
 
 pub all-kept : Promises
@@ -14,5 +15,7 @@ all-kept =
       trace-written-again = λ bs x. written-trace bs (x .bytes) (x .to-the-end);
       trace-appended = appended;
       window = window;
+      answer-written = λ bs at buf to x. answer-written bs at buf to (x .bytes) (x .reads);
+      written-answer = written-answer;
       witnesses = witnesses;
     }

@@ -10,10 +10,10 @@ use Rattle.layout.specs.Reads.{taken, step, steps}
 use Rattle.layout.specs.Writes.{payload, fine, field, fits}
 use Rattle.layout.proofs.Numbers.{small-of}
 use Rattle.trace.specs.Tables.{headTable, commandTable, headRows, commandRows, body}
-use Rattle.trace.specs.Records.{possible, found, ended, bodied, readRecord}
+use Rattle.trace.specs.Records.{possible, found, ended, bodied, readRecord, valued, recordAt}
 use Rattle.trace.specs.Writes.{recordOf, writeRecord}
 use Rattle.trace.specs.Traces.{onward, readAll, isWhole, takesAll, writeAll}
-use Rattle.trace.specs.Promises.{pauseNumbers, pauseRecord, pauses, Takes, Writes, Witnesses}
+use Rattle.trace.specs.Promises.{pauseNumbers, pauseRecord, pauses, Takes, Writes, Puts, Witnesses}
 
 takes : fine (body 2) [] pauseNumbers ≡ true
 unfolding fine fits stands within commandRows rows rowAt commandTable
@@ -35,6 +35,14 @@ writes : Writes (replicate 20 0) 4 pauses
 unfolding writeAll writeRecord recordOf payload field fine fits stands within bytes headRows commandRows rows rowAt headTable commandTable
 writes = refl
 
+answers : recordAt pauseRecord 0 .refusal ≡ 0
+unfolding recordAt valued readRecord bodied ended possible steps step taken stands within num headRows commandRows rows rowAt headTable commandTable
+answers = refl
+
+puts : Puts (replicate 20 0) 4 2 pauseNumbers
+unfolding writeRecord recordOf payload field fine fits stands within bytes headRows commandRows rows rowAt headTable commandTable
+puts = refl
+
 pub witnesses : Witnesses
 witnesses =
     record {
@@ -44,4 +52,6 @@ witnesses =
       trace-written-again = record { bytes = small-of pauseRecord tt; to-the-end = to-the-end };
       trace-appended = writes;
       window = omega arith;
+      answer-written = record { bytes = small-of pauseRecord tt; reads = answers };
+      written-answer = puts;
     }

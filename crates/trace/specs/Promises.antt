@@ -2,14 +2,15 @@
 -- and what is read would be written again byte for byte; the same of whole traces; and no more than 575 bytes are looked at.
 use Prim.Native.Nat.{ℕ, _+_, _-_, _≤_}
 use mathlib.Core.Path.{_≡_}
-use mathlib.Core.Bool.{true}
+use mathlib.Core.Bool.{true, cond}
 use mathlib.Core.List.{List, [], _∷_, _++_}
+use lib.Dec.{leb}
 use lib.ListN.{length, take, drop, replicate}
 use Rattle.layout.specs.Numbers.{Bytes}
 use Rattle.layout.specs.Writes.{fine}
-use Rattle.trace.specs.Tables.{body}
+use Rattle.trace.specs.Tables.{body, fields}
 use Rattle.trace.specs.Records.{found, readRecord, recordAt}
-use Rattle.trace.specs.Writes.{recordOf, known}
+use Rattle.trace.specs.Writes.{recordOf, known, Written, writeRecord}
 use Rattle.trace.specs.Traces.{Entry, Story, traceOf, takesAll, writeAll, readAll, entries, isWhole}
 
 -- the bytes begin with the record of these fields, which a writer takes
@@ -28,6 +29,13 @@ pub record Appended (buf : List ℕ) (at : ℕ) (es : List Entry) (next : ℕ) (
   pub before : take at new ≡ take at buf
   pub behind : drop next new ≡ drop next buf
   pub trace : Reads (take (next - at) (drop at new)) es
+
+-- the first n bytes put into a buffer at a place; 19 where there is too little room
+abbrev pub copied : List ℕ → ℕ → ℕ → List ℕ → Written
+copied buf at n bs =
+    cond (leb n (length buf - at))
+    (record { number = 0; next = at + n; buffer = take at buf ++ take n bs ++ drop (at + n) buf })
+    (record { number = 19; next = at; buffer = buf })
 
 -- ---- what is asked
 
@@ -58,6 +66,15 @@ Writes buf at es = writeAll buf at es .number ≡ 0
 abbrev pub Wide : ℕ → ℕ → Type 0
 Wide at end = at + 575 ≤ end
 
+-- bytes at a place of which `read` answers a record
+pub record Answers (bs : List ℕ) (at : ℕ) : Type 0 where
+  pub bytes : Bytes bs
+  pub reads : recordAt bs at .refusal ≡ 0
+
+-- a buffer into which `write` puts a record
+abbrev pub Puts : List ℕ → ℕ → ℕ → List ℕ → Type 0
+Puts buf at k vs = writeRecord buf at k (take (fields k) vs) .number ≡ 0
+
 -- and inputs that meet it: a command set that pauses, 12 bytes long
 abbrev pub pauseNumbers : List ℕ
 pauseNumbers = 0 ∷ 0 ∷ 0 ∷ 0 ∷ 0 ∷ 1 ∷ 0 ∷ 0 ∷ 0 ∷ 0 ∷ 0 ∷ 0 ∷ []
@@ -75,6 +92,8 @@ pub record Witnesses : Type 0 where
   pub trace-written-again : Whole pauseRecord
   pub trace-appended : Writes (replicate 20 0) 4 pauses
   pub window : Wide 0 575
+  pub answer-written : Answers pauseRecord 0
+  pub written-answer : Puts (replicate 20 0) 4 2 pauseNumbers
 
 pub record Promises : Type 0 where
   pub read-back : (k : ℕ) (ws rest : List ℕ) → Writable k ws → readRecord (recordOf k ws ++ rest) ≡ found k ws rest
@@ -83,5 +102,12 @@ pub record Promises : Type 0 where
   pub trace-written-again : (bs : List ℕ) → Whole bs → bs ≡ traceOf (entries (readAll 0 bs))
   pub trace-appended : (buf : List ℕ) (at : ℕ) (es : List Entry) → Writes buf at es → Appended buf at es (writeAll buf at es .next) (writeAll buf at es .buffer)
   pub window : (bs : List ℕ) (at end : ℕ) → Wide at end → recordAt (take end bs) at ≡ recordAt bs at
+  -- what `read` answers, `write` writes as the same bytes
+  pub answer-written : (bs : List ℕ) (at : ℕ) (buf : List ℕ) (to : ℕ) → Answers bs at
+      → let r = recordAt bs at in writeRecord buf to (r .kind) (take (fields (r .kind)) (r .values)) ≡ copied buf to (r .next - at) (drop at bs)
+  -- and what `write` leaves in the buffer, `read` answers
+  pub written-answer : (buf : List ℕ) (at k : ℕ) (vs : List ℕ) → Puts buf at k vs
+      → let w = writeRecord buf at k (take (fields k) vs) in
+      recordAt (w .buffer) at ≡ record { refusal = 0; kind = k; next = w .next; values = take (fields k) vs ++ replicate (80 - fields k) 0 }
   -- an input for each that meets what it asks
   pub witnesses : Witnesses
