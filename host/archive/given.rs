@@ -20,11 +20,9 @@ pub struct Note(Vec<(String, String)>);
 impl Note {
     /// The note of an archive just made.
     pub fn of(archive: &Path, arch: &str, kit: &str, sources: &[u8]) -> Result<Self> {
-        let commit = env::var("CABLEOWL_COMMIT").unwrap_or_else(|_| "a working tree".to_owned());
         let lines = [
             ("version", env::var("CARGO_PKG_VERSION")?),
             ("processor", arch.to_owned()),
-            ("commit", commit),
             ("kit", kit.trim().to_owned()),
             ("sources", hex(&digest(sources))),
             ("archive", hex(&digest(&fs::read(archive)?))),
