@@ -20,7 +20,7 @@ use std::{
 #[path = "archive/convention.rs"]
 mod convention;
 #[path = "archive/given.rs"]
-mod given;
+pub mod given;
 #[path = "archive/module.rs"]
 mod module;
 #[allow(dead_code)]
