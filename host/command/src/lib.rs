@@ -16,6 +16,7 @@ mod replay;
 mod report;
 mod salvage;
 mod settings;
+mod version;
 mod words;
 
 use std::{ffi::OsString, io::Write};
@@ -62,8 +63,7 @@ fn obey(
     match words::asked(words)? {
         Asked::Help => out.put(HELP).map(|()| true),
         Asked::Version => {
-            let (version, archive) = (env!("CARGO_PKG_VERSION"), cableowl::version());
-            let words = format!("cableowl {version}, C interface {archive}\n");
+            let words = version::line();
             out.put(words).map(|()| true)
         }
         Asked::Replay { trace, form } => replay::replay(&trace, form, out).map(|()| true),
