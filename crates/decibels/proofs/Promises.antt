@@ -1,9 +1,10 @@
 -- What is promised of levels and ramps beyond the contracts, put together. Assumes nothing.
 use mathlib.Core.Path.{_≡_, refl}
+use native.Mathlib.Omega.{arith}
 use lib.ListN.{take-append-drop}
 use Rattle.numbers.specs.Words.{positiveZero}
 use Rattle.decibels.specs.Levels.{amplitude}
-use Rattle.decibels.specs.Promises.{Promises}
+use Rattle.decibels.specs.Promises.{Witnesses, Promises}
 use Rattle.decibels.proofs.Levels as levels
 use Rattle.decibels.proofs.Amplitudes as amplitudes
 use Rattle.decibels.proofs.Ramps as ramps
@@ -11,6 +12,19 @@ use Rattle.decibels.proofs.Ramps as ramps
 silent : amplitude 601 ≡ positiveZero
 unfolding amplitude
 silent = refl
+
+witnesses : Witnesses
+witnesses =
+    record {
+      none-larger = tt;
+      exact = omega arith;
+      first = omega arith;
+      last = omega arith;
+      between = record { frame = omega arith; low-start = omega arith; low-end = omega arith; start-high = omega arith; end-high = omega arith };
+      upward = record { levels = omega arith; order = omega arith; frame = omega arith };
+      downward = record { levels = omega arith; order = omega arith; frame = omega arith };
+      each = omega arith;
+    }
 
 pub kept : Promises
 kept =
@@ -22,9 +36,10 @@ kept =
       passes = amplitudes.amplitude-passes;
       first = ramps.first;
       last = ramps.last;
-      between = ramps.between;
-      upward = ramps.upward;
-      downward = ramps.downward;
+      between = λ start end n i low high x. ramps.between start end n i low high (x .frame) (x .low-start) (x .low-end) (x .start-high) (x .end-high);
+      upward = λ start end n i j x. ramps.upward start end n i j (x .levels) (x .order) (x .frame);
+      downward = λ start end n i j x. ramps.downward start end n i j (x .levels) (x .order) (x .frame);
       each = λ start end n i h. ramps.each start end n n i h;
       parts = take-append-drop;
+      witnesses = witnesses;
     }

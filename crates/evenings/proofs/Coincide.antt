@@ -61,6 +61,11 @@ advanced-same r u at x y l m e h k i j a b =
 pub coincide : Coincide
 coincide =
     record {
+      words-digit-value = λ k a x y s t p q. same p q;
+      words-f64-of = λ k a x y s t p q. same p q;
+      words-f32-of = λ k a x y s t p q. same p q;
+      words-bits-of-f64 = λ k a x y s t p q. same p q;
+      words-bits-of-f32 = λ k a x y s t p q. same p q;
       recorded-settings-of = λ k a x y s t p q. same p q;
       recorded-put-samples = λ k a x y s t p q. (same (p .1) (q .1), same (p .0) (q .0));
       recorded-commands-of = λ k a x y s t p q. same p q;

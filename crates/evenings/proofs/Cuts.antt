@@ -73,7 +73,7 @@ cut-answered snd w k m a v l r p t g h =
     let n = k + m in
     let b = lanes n (single a) (single v) (single l) (single r) (double p) in
     let out = replicate (2 * n) positiveZero in
-    let c = cut-blocks snd w (double t) b g out k h (omega (arith, length-replicate n (double p))) in
+    let c = cut-blocks snd w (double t) b g out k (record { accepted = h; inside = omega (arith, length-replicate n (double p)) }) in
     parts-of snd w (double t) g (processed snd w (double t) b g out .answer) (firstLanes k b) (restLanes k b) (lanes k (single a) (single v) (single l) (single r) (double p)) (lanes m (single a) (single v) (single l) (single r) (double p)) (take (2 * k) out) (drop (2 * k) out) (replicate (2 * k) positiveZero) (replicate (2 * m) positiveZero)
     (first-lanes k m (single a) (single v) (single l) (single r) (double p)) (first-out k m) (rest-lanes k m (single a) (single v) (single l) (single r) (double p)) (rest-out k m) (c .answers)
 
@@ -100,7 +100,8 @@ unfolding after
 course-of c vs b q = ap (λ (z : Block). course (answered (c .sound) (c .voice) z .sound) (c .sound) (more (c .blocks))) q
 
 pub cut-records : CutRecords
-cut-records c k m a v l r p t f s u h e =
+cut-records c k m a v l r p t f s u i =
+    let h = i .few in
     let g = signalsOf f s u in
     let snd = c .sound in
     let w = c .voice in
@@ -113,7 +114,7 @@ cut-records c k m a v l r p t f s u h e =
     let x = answered snd w b in
     let x1 = answered snd w b1 in
     let x2 = answered snd (x1 .sound) b2 in
-    let z : x .refusal ≡ 0 = sym (ap (λ (y : Block). answered snd w y .refusal) qa) ∙ e in
+    let z : x .refusal ≡ 0 = sym (ap (λ (y : Block). answered snd w y .refusal) qa) ∙ i .accepted in
     let y = cut-answered snd w k m a v l r p t g z in
     let d = course (x1 .sound) snd (more (c .blocks)) in
     let n2 = blockNumbers m a v l r p t 0 0 0 in

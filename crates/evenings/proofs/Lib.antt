@@ -4,4 +4,5 @@ pub mod Cuts
 pub mod Played
 pub mod Example
 pub mod Coincide
+pub mod Witnesses
 pub mod Promises

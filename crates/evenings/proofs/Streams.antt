@@ -65,8 +65,9 @@ first-line at b bs s h = ap (λ (l : List ℕ). s .line ++ l) (go (s .over) refl
 
 pub streams : Streams
 unfolding printed stepOf
-streams c at zero bs s h = none (omega arith)
-streams c at (suc w) [] s h = refl
-streams c at (suc w) (b ∷ bs) s h =
-    first-line at b bs (judged c at (recordAt (b ∷ bs) 0)) (sized c at (b ∷ bs) s)
+streams c at zero bs x = none (let h = x .wide in omega arith)
+streams c at (suc w) [] x = refl
+streams c at (suc w) (b ∷ bs) x =
+    let h = x .wide in
+    first-line at b bs (judged c at (recordAt (b ∷ bs) 0)) (sized c at (b ∷ bs) (x .bytes))
     ∙ sym (ap (λ (r : Record). firstly at (b ∷ bs) (judged c at r)) (window (b ∷ bs) 0 (suc w) (omega arith)))

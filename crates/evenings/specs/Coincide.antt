@@ -4,6 +4,7 @@ use Prim.Native.Nat.{ℕ}
 use mathlib.Core.List.{List}
 use lib.ListN.{take}
 use lib.Ieee.{Float}
+use Rattle.words.proofs as words
 use Rattle.recorded.proofs as recorded
 use Rattle.lines.proofs as lines
 use Rattle.turns.proofs as turns
@@ -14,6 +15,12 @@ abbrev pub InUse : Type 0
 InUse = List Float × List ℕ
 
 pub record Coincide : Type 0 where
+  -- words
+  pub words-digit-value : Decides words.digit_value.Reads.Post
+  pub words-f64-of : Decides words.f64_of.Reads.Post
+  pub words-f32-of : Decides words.f32_of.Reads.Post
+  pub words-bits-of-f64 : Decides words.bits_of_f64.Reads.Post
+  pub words-bits-of-f32 : Decides words.bits_of_f32.Reads.Post
   -- recorded
   pub recorded-settings-of : Decides recorded.settings_of.Reads.Post
   pub recorded-put-samples : DecidesWith (λ k r s. s .1 .0 .now) recorded.put_samples.Reads.Post

@@ -14,6 +14,10 @@ use Rattle.turns.specs.Runs.{Course, Turn, more, answered, after}
 abbrev pub blockNumbers : ℕ → ℕ → ℕ → ℕ → ℕ → ℕ → ℕ → ℕ → ℕ → ℕ → List ℕ
 blockNumbers n a v l r p t f s u = n ∷ a ∷ v ∷ l ∷ r ∷ p ∷ t ∷ f ∷ s ∷ u ∷ replicate 70 0
 
+-- a state that is not Stopped, 6
+abbrev pub Going : ℕ → Type 0
+Going state = T (not (eqb state 6))
+
 -- the three lines
 pub record Lines (i k m : ℕ) (uncut first rest : List ℕ) : Type 0 where
   pub all : ℕ
@@ -26,13 +30,16 @@ pub record Lines (i k m : ℕ) (uncut first rest : List ℕ) : Type 0 where
   pub of-all : uncut ≡ blockLine (more i) (k + m) all state position
   pub of-first : first ≡ blockLine (more i) k early state-between position-between
   pub of-rest : rest ≡ blockLine (more (more i)) m late state position
-  -- 6 is Stopped
-  pub sum : T (not (eqb state-between 6)) → all ≡ early + late
+  pub sum : Going state-between → all ≡ early + late
+
+-- what is asked: a block that is accepted, of as many frames as a record may have
+pub record MayCutRecord (c : Course) (k m a v l r p t f s u : ℕ) : Type 0 where
+  pub few : k + m ≤ 1024
+  pub accepted : answered (c .sound) (c .voice) (blockOf (blockNumbers (k + m) a v l r p t f s u)) .refusal ≡ 0
 
 abbrev pub CutRecords : Type 0
 CutRecords =
-    (c : Course) (k m a v l r p t f s u : ℕ) → k + m ≤ 1024
-    → answered (c .sound) (c .voice) (blockOf (blockNumbers (k + m) a v l r p t f s u)) .refusal ≡ 0
+    (c : Course) (k m a v l r p t f s u : ℕ) → MayCutRecord c k m a v l r p t f s u
     → let uncut = after c 3 (blockNumbers (k + m) a v l r p t f s u) in
     let first = after c 3 (blockNumbers k a v l r p t f s u) in
     let rest = after (first .course) 3 (blockNumbers m a v l r p t 0 0 0) in

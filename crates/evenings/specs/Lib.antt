@@ -3,4 +3,5 @@ pub mod Streams
 pub mod Cuts
 pub mod Example
 pub mod Coincide
+pub mod Witnesses
 pub mod Promises

@@ -3,6 +3,7 @@ use Rattle.evenings.specs.Streams.{Streams}
 use Rattle.evenings.specs.Cuts.{CutRecords}
 use Rattle.evenings.specs.Example.{ThreeFrames}
 use Rattle.evenings.specs.Coincide.{Coincide}
+use Rattle.evenings.specs.Witnesses.{Witnesses}
 
 pub record Promises : Type 0 where
   pub streams : Streams
@@ -10,3 +11,5 @@ pub record Promises : Type 0 where
   pub three-frames : ThreeFrames
   -- each contract of a replay says enough: any two outcomes that it allows coincide
   pub coincide : Coincide
+  -- an input for each that meets what it asks
+  pub witnesses : Witnesses

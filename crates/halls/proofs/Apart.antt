@@ -138,8 +138,8 @@ module _ (snd : List Float) (h : Hall) (i : ℕ) where
   itself w = record { table = record { lawful = refl; frames = refl; slots = refl }; voice = refl }
 
 pub halls-apart : HallsApart
-halls-apart snd h i w es fs e t =
-    let r = rows-alike snd (concerns h i) (takesFrom h) (AlikeFor snd h i) (skipped snd h i) (moved snd h i) es fs w w w (itself snd h i w) (itself snd h i w) e t in
+halls-apart snd h i w es fs x =
+    let r = rows-alike snd (concerns h i) (takesFrom h) (AlikeFor snd h i) (skipped snd h i) (moved snd h i) es fs w w w (itself snd h i w) (itself snd h i w) (x .calls) (x .own) in
     record { told = r .0; slots = r .1 .table .slots ∙ sym (r .2 .table .slots); voice = r .1 .voice ∙ sym (r .2 .voice) }
 
 -- ---- a loop taken earlier: two worlds with the same voice
@@ -166,6 +166,6 @@ module _ (snd : List Float) (i : ℕ) where
       (subst (λ (n : ℕ). voiceTold snd (w .table) (w .voices n) p ≡ voiceTold snd (u .table) (u .voices n) p) (eqb-true i j d) x, voice-next snd i j p w d ∙ ap₂ voiceAfter a x ∙ sym (voice-next snd i j p u d))
 
 pub taken-stays : TakenStays
-taken-stays snd i w u es fs v e t =
-    let r = rows-alike snd (ofVoice i) takesNone (SameVoice snd i) (passed-by snd i) (played snd i) es fs w u u v refl e t in
+taken-stays snd i w u es fs x =
+    let r = rows-alike snd (ofVoice i) takesNone (SameVoice snd i) (passed-by snd i) (played snd i) es fs w u u (x .voice) refl (x .calls) (x .none) in
     (r .0, r .1 ∙ sym (r .2))

@@ -83,19 +83,19 @@ below k h = omega arith
 
 pub reads-follow : ReadsFollow
 unfolding written cleared
-reads-follow snd h k w es l d = (
+reads-follow snd h k w es x = (
   λ s e z.
       let n = refusedWrite (w .table) h k s e in
       let y = sym (changed-number n k (slotOf s e) (w .table)) ∙ z in
       let c = write-accepted (w .table) h k s e y in
-      let first = accepted-holds h n k (slotOf s e) (w .table) y l (write-passed (w .table) h k s e y) in
+      let first = accepted-holds h n k (slotOf s e) (w .table) y (x .sixteen) (write-passed (w .table) h k s e y) in
       found-loop ((after snd w (ByHall h (Write k s e) ∷ es)) .table) k s e (below k (c .2 .among)) (ltb→lt s e (and-l (ltb s e) (leb e (w .table .«num_frames»)) (c .1)))
-      (row-holds snd h k (c .2 .own) (slotOf s e) es (next snd w (ByHall h (Write k s e))) d first),
+      (row-holds snd h k (c .2 .own) (slotOf s e) es (next snd w (ByHall h (Write k s e))) (x .spared) first),
   λ z.
       let n = refusedClear (w .table) h k in
       let y = sym (changed-number n k empty (w .table)) ∙ z in
       let c = clear-accepted (w .table) h k y in
-      let first = accepted-holds h n k empty (w .table) y l (clear-passed (w .table) h k y) in
+      let first = accepted-holds h n k empty (w .table) y (x .sixteen) (clear-passed (w .table) h k y) in
       found-none ((after snd w (ByHall h (Clear k) ∷ es)) .table) k (below k (c .1 .among))
-      (row-holds snd h k (c .1 .own) empty es (next snd w (ByHall h (Clear k))) d first),
+      (row-holds snd h k (c .1 .own) empty es (next snd w (ByHall h (Clear k))) (x .spared) first),
 )

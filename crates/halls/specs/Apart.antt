@@ -49,10 +49,15 @@ pub record Undisturbed (snd : List Float) (h : Hall) (i : ℕ) (w : World) (es f
   pub slots : half h ((after snd w es) .table) ≡ half h ((after snd w fs) .table)
   pub voice : (after snd w es) .voices i ≡ (after snd w fs) .voices i
 
+-- what is asked: the same calls that concern h and voice i, and that voice takes loops from h's slots alone
+pub record SameCalls (h : Hall) (i : ℕ) (es fs : List Event) : Type 0 where
+  pub calls : only (concerns h i) es ≡ only (concerns h i) fs
+  pub own : T (all (takesFrom h) (only (concerns h i) es))
+
 abbrev pub HallsApart : Type 0
 HallsApart =
     (snd : List Float) (h : Hall) (i : ℕ) (w : World) (es fs : List Event)
-    → only (concerns h i) es ≡ only (concerns h i) fs → T (all (takesFrom h) (only (concerns h i) es)) → Undisturbed snd h i w es fs
+    → SameCalls h i es fs → Undisturbed snd h i w es fs
 
 -- ---- a loop taken earlier does not change with the table
 
@@ -68,12 +73,17 @@ takesNone (ByVoice j (Command c)) = true
 takesNone (ByVoice j (Block dt b g out)) = true
 takesNone (ByVoice j (Mix dt b g mix from)) = true
 
+-- what is asked: the same voice at first, the same calls of it, and no loop taken
+pub record SameVoice (i : ℕ) (w u : World) (es fs : List Event) : Type 0 where
+  pub voice : w .voices i ≡ u .voices i
+  pub calls : only (ofVoice i) es ≡ only (ofVoice i) fs
+  pub none : T (all takesNone (only (ofVoice i) es))
+
 -- a voice that takes no loop answers the same over any two tables, whatever becomes of them
 abbrev pub TakenStays : Type 0
 TakenStays =
     (snd : List Float) (i : ℕ) (w u : World) (es fs : List Event)
-    → w .voices i ≡ u .voices i → only (ofVoice i) es ≡ only (ofVoice i) fs → T (all takesNone (only (ofVoice i) es))
-    → (answers snd (ofVoice i) w es ≡ answers snd (ofVoice i) u fs) × ((after snd w es) .voices i ≡ (after snd u fs) .voices i)
+    → SameVoice i w u es fs → (answers snd (ofVoice i) w es ≡ answers snd (ofVoice i) u fs) × ((after snd w es) .voices i ≡ (after snd u fs) .voices i)
 
 -- ---- a read follows the hall that writes the slot
 
@@ -84,11 +94,23 @@ spares h k (ByHall g (Clear j)) = not (same h g && eqb j k)
 spares h k (ByHall g (Read j)) = true
 spares h k (ByVoice j p) = true
 
+-- what is asked: a table of sixteen slots, and no further write or clear of slot k by h
+pub record Spared (h : Hall) (k : ℕ) (w : World) (es : List Event) : Type 0 where
+  pub sixteen : length (w .table .slots) ≡ 16
+  pub spared : T (all (spares h k) es)
+
+-- and further, of the first call, that it is accepted
+abbrev pub AcceptedWrite : LoopTable → Hall → ℕ → ℕ → ℕ → Type 0
+AcceptedWrite t h k s e = (written t h k s e) .refusal ≡ 0
+
+abbrev pub AcceptedClear : LoopTable → Hall → ℕ → Type 0
+AcceptedClear t h k = (cleared t h k) .refusal ≡ 0
+
 -- once h's write of slot k is accepted, every read gives that loop, and once its clear is, 22, until h writes or clears that slot again: whatever the other hall calls
 abbrev pub ReadsFollow : Type 0
 ReadsFollow =
     (snd : List Float) (h : Hall) (k : ℕ) (w : World) (es : List Event)
-    → length (w .table .slots) ≡ 16 → T (all (spares h k) es)
-    → ((s e : ℕ) → (written (w .table) h k s e) .refusal ≡ 0
+    → Spared h k w es
+    → ((s e : ℕ) → AcceptedWrite (w .table) h k s e
     → found ((after snd w (ByHall h (Write k s e) ∷ es)) .table) k ≡ record { slot = slotOf s e; refusal = 0 })
-    × ((cleared (w .table) h k) .refusal ≡ 0 → found ((after snd w (ByHall h (Clear k) ∷ es)) .table) k ≡ record { slot = empty; refusal = 22 })
+    × (AcceptedClear (w .table) h k → found ((after snd w (ByHall h (Clear k) ∷ es)) .table) k ≡ record { slot = empty; refusal = 22 })

@@ -4,17 +4,29 @@ use Prim.Native.Nat.{ℕ, zero, suc, _+_, _-_, _*_, _/_, _%_, _^_, _≤_, _<_}
 use native.Mathlib.Nat.{pow-succ', pow-le-pow-right, mod-add-div, mod-eq-of-lt, add-mul-mod-self-left, add-mul-div-left, div-eq-of-lt}
 use native.Mathlib.Omega.{arith}
 use native.Mathlib.Numerals.{add-one}
+use mathlib.Core.Bool.{Bool, true, _&&_}
 use mathlib.Core.List.{List, [], _∷_, _++_}
+use lib.Dec.{T, ltb, ltb→lt}
 use lib.ListN.{length, getD, take, drop}
 use lib.Seq.{drop-cons}
-use Rattle.layout.specs.Numbers.{num, bytes}
+use lib.Ieee.Fits.{and-l, and-r}
+use Rattle.layout.specs.Numbers.{Bytes, num, bytes}
 
 none : {A : Type 0} → ⊥ → A
 none e = elim e [ ]
 
--- every element is a byte
 abbrev pub Small : List ℕ → Type 0
-Small l = (i : ℕ) → getD l i 0 < 256
+Small l = Bytes l
+
+-- the same as a test, for a list that is written out
+abbrev pub areSmall : List ℕ → Bool
+areSmall [] = true
+areSmall (b ∷ l) = ltb b 256 && areSmall l
+
+pub small-of : (l : List ℕ) → T (areSmall l) → Small l
+small-of [] h i = omega arith
+small-of (b ∷ l) h zero = ltb→lt b 256 (and-l (ltb b 256) (areSmall l) h)
+small-of (b ∷ l) h (suc i) = small-of l (and-r (ltb b 256) (areSmall l) h) i
 
 pub small-drop : (n : ℕ) (l : List ℕ) → Small l → Small (drop n l)
 small-drop zero l h = h

@@ -1,8 +1,27 @@
 -- What is promised beyond the contract, by its laws. Assumes nothing.
+use mathlib.Core.List.{_∷_}
+use Rattle.layout.specs.Numbers.{Bytes}
+use Rattle.layout.proofs.Numbers.{small-of}
+use Rattle.trace.specs.Promises.{pauseRecord}
+use Rattle.trace.proofs.Witnesses as trace
 use Rattle.salvage.specs.Salvage.{sizeOf}
-use Rattle.salvage.specs.Promises.{Promises}
+use Rattle.salvage.specs.Promises.{Witnesses, Promises}
 use Rattle.salvage.proofs.Keeps.{all-bytes}
 use Rattle.salvage.proofs.Mended.{whole-kept, again, mended, before-hole}
 
+damaged : Bytes (0 ∷ pauseRecord)
+damaged = small-of (0 ∷ pauseRecord) tt
+
+witnesses : Witnesses
+witnesses = record { whole-kept = trace.witnesses .trace-written-again; again = damaged; mended = damaged; before-the-hole = damaged }
+
 pub all-kept : Promises
-all-kept = record { all-bytes = λ bs. all-bytes sizeOf bs 0; whole-kept = whole-kept; again = again; mended = mended; before-the-hole = before-hole }
+all-kept =
+    record {
+      all-bytes = λ bs. all-bytes sizeOf bs 0;
+      whole-kept = λ bs x. whole-kept bs (x .bytes) (x .to-the-end);
+      again = again;
+      mended = mended;
+      before-the-hole = before-hole;
+      witnesses = witnesses;
+    }

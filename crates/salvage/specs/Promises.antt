@@ -1,11 +1,13 @@
 -- What is promised of salvage beyond its contract (request #114): all bytes are kept or skipped, an undamaged trace comes out equal, a second run changes nothing,
 -- what comes out is a trace that is read to its end, and every record before the first hole is kept.
-use Prim.Native.Nat.{ℕ, _+_, _<_}
+use Prim.Native.Nat.{ℕ, _+_}
 use mathlib.Core.Path.{_≡_}
 use mathlib.Core.Bool.{true}
-use mathlib.Core.List.{List, _++_}
-use lib.ListN.{length, getD, take, drop}
+use mathlib.Core.List.{List, _∷_, _++_}
+use lib.ListN.{length, take, drop}
+use Rattle.layout.specs.Numbers.{Bytes}
 use Rattle.trace.specs.Traces.{readAll, entries, isWhole}
+use Rattle.trace.specs.Promises.{Whole, pauseRecord}
 use Rattle.salvage.specs.Salvage.{kept, skipped, records, first, sizeOf}
 
 -- an undamaged trace comes out equal, with nothing skipped
@@ -25,9 +27,18 @@ pub record Before (bs : List ℕ) (p : ℕ) : Type 0 where
   pub all : entries (readAll 0 bs) ≡ entries (readAll 0 (take p bs))
   pub kept-first : kept sizeOf bs 0 ≡ take p bs ++ kept sizeOf (drop p bs) 0
 
+-- bytes that meet what is asked: an undamaged trace, and one with a byte too many before it
+pub record Witnesses : Type 0 where
+  pub whole-kept : Whole pauseRecord
+  pub again : Bytes (0 ∷ pauseRecord)
+  pub mended : Bytes (0 ∷ pauseRecord)
+  pub before-the-hole : Bytes (0 ∷ pauseRecord)
+
 pub record Promises : Type 0 where
   pub all-bytes : (bs : List ℕ) → length (kept sizeOf bs 0) + skipped sizeOf bs 0 ≡ length bs
-  pub whole-kept : (bs : List ℕ) → ((i : ℕ) → getD bs i 0 < 256) → isWhole (readAll 0 bs) ≡ true → Same bs
-  pub again : (bs : List ℕ) → ((i : ℕ) → getD bs i 0 < 256) → (kept sizeOf (kept sizeOf bs 0) 0 ≡ kept sizeOf bs 0) × (skipped sizeOf (kept sizeOf bs 0) 0 ≡ 0)
-  pub mended : (bs : List ℕ) → ((i : ℕ) → getD bs i 0 < 256) → Mended bs
-  pub before-the-hole : (bs : List ℕ) → ((i : ℕ) → getD bs i 0 < 256) → Before bs (first sizeOf 0 bs 0)
+  pub whole-kept : (bs : List ℕ) → Whole bs → Same bs
+  pub again : (bs : List ℕ) → Bytes bs → (kept sizeOf (kept sizeOf bs 0) 0 ≡ kept sizeOf bs 0) × (skipped sizeOf (kept sizeOf bs 0) 0 ≡ 0)
+  pub mended : (bs : List ℕ) → Bytes bs → Mended bs
+  pub before-the-hole : (bs : List ℕ) → Bytes bs → Before bs (first sizeOf 0 bs 0)
+  -- an input for each that meets what it asks
+  pub witnesses : Witnesses

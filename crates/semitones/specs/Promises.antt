@@ -6,10 +6,32 @@ use lib.Dec.{T}
 use lib.Ieee.Exact.{HasValue}
 use Rattle.semitones.specs.Ratios.{fits, Entry, scaled, ratio}
 
+-- ---- what is asked
+
+-- a number of semitones below an octave, and one that fits it
+abbrev pub Semitones : ℕ → Type 0
+Semitones n = n < 12
+
+pub record Fitting (n e : ℕ) : Type 0 where
+  pub semitones : Semitones n
+  pub fits : T (fits n e)
+
+-- the steps from the lowest pitch to one of those that there are
+abbrev pub Steps : ℕ → Type 0
+Steps steps = steps ≤ 48
+
+-- and numbers that meet it: a fifth, an octave's beginning, the middle pitch
+pub record Witnesses : Type 0 where
+  pub rule : Semitones 7
+  pub none-larger : Fitting 0 281474976710656
+  pub exact : Steps 24
+
 pub record Promises : Type 0 where
   -- for 0 to 11 semitones e fits and e + 1 does not
-  pub rule : (n : ℕ) → n < 12 → Entry n (scaled n)
+  pub rule : (n : ℕ) → Semitones n → Entry n (scaled n)
   -- and no larger number fits
-  pub none-larger : (n e : ℕ) → n < 12 → T (fits n e) → e ≤ scaled n
+  pub none-larger : (n e : ℕ) → Fitting n e → e ≤ scaled n
   -- a ratio is its fraction exactly
-  pub exact : (steps : ℕ) → steps ≤ 48 → HasValue (ratio steps) false (scaled (steps % 12) * 2 ^ (steps / 12)) (2 ^ 50)
+  pub exact : (steps : ℕ) → Steps steps → HasValue (ratio steps) false (scaled (steps % 12) * 2 ^ (steps / 12)) (2 ^ 50)
+  -- an input for each that meets what it asks
+  pub witnesses : Witnesses

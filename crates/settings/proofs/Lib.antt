@@ -5,4 +5,5 @@ pub mod Stores
 pub mod Fields
 pub mod Rounds
 pub mod Buffers
+pub mod Witnesses
 pub mod Promises

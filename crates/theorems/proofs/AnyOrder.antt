@@ -199,8 +199,8 @@ module _ (n s e : ℕ) (t : Transport) (k : e ≤ n) (h : Inside s e t) where
       at-inside x q = record { loop = refl; going = refl; from = omega arith; to = omega arith }
 
 pub any-order : AnyOrder
-any-order n s e l t k h =
-    record { place = ap (λ (u : Transport). u .position) (walked-is n s e t k h l); inside = λ j. walked-inside n s e t k h (take j l) }
+any-order n s e l t x =
+    record { place = ap (λ (u : Transport). u .position) (walked-is n s e t (x .fits) (x .inside) l); inside = λ j. walked-inside n s e t (x .fits) (x .inside) (take j l) }
 
 -- ---- what a tutor reads
 
@@ -215,15 +215,17 @@ counted (swapped Backward Backward l) = (refl, refl)
 counted (then l m r p q) = let c = counted p in let d = counted q in (c .0 ∙ d .0, c .1 ∙ d .1)
 
 pub permutations : Permutations
-permutations n s e l m t k h p =
-    let c = counted p in
+permutations n s e l m t x =
+    let k = x .loop .fits in
+    let h = x .loop .inside in
+    let c = counted (x .permuted) in
     walked-is n s e t k h l
     ∙ ap₂ (λ (f b : ℕ). at s e (cycled (t .position - s + f) b (e - s))) (c .0) (c .1)
     ∙ sym (walked-is n s e t k h m)
 
 pub there-and-back : ThereAndBack
 unfolding walked
-there-and-back n s e t k h = (back-home (Forward ∷ Backward ∷ []) refl refl, back-home (Backward ∷ Forward ∷ []) refl refl)
+there-and-back n s e t x = (back-home (Forward ∷ Backward ∷ []) refl refl, back-home (Backward ∷ Forward ∷ []) refl refl)
   where
     home : (x : ℕ) → x < e - s → cycled (x + 1) 1 (e - s) ≡ x
     home x q = cycled-above (x + 1) 1 (e - s) (omega arith) ∙ ap (λ (m : ℕ). m % (e - s)) (less x) ∙ mod-eq-of-lt q
@@ -233,10 +235,10 @@ there-and-back n s e t k h = (back-home (Forward ∷ Backward ∷ []) refl refl,
 
     back-home : (l : List Step) → forwards l ≡ 1 → backwards l ≡ 1 → walked n l t ≡ t
     back-home l f b =
-        walked-is n s e t k h l
+        walked-is n s e t (x .fits) (x .inside) l
         ∙ ap₂ (λ (x y : ℕ). at s e (cycled (t .position - s + x) y (e - s))) f b
-        ∙ ap (at s e) (home (t .position - s) (place-lt s e t h))
-        ∙ sym (located s e t h)
+        ∙ ap (at s e) (home (t .position - s) (place-lt s e t (x .inside)))
+        ∙ sym (located s e t (x .inside))
 
 -- ---- the loop (3, 6) of ten frames
 

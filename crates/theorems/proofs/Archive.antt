@@ -69,30 +69,30 @@ quiet-means g = ap (λ (x : StartSignal). record { finished = false; start = x; 
 
 pub archive-cut-blocks : CutBlocksC
 unfolding processedC
-archive-cut-blocks snd c dt b g out k h q =
+archive-cut-blocks snd c dt b g out k x =
     let p = processed snd (decoded c) dt b (signalsOf g) out in
     let f = processed snd (decoded c) dt (firstLanes k b) (signalsOf g) (take (2 * k) out) in
     let r : StaticSound → Outcome = λ v. processed snd v dt (restLanes k b) (signalsOf (quietC g)) (drop (2 * k) out) in
     let d : CutInTwo p f (r (f .answer .sound)) =
     subst (λ (w : Signals). CutInTwo p f (processed snd (f .answer .sound) dt (restLanes k b) w (drop (2 * k) out))) (sym (quiet-means g))
-    (cut-blocks snd (decoded c) dt b (signalsOf g) out k h q)
+    (cut-blocks snd (decoded c) dt b (signalsOf g) out k (record { accepted = x .accepted; inside = x .inside }))
     in
     let s = after (f .answer .refusal) (f .answer .sound) c in
     subst (λ (v : StaticSound). CutInTwoC (raw p c) (raw f c) (raw (r v) s))
     (sym (after-means (f .answer .refusal) (f .answer .sound) c (d .answers .accepted .0)))
-    (record { answers = parts (p .answer) (f .answer) (r (f .answer .sound) .answer) c s h (d .answers); samples = d .samples })
+    (record { answers = parts (p .answer) (f .answer) (r (f .answer .sound) .answer) c s (x .accepted) (d .answers); samples = d .samples })
 
 pub archive-cut-mixes : CutMixesC
 unfolding processedIntoC
-archive-cut-mixes snd c dt b g mix from k h q =
+archive-cut-mixes snd c dt b g mix from k x =
     let p = processedInto snd (decoded c) dt b (signalsOf g) mix from in
     let f = processedInto snd (decoded c) dt (firstLanes k b) (signalsOf g) mix from in
     let r : StaticSound → Outcome = λ v. processedInto snd v dt (restLanes k b) (signalsOf (quietC g)) (f .samples) (from + k) in
     let d : CutInMix p f (r (f .answer .sound)) =
     subst (λ (w : Signals). CutInMix p f (processedInto snd (f .answer .sound) dt (restLanes k b) w (f .samples) (from + k))) (sym (quiet-means g))
-    (cut-mixes snd (decoded c) dt b (signalsOf g) mix from k h q)
+    (cut-mixes snd (decoded c) dt b (signalsOf g) mix from k (record { accepted = x .accepted; inside = x .inside }))
     in
     let s = after (f .answer .refusal) (f .answer .sound) c in
     subst (λ (v : StaticSound). CutInMixC (raw p c) (raw f c) (raw (r v) s))
     (sym (after-means (f .answer .refusal) (f .answer .sound) c (d .answers .accepted .0)))
-    (record { answers = parts (p .answer) (f .answer) (r (f .answer .sound) .answer) c s h (d .answers); samples = d .samples })
+    (record { answers = parts (p .answer) (f .answer) (r (f .answer .sound) .answer) c s (x .accepted) (d .answers); samples = d .samples })

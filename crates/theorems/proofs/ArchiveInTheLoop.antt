@@ -65,12 +65,12 @@ accepted-meant (Command snd k) c = refl
 accepted-meant (Take snd t k) c = refl
 accepted-meant (Stretch snd) c = refl
 
-row-meant : (ds : List CallC) (c : CableowlState) → decoded (afterAllC ds c) ≡ below.afterAll (map meant ds) (decoded c)
+pub row-meant : (ds : List CallC) (c : CableowlState) → decoded (afterAllC ds c) ≡ below.afterAll (map meant ds) (decoded c)
 unfolding afterAllC below.afterAll
 row-meant [] c = refl
 row-meant (d ∷ ds) c = row-meant ds (afterC d c) ∙ ap (below.afterAll (map meant ds)) (after-meant d c)
 
-some-meant : (kindC : CallC → Bool) (kind : below.Call → Bool) → ((d : CallC) → kindC d ≡ kind (meant d))
+pub some-meant : (kindC : CallC → Bool) (kind : below.Call → Bool) → ((d : CallC) → kindC d ≡ kind (meant d))
     → (ds : List CallC) (c : CableowlState) → someAcceptedC kindC ds c ≡ below.someAccepted kind (map meant ds) (decoded c)
 unfolding someAcceptedC below.someAccepted
 some-meant kindC kind e [] c = refl
@@ -78,7 +78,7 @@ some-meant kindC kind e (d ∷ ds) c =
     ap₂ (λ (x y : Bool). x || y) (ap₂ (λ (x y : Bool). x && y) (accepted-meant d c) (e d))
     (some-meant kindC kind e ds (afterC d c) ∙ ap (below.someAccepted kind (map meant ds)) (after-meant d c))
 
-reloops-meant : (d : CallC) → reloopsC d ≡ below.reloops (meant d)
+pub reloops-meant : (d : CallC) → reloopsC d ≡ below.reloops (meant d)
 reloops-meant (Block snd dt b g out) = refl
 reloops-meant (Mix snd dt b g mix from) = refl
 reloops-meant (Command snd k) = refl
@@ -93,9 +93,10 @@ stops-meant (Take snd t k) = refl
 stops-meant (Stretch snd) = refl
 
 pub archive-in-the-loop : InTheLoopC
-archive-in-the-loop s e ds c w h k =
+archive-in-the-loop s e ds c x =
     let r = row-meant ds c in
-    let i = in-the-loop s e (map meant ds) (decoded c) w h (subst (λ (b : Bool). T (not b)) (some-meant reloopsC below.reloops reloops-meant ds c) k) in
+    let k = subst (λ (b : Bool). T (not b)) (some-meant reloopsC below.reloops reloops-meant ds c) (x .no-loop-command) in
+    let i = in-the-loop s e (map meant ds) (decoded c) (record { formed = x .formed; inside = x .inside; no-loop-command = k }) in
     record {
       inside = subst (λ (v : StaticSound). Inside s e (v .moving .transport)) (sym r) (i .inside);
       stopped = λ q.

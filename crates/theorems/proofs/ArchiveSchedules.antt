@@ -144,10 +144,10 @@ agree : (m n : RunC) (r s : Run) → AsBelow m r → AsBelow n s → Agree r s �
 agree m n r s x y a =
     record {
       samples = x .samples ∙ a .samples ∙ sym (y .samples);
-      same = λ c d.
-          let z = a .same (x .cuts c) (y .cuts d) in
+      same = λ c.
+          let z = a .same (x .cuts (c .0), y .cuts (c .1)) in
           (x .state ∙ ap encoded (z .0) ∙ sym (y .state), x .steps ∙ z .1 ∙ sym (y .steps));
-      lowest = λ c d. x .lowest ∙ a .lowest (x .cuts c) (y .cuts d) ∙ sym (y .lowest);
+      lowest = λ c. x .lowest ∙ a .lowest (x .cuts (c .0), y .cuts (c .1)) ∙ sym (y .lowest);
       alike = ap bare (means m r x) ∙ a .alike ∙ sym (ap bare (means n s y));
     }
   where
@@ -155,21 +155,23 @@ agree m n r s x y a =
     means m r x = ap decoded (x .state) ∙ decoded-encoded (r .sound)
 
 pub archive-any-sizes : AnySizesC
-archive-any-sizes snd dt b g c k ks out j js other e f h i =
-    let x = played-below snd dt k ks b g c out h in
-    let y = played-below snd dt j js b g c other i in
-    agree _ _ _ _ x y (any-sizes snd dt b (signalsOf g) (decoded c) k ks out j js other e f (x .accepted) (y .accepted))
+archive-any-sizes snd dt b g c k ks out j js other ways =
+    let x = played-below snd dt k ks b g c out (ways .0 .accepted) in
+    let y = played-below snd dt j js b g c other (ways .1 .accepted) in
+    agree _ _ _ _ x y (any-sizes snd dt b (signalsOf g) (decoded c) k ks out j js other
+    (record { all-of-it = ways .0 .all-of-it; accepted = x .accepted }, record { all-of-it = ways .1 .all-of-it; accepted = y .accepted }))
 
 pub archive-any-sizes-mix : AnySizesMixC
-archive-any-sizes-mix snd dt b g c k ks j js mix from e f h i =
-    let x = mixed-below snd dt k ks b g c mix from h in
-    let y = mixed-below snd dt j js b g c mix from i in
-    agree _ _ _ _ x y (any-sizes-mix snd dt b (signalsOf g) (decoded c) k ks j js mix from e f (x .accepted) (y .accepted))
+archive-any-sizes-mix snd dt b g c k ks j js mix from ways =
+    let x = mixed-below snd dt k ks b g c mix from (ways .0 .accepted) in
+    let y = mixed-below snd dt j js b g c mix from (ways .1 .accepted) in
+    agree _ _ _ _ x y (any-sizes-mix snd dt b (signalsOf g) (decoded c) k ks j js mix from
+    (record { all-of-it = ways .0 .all-of-it; accepted = x .accepted }, record { all-of-it = ways .1 .all-of-it; accepted = y .accepted }))
 
 pub archive-all-accepted : AllAcceptedC
-archive-all-accepted snd dt b g c k ks out s l e few =
-    played-above snd dt k ks b g c out (all-accepted snd dt b (signalsOf g) (decoded c) k ks out s l e few)
+archive-all-accepted snd dt b g c k ks out x =
+    played-above snd dt k ks b g c out (all-accepted snd dt b (signalsOf g) (decoded c) k ks out x)
 
 pub archive-all-accepted-mix : AllAcceptedMixC
-archive-all-accepted-mix snd dt b g c k ks mix from s r e few =
-    mixed-above snd dt k ks b g c mix from (all-accepted-mix snd dt b (signalsOf g) (decoded c) k ks mix from s r e few)
+archive-all-accepted-mix snd dt b g c k ks mix from x =
+    mixed-above snd dt k ks b g c mix from (all-accepted-mix snd dt b (signalsOf g) (decoded c) k ks mix from x)

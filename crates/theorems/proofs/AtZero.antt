@@ -19,7 +19,7 @@ small (fin s m e) h = within-of-le 8 (fin false m e) (fin false 8 (pos 0)) tt (r
 
 pub reads-b : ReadsB
 unfolding interpolated
-reads-b a b c d ha hb hc hd = (
-  cubic-at-positive-zero (a .left) (b .left) (c .left) (d .left) (small (a .left) (ha .0 .0)) (small (b .left) (hb .0 .0)) (small (c .left) (hc .0 .0)) (small (d .left) (hd .0 .0)) (hb .0 .1),
-  cubic-at-positive-zero (a .right) (b .right) (c .right) (d .right) (small (a .right) (ha .1 .0)) (small (b .right) (hb .1 .0)) (small (c .right) (hc .1 .0)) (small (d .right) (hd .1 .0)) (hb .1 .1),
+reads-b a b c d x = (
+  cubic-at-positive-zero (a .left) (b .left) (c .left) (d .left) (small (a .left) (x .0 .0 .0)) (small (b .left) (x .1 .0 .0)) (small (c .left) (x .2 .0 .0)) (small (d .left) (x .3 .0 .0)) (x .1 .0 .1),
+  cubic-at-positive-zero (a .right) (b .right) (c .right) (d .right) (small (a .right) (x .0 .1 .0)) (small (b .right) (x .1 .1 .0)) (small (c .right) (x .2 .1 .0)) (small (d .right) (x .3 .1 .0)) (x .1 .1 .1),
 )

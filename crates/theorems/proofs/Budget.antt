@@ -100,17 +100,17 @@ module _ (k : ℕ) (small : k ≤ 256) (snd : List Float) (v : StaticSound) (dt 
       go false e = rw (block-silent snd dt (rows b) g v e) (record { reported = sym (ap (λ (c : Bool). cond c (sum (stepsOf snd dt (rows b) (begun g v))) 0) e); block = omega arith; frames = f .each; silent = λ q. refl })
 
 pub block-budget : BlockBudget
-block-budget k snd v dt b g out e small s =
-    let r = processed-passed snd v dt b g out e in
+block-budget k snd v dt b g out x =
+    let r = processed-passed snd v dt b g out (x .accepted) in
     rw (processed-done snd v dt b g out r)
-    (block-within k small snd v dt b g (holds b out) ((block snd dt (rows b) g v) .samples) (accepted-parts (length snd) v dt b (holds b out) r) s)
+    (block-within k (x .small) snd v dt b g (holds b out) ((block snd dt (rows b) g v) .samples) (accepted-parts (length snd) v dt b (holds b out) r) (x .slow))
 
 pub mix-budget : MixBudget
-mix-budget k snd v dt b g mix from e small s =
+mix-budget k snd v dt b g mix from x =
     let n = length (b .rate) in
-    let r = into-passed snd v dt b g mix from e in
+    let r = into-passed snd v dt b g mix from (x .accepted) in
     rw (into-done snd v dt b g mix from r)
-    (block-within k small snd v dt b g (room from n mix) (mixed from n mix ((block snd dt (rows b) g v) .samples)) (accepted-parts (length snd) v dt b (room from n mix) r) s)
+    (block-within k (x .small) snd v dt b g (room from n mix) (mixed from n mix ((block snd dt (rows b) g v) .samples)) (accepted-parts (length snd) v dt b (room from n mix) r) (x .slow))
 
 -- ---- a stream
 
@@ -121,7 +121,9 @@ module _ (k : ℕ) (small : k ≤ 256) (snd : List Float) (dt : Float) where
       → (processed snd v dt (firstLanes j b) g (take (2 * j) out)) .answer .steps ≤ j * (k + 1)
   first-few b g v j out q s h =
       let o = processed snd v dt (firstLanes j b) g (take (2 * j) out) in
-      let w = block-budget k snd v dt (firstLanes j b) g (take (2 * j) out) (eqb→eq (o .answer .refusal) 0 h) small (first-all (atMost k (v .setup .«sample_rate») dt) j b s) in
+      let w = block-budget k snd v dt (firstLanes j b) g (take (2 * j) out)
+      (record { accepted = eqb→eq (o .answer .refusal) 0 h; small = small; slow = first-all (atMost k (v .setup .«sample_rate») dt) j b s })
+      in
       subst (λ (n : ℕ). o .answer .steps ≤ n * (k + 1)) (length-take-le j (b .rate) q) (w .block)
 
   -- a block leaves the setup
@@ -162,7 +164,7 @@ module _ (k : ℕ) (small : k ≤ 256) (snd : List Float) (dt : Float) where
           both a c j d n w e p q = rw e (omega arith)
 
 pub stream-budget : StreamBudget
-stream-budget k snd dt b g v j js out e h small s = stream-few k small snd dt b g v j js out e h s
+stream-budget k snd dt b g v j js out x = stream-few k (x .small) snd dt b g v j js out (x .way .all-of-it) (x .way .accepted) (x .slow)
 
 -- ---- the bound is reached: 1 - 2 ^ -53 and an advance of 1 make two steps
 

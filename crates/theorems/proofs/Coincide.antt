@@ -120,6 +120,7 @@ coincide =
       decibels-fade-ramp = λ k a x y s t p q. both p q;
       semitones-raised = λ k a x y s t p q. same p q;
       layout-begin = λ k a x y s t p q. same p q;
+      layout-read-rows = λ k a x y s t p q. same (p .0) (q .0);
       layout-put-rows = λ k a x y s t p q. (same (p .1) (q .1), same (p .0) (q .0));
       layout-rows-fit = λ k a x y s t p q. same p q;
       layout-rows-length = λ k a x y s t p q. same p q;

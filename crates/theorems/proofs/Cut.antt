@@ -94,12 +94,12 @@ rest-holds k b out h =
     less m n e = omega arith
 
 pub cut-blocks : CutBlocks
-cut-blocks snd v dt b g out k h q =
+cut-blocks snd v dt b g out k x =
     rw (processed-done snd v dt b g out passed, processed-done snd v dt (firstLanes k b) g (take (2 * k) out) first-ok, processed-done snd u dt (restLanes k b) (quiet g) (drop (2 * k) out) rest-ok)
     (record { answers = record { accepted = (refl, refl); same = d .same; lowest = d .lowest; alike = d .alike }; samples = d .samples })
   where
     passed : refusedBlock (length snd) v dt b (holds b out) ≡ 0
-    passed = processed-passed snd v dt b g out h
+    passed = processed-passed snd v dt b g out (x .accepted)
 
     p : Accepted (length snd) v dt b (holds b out)
     p = accepted-parts (length snd) v dt b (holds b out) passed
@@ -113,9 +113,9 @@ cut-blocks snd v dt b g out k h q =
     first-ok : refusedBlock (length snd) v dt (firstLanes k b) (holds (firstLanes k b) (take (2 * k) out)) ≡ 0
     first-ok =
         accepted-of (length snd) v dt (firstLanes k b) (holds (firstLanes k b) (take (2 * k) out))
-        (first-accepted snd v dt b g (holds b out) k p (holds (firstLanes k b) (take (2 * k) out)) (first-holds k b out q (p .placed)) q)
+        (first-accepted snd v dt b g (holds b out) k p (holds (firstLanes k b) (take (2 * k) out)) (first-holds k b out (x .inside) (p .placed)) (x .inside))
 
     rest-ok : refusedBlock (length snd) u dt (restLanes k b) (holds (restLanes k b) (drop (2 * k) out)) ≡ 0
     rest-ok =
         accepted-of (length snd) u dt (restLanes k b) (holds (restLanes k b) (drop (2 * k) out))
-        (rest-accepted snd v dt b g (holds b out) k p (holds (restLanes k b) (drop (2 * k) out)) (rest-holds k b out (p .placed)) q)
+        (rest-accepted snd v dt b g (holds b out) k p (holds (restLanes k b) (drop (2 * k) out)) (rest-holds k b out (p .placed)) (x .inside))

@@ -377,14 +377,14 @@ module _ (s e : ℕ) where
       row-alive cs (after c v) (record { fits = n .fits; inside = n .inside }) (not-or-r a b k) (not-or-r x y j) (n .alive (not-or-l x y j) i)
 
 pub in-the-loop : InTheLoop
-in-the-loop s e cs v w h k =
-    record { inside = row-inside s e cs v i k; stopped = λ q. ends (someAccepted stops cs v) (ending (v .moving .state)) (λ a b. subst alive q (row-alive s e cs v i k a b)) }
+in-the-loop s e cs v x =
+    record { inside = row-inside s e cs v i (x .no-loop-command); stopped = λ q. ends (someAccepted stops cs v) (ending (v .moving .state)) (λ a b. subst alive q (row-alive s e cs v i (x .no-loop-command) a b)) }
   where
     fits : e ≤ span (v .setup)
-    fits = (ranged-parts (span (v .setup)) s e (subst (λ (r : FrameRange). T (within (span (v .setup)) r)) (h .loop) ((formed-parts v w) .transportFormed .loop))) .inside
+    fits = (ranged-parts (span (v .setup)) s e (subst (λ (r : FrameRange). T (within (span (v .setup)) r)) (x .inside .loop) ((formed-parts v (x .formed)) .transportFormed .loop))) .inside
 
     i : In s e v
-    i = record { fits = fits; inside = h }
+    i = record { fits = fits; inside = x .inside }
 
     ends : (a b : Bool) → (T (not a) → T (not b) → ⊥) → T (a || b)
     ends true b f = tt

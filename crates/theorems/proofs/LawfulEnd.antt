@@ -31,7 +31,7 @@ update-ends = updated-ends
 
 pub block-ends : BlockEnds
 unfolding begun
-block-ends snd v dt b g out k e live-now q = go (plays-ends snd dt xs u)
+block-ends snd v dt b g out k x = go (plays-ends snd dt xs u)
   where
     xs : List Lane
     xs = take k (rows b)
@@ -46,7 +46,7 @@ block-ends snd v dt b g out k e live-now q = go (plays-ends snd dt xs u)
     w = (plays snd dt (take k (rows b)) (begun g v)) .voice
 
     p : Accepted (length snd) v dt b (holds b out)
-    p = accepted-parts (length snd) v dt b (holds b out) (processed-passed snd v dt b g out e)
+    p = accepted-parts (length snd) v dt b (holds b out) (processed-passed snd v dt b g out (x .accepted))
 
     f : Formed (begun g v)
     f = begun-formed g v (ours-parts (length snd) v (p .ours) .0)
@@ -65,14 +65,14 @@ block-ends snd v dt b g out k e live-now q = go (plays-ends snd dt xs u)
     long =
         plays-length snd dt xs u
         ∙ ap (λ (n : ℕ). 2 * n)
-        (length-take-le k (rows b) (subst (λ (n : ℕ). k ≤ n) (sym (beside-length (b .fade) (b .volume) (b .left) (b .right) (b .rate))) q))
+        (length-take-le k (rows b) (subst (λ (n : ℕ). k ≤ n) (sym (beside-length (b .fade) (b .volume) (b .left) (b .right) (b .rate))) (x .inside)))
 
     heard : (processed snd v dt b g out) .samples ≡ (plays snd dt (take k (rows b)) (begun g v)) .samples ++ (plays snd dt (drop k (rows b)) ((plays snd dt (take k (rows b)) (begun g v)) .voice)) .samples
     heard =
-        ap (λ (o : Outcome). o .samples) (processed-done snd v dt b g out (processed-passed snd v dt b g out e))
-        ∙ ap (λ (x : Played). x .samples) (block-live snd dt (rows b) g v live-now)
+        ap (λ (o : Outcome). o .samples) (processed-done snd v dt b g out (processed-passed snd v dt b g out (x .accepted)))
+        ∙ ap (λ (y : Played). y .samples) (block-live snd dt (rows b) g v (x .live))
         ∙ ap (λ (ls : List Lane). (plays snd dt ls u) .samples) (sym cut)
-        ∙ ap (λ (x : Played). x .samples) (plays-append snd dt xs ys u)
+        ∙ ap (λ (y : Played). y .samples) (plays-append snd dt xs ys u)
 
     go : EndsOnly (u .moving .state) (w .moving) → (w .moving .state ≡ u .moving .state) ⊎ (Ended (w .moving) × (drop (2 * k) ((processed snd v dt b g out) .samples) ≡ zeros ys))
     go (inl s) = inl s

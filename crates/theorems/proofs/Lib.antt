@@ -23,4 +23,5 @@ pub mod Archive
 pub mod ArchiveSchedules
 pub mod ArchiveInTheLoop
 pub mod Coincide
+pub mod Witnesses
 pub mod Promises

@@ -82,7 +82,7 @@ room-of from n mix h =
     and-i (eqb (length mix % 2) 0) (leb (from + n) (length mix / 2)) (eq→eqb (h .even)) (le→leb (from + n) (length mix / 2) (h .inside))
 
 pub cut-mixes : CutMixes
-cut-mixes snd v dt b g mix from k h q =
+cut-mixes snd v dt b g mix from k x =
     rw (into-done snd v dt b g mix from passed, into-done snd v dt first g mix from first-ok, into-done snd u dt rest (quiet g) after (from + k) rest-ok)
     (record { answers = record { accepted = (refl, refl); same = d .same; lowest = d .lowest; alike = d .alike }; samples = same })
   where
@@ -103,7 +103,7 @@ cut-mixes snd v dt b g mix from k h q =
     m = length (rest .rate)
 
     passed : refusedBlock (length snd) v dt b (room from n mix) ≡ 0
-    passed = into-passed snd v dt b g mix from h
+    passed = into-passed snd v dt b g mix from (x .accepted)
 
     p : Accepted (length snd) v dt b (room from n mix)
     p = accepted-parts (length snd) v dt b (room from n mix) passed
@@ -127,7 +127,7 @@ cut-mixes snd v dt b g mix from k h q =
     d = accepted-cut snd v dt b g (room from n mix) k p
 
     short : j ≡ k
-    short = length-take-le k (b .rate) q
+    short = length-take-le k (b .rate) (x .inside)
 
     left : m ≡ n - k
     left = length-drop k (b .rate)
@@ -153,12 +153,12 @@ cut-mixes snd v dt b g mix from k h q =
         })
 
     first-ok : refusedBlock (length snd) v dt first (room from j mix) ≡ 0
-    first-ok = accepted-of (length snd) v dt first (room from j mix) (first-accepted snd v dt b g (room from n mix) k p (room from j mix) first-room q)
+    first-ok = accepted-of (length snd) v dt first (room from j mix) (first-accepted snd v dt b g (room from n mix) k p (room from j mix) first-room (x .inside))
 
     rest-ok : refusedBlock (length snd) u dt rest (room (from + k) m after) ≡ 0
     rest-ok =
         accepted-of (length snd) u dt rest (room (from + k) m after)
-        (rest-accepted snd v dt b g (room from n mix) k p (room (from + k) m after) rest-room q)
+        (rest-accepted snd v dt b g (room from n mix) k p (room (from + k) m after) rest-room (x .inside))
 
     total : n ≡ j + m
     total = omega (arith, short, left)

@@ -116,20 +116,22 @@ module _ (snd : List Float) (dt : Float) where
           whole m n q d = omega arith
 
 pub any-sizes-mix : AnySizesMix
-any-sizes-mix snd dt b g v k ks j js mix from e f h i =
+any-sizes-mix snd dt b g v k ks j js mix from ways =
+    let e = ways .0 .all-of-it in
+    let f = ways .1 .all-of-it in
     let out = replicate (2 * length (b .rate)) positiveZero in
     let l = length-replicate (2 * length (b .rate)) positiveZero in
-    let x = as-plain snd dt k ks b g v mix from out e l h in
-    let y = as-plain snd dt j js b g v mix from out f l i in
-    let a = any-sizes snd dt b g v k ks out j js out e f (x .accepted) (y .accepted) in
+    let x = as-plain snd dt k ks b g v mix from out e l (ways .0 .accepted) in
+    let y = as-plain snd dt j js b g v mix from out f l (ways .1 .accepted) in
+    let a = any-sizes snd dt b g v k ks out j js out (record { all-of-it = e; accepted = x .accepted }, record { all-of-it = f; accepted = y .accepted }) in
     record {
       samples = x .samples ∙ ap (mixed from (length (b .rate)) mix) (a .samples) ∙ sym (y .samples);
-      same = λ c d.
-          let z = a .same (subst (λ (us : List StaticSound). T (all awake us)) (x .cuts) c) (subst (λ (us : List StaticSound). T (all awake us)) (y .cuts) d) in
+      same = λ c.
+          let z = a .same (subst (λ (us : List StaticSound). T (all awake us)) (x .cuts) (c .0), subst (λ (us : List StaticSound). T (all awake us)) (y .cuts) (c .1)) in
           (x .sound ∙ z .0 ∙ sym (y .sound), x .steps ∙ z .1 ∙ sym (y .steps));
-      lowest = λ c d.
+      lowest = λ c.
           x .lowest
-          ∙ a .lowest (subst (λ (us : List StaticSound). T (all awake us)) (x .cuts) c) (subst (λ (us : List StaticSound). T (all awake us)) (y .cuts) d)
+          ∙ a .lowest (subst (λ (us : List StaticSound). T (all awake us)) (x .cuts) (c .0), subst (λ (us : List StaticSound). T (all awake us)) (y .cuts) (c .1))
           ∙ sym (y .lowest);
       alike = ap bare (x .sound) ∙ a .alike ∙ sym (ap bare (y .sound));
     }
@@ -197,7 +199,8 @@ module _ (snd : List Float) (dt : Float) where
           })
 
 pub all-accepted-mix : AllAcceptedMix
-all-accepted-mix snd dt b g v k ks mix from s r e few =
+all-accepted-mix snd dt b g v k ks mix from x =
     let out = replicate (2 * length (b .rate)) positiveZero in
     let l = length-replicate (2 * length (b .rate)) positiveZero in
-    from-plain snd dt k ks b g v mix from out e l r (all-accepted snd dt b g v k ks out s l e few)
+    from-plain snd dt k ks b g v mix from out (x .all-of-it) l (x .holds)
+    (all-accepted snd dt b g v k ks out (record { stream = x .stream; holds = l; all-of-it = x .all-of-it; few = x .few }))

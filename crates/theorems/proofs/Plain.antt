@@ -105,7 +105,7 @@ mixed-rest from n k mix xs e h q =
         ∙ sym (append-assoc front (take (2 * k) xs) (drop (2 * k) xs ++ after))
 
 pub mix-ends : MixEnds
-mix-ends snd v dt b g mix from k e f q = go (block-ends snd v dt b g out k (plain-accepted snd v dt b g mix from e out h) f q)
+mix-ends snd v dt b g mix from k x = go (block-ends snd v dt b g out k (record { accepted = plain-accepted snd v dt b g mix from (x .accepted) out h; live = x .live; inside = x .inside }))
   where
     out : List Float
     out = own snd v dt b g
@@ -120,15 +120,15 @@ mix-ends snd v dt b g mix from k e f q = go (block-ends snd v dt b g out k (plai
     xs = (processed snd v dt b g (own snd v dt b g)) .samples
 
     room-there : 2 * from ≤ length mix
-    room-there = let i = held snd v dt b g mix from e .inside in omega (arith, i)
+    room-there = let i = held snd v dt b g mix from (x .accepted) .inside in omega (arith, i)
 
     after : StaticSound
     after = (plays snd dt (take k (rows b)) (begun g v)) .voice
 
     there : take (2 * (length (b .rate) - k)) (drop (2 * (from + k)) ((processedInto snd v dt b g mix from) .samples)) ≡ drop (2 * k) ((processed snd v dt b g (own snd v dt b g)) .samples)
     there =
-        ap (λ (o : Outcome). take (2 * (n - k)) (drop (2 * (from + k)) (o .samples))) (plain-is snd v dt b g mix from e out h)
-        ∙ mixed-rest from n k mix xs (plain-length snd v dt b g mix from e out h) room-there q
+        ap (λ (o : Outcome). take (2 * (n - k)) (drop (2 * (from + k)) (o .samples))) (plain-is snd v dt b g mix from (x .accepted) out h)
+        ∙ mixed-rest from n k mix xs (plain-length snd v dt b g mix from (x .accepted) out h) room-there (x .inside)
 
     go : (after .moving .state ≡ (begun g v) .moving .state) ⊎ (Ended (after .moving) × (drop (2 * k) ((processed snd v dt b g (own snd v dt b g)) .samples) ≡ zeros (drop k (rows b))))
         → (after .moving .state ≡ (begun g v) .moving .state) ⊎ (Ended (after .moving) × (take (2 * (length (b .rate) - k)) (drop (2 * (from + k)) ((processedInto snd v dt b g mix from) .samples)) ≡ zeros (drop k (rows b))))

@@ -29,6 +29,7 @@ use Rattle.theorems.proofs.Archive.{archive-cut-blocks, archive-cut-mix
 use Rattle.theorems.proofs.ArchiveSchedules.{archive-any-sizes, archive-any-sizes-mix, archive-all-accepted, archive-all-accepted-mix}
 use Rattle.theorems.proofs.ArchiveInTheLoop.{archive-in-the-loop}
 use Rattle.theorems.proofs.Coincide.{coincide}
+use Rattle.theorems.proofs.Witnesses.{witnesses}
 use Rattle.theorems.proofs.AtZero.{reads-b}
 use Rattle.theorems.proofs.Examples.{examples-hold}
 
@@ -114,4 +115,5 @@ promises =
       rust-agrees = record { forward = forward-is-rust; backward = backward-is-rust; seek = seek-is-rust };
       examples-hold = examples-hold;
       coincide = coincide;
+      witnesses = witnesses;
     }

@@ -267,12 +267,12 @@ module _ (snd : List Float) (dt : Float) where
   plays-tells : (ls : List Lane) (v : StaticSound) → FedVoice snd v → Tells snd dt ls v ((plays snd dt ls v) .«lowest_count»)
   plays-tells ls v h =
       record {
-        full = λ e k q.
+        full = λ k x.
             let u = atRead snd dt ls v k in
             let f = plays-fed snd dt (take k ls) v h in
-            let a = lowest-least ls v k q in
+            let a = lowest-least ls v k (x .1) in
             let c = fed-count snd u f in
-            fed-newest snd u f (four (countOf u) _ _ c e a);
+            fed-newest snd u f (four (countOf u) _ _ c (x .0) a);
         tail = λ k.
             let q = lowest-read ls v k in
             let f = plays-fed snd dt (take (q .read) ls) v h in
@@ -290,12 +290,12 @@ module _ (snd : List Float) (dt : Float) where
       four a n t c e h = omega arith
 
 pub blocks-tell : BlocksTell
-blocks-tell snd v dt b g out h e l =
-    rw (processed-done snd v dt b g out (processed-passed snd v dt b g out e), block-live snd dt (rows b) g v l) (plays-tells snd dt (rows b) (begun g v) (begun-fed snd dt g v h))
+blocks-tell snd v dt b g out x =
+    rw (processed-done snd v dt b g out (processed-passed snd v dt b g out (x .accepted)), block-live snd dt (rows b) g v (x .live)) (plays-tells snd dt (rows b) (begun g v) (begun-fed snd dt g v (x .fed)))
 
 pub mixes-tell : MixesTell
-mixes-tell snd v dt b g mix from h e l =
-    rw (into-done snd v dt b g mix from (into-passed snd v dt b g mix from e), block-live snd dt (rows b) g v l) (plays-tells snd dt (rows b) (begun g v) (begun-fed snd dt g v h))
+mixes-tell snd v dt b g mix from x =
+    rw (into-done snd v dt b g mix from (into-passed snd v dt b g mix from (x .accepted)), block-live snd dt (rows b) g v (x .live)) (plays-tells snd dt (rows b) (begun g v) (begun-fed snd dt g v (x .fed)))
 
 pub silence-tells : SilenceTells
 unfolding processed

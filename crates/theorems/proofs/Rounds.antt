@@ -262,12 +262,14 @@ module _ (s e : ℕ) where
         }
 
 pub updates-fit : UpdatesFit
-updates-fit snd c s e n m k h =
+updates-fit snd c s e n m x =
+    let k = x .fits in
+    let h = x .inside in
     let w = updates n snd c m in
     let g = updates-grow snd c n m in
     record {
-      forward = λ d l. less-on (e - s) (m .wraps .forward) (w .wraps .forward) (g .0) (w .transport .position) (m .transport .position) n (ahead s e snd c k d n m h .fit l);
-      backward = λ d l. less-back (e - s) (m .wraps .backward) (w .wraps .backward) (g .1) (w .transport .position) (m .transport .position) n (astern s e snd c k d n m h .fit l);
+      forward = λ d. less-on (e - s) (m .wraps .forward) (w .wraps .forward) (g .0) (w .transport .position) (m .transport .position) n (ahead s e snd c k (d .0) n m h .fit (d .1));
+      backward = λ d. less-back (e - s) (m .wraps .backward) (w .wraps .backward) (g .1) (w .transport .position) (m .transport .position) n (astern s e snd c k (d .0) n m h .fit (d .1));
       other = (λ d. ahead s e snd c k d n m h .other, λ d. astern s e snd c k d n m h .other);
       grows = g;
     }
@@ -294,14 +296,16 @@ made-fits : (snd : List Float) (g : Signals) (v : StaticSound) (s e n : ℕ) (w 
 made-fits snd g v s e n w o h m =
     begun-fits g v s e n (courseOf v .backwards) w
     (subst (λ (w : Moving). Fits s e (courseOf v .backwards) n ((begun g v) .moving) w) (sym m)
-    (updates-fit snd (courseOf v) s e n ((begun g v) .moving) (loop-fits (length snd) v s e o h) (begun-inside g v s e h)))
+    (updates-fit snd (courseOf v) s e n ((begun g v) .moving) (record { fits = loop-fits (length snd) v s e o h; inside = begun-inside g v s e h })))
 
 pub blocks-fit : BlocksFit
-blocks-fit snd v dt b g out s e r h =
+blocks-fit snd v dt b g out s e x =
+    let r = x .accepted in
     let p = accepted-parts (length snd) v dt b (holds b out) (processed-passed snd v dt b g out r) in
-    made-fits snd g v s e _ _ (p .ours) h (steps-made snd v dt b g out r .made)
+    made-fits snd g v s e _ _ (p .ours) (x .inside) (steps-made snd v dt b g out r .made)
 
 pub mixes-fit : MixesFit
-mixes-fit snd v dt b g mix from s e r h =
+mixes-fit snd v dt b g mix from s e x =
+    let r = x .accepted in
     let p = accepted-parts (length snd) v dt b (room from (length (b .rate)) mix) (into-passed snd v dt b g mix from r) in
-    made-fits snd g v s e _ _ (p .ours) h (mix-steps-made snd v dt b g mix from r .made)
+    made-fits snd g v s e _ _ (p .ours) (x .inside) (mix-steps-made snd v dt b g mix from r .made)

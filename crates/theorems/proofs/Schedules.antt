@@ -119,12 +119,12 @@ module _ (snd : List Float) (dt : Float) where
       left n s e = omega arith
 
 pub any-sizes : AnySizes
-any-sizes snd dt b g v k ks out j js mix e f h i =
-    let x = run-whole snd dt k ks b g v out e h in
-    let y = run-whole snd dt j js b g v mix f i in
+any-sizes snd dt b g v k ks out j js mix ways =
+    let x = run-whole snd dt k ks b g v out (ways .0 .all-of-it) (ways .0 .accepted) in
+    let y = run-whole snd dt j js b g v mix (ways .1 .all-of-it) (ways .1 .accepted) in
     record {
       samples = x .samples ∙ sym (y .samples);
-      same = λ a c. (x .same a .0 ∙ sym (y .same c .0), x .same a .1 ∙ sym (y .same c .1));
-      lowest = λ a c. x .lowest a ∙ sym (y .lowest c);
+      same = λ a. (x .same (a .0) .0 ∙ sym (y .same (a .1) .0), x .same (a .0) .1 ∙ sym (y .same (a .1) .1));
+      lowest = λ a. x .lowest (a .0) ∙ sym (y .lowest (a .1));
       alike = x .alike ∙ sym (y .alike);
     }

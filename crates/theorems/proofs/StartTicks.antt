@@ -99,7 +99,7 @@ pub half-reached : HalfReached
 half-reached due l = halves turn half due l (omega arith)
 
 pub moved-together : MovedTogether
-moved-together due now k h l = reached-moved due now k h l
+moved-together due now k x = reached-moved due now k (x .0) (x .1)
 
 -- ---- the start that a block leaves
 
@@ -120,9 +120,9 @@ block-started snd dt ls g v due now e =
     go false = refl
 
 pub tick-starts : TickStarts
-tick-starts snd v dt b g out due now h e =
-    rw (processed-done snd v dt b g out (processed-passed snd v dt b g out h)) (block-started snd dt (rows b) g v due now e)
+tick-starts snd v dt b g out due now x =
+    rw (processed-done snd v dt b g out (processed-passed snd v dt b g out (x .accepted))) (block-started snd dt (rows b) g v due now (x .tick))
 
 pub mix-tick-starts : MixTickStarts
-mix-tick-starts snd v dt b g mix from due now h e =
-    rw (into-done snd v dt b g mix from (into-passed snd v dt b g mix from h)) (block-started snd dt (rows b) g v due now e)
+mix-tick-starts snd v dt b g mix from due now x =
+    rw (into-done snd v dt b g mix from (into-passed snd v dt b g mix from (x .accepted))) (block-started snd dt (rows b) g v due now (x .tick))

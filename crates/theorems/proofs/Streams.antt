@@ -84,13 +84,24 @@ small n = leb n 4096
 
 pub all-accepted : AllAccepted
 unfolding playedBy
-all-accepted snd dt b g v k [] out s l e few = rw (first-done snd dt b g v k out s l (omega arith) (leb→le k 4096 (and-l (small k) true few))) tt
-all-accepted snd dt b g v k (j ∷ ks) out s l e few =
+all-accepted snd dt b g v k [] out x =
+    let e = x .all-of-it in
+    rw (first-done snd dt b g v k out (x .stream) (x .holds) (omega arith) (leb→le k 4096 (and-l (small k) true (x .few)))) tt
+all-accepted snd dt b g v k (j ∷ ks) out x =
+    let s = x .stream in
+    let l = x .holds in
+    let e = x .all-of-it in
+    let few = x .few in
     let q : k ≤ length (b .rate) = omega arith in
     let m = leb→le k 4096 (and-l (small k) (all small (j ∷ ks)) few) in
     rw (first-done snd dt b g v k out s l q m)
-    (all-accepted snd dt (restLanes k b) (quiet g) ((block snd dt (rows (firstLanes k b)) g v) .voice) j ks (drop (2 * k) out) (rest-streams snd dt b g v k out s l q m) (rest-out snd dt b g v k out s l q)
-    (left (length (b .rate)) (sum ks) e ∙ sym (length-drop k (b .rate))) (and-r (small k) (all small (j ∷ ks)) few))
+    (all-accepted snd dt (restLanes k b) (quiet g) ((block snd dt (rows (firstLanes k b)) g v) .voice) j ks (drop (2 * k) out)
+    (record {
+      stream = rest-streams snd dt b g v k out s l q m;
+      holds = rest-out snd dt b g v k out s l q;
+      all-of-it = left (length (b .rate)) (sum ks) e ∙ sym (length-drop k (b .rate));
+      few = and-r (small k) (all small (j ∷ ks)) few;
+    }))
   where
     left : (n m : ℕ) → k + (j + m) ≡ n → j + m ≡ n - k
     left n m e = omega arith

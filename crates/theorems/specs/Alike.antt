@@ -35,13 +35,16 @@ bare v =
 abbrev pub awake : StaticSound → Bool
 awake v = not (eqb (number (v .moving .state)) 6)
 
+abbrev pub Awake : StaticSound → Type 0
+Awake v = T (awake v)
+
 -- the answers of two parts against the answer of the whole
 pub record Parts (uncut first rest : Processed) : Type 0 where
   -- both parts are accepted
   pub accepted : (first .refusal ≡ 0) × (rest .refusal ≡ 0)
   -- unless the voice has stopped by the cut, the state after and the steps are the same
-  pub same : T (awake (first .sound)) → (uncut .sound ≡ rest .sound) × (uncut .steps ≡ first .steps + rest .steps)
+  pub same : Awake (first .sound) → (uncut .sound ≡ rest .sound) × (uncut .steps ≡ first .steps + rest .steps)
   -- and the whole reports the lower of the two counts
-  pub lowest : T (awake (first .sound)) → uncut .«lowest_count» ≡ lower (first .«lowest_count») (rest .«lowest_count»)
+  pub lowest : Awake (first .sound) → uncut .«lowest_count» ≡ lower (first .«lowest_count») (rest .«lowest_count»)
   -- in every case the states after agree in all but the fraction and the window's frame numbers
   pub alike : bare (uncut .sound) ≡ bare (rest .sound)

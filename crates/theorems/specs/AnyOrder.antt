@@ -40,11 +40,16 @@ pub record Round (n s e : ℕ) (l : List Step) (t : Transport) : Type 0 where
   pub place : (walked n l t) .position ≡ s + cycled (t .position - s + forwards l) (backwards l) (e - s)
   pub inside : (k : ℕ) → Inside s e (walked n (take k l) t)
 
+-- what is asked: a transport that plays inside its loop, which lies in the n frames
+pub record InLoop (n s e : ℕ) (t : Transport) : Type 0 where
+  pub fits : e ≤ n
+  pub inside : Inside s e t
+
 abbrev pub AnyOrder : Type 0
-AnyOrder = (n s e : ℕ) (l : List Step) (t : Transport) → e ≤ n → Inside s e t → Round n s e l t
+AnyOrder = (n s e : ℕ) (l : List Step) (t : Transport) → InLoop n s e t → Round n s e l t
 
 abbrev pub ThereAndBack : Type 0
-ThereAndBack = (n s e : ℕ) (t : Transport) → e ≤ n → Inside s e t → (backward (forward n t) ≡ t) × (forward n (backward t) ≡ t)
+ThereAndBack = (n s e : ℕ) (t : Transport) → InLoop n s e t → (backward (forward n t) ≡ t) × (forward n (backward t) ≡ t)
 
 -- the same steps in another order
 pub data Permuted : List Step → List Step → Type 0 where
@@ -53,5 +58,9 @@ pub data Permuted : List Step → List Step → Type 0 where
   swapped : (j k : Step) (l : List Step) → Permuted (j ∷ k ∷ l) (k ∷ j ∷ l)
   then : (l m r : List Step) → Permuted l m → Permuted m r → Permuted l r
 
+pub record Rearranged (n s e : ℕ) (l m : List Step) (t : Transport) : Type 0 where
+  pub loop : InLoop n s e t
+  pub permuted : Permuted l m
+
 abbrev pub Permutations : Type 0
-Permutations = (n s e : ℕ) (l m : List Step) (t : Transport) → e ≤ n → Inside s e t → Permuted l m → walked n l t ≡ walked n m t
+Permutations = (n s e : ℕ) (l m : List Step) (t : Transport) → Rearranged n s e l m t → walked n l t ≡ walked n m t

@@ -1,5 +1,5 @@
 -- Once in the loop, always in the loop, of the archive's own entries, as InTheLoop says of the entries below: each call is given the record that the one before answered.
--- Records, commands and signals are judged by what they mean: a loop command is one that `loop_command` names, a stop is a `stop` that is not 0.
+-- Records, commands and signals are judged by what they mean: a loop command is a `loop_command` that is not 0, a stop command a `stop` that is not 0.
 use Prim.Native.Nat.{ℕ}
 use mathlib.Core.Path.{_≡_}
 use mathlib.Core.Bool.{Bool, true, false, _&&_, _||_, not}
@@ -70,12 +70,20 @@ stopsC (Command snd k) = commandsOf k .stop
 stopsC (Take snd t k) = false
 stopsC (Stretch snd) = false
 
+-- the record that the calls leave means a voice that is Stopped
+abbrev pub EndsStoppedC : List CallC → CableowlState → Type 0
+EndsStoppedC ds c = decoded (afterAllC ds c) .moving .state ≡ Stopped
+
 pub record StaysC (s e : ℕ) (ds : List CallC) (c : CableowlState) : Type 0 where
   pub inside : Inside s e (decoded (afterAllC ds c) .moving .transport)
-  pub stopped : decoded (afterAllC ds c) .moving .state ≡ Stopped → T (someAcceptedC stopsC ds c || ending (decoded c .moving .state))
+  pub stopped : EndsStoppedC ds c → T (someAcceptedC stopsC ds c || ending (decoded c .moving .state))
 
--- a record that means nothing means the blank voice, which is not well formed
+-- what is asked: a record that means nothing means the blank voice, which is not well formed
+pub record EnteredC (s e : ℕ) (ds : List CallC) (c : CableowlState) : Type 0 where
+  pub formed : T (wellFormed (decoded c))
+  pub inside : Inside s e (decoded c .moving .transport)
+  pub no-loop-command : T (not (someAcceptedC reloopsC ds c))
+
 abbrev pub InTheLoopC : Type 0
 InTheLoopC =
-    (s e : ℕ) (ds : List CallC) (c : CableowlState)
-    → T (wellFormed (decoded c)) → Inside s e (decoded c .moving .transport) → T (not (someAcceptedC reloopsC ds c)) → StaysC s e ds c
+    (s e : ℕ) (ds : List CallC) (c : CableowlState) → EnteredC s e ds c → StaysC s e ds c

@@ -51,30 +51,41 @@ pub record ArchiveKeeps : Type 0 where
 
 -- ---- read out and given back
 
+-- a record whose bytes have a meaning, and one whose bytes have none
+abbrev pub Lawful : CableowlState → Type 0
+Lawful c = T (lawful c)
+
+abbrev pub Unlawful : CableowlState → Type 0
+Unlawful c = lawful c ≡ false
+
 pub record ReadBack : Type 0 where
   pub voice : (v : StaticSound) → decoded (encoded v) ≡ v
-  pub numbers : (c : CableowlState) → T (lawful c) → encoded (decoded c) ≡ c
+  pub numbers : (c : CableowlState) → Lawful c → encoded (decoded c) ≡ c
 
 -- ---- bytes that mean nothing
 
 pub record UnlawfulRefused : Type 0 where
-  pub commands : (snd : List Float) (c : CableowlState) (k : CableowlCommands) → lawful c ≡ false → (commandedC snd c k) .refusal ≡ 1
-  pub block : (snd : List Float) (c : CableowlState) (dt : Float) (b : Lanes) (g : CableowlSignals) → lawful c ≡ false
+  pub commands : (snd : List Float) (c : CableowlState) (k : CableowlCommands) → Unlawful c → (commandedC snd c k) .refusal ≡ 1
+  pub block : (snd : List Float) (c : CableowlState) (dt : Float) (b : Lanes) (g : CableowlSignals) → Unlawful c
       → (out : List Float) → (processedC snd c dt b g out) .answer .refusal ≡ 1
-  pub mix : (snd : List Float) (c : CableowlState) (dt : Float) (b : Lanes) (g : CableowlSignals) → lawful c ≡ false
+  pub mix : (snd : List Float) (c : CableowlState) (dt : Float) (b : Lanes) (g : CableowlSignals) → Unlawful c
       → (mix : List Float) (from : ℕ) → (processedIntoC snd c dt b g mix from) .answer .refusal ≡ 1
-  pub stretch : (snd : List Float) (c : CableowlState) → lawful c ≡ false → partC snd c ≡ record { offset = 0; length = 0 }
+  pub stretch : (snd : List Float) (c : CableowlState) → Unlawful c → partC snd c ≡ record { offset = 0; length = 0 }
+
+-- a tag above the last that has a meaning
+abbrev pub Unknown : ℕ → ℕ → Type 0
+Unknown last tag = last < tag
 
 -- an unknown tag fails the test of its field's number
 pub record TagsRefused : Type 0 where
-  pub place : (p : CableowlPlace) → 1 < p .kind → placeable (placeOf p) ≡ false
-  pub end : (p : CableowlPlace) → 2 < p .kind → endable (endOf p) ≡ false
-  pub start : (hz n : ℕ) (r : CableowlRegion) → 1 < r .start .kind → lawfulRegion hz n (regionIf true r) ≡ false
-  pub ending : (hz n : ℕ) (r : CableowlRegion) → 2 < r .end .kind → lawfulRegion hz n (regionIf true r) ≡ false
-  pub optional : (hz n has : ℕ) (r : CableowlRegion) → 1 < has → allowed hz n (optionalOf has r) ≡ false
-  pub loop : (v : StaticSound) (k : ℕ) (r : CableowlRegion) → 2 < k → loopable v (loopOf k r) ≡ false
-  pub rate : (has : ℕ) (x : Float) → 1 < has → rateable (amountOf has x) ≡ false
-  pub seek : (f : Float → Float) (has : ℕ) (x : Float) → 1 < has → seekable f (amountOf has x) ≡ false
+  pub place : (p : CableowlPlace) → Unknown 1 (p .kind) → placeable (placeOf p) ≡ false
+  pub end : (p : CableowlPlace) → Unknown 2 (p .kind) → endable (endOf p) ≡ false
+  pub start : (hz n : ℕ) (r : CableowlRegion) → Unknown 1 (r .start .kind) → lawfulRegion hz n (regionIf true r) ≡ false
+  pub ending : (hz n : ℕ) (r : CableowlRegion) → Unknown 2 (r .end .kind) → lawfulRegion hz n (regionIf true r) ≡ false
+  pub optional : (hz n has : ℕ) (r : CableowlRegion) → Unknown 1 has → allowed hz n (optionalOf has r) ≡ false
+  pub loop : (v : StaticSound) (k : ℕ) (r : CableowlRegion) → Unknown 2 k → loopable v (loopOf k r) ≡ false
+  pub rate : (has : ℕ) (x : Float) → Unknown 1 has → rateable (amountOf has x) ≡ false
+  pub seek : (f : Float → Float) (has : ℕ) (x : Float) → Unknown 1 has → seekable f (amountOf has x) ≡ false
 
 -- ---- the stretch
 

@@ -9,14 +9,13 @@ use lib.Ieee.{Float}
 use Rattle.numbers.specs.Lists.{all}
 use Rattle.lanes.specs.Lanes.{Lanes, firstLanes, restLanes}
 use Rattle.playing.specs.Plays.{lower}
-use Rattle.static_sound.specs.Entries.{room}
 use Rattle.records.specs.declared.CableowlState.{CableowlState}
 use Rattle.inputs.specs.declared.CableowlSignals.{CableowlSignals}
 use Rattle.records.specs.Records.{decoded}
 use Rattle.cableowl.specs.Entries.{OutcomeC, processedC, processedIntoC}
 use Rattle.theorems.specs.Sums.{sum}
 use Rattle.theorems.specs.Alike.{bare, awake}
-use Rattle.theorems.specs.Schedules.{Stream, short}
+use Rattle.theorems.specs.Schedules.{LawfulCut, LawfulCutMix}
 use Rattle.theorems.specs.Archive.{quietC}
 
 -- what a row of blocks gives: whether each was accepted, the record after, all samples, all steps, the lowest count, and the record at each cut between two blocks
@@ -71,35 +70,47 @@ mixedByC snd dt k (j ∷ ks) b g c mix from =
 abbrev pub awakeC : CableowlState → Bool
 awakeC c = awake (decoded c)
 
+abbrev pub BothAwakeC : RunC → RunC → Type 0
+BothAwakeC r s = T (all awakeC (r .cuts)) × T (all awakeC (s .cuts))
+
 pub record AgreeC (r s : RunC) : Type 0 where
   pub samples : r .samples ≡ s .samples
-  pub same : T (all awakeC (r .cuts)) → T (all awakeC (s .cuts)) → (r .state ≡ s .state) × (r .steps ≡ s .steps)
-  pub lowest : T (all awakeC (r .cuts)) → T (all awakeC (s .cuts)) → r .«lowest_count» ≡ s .«lowest_count»
+  pub same : BothAwakeC r s → (r .state ≡ s .state) × (r .steps ≡ s .steps)
+  pub lowest : BothAwakeC r s → r .«lowest_count» ≡ s .«lowest_count»
   pub alike : bare (decoded (r .state)) ≡ bare (decoded (s .state))
+
+-- a way to cut a stream, all of whose blocks are accepted, and two such ways
+pub record WayC (snd : List Float) (dt : Float) (b : Lanes) (g : CableowlSignals) (c : CableowlState) (k : ℕ) (ks : List ℕ) (out : List Float) : Type 0 where
+  pub all-of-it : k + sum ks ≡ length (b .rate)
+  pub accepted : T ((playedByC snd dt k ks b g c out) .accepted)
+
+abbrev pub TwoWaysC : List Float → Float → Lanes → CableowlSignals → CableowlState → ℕ → List ℕ → List Float → ℕ → List ℕ → List Float → Type 0
+TwoWaysC snd dt b g c k ks out j js other = WayC snd dt b g c k ks out × WayC snd dt b g c j js other
+
+pub record WayMixC (snd : List Float) (dt : Float) (b : Lanes) (g : CableowlSignals) (c : CableowlState) (k : ℕ) (ks : List ℕ) (mix : List Float) (from : ℕ) : Type 0 where
+  pub all-of-it : k + sum ks ≡ length (b .rate)
+  pub accepted : T ((mixedByC snd dt k ks b g c mix from) .accepted)
+
+abbrev pub TwoWaysMixC : List Float → Float → Lanes → CableowlSignals → CableowlState → ℕ → List ℕ → ℕ → List ℕ → List Float → ℕ → Type 0
+TwoWaysMixC snd dt b g c k ks j js mix from = WayMixC snd dt b g c k ks mix from × WayMixC snd dt b g c j js mix from
 
 abbrev pub AnySizesC : Type 0
 AnySizesC =
     (snd : List Float) (dt : Float) (b : Lanes) (g : CableowlSignals) (c : CableowlState) (k : ℕ) (ks : List ℕ) (out : List Float) (j : ℕ) (js : List ℕ) (other : List Float)
-    → k + sum ks ≡ length (b .rate) → j + sum js ≡ length (b .rate)
-    → let r = playedByC snd dt k ks b g c out in
-    let s = playedByC snd dt j js b g c other in
-    T (r .accepted) → T (s .accepted) → AgreeC r s
+    → TwoWaysC snd dt b g c k ks out j js other → AgreeC (playedByC snd dt k ks b g c out) (playedByC snd dt j js b g c other)
 
 abbrev pub AnySizesMixC : Type 0
 AnySizesMixC =
     (snd : List Float) (dt : Float) (b : Lanes) (g : CableowlSignals) (c : CableowlState) (k : ℕ) (ks : List ℕ) (j : ℕ) (js : List ℕ) (mix : List Float) (from : ℕ)
-    → k + sum ks ≡ length (b .rate) → j + sum js ≡ length (b .rate)
-    → let r = mixedByC snd dt k ks b g c mix from in
-    let s = mixedByC snd dt j js b g c mix from in
-    T (r .accepted) → T (s .accepted) → AgreeC r s
+    → TwoWaysMixC snd dt b g c k ks j js mix from → AgreeC (mixedByC snd dt k ks b g c mix from) (mixedByC snd dt j js b g c mix from)
 
 -- every way to cut a lawful stream into blocks of at most 4,096 frames is accepted
 abbrev pub AllAcceptedC : Type 0
 AllAcceptedC =
     (snd : List Float) (dt : Float) (b : Lanes) (g : CableowlSignals) (c : CableowlState) (k : ℕ) (ks : List ℕ) (out : List Float)
-    → Stream snd dt b (decoded c) → length out ≡ 2 * length (b .rate) → k + sum ks ≡ length (b .rate) → T (short (k ∷ ks)) → T ((playedByC snd dt k ks b g c out) .accepted)
+    → LawfulCut snd dt b (decoded c) k ks out → T ((playedByC snd dt k ks b g c out) .accepted)
 
 abbrev pub AllAcceptedMixC : Type 0
 AllAcceptedMixC =
     (snd : List Float) (dt : Float) (b : Lanes) (g : CableowlSignals) (c : CableowlState) (k : ℕ) (ks : List ℕ) (mix : List Float) (from : ℕ)
-    → Stream snd dt b (decoded c) → T (room from (length (b .rate)) mix) → k + sum ks ≡ length (b .rate) → T (short (k ∷ ks)) → T ((mixedByC snd dt k ks b g c mix from) .accepted)
+    → LawfulCutMix snd dt b (decoded c) k ks mix from → T ((mixedByC snd dt k ks b g c mix from) .accepted)

@@ -20,5 +20,9 @@ SmallFrame f = Small (f .left) × Small (f .right)
 abbrev pub Equal : Frame → Frame → Type 0
 Equal f g = (eq (f .left) (g .left) ≡ true) × (eq (f .right) (g .right) ≡ true)
 
+-- what is asked of the four entries
+abbrev pub SmallFrames : Frame → Frame → Frame → Frame → Type 0
+SmallFrames a b c d = SmallFrame a × SmallFrame b × SmallFrame c × SmallFrame d
+
 abbrev pub ReadsB : Type 0
-ReadsB = (a b c d : Frame) → SmallFrame a → SmallFrame b → SmallFrame c → SmallFrame d → Equal (interpolated a b c d positiveZero) b
+ReadsB = (a b c d : Frame) → SmallFrames a b c d → Equal (interpolated a b c d positiveZero) b

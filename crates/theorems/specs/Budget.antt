@@ -18,8 +18,9 @@ use Rattle.playing.specs.declared.Processed.{Processed}
 use Rattle.block.specs.Blocks.{begun, live}
 use Rattle.static_sound.specs.Entries.{processed, processedInto}
 use Rattle.theorems.specs.Sums.{sum}
+use Rattle.theorems.specs.Accepted.{AcceptedBlock, AcceptedMix, Silent}
 use Rattle.theorems.specs.Steps.{stepsOf}
-use Rattle.theorems.specs.Schedules.{playedBy}
+use Rattle.theorems.specs.Schedules.{playedBy, Way}
 
 -- the advance of a frame is at most k
 abbrev pub atMost : ℕ → ℕ → Float → Lane → Bool
@@ -35,26 +36,39 @@ pub record Within (k : ℕ) (snd : List Float) (v : StaticSound) (dt : Float) (b
   pub reported : a .steps ≡ cond (live (begun g v)) (sum (stepsOf snd dt (rows b) (begun g v))) 0
   pub frames : T (all (λ (n : ℕ). leb n (k + 1)) (stepsOf snd dt (rows b) (begun g v)))
   pub block : a .steps ≤ length (b .rate) * (k + 1)
-  pub silent : live (begun g v) ≡ false → a .steps ≡ 0
+  pub silent : Silent g v → a .steps ≡ 0
+
+-- what is asked: an accepted block, or an accepted way to cut a stream, with advances of at most k
+pub record SlowBlock (k : ℕ) (snd : List Float) (v : StaticSound) (dt : Float) (b : Lanes) (g : Signals) (out : List Float) : Type 0 where
+  pub accepted : AcceptedBlock snd v dt b g out
+  pub small : k ≤ 256
+  pub slow : Slow k v dt b
+
+pub record SlowMix (k : ℕ) (snd : List Float) (v : StaticSound) (dt : Float) (b : Lanes) (g : Signals) (mix : List Float) (from : ℕ) : Type 0 where
+  pub accepted : AcceptedMix snd v dt b g mix from
+  pub small : k ≤ 256
+  pub slow : Slow k v dt b
+
+pub record SlowStream (k : ℕ) (snd : List Float) (dt : Float) (b : Lanes) (g : Signals) (v : StaticSound) (j : ℕ) (js : List ℕ) (out : List Float) : Type 0 where
+  pub way : Way snd dt b g v j js out
+  pub small : k ≤ 256
+  pub slow : Slow k v dt b
 
 abbrev pub BlockBudget : Type 0
 BlockBudget =
     (k : ℕ) (snd : List Float) (v : StaticSound) (dt : Float) (b : Lanes) (g : Signals) (out : List Float)
-    → let a = (processed snd v dt b g out) .answer in
-    a .refusal ≡ 0 → k ≤ 256 → Slow k v dt b → Within k snd v dt b g a
+    → SlowBlock k snd v dt b g out → Within k snd v dt b g ((processed snd v dt b g out) .answer)
 
 abbrev pub MixBudget : Type 0
 MixBudget =
     (k : ℕ) (snd : List Float) (v : StaticSound) (dt : Float) (b : Lanes) (g : Signals) (mix : List Float) (from : ℕ)
-    → let a = (processedInto snd v dt b g mix from) .answer in
-    a .refusal ≡ 0 → k ≤ 256 → Slow k v dt b → Within k snd v dt b g a
+    → SlowMix k snd v dt b g mix from → Within k snd v dt b g ((processedInto snd v dt b g mix from) .answer)
 
 -- a stream of lanes, played in blocks of j frames and then of the sizes that follow
 abbrev pub StreamBudget : Type 0
 StreamBudget =
     (k : ℕ) (snd : List Float) (dt : Float) (b : Lanes) (g : Signals) (v : StaticSound) (j : ℕ) (js : List ℕ) (out : List Float)
-    → let r = playedBy snd dt j js b g v out in
-    j + sum js ≡ length (b .rate) → T (r .accepted) → k ≤ 256 → Slow k v dt b → r .steps ≤ length (b .rate) * (k + 1)
+    → SlowStream k snd dt b g v j js out → (playedBy snd dt j js b g v out) .steps ≤ length (b .rate) * (k + 1)
 
 -- the bound is reached: 1 - 2 ^ -53 and an advance of 1
 abbrev pub TwoSteps : Type 0

@@ -5,6 +5,7 @@ use mathlib.Core.Path.{_≡_}
 use mathlib.Core.List.{List}
 use denote.Ref.{RefT, now, ptr}
 use lib.Ieee.{Float}
+use Rattle.layout.specs.Reads.{view}
 use Rattle.numbers.proofs as numbers
 use Rattle.frame.proofs as frame
 use Rattle.playback_position.proofs as playback_position
@@ -49,6 +50,10 @@ module _ {K : Type 0} {A R S : K → Type 0} where
   -- and so does what it leaves: all of a buffer or a number that it writes, or the part of a buffer that the answer says is in use
   abbrev pub DecidesWith : {B : Type 0} (left : (k : K) → R k → S k → B) → Allows K A R S → Type 0
   DecidesWith left P = (k : K) (a : A k) (x y : R k) (s t : S k) → P k a x s → P k a y t → (x ≡ y) × (left k x s ≡ left k y t)
+
+  -- or what its callers see of the answer coincides
+  abbrev pub DecidesAs : {B : Type 0} (seen : (k : K) → A k → R k → B) → Allows K A R S → Type 0
+  DecidesAs seen P = (k : K) (a : A k) (x y : R k) (s t : S k) → P k a x s → P k a y t → seen k a x ≡ seen k a y
 
 -- a part of what was lent: its samples and its place coincide
 abbrev pub DecidesPart : {K : Type 0} {A S : K → Type 0} → Allows K A (λ (k : K). RefT (List Float)) S → Type 0
@@ -160,6 +165,7 @@ pub record Coincide : Type 0 where
   pub semitones-raised : Decides semitones.raised.Reads.Post
   -- layout
   pub layout-begin : Decides layout.begin.Reads.Post
+  pub layout-read-rows : DecidesAs (λ k a r. view (now (a .0)) (a .1 .1 .1 .0) r) layout.read_rows.Reads.Post
   pub layout-put-rows : DecidesWith (λ k r s. s .0 .now) layout.put_rows.Reads.Post
   pub layout-rows-fit : Decides layout.rows_fit.Reads.Post
   pub layout-rows-length : Decides layout.rows_length.Reads.Post

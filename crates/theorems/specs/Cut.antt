@@ -12,16 +12,22 @@ use Rattle.block.specs.declared.Signals.{Signals}
 use Rattle.block.specs.Blocks.{quiet}
 use Rattle.playing.specs.Plays.{Outcome}
 use Rattle.static_sound.specs.Entries.{processed}
+use Rattle.theorems.specs.Accepted.{AcceptedBlock}
 use Rattle.theorems.specs.Alike.{Parts}
 
 pub record CutInTwo (uncut first rest : Outcome) : Type 0 where
   pub answers : Parts (uncut .answer) (first .answer) (rest .answer)
   pub samples : uncut .samples ≡ first .samples ++ rest .samples
 
+-- what is asked: an accepted block, and a number of its frames
+pub record MayCut (snd : List Float) (v : StaticSound) (dt : Float) (b : Lanes) (g : Signals) (out : List Float) (k : ℕ) : Type 0 where
+  pub accepted : AcceptedBlock snd v dt b g out
+  pub inside : k ≤ length (b .rate)
+
 abbrev pub CutBlocks : Type 0
 CutBlocks =
     (snd : List Float) (v : StaticSound) (dt : Float) (b : Lanes) (g : Signals) (out : List Float) (k : ℕ)
-    → (processed snd v dt b g out) .answer .refusal ≡ 0 → k ≤ length (b .rate)
+    → MayCut snd v dt b g out k
     → let first = processed snd v dt (firstLanes k b) g (take (2 * k) out) in
     let rest = processed snd (first .answer .sound) dt (restLanes k b) (quiet g) (drop (2 * k) out) in
     CutInTwo (processed snd v dt b g out) first rest

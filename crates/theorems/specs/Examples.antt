@@ -34,7 +34,7 @@ pub data Shown : Type 0 where
 -- ---- the transport
 
 -- playing at p: in the loop (3, 6), and with no loop
-abbrev looped : ℕ → Transport
+abbrev pub looped : ℕ → Transport
 looped p = record { position = p; «loop_region» = Frames 3 6; playing = true }
 
 abbrev plain : ℕ → Transport
@@ -52,10 +52,10 @@ ended p = moved p false
 
 -- ---- creation: ten frames at 1 Hz, rate 1
 
-abbrev ten : List Float
+abbrev pub ten : List Float
 ten = replicate 20 positiveZero
 
-abbrev from : ℕ → Bool → Settings
+abbrev pub from : ℕ → Bool → Settings
 from start reverse =
     record {
       «sample_rate» = 1;

@@ -103,11 +103,20 @@ ending Stopped = true
 
 -- ---- what is promised
 
+-- the voice that the calls leave is Stopped
+abbrev pub EndsStopped : List Call → StaticSound → Type 0
+EndsStopped cs v = (afterAll cs v) .moving .state ≡ Stopped
+
 pub record Stays (s e : ℕ) (cs : List Call) (v : StaticSound) : Type 0 where
   pub inside : Inside s e ((afterAll cs v) .moving .transport)
-  pub stopped : (afterAll cs v) .moving .state ≡ Stopped → T (someAccepted stops cs v || ending (v .moving .state))
+  pub stopped : EndsStopped cs v → T (someAccepted stops cs v || ending (v .moving .state))
+
+-- what is asked
+pub record Entered (s e : ℕ) (cs : List Call) (v : StaticSound) : Type 0 where
+  pub formed : T (wellFormed v)
+  pub inside : Inside s e (v .moving .transport)
+  pub no-loop-command : T (not (someAccepted reloops cs v))
 
 abbrev pub InTheLoop : Type 0
 InTheLoop =
-    (s e : ℕ) (cs : List Call) (v : StaticSound)
-    → T (wellFormed v) → Inside s e (v .moving .transport) → T (not (someAccepted reloops cs v)) → Stays s e cs v
+    (s e : ℕ) (cs : List Call) (v : StaticSound) → Entered s e cs v → Stays s e cs v

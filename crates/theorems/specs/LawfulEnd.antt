@@ -18,6 +18,7 @@ use Rattle.block.specs.declared.Signals.{Signals}
 use Rattle.block.specs.Blocks.{begun, live, zeros}
 use Rattle.playing.specs.Plays.{plays}
 use Rattle.static_sound.specs.Entries.{processed, processedInto}
+use Rattle.theorems.specs.Accepted.{AcceptedBlock, AcceptedMix}
 
 -- Stopped, the transport not playing, nothing left to hear
 pub record Ended (m : Moving) : Type 0 where
@@ -32,13 +33,23 @@ EndsOnly s m = (m .state ≡ s) ⊎ Ended m
 abbrev pub UpdateEnds : Type 0
 UpdateEnds = (snd : List Float) (c : Course) (m : Moving) → EndsOnly (m .state) (updated snd c m)
 
+-- what is asked: an accepted block that sounds, and a number of its frames
+pub record Sounds (snd : List Float) (v : StaticSound) (dt : Float) (b : Lanes) (g : Signals) (out : List Float) (k : ℕ) : Type 0 where
+  pub accepted : AcceptedBlock snd v dt b g out
+  pub live : live (begun g v) ≡ true
+  pub inside : k ≤ length (b .rate)
+
+pub record SoundsMix (snd : List Float) (v : StaticSound) (dt : Float) (b : Lanes) (g : Signals) (mix : List Float) (from : ℕ) (k : ℕ) : Type 0 where
+  pub accepted : AcceptedMix snd v dt b g mix from
+  pub live : live (begun g v) ≡ true
+  pub inside : k ≤ length (b .rate)
+
 abbrev pub BlockEnds : Type 0
 BlockEnds =
     (snd : List Float) (v : StaticSound) (dt : Float) (b : Lanes) (g : Signals) (out : List Float) (k : ℕ)
     → let o = processed snd v dt b g out in
     let m = (plays snd dt (take k (rows b)) (begun g v)) .voice .moving in
-    o .answer .refusal ≡ 0 → live (begun g v) ≡ true → k ≤ length (b .rate)
-    → (m .state ≡ (begun g v) .moving .state) ⊎ (Ended m × (drop (2 * k) (o .samples) ≡ zeros (drop k (rows b))))
+    Sounds snd v dt b g out k → (m .state ≡ (begun g v) .moving .state) ⊎ (Ended m × (drop (2 * k) (o .samples) ≡ zeros (drop k (rows b))))
 
 -- of a block into a mix: the samples from there on are those of its own place
 abbrev pub MixEnds : Type 0
@@ -46,5 +57,4 @@ MixEnds =
     (snd : List Float) (v : StaticSound) (dt : Float) (b : Lanes) (g : Signals) (mix : List Float) (from k : ℕ)
     → let o = processedInto snd v dt b g mix from in
     let m = (plays snd dt (take k (rows b)) (begun g v)) .voice .moving in
-    o .answer .refusal ≡ 0 → live (begun g v) ≡ true → k ≤ length (b .rate)
-    → (m .state ≡ (begun g v) .moving .state) ⊎ (Ended m × (take (2 * (length (b .rate) - k)) (drop (2 * (from + k)) (o .samples)) ≡ zeros (drop k (rows b))))
+    SoundsMix snd v dt b g mix from k → (m .state ≡ (begun g v) .moving .state) ⊎ (Ended m × (take (2 * (length (b .rate) - k)) (drop (2 * (from + k)) (o .samples)) ≡ zeros (drop k (rows b))))

@@ -1,5 +1,6 @@
 -- What is shown of the entries beyond each one's own promise: a file a theorem, and their list in Promises.
 pub mod Sums
+pub mod Accepted
 pub mod Alike
 pub mod Cut
 pub mod Schedules
@@ -23,4 +24,5 @@ pub mod ArchiveSchedules
 pub mod ArchiveKept
 pub mod ArchiveInTheLoop
 pub mod Coincide
+pub mod Witnesses
 pub mod Promises

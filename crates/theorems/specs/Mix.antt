@@ -11,16 +11,22 @@ use Rattle.block.specs.declared.Signals.{Signals}
 use Rattle.block.specs.Blocks.{quiet}
 use Rattle.playing.specs.Plays.{Outcome}
 use Rattle.static_sound.specs.Entries.{processedInto}
+use Rattle.theorems.specs.Accepted.{AcceptedMix}
 use Rattle.theorems.specs.Alike.{Parts}
 
 pub record CutInMix (uncut first rest : Outcome) : Type 0 where
   pub answers : Parts (uncut .answer) (first .answer) (rest .answer)
   pub samples : uncut .samples ≡ rest .samples
 
+-- what is asked: an accepted block, and a number of its frames
+pub record MayCutMix (snd : List Float) (v : StaticSound) (dt : Float) (b : Lanes) (g : Signals) (mix : List Float) (from : ℕ) (k : ℕ) : Type 0 where
+  pub accepted : AcceptedMix snd v dt b g mix from
+  pub inside : k ≤ length (b .rate)
+
 abbrev pub CutMixes : Type 0
 CutMixes =
     (snd : List Float) (v : StaticSound) (dt : Float) (b : Lanes) (g : Signals) (mix : List Float) (from k : ℕ)
-    → (processedInto snd v dt b g mix from) .answer .refusal ≡ 0 → k ≤ length (b .rate)
+    → MayCutMix snd v dt b g mix from k
     → let first = processedInto snd v dt (firstLanes k b) g mix from in
     let rest = processedInto snd (first .answer .sound) dt (restLanes k b) (quiet g) (first .samples) (from + k) in
     CutInMix (processedInto snd v dt b g mix from) first rest

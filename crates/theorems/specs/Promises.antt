@@ -22,6 +22,7 @@ use Rattle.theorems.specs.ArchiveSchedules.{AnySizesC, AnySizesMixC, All
 use Rattle.theorems.specs.ArchiveKept.{ArchiveKeeps, ReadBack, UnlawfulRefused, TagsRefused, PartIsStretch}
 use Rattle.theorems.specs.ArchiveInTheLoop.{InTheLoopC}
 use Rattle.theorems.specs.Coincide.{Coincide}
+use Rattle.theorems.specs.Witnesses.{Witnesses}
 
 pub record Promises : Type 0 where
   -- a block cut in two is the same block
@@ -98,3 +99,5 @@ pub record Promises : Type 0 where
   pub examples-hold : ExamplesHold
   -- each contract says enough: any two outcomes that it allows coincide
   pub coincide : Coincide
+  -- for each theorem that asks something, an input that meets it
+  pub witnesses : Witnesses

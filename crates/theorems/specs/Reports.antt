@@ -25,6 +25,7 @@ use Rattle.block.specs.declared.Signals.{Signals}
 use Rattle.block.specs.Blocks.{begun, live}
 use Rattle.playing.specs.Plays.{plays}
 use Rattle.static_sound.specs.Entries.{processed, processedInto}
+use Rattle.theorems.specs.Accepted.{AcceptedBlock, AcceptedMix, Silent}
 
 -- ---- how a window came about
 
@@ -46,8 +47,12 @@ FedVoice snd v = Fed snd (offset (v .setup)) (v .moving)
 
 -- ---- every call leaves a voice that was fed
 
+-- an accepted creation
+abbrev pub AcceptedNew : List Float → Settings → Type 0
+AcceptedNew snd s = (created snd s) .refusal ≡ 0
+
 abbrev pub CreationFeeds : Type 0
-CreationFeeds = (snd : List Float) (s : Settings) → (created snd s) .refusal ≡ 0 → FedVoice snd ((created snd s) .sound)
+CreationFeeds = (snd : List Float) (s : Settings) → AcceptedNew snd s → FedVoice snd ((created snd s) .sound)
 
 abbrev pub CommandsFeed : Type 0
 CommandsFeed = (snd : List Float) (v : StaticSound) (c : Commands) → FedVoice snd v → FedVoice snd ((commanded snd v c) .sound)
@@ -83,25 +88,41 @@ pub record Tail (snd : List Float) (dt : Float) (ls : List Lane) (u : StaticSoun
   pub pushes : t ≡ 4 - length (fed .since)
   pub ended : (atRead snd dt ls u read) .moving .transport .playing ≡ false
 
+-- the two cases of a count: 4, and a read of the block; less
+abbrev pub Full : ℕ → List Lane → ℕ → Type 0
+Full t ls k = (t ≡ 4) × (k < length ls)
+
+abbrev pub Short : ℕ → Type 0
+Short t = t < 4
+
 -- what t, the lowest count of a block of the lanes ls that begins with u, tells
 pub record Tells (snd : List Float) (dt : Float) (ls : List Lane) (u : StaticSound) (t : ℕ) : Type 0 where
-  pub full : t ≡ 4 → (k : ℕ) → k < length ls → Sounding snd (atRead snd dt ls u k)
-  pub tail : t < 4 → Tail snd dt ls u t
+  pub full : (k : ℕ) → Full t ls k → Sounding snd (atRead snd dt ls u k)
+  pub tail : Short t → Tail snd dt ls u t
+
+-- what is asked: a fed voice, and an accepted block of it that sounds
+pub record Reporting (snd : List Float) (v : StaticSound) (dt : Float) (b : Lanes) (g : Signals) (out : List Float) : Type 0 where
+  pub fed : FedVoice snd v
+  pub accepted : AcceptedBlock snd v dt b g out
+  pub live : live (begun g v) ≡ true
+
+pub record ReportingMix (snd : List Float) (v : StaticSound) (dt : Float) (b : Lanes) (g : Signals) (mix : List Float) (from : ℕ) : Type 0 where
+  pub fed : FedVoice snd v
+  pub accepted : AcceptedMix snd v dt b g mix from
+  pub live : live (begun g v) ≡ true
 
 abbrev pub BlocksTell : Type 0
 BlocksTell =
     (snd : List Float) (v : StaticSound) (dt : Float) (b : Lanes) (g : Signals) (out : List Float)
-    → let a = (processed snd v dt b g out) .answer in
-    FedVoice snd v → a .refusal ≡ 0 → live (begun g v) ≡ true → Tells snd dt (rows b) (begun g v) (a .«lowest_count»)
+    → Reporting snd v dt b g out → Tells snd dt (rows b) (begun g v) ((processed snd v dt b g out) .answer .«lowest_count»)
 
 abbrev pub MixesTell : Type 0
 MixesTell =
     (snd : List Float) (v : StaticSound) (dt : Float) (b : Lanes) (g : Signals) (mix : List Float) (from : ℕ)
-    → let a = (processedInto snd v dt b g mix from) .answer in
-    FedVoice snd v → a .refusal ≡ 0 → live (begun g v) ≡ true → Tells snd dt (rows b) (begun g v) (a .«lowest_count»)
+    → ReportingMix snd v dt b g mix from → Tells snd dt (rows b) (begun g v) ((processedInto snd v dt b g mix from) .answer .«lowest_count»)
 
 -- a block that does not sound reports 4, accepted or refused (of every refused block BlocksKeep says so, in Kept)
 abbrev pub SilenceTells : Type 0
 SilenceTells =
     (snd : List Float) (v : StaticSound) (dt : Float) (b : Lanes) (g : Signals) (out : List Float)
-    → live (begun g v) ≡ false → (processed snd v dt b g out) .answer .«lowest_count» ≡ 4
+    → Silent g v → (processed snd v dt b g out) .answer .«lowest_count» ≡ 4

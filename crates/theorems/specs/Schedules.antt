@@ -60,19 +60,29 @@ playedBy snd dt k (j ∷ ks) b g v out =
     let o = processed snd v dt (firstLanes k b) g (take (2 * k) out) in
     followed o (playedBy snd dt j ks (restLanes k b) (quiet g) (o .answer .sound) (drop (2 * k) out))
 
+-- no block of two rows has left a Stopped voice at a cut
+abbrev pub BothAwake : Run → Run → Type 0
+BothAwake r s = T (all awake (r .cuts)) × T (all awake (s .cuts))
+
 pub record Agree (r s : Run) : Type 0 where
   pub samples : r .samples ≡ s .samples
-  pub same : T (all awake (r .cuts)) → T (all awake (s .cuts)) → (r .sound ≡ s .sound) × (r .steps ≡ s .steps)
-  pub lowest : T (all awake (r .cuts)) → T (all awake (s .cuts)) → r .«lowest_count» ≡ s .«lowest_count»
+  pub same : BothAwake r s → (r .sound ≡ s .sound) × (r .steps ≡ s .steps)
+  pub lowest : BothAwake r s → r .«lowest_count» ≡ s .«lowest_count»
   pub alike : bare (r .sound) ≡ bare (s .sound)
+
+-- a way to cut a stream, all of whose blocks are accepted
+pub record Way (snd : List Float) (dt : Float) (b : Lanes) (g : Signals) (v : StaticSound) (k : ℕ) (ks : List ℕ) (out : List Float) : Type 0 where
+  pub all-of-it : k + sum ks ≡ length (b .rate)
+  pub accepted : T ((playedBy snd dt k ks b g v out) .accepted)
+
+-- what is asked: two such ways
+abbrev pub TwoWays : List Float → Float → Lanes → Signals → StaticSound → ℕ → List ℕ → List Float → ℕ → List ℕ → List Float → Type 0
+TwoWays snd dt b g v k ks out j js mix = Way snd dt b g v k ks out × Way snd dt b g v j js mix
 
 abbrev pub AnySizes : Type 0
 AnySizes =
     (snd : List Float) (dt : Float) (b : Lanes) (g : Signals) (v : StaticSound) (k : ℕ) (ks : List ℕ) (out : List Float) (j : ℕ) (js : List ℕ) (mix : List Float)
-    → k + sum ks ≡ length (b .rate) → j + sum js ≡ length (b .rate)
-    → let r = playedBy snd dt k ks b g v out in
-    let s = playedBy snd dt j js b g v mix in
-    T (r .accepted) → T (s .accepted) → Agree r s
+    → TwoWays snd dt b g v k ks out j js mix → Agree (playedBy snd dt k ks b g v out) (playedBy snd dt j js b g v mix)
 
 -- ---- into a mix: the blocks follow each other from a frame on, each into what the one before left of the mix
 
@@ -94,14 +104,17 @@ mixedBy snd dt k (j ∷ ks) b g v mix from =
     let o = processedInto snd v dt (firstLanes k b) g mix from in
     onto o (mixedBy snd dt j ks (restLanes k b) (quiet g) (o .answer .sound) (o .samples) (from + k))
 
+pub record WayMix (snd : List Float) (dt : Float) (b : Lanes) (g : Signals) (v : StaticSound) (k : ℕ) (ks : List ℕ) (mix : List Float) (from : ℕ) : Type 0 where
+  pub all-of-it : k + sum ks ≡ length (b .rate)
+  pub accepted : T ((mixedBy snd dt k ks b g v mix from) .accepted)
+
+abbrev pub TwoWaysMix : List Float → Float → Lanes → Signals → StaticSound → ℕ → List ℕ → ℕ → List ℕ → List Float → ℕ → Type 0
+TwoWaysMix snd dt b g v k ks j js mix from = WayMix snd dt b g v k ks mix from × WayMix snd dt b g v j js mix from
+
 abbrev pub AnySizesMix : Type 0
 AnySizesMix =
     (snd : List Float) (dt : Float) (b : Lanes) (g : Signals) (v : StaticSound) (k : ℕ) (ks : List ℕ) (j : ℕ) (js : List ℕ) (mix : List Float) (from : ℕ)
-    → k + sum ks ≡ length (b .rate)
-    → j + sum js ≡ length (b .rate)
-    → let r = mixedBy snd dt k ks b g v mix from in
-    let s = mixedBy snd dt j js b g v mix from in
-    T (r .accepted) → T (s .accepted) → Agree r s
+    → TwoWaysMix snd dt b g v k ks j js mix from → Agree (mixedBy snd dt k ks b g v mix from) (mixedBy snd dt j js b g v mix from)
 
 -- ---- a row of blocks is accepted
 
@@ -120,12 +133,25 @@ pub record Stream (snd : List Float) (dt : Float) (b : Lanes) (v : StaticSound) 
 abbrev pub short : List ℕ → Bool
 short ks = all (λ (n : ℕ). leb n 4096) ks
 
+-- what is asked: a lawful stream, an output as long, or a mix with room for it, and sizes that add up to all of it
+pub record LawfulCut (snd : List Float) (dt : Float) (b : Lanes) (v : StaticSound) (k : ℕ) (ks : List ℕ) (out : List Float) : Type 0 where
+  pub stream : Stream snd dt b v
+  pub holds : length out ≡ 2 * length (b .rate)
+  pub all-of-it : k + sum ks ≡ length (b .rate)
+  pub few : T (short (k ∷ ks))
+
+pub record LawfulCutMix (snd : List Float) (dt : Float) (b : Lanes) (v : StaticSound) (k : ℕ) (ks : List ℕ) (mix : List Float) (from : ℕ) : Type 0 where
+  pub stream : Stream snd dt b v
+  pub holds : T (room from (length (b .rate)) mix)
+  pub all-of-it : k + sum ks ≡ length (b .rate)
+  pub few : T (short (k ∷ ks))
+
 abbrev pub AllAccepted : Type 0
 AllAccepted =
     (snd : List Float) (dt : Float) (b : Lanes) (g : Signals) (v : StaticSound) (k : ℕ) (ks : List ℕ) (out : List Float)
-    → Stream snd dt b v → length out ≡ 2 * length (b .rate) → k + sum ks ≡ length (b .rate) → T (short (k ∷ ks)) → T ((playedBy snd dt k ks b g v out) .accepted)
+    → LawfulCut snd dt b v k ks out → T ((playedBy snd dt k ks b g v out) .accepted)
 
 abbrev pub AllAcceptedMix : Type 0
 AllAcceptedMix =
     (snd : List Float) (dt : Float) (b : Lanes) (g : Signals) (v : StaticSound) (k : ℕ) (ks : List ℕ) (mix : List Float) (from : ℕ)
-    → Stream snd dt b v → T (room from (length (b .rate)) mix) → k + sum ks ≡ length (b .rate) → T (short (k ∷ ks)) → T ((mixedBy snd dt k ks b g v mix from) .accepted)
+    → LawfulCutMix snd dt b v k ks mix from → T ((mixedBy snd dt k ks b g v mix from) .accepted)

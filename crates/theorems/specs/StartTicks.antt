@@ -12,26 +12,45 @@ use Rattle.start_time.specs.declared.StartSignal.the-variants.{Tick}
 use Rattle.start_time.specs.Ticks.{turn, half, reached}
 use Rattle.block.specs.declared.Signals.{Signals}
 use Rattle.static_sound.specs.Entries.{processed, processedInto}
+use Rattle.playing.specs.declared.Processed.{Processed}
+use Rattle.theorems.specs.Accepted.{AcceptedBlock, AcceptedMix}
 
 -- how many numbers below n pass a test
 unfoldable pub howMany : (ℕ → Bool) → ℕ → ℕ
 howMany p zero = 0
 howMany p (suc n) = cond (p n) 1 0 + howMany p n
 
+abbrev pub IsTick : ℕ → Type 0
+IsTick due = due < turn
+
+abbrev pub AreTicks : ℕ → ℕ → Type 0
+AreTicks due now = IsTick due × IsTick now
+
 abbrev pub HalfReached : Type 0
-HalfReached = (due : ℕ) → due < turn → howMany (λ (now : ℕ). reached due now) turn ≡ half
+HalfReached = (due : ℕ) → IsTick due → howMany (λ (now : ℕ). reached due now) turn ≡ half
 
 abbrev pub MovedTogether : Type 0
-MovedTogether = (due now k : ℕ) → due < turn → now < turn → reached ((due + k) % turn) ((now + k) % turn) ≡ reached due now
+MovedTogether = (due now k : ℕ) → AreTicks due now → reached ((due + k) % turn) ((now + k) % turn) ≡ reached due now
+
+-- what is asked: an accepted block that brings a due tick
+pub record Due (snd : List Float) (v : StaticSound) (dt : Float) (b : Lanes) (g : Signals) (out : List Float) (due now : ℕ) : Type 0 where
+  pub accepted : AcceptedBlock snd v dt b g out
+  pub tick : g .start ≡ Tick due now
+
+pub record DueMix (snd : List Float) (v : StaticSound) (dt : Float) (b : Lanes) (g : Signals) (mix : List Float) (from due now : ℕ) : Type 0 where
+  pub accepted : AcceptedMix snd v dt b g mix from
+  pub tick : g .start ≡ Tick due now
+
+-- whether the voice that is answered has started
+abbrev pub StartsBy : StaticSound → ℕ → ℕ → Processed → Type 0
+StartsBy v due now a = a .sound .started ≡ (v .started || reached due now)
 
 abbrev pub TickStarts : Type 0
 TickStarts =
     (snd : List Float) (v : StaticSound) (dt : Float) (b : Lanes) (g : Signals) (out : List Float) (due now : ℕ)
-    → let a = (processed snd v dt b g out) .answer in
-    a .refusal ≡ 0 → g .start ≡ Tick due now → a .sound .started ≡ (v .started || reached due now)
+    → Due snd v dt b g out due now → StartsBy v due now ((processed snd v dt b g out) .answer)
 
 abbrev pub MixTickStarts : Type 0
 MixTickStarts =
     (snd : List Float) (v : StaticSound) (dt : Float) (b : Lanes) (g : Signals) (mix : List Float) (from due now : ℕ)
-    → let a = (processedInto snd v dt b g mix from) .answer in
-    a .refusal ≡ 0 → g .start ≡ Tick due now → a .sound .started ≡ (v .started || reached due now)
+    → DueMix snd v dt b g mix from due now → StartsBy v due now ((processedInto snd v dt b g mix from) .answer)

@@ -8,8 +8,11 @@ use Rattle.playback_state_manager.specs.declared.PlaybackState.the-variants.{St
 use Rattle.playback_state_manager.specs.declared.StartAnswer.{StartAnswer}
 use Rattle.playback_state_manager.specs.States.{pausing, resuming, stopping, settled}
 
+abbrev pub PlaysAfter : ℕ → Transport → ℕ → Type 0
+PlaysAfter n t q = (seek n t q) .playing ≡ true
+
 abbrev pub SeekStartsNothing : Type 0
-SeekStartsNothing = (n : ℕ) (t : Transport) (q : ℕ) → (seek n t q) .playing ≡ true → t .playing ≡ true
+SeekStartsNothing = (n : ℕ) (t : Transport) (q : ℕ) → PlaysAfter n t q → t .playing ≡ true
 
 pub record StoppedStays : Type 0 where
   pub pause : pausing Stopped ≡ Stopped

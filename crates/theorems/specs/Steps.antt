@@ -16,6 +16,7 @@ use Rattle.playing.specs.Plays.{total, turned, Outcome}
 use Rattle.block.specs.Blocks.{begun, live}
 use Rattle.static_sound.specs.Entries.{processed, processedInto}
 use Rattle.theorems.specs.Sums.{sum}
+use Rattle.theorems.specs.Accepted.{AcceptedBlock, AcceptedMix}
 
 -- the steps of each frame
 unfoldable pub stepsOf : List Float → Float → List Lane → StaticSound → List ℕ
@@ -31,9 +32,9 @@ pub record Stepped (snd : List Float) (v : StaticSound) (dt : Float) (b : Lanes)
 abbrev pub StepsMade : Type 0
 StepsMade =
     (snd : List Float) (v : StaticSound) (dt : Float) (b : Lanes) (g : Signals) (out : List Float)
-    → let o = processed snd v dt b g out in o .answer .refusal ≡ 0 → Stepped snd v dt b g o
+    → AcceptedBlock snd v dt b g out → Stepped snd v dt b g (processed snd v dt b g out)
 
 abbrev pub MixStepsMade : Type 0
 MixStepsMade =
     (snd : List Float) (v : StaticSound) (dt : Float) (b : Lanes) (g : Signals) (mix : List Float) (from : ℕ)
-    → let o = processedInto snd v dt b g mix from in o .answer .refusal ≡ 0 → Stepped snd v dt b g o
+    → AcceptedMix snd v dt b g mix from → Stepped snd v dt b g (processedInto snd v dt b g mix from)

@@ -5,4 +5,5 @@ pub mod Sends
 pub mod Traces
 pub mod Windows
 pub mod Answers
+pub mod Witnesses
 pub mod Promises

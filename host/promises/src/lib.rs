@@ -3,6 +3,8 @@
 //! docs/EXCEPTIONS.md. And whether docs/EXCEPTIONS.md names every function that asks something of its callers, in the
 //! table of public or of private functions as the sources have it, and those callers.
 
+pub mod records;
+
 use std::fs;
 use std::path::Path;
 

@@ -145,30 +145,6 @@ fn each_wrong_answer_named_is_an_edit_that_must_be_refused() {
 }
 
 #[test]
-fn the_first_page_is_the_record_of_promises() {
-    let record = read("crates/theorems/specs/Promises.antt");
-    let mut fields: Vec<&str> = record
-        .lines()
-        .filter_map(|line| line.strip_prefix("  pub "))
-        .filter_map(|line| line.split_whitespace().next())
-        .collect();
-    let page = read("docs/PROMISES.md");
-    let mut rows: Vec<&str> = page
-        .lines()
-        .skip_while(|line| *line != "| field | file | says |")
-        .skip(2)
-        .take_while(|line| line.starts_with("| `"))
-        .filter_map(|line| line.strip_prefix("| "))
-        .filter_map(|line| line.split(" | ").next())
-        .flat_map(|names| names.split(", "))
-        .map(|name| name.trim_matches('`'))
-        .collect();
-    fields.sort_unstable();
-    rows.sort_unstable();
-    assert_eq!(fields, rows);
-}
-
-#[test]
 fn each_function_that_asks_has_a_row_with_its_callers() {
     let all = all_functions(&root().join("crates"));
     let told = callers_told(&read("docs/EXCEPTIONS.md"));
