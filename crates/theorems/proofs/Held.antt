@@ -72,17 +72,19 @@ rest-half out k h = half (length out) (length (drop (2 * k) out)) k (length-drop
     half m d k e = omega arith
 
 held-cut : HeldCut
-held-cut snd v dt x g out k e h =
+held-cut snd v dt x g out k m =
     let n = length out / 2 in
+    let h : k ≤ n = subst (λ (j : ℕ). k ≤ j) (length-replicate n (x .rate)) (m .inside) in
     let a : firstLanes k (once x n) ≡ once x (length (take (2 * k) out) / 2) = first-once x n k h ∙ ap (once x) (sym (first-half out k h)) in
     let b : restLanes k (once x n) ≡ once x (length (drop (2 * k) out) / 2) = rest-once x n k h ∙ ap (once x) (sym (rest-half out k h)) in
     parts-are snd dt x v g _ _ _ _ (take (2 * k) out) (drop (2 * k) out) (processedHeld snd v dt x g out) a b
-    (cut-blocks snd v dt (once x n) g out k e (subst (λ (m : ℕ). k ≤ m) (sym (length-replicate n (x .rate))) h))
+    (cut-blocks snd v dt (once x n) g out k m)
 
 held-mix-cut : HeldMixCut
-held-mix-cut snd v dt x g mix from n k e h =
+held-mix-cut snd v dt x g mix from n k m =
+    let h : k ≤ n = subst (λ (j : ℕ). k ≤ j) (length-replicate n (x .rate)) (m .inside) in
     mixes-are snd dt x v g _ _ _ _ mix from k (processedHeldInto snd v dt x g mix from n) (first-once x n k h) (rest-once x n k h)
-    (cut-mixes snd v dt (once x n) g mix from k e (subst (λ (m : ℕ). k ≤ m) (sym (length-replicate n (x .rate))) h))
+    (cut-mixes snd v dt (once x n) g mix from k m)
 
 pub held-blocks : HeldBlocks
 held-blocks =

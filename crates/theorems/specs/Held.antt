@@ -1,8 +1,7 @@
 -- Blocks whose five numbers are given once. Their definition is the block over lanes that repeat the numbers, so every theorem over blocks holds of them;
 -- here by name: cut in two, such a block is two such blocks, into an output or into a mix; what it keeps; the steps that it reports, and how many they are at most.
 -- Rows of such blocks are the rows of Schedules over such lanes, and they are calls of InTheLoop.
-use Prim.Native.Nat.{ℕ, _+_, _-_, _*_, _/_, _≤_}
-use mathlib.Core.Path.{_≡_}
+use Prim.Native.Nat.{ℕ, _+_, _-_, _*_, _/_}
 use mathlib.Core.List.{List}
 use lib.ListN.{length, take, drop}
 use lib.Ieee.{Float}
@@ -12,16 +11,17 @@ use Rattle.voice.specs.declared.StaticSound.{StaticSound}
 use Rattle.block.specs.declared.Signals.{Signals}
 use Rattle.block.specs.Blocks.{quiet}
 use Rattle.static_sound.specs.Entries.{processedHeld, processedHeldInto}
-use Rattle.theorems.specs.Cut.{CutInTwo}
-use Rattle.theorems.specs.Mix.{CutInMix}
+use Rattle.theorems.specs.Accepted.{AcceptedBlock, AcceptedMix}
+use Rattle.theorems.specs.Cut.{CutInTwo, MayCut}
+use Rattle.theorems.specs.Mix.{CutInMix, MayCutMix}
 use Rattle.theorems.specs.Kept.{BlockKeeps}
 use Rattle.theorems.specs.Steps.{Stepped}
-use Rattle.theorems.specs.Budget.{Slow, Within}
+use Rattle.theorems.specs.Budget.{SlowBlock, SlowMix, Within}
 
 abbrev pub HeldCut : Type 0
 HeldCut =
     (snd : List Float) (v : StaticSound) (dt : Float) (x : Held) (g : Signals) (out : List Float) (k : ℕ)
-    → (processedHeld snd v dt x g out) .answer .refusal ≡ 0 → k ≤ length out / 2
+    → MayCut snd v dt (once x (length out / 2)) g out k
     → let first = processedHeld snd v dt x g (take (2 * k) out) in
     let rest = processedHeld snd (first .answer .sound) dt x (quiet g) (drop (2 * k) out) in
     CutInTwo (processedHeld snd v dt x g out) first rest
@@ -29,7 +29,7 @@ HeldCut =
 abbrev pub HeldMixCut : Type 0
 HeldMixCut =
     (snd : List Float) (v : StaticSound) (dt : Float) (x : Held) (g : Signals) (mix : List Float) (from n k : ℕ)
-    → (processedHeldInto snd v dt x g mix from n) .answer .refusal ≡ 0 → k ≤ n
+    → MayCutMix snd v dt (once x n) g mix from k
     → let first = processedHeldInto snd v dt x g mix from k in
     let rest = processedHeldInto snd (first .answer .sound) dt x (quiet g) (first .samples) (from + k) (n - k) in
     CutInMix (processedHeldInto snd v dt x g mix from n) first rest
@@ -46,25 +46,22 @@ HeldMixKeeps =
 abbrev pub HeldSteps : Type 0
 HeldSteps =
     (snd : List Float) (v : StaticSound) (dt : Float) (x : Held) (g : Signals) (out : List Float)
-    → let o = processedHeld snd v dt x g out in o .answer .refusal ≡ 0 → Stepped snd v dt (once x (length out / 2)) g o
+    → AcceptedBlock snd v dt (once x (length out / 2)) g out → Stepped snd v dt (once x (length out / 2)) g (processedHeld snd v dt x g out)
 
 abbrev pub HeldMixSteps : Type 0
 HeldMixSteps =
     (snd : List Float) (v : StaticSound) (dt : Float) (x : Held) (g : Signals) (mix : List Float) (from n : ℕ)
-    → let o = processedHeldInto snd v dt x g mix from n in o .answer .refusal ≡ 0 → Stepped snd v dt (once x n) g o
+    → AcceptedMix snd v dt (once x n) g mix from → Stepped snd v dt (once x n) g (processedHeldInto snd v dt x g mix from n)
 
 abbrev pub HeldBudget : Type 0
 HeldBudget =
     (k : ℕ) (snd : List Float) (v : StaticSound) (dt : Float) (x : Held) (g : Signals) (out : List Float)
-    → let b = once x (length out / 2) in
-    let a = (processedHeld snd v dt x g out) .answer in
-    a .refusal ≡ 0 → k ≤ 256 → Slow k v dt b → Within k snd v dt b g a
+    → SlowBlock k snd v dt (once x (length out / 2)) g out → Within k snd v dt (once x (length out / 2)) g ((processedHeld snd v dt x g out) .answer)
 
 abbrev pub HeldMixBudget : Type 0
 HeldMixBudget =
     (k : ℕ) (snd : List Float) (v : StaticSound) (dt : Float) (x : Held) (g : Signals) (mix : List Float) (from n : ℕ)
-    → let a = (processedHeldInto snd v dt x g mix from n) .answer in
-    a .refusal ≡ 0 → k ≤ 256 → Slow k v dt (once x n) → Within k snd v dt (once x n) g a
+    → SlowMix k snd v dt (once x n) g mix from → Within k snd v dt (once x n) g ((processedHeldInto snd v dt x g mix from n) .answer)
 
 pub record HeldBlocks : Type 0 where
   pub cut : HeldCut
