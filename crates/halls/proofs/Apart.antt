@@ -15,10 +15,10 @@ use Rattle.loop_table.specs.declared.Hall.the-variants as hall
 use Rattle.loop_table.specs.declared.LoopSlot.{LoopSlot}
 use Rattle.loop_table.specs.declared.LoopTable.{LoopTable}
 use Rattle.loop_table.specs.declared.LoopFound.{LoopFound}
-use Rattle.loop_table.specs.Tables.{unless, slotOf, empty, isEmpty, looping, lawfulTable, owns, refusedSlot, heldIn, changed, refusedWrite, written, refusedClear, cleared, refusedRead, found}
+use Rattle.loop_table.specs.Tables.{unless, slotOf, empty, isEmpty, looping, lawfulTable, same, half, owns, refusedSlot, heldIn, changed, refusedWrite, written, refusedClear, cleared, refusedRead, found}
 use Rattle.take_loop.specs.Taking.{takenFrom, taken}
 use Rattle.halls.specs.Calls.{Call, Write, Clear, Read, Play, New, Take, Command, Block, Mix, Event, ByHall, ByVoice, Numbered, Looked, Told, Played, World, hallTold, tableAfter, voiceTold, voiceAfter, told, next}
-use Rattle.halls.specs.Apart.{same, half, concerns, takesFrom, HallsApart, ofVoice, takesNone, TakenStays}
+use Rattle.halls.specs.Apart.{concerns, takesFrom, HallsApart, ofVoice, takesNone, TakenStays}
 use Rattle.halls.proofs.Stores.{never, Passed, write-passed, clear-passed, held-half, changed-number, changed-frames, changed-lawful, changed-other, changed-own}
 use Rattle.halls.proofs.Rows.{rows-alike}
 
