@@ -10,16 +10,29 @@ mod loops;
 mod saved;
 mod traces;
 
+pub use fades::cableowl_amplitude;
+pub use fades::cableowl_fade_ramp;
 use inputs::CableowlCommands;
 use inputs::CableowlSettings;
 use inputs::CableowlSignals;
 use inputs::commands_of;
 use inputs::settings_of;
 use inputs::signals_of;
+pub use loops::cableowl_clear_loop;
+pub use loops::cableowl_loop_table;
+pub use loops::cableowl_read_loop;
+pub use loops::cableowl_take_loop;
+pub use loops::cableowl_write_loop;
 use playing::Processed;
 use records::CableowlState;
 use records::decode;
 use records::encode;
+pub use saved::cableowl_load_settings;
+pub use saved::cableowl_settings_of;
+pub use saved::cableowl_store_settings;
+pub use traces::cableowl_read_record;
+pub use traces::cableowl_salvage;
+pub use traces::cableowl_write_record;
 use voice::StaticSound;
 
 #[repr(C)]

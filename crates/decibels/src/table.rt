@@ -606,7 +606,7 @@ const AMPLITUDES: [u32; 601] = [
 ];
 
 // Lend it to every look-up of a loop: each call copies the table.
-pub fn all() -> [u32; 601]
+pub(crate) fn all() -> [u32; 601]
     ensures { λ r. ⌜ Table r ⌝ }
 {
     AMPLITUDES

@@ -3,4 +3,5 @@ pub mod Streams
 pub mod Cuts
 pub mod Played
 pub mod Example
+pub mod Coincide
 pub mod Promises

@@ -2,4 +2,5 @@
 pub mod Streams
 pub mod Cuts
 pub mod Example
+pub mod Coincide
 pub mod Promises

@@ -4,4 +4,5 @@ pub mod Loads
 pub mod Stores
 pub mod Fields
 pub mod Rounds
+pub mod Buffers
 pub mod Promises

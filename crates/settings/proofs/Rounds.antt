@@ -152,7 +152,7 @@ shown-is version s t p e = go (lawful t) refl e
         let z : 0 ≡ version = ap (λ (l : Loaded). l .version) u in
         absurd (omega (arith, z, p))
 
-version-is : (v w : ℕ) (d : Reading) (s : SavedSettings) → 0 < w → judged v d ≡ whole w s → v ≡ w
+pub version-is : (v w : ℕ) (d : Reading) (s : SavedSettings) → 0 < w → judged v d ≡ whole w s → v ≡ w
 unfolding judged
 version-is v w (bad k) s p e =
     let z : 0 ≡ w = ap (λ (l : Loaded). l .version) e in

@@ -50,7 +50,7 @@ module _ (version : ℕ) (s : SavedSettings) (buffer : List ℕ) where
   written after h e = e ∙ sym (ap (λ (b : Bool). cond b (sets buffer 0 (encoded version s)) buffer) (eq-eqb (storeRefusal version s (length buffer)) 0 h))
 
 -- what an accepted store has
-passed : (b : Bool) (x k : ℕ) → cond b x (suc k) ≡ 0 → (b ≡ true) × (x ≡ 0)
+pub passed : (b : Bool) (x k : ℕ) → cond b x (suc k) ≡ 0 → (b ≡ true) × (x ≡ 0)
 passed true x k h = (refl, h)
 passed false x k h = absurd (omega (arith, h))
 

@@ -1,14 +1,15 @@
 -- What is promised of saved settings beyond the contracts (request #113). A word is below 2^64, a byte below 256.
-use Prim.Native.Nat.{ℕ, _^_, _<_}
+use Prim.Native.Nat.{ℕ, _^_, _≤_, _<_}
 use mathlib.Core.Path.{_≡_}
 use mathlib.Core.Bool.{true}
 use mathlib.Core.List.{List, _++_}
-use lib.ListN.{getD}
+use lib.ListN.{length, getD, take}
+use lib.Seq.{sets}
 use lib.Ieee.{binary64, ofBits}
 use Rattle.numbers.specs.Words.{finite}
 use Rattle.settings.specs.declared.SavedSettings.{SavedSettings}
 use Rattle.settings.specs.declared.Loaded.{Loaded}
-use Rattle.settings.specs.Records.{finiteBits, storable, encoded, loaded, refusedBy}
+use Rattle.settings.specs.Records.{finiteBits, storable, size, storeRefusal, encoded, stored, loaded, refusedBy}
 
 -- shown, and no refusal
 abbrev pub whole : ℕ → SavedSettings → Loaded
@@ -31,3 +32,9 @@ pub record Promises : Type 0 where
   pub second-again : (reader : ℕ) (s : SavedSettings) (bytes : List ℕ) → ((i : ℕ) → getD bytes i 0 < 256) → loaded reader bytes ≡ whole 2 s → Holds 2 s bytes
   -- a rate whose bits pass is a finite number
   pub rates : (bits : ℕ) → finiteBits bits ≡ finite (ofBits binary64 bits)
+  -- what `store` leaves in the buffer is what `load` shows
+  pub store-loads : (version : ℕ) (s : SavedSettings) (buffer : List ℕ) → s .rate < 2 ^ 64 → s .pitch < 2 ^ 64
+      → storeRefusal version s (length buffer) ≡ 0 → loaded 2 (stored version s buffer) ≡ whole version s
+  -- and what `load` shows, `store` writes as the same bytes where there is room
+  pub load-stores : (reader version : ℕ) (s : SavedSettings) (bytes buffer : List ℕ) → ((i : ℕ) → getD bytes i 0 < 256)
+      → 0 < version → loaded reader bytes ≡ whole version s → size version ≤ length buffer → stored version s buffer ≡ sets buffer 0 (take (size version) bytes)

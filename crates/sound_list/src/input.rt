@@ -29,7 +29,7 @@ pub(crate) fn next() -> u64 {
     value
 }
 
-pub fn least(count: usize, most: usize) -> usize
+pub(crate) fn least(count: usize, most: usize) -> usize
     ensures { λ r. ⌜ r ≤ most ⌝ }
 {
     if count < most { count } else { most }
@@ -40,7 +40,7 @@ pub(crate) fn index() -> usize {
 }
 
 // A count of at most so many.
-pub fn count(most: usize) -> usize
+pub(crate) fn count(most: usize) -> usize
     ensures { λ r. ⌜ r ≤ most ⌝ }
 {
     least(index(), most)
@@ -63,7 +63,7 @@ pub(crate) fn single() -> f32 {
 }
 
 // Samples or amplitudes: a count, then so many numbers, put at the start of `to`.
-pub fn singles(to: &mut [f32]) -> usize
+pub(crate) fn singles(to: &mut [f32]) -> usize
     ensures { λ r. ⌜ Counts r (now (to .exit)) ⌝ }
 {
     let n = count(to.len());
@@ -75,7 +75,7 @@ pub fn singles(to: &mut [f32]) -> usize
     n
 }
 
-pub fn doubles(to: &mut [f64]) -> usize
+pub(crate) fn doubles(to: &mut [f64]) -> usize
     ensures { λ r. ⌜ Counts r (now (to .exit)) ⌝ }
 {
     let n = count(to.len());

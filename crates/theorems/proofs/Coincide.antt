@@ -1,6 +1,12 @@
 -- Any two outcomes that a contract allows coincide: each contract names its outcome, so both are the named one. Assumes nothing.
-use mathlib.Core.Path.{_≡_, sym, ap, _∙_}
+use mathlib.Core.Path.{_≡_, refl, sym, ap, _∙_}
+use Prim.Native.Nat.{ℕ}
+use mathlib.Core.List.{List}
 use Rattle.playing.specs.Plays.{Outcome}
+use Rattle.trace.specs.declared.writes.Sent.{Sent}
+use Rattle.trace.specs.Writes.{Written, sentOf}
+use Rattle.salvage.specs.declared.Saved.{Saved}
+use Rattle.salvage.specs.Salvage.{Salvaged, savedOf}
 use Rattle.cableowl.specs.Entries.{OutcomeC}
 use Rattle.theorems.specs.Coincide.{Coincide}
 
@@ -13,6 +19,17 @@ parts e = (ap (λ (o : Outcome). o .answer) e, ap (λ (o : Outcome). o .samples)
 
 partsC : {o p : OutcomeC} → o ≡ p → (o .answer ≡ p .answer) × (o .samples ≡ p .samples)
 partsC e = (ap (λ (o : OutcomeC). o .answer) e, ap (λ (o : OutcomeC). o .samples) e)
+
+-- an answer and what is left, each by its own equation
+both : {A B : Type 0} {x y u : A} {v w z : B} → (x ≡ u) × (v ≡ z) → (y ≡ u) × (w ≡ z) → (x ≡ y) × (v ≡ w)
+both p q = (same (p .0) (q .0), same (p .1) (q .1))
+
+-- a record written, and a salvage, with the buffer each leaves
+sent : {x y : Sent} {v w : List ℕ} → sentOf x v ≡ sentOf y w → (x ≡ y) × (v ≡ w)
+sent e = (ap (λ (o : Written). record { refusal = o .number; next = o .next }) e, ap (λ (o : Written). o .buffer) e)
+
+saved : {x y : Saved} {v w : List ℕ} → savedOf x v ≡ savedOf y w → (x ≡ y) × (v ≡ w)
+saved e = (ap (λ (o : Salvaged). record { refusal = o .number; records = o .count; skipped = o .skip; first = o .place }) e, ap (λ (o : Salvaged). o .output) e)
 
 pub coincide : Coincide
 coincide =
@@ -64,14 +81,45 @@ coincide =
       moving-moving-push-frame-to-resampler = λ k a x y s t p q. same p q;
       moving-moving-update-position = λ k a x y s t p q. same p q;
       moving-moving-update-positions = λ k a x y s t p q. same p q;
+      trail-track-of = λ k a x y s t p q. same p q;
+      trail-after = λ k a x y s t p q. same (p .0) (q .0);
+      trail-after-steps = λ k a x y s t p q. same (p .0) (q .0);
+      trail-has-room-after = λ k a x y s t p q. same p q;
+      trail-before = λ k a x y s t p q. same (p .0) (q .0);
+      trail-before-steps = λ k a x y s t p q. same (p .0) (q .0);
+      trail-has-room-before = λ k a x y s t p q. same p q;
+      trail-wraps-after = λ k a x y s t p q. same p q;
+      trail-frame-at = λ k a x y s t p q. same p q;
+      trail-trail-at = λ k a x y s t p q. same p q;
+      trail-is-trail = λ k a x y s t p q. same (p .0) (q .0);
       creation-blank = λ k a x y s t p q. same p q;
       creation-new = λ k a x y s t p q. same p q;
       command-set-on-start-processing = λ k a x y s t p q. same p q;
       playing-play = λ k a x y s t p q. parts (same p q);
+      riding-gains-at = λ k a x y s t p q. same p q;
+      riding-play = λ k a x y s t p q. parts (same p q);
       block-block = λ k a x y s t p q. parts (same p q);
       static-sound-process = λ k a x y s t p q. parts (same p q);
       static-sound-process-into = λ k a x y s t p q. parts (same p q);
       static-sound-stretch = λ k a x y s t p q. (same (p .0) (q .0), same (p .1) (q .1));
+      loop-table-looptable-new = λ k a x y s t p q. same p q;
+      loop-table-looptable-write = λ k a x y s t p q. same p q;
+      loop-table-looptable-clear = λ k a x y s t p q. same p q;
+      loop-table-looptable-read = λ k a x y s t p q. same p q;
+      take-loop-take = λ k a x y s t p q. same p q;
+      decibels-as-amplitude = λ k a x y s t p q. both p q;
+      decibels-fade-ramp = λ k a x y s t p q. both p q;
+      semitones-raised = λ k a x y s t p q. same p q;
+      layout-begin = λ k a x y s t p q. same p q;
+      layout-put-rows = λ k a x y s t p q. (same (p .1) (q .1), same (p .0) (q .0));
+      layout-rows-fit = λ k a x y s t p q. same p q;
+      layout-rows-length = λ k a x y s t p q. same p q;
+      layout-copy = λ k a x y s t p q. (refl, same p q);
+      settings-load = λ k a x y s t p q. same p q;
+      settings-store = λ k a x y s t p q. both p q;
+      trace-read = λ k a x y s t p q. same p q;
+      trace-write = λ k a x y s t p q. sent (same p q);
+      salvage-salvage = λ k a x y s t p q. saved (same p q);
       records-decode = λ k a x y s t p q. same p q;
       records-encode = λ k a x y s t p q. same p q;
       inputs-settings-of = λ k a x y s t p q. same p q;
@@ -83,4 +131,17 @@ coincide =
       cableowl-cableowl-process = λ k a x y s t p q. partsC (same p q);
       cableowl-cableowl-process-into = λ k a x y s t p q. partsC (same p q);
       cableowl-cableowl-stretch = λ k a x y s t p q. same p q;
+      cableowl-cableowl-amplitude = λ k a x y s t p q. both p q;
+      cableowl-cableowl-fade-ramp = λ k a x y s t p q. both p q;
+      cableowl-cableowl-loop-table = λ k a x y s t p q. same p q;
+      cableowl-cableowl-write-loop = λ k a x y s t p q. same p q;
+      cableowl-cableowl-clear-loop = λ k a x y s t p q. same p q;
+      cableowl-cableowl-read-loop = λ k a x y s t p q. same p q;
+      cableowl-cableowl-take-loop = λ k a x y s t p q. same p q;
+      cableowl-cableowl-store-settings = λ k a x y s t p q. both p q;
+      cableowl-cableowl-load-settings = λ k a x y s t p q. both p q;
+      cableowl-cableowl-settings-of = λ k a x y s t p q. same p q;
+      cableowl-cableowl-read-record = λ k a x y s t p q. same p q;
+      cableowl-cableowl-write-record = λ k a x y s t p q. sent (same p q);
+      cableowl-cableowl-salvage = λ k a x y s t p q. saved (same p q);
     }

@@ -8,7 +8,7 @@ use mathlib.Core.List.{List, [], _∷_}
 use lib.Dec.{T, leb, ltb, eqb}
 use lib.Ieee.{Float}
 use borrow.Author.Tests.{leb-false, ltb-true, ltb-false, lt-ltb, eqb-true, eqb-false}
-use Rattle.numbers.specs.Words.{whole}
+use Rattle.numbers.specs.Words.{whole, positiveZero}
 use Rattle.numbers.specs.Frames.{cutOff}
 use Rattle.playback_position.specs.declared.FrameRange.{FrameRange}
 use Rattle.playback_position.specs.declared.FrameRange.the-variants.{Frames}
@@ -41,16 +41,21 @@ use Rattle.command_set.specs.declared.LoopCommand.the-variants as loop
 use Rattle.command_set.specs.declared.ResumeCommand.{ResumeCommand}
 use Rattle.command_set.specs.declared.ResumeCommand.the-variants as resume
 use Rattle.command_set.specs.declared.Commands.{Commands}
+use Rattle.command_set.specs.declared.Commanded.{Commanded}
 use Rattle.command_set.specs.Commands.{targetBy, targetTo, looped, woken, ordered, told, jumped, refilled, sought, soughtBy, soughtTo, obeyed, commanded}
 use Rattle.command_set.proofs.Orders.{by-setup, obeyed-setup}
 use Rattle.command_set.proofs.Answers.{commanded-passed, commanded-done, commanded-refused}
+use Rattle.loop_table.specs.declared.LoopTable.{LoopTable}
+use Rattle.loop_table.specs.declared.LoopFound.{LoopFound}
+use Rattle.loop_table.specs.Tables.{found}
+use Rattle.take_loop.specs.Taking.{loopCommand, taken}
 use Rattle.block.specs.declared.Signals.{Signals}
 use Rattle.playing.specs.Plays.{total, turned, plays}
 use Rattle.block.specs.Blocks.{begun, live, silent, block, givenUp}
 use Rattle.static_sound.specs.Entries.{processed, processedInto}
 use Rattle.block.proofs.Blocks.{block-setup}
 use Rattle.static_sound.proofs.Entries.{processed-passed, processed-done, processed-refused, into-passed, into-done, into-refused}
-use Rattle.theorems.specs.InTheLoop.{Call, Block, Mix, Command, after, accepted, afterAll, someAccepted, changesLoop, reloops, isNever, stops, ending, InTheLoop}
+use Rattle.theorems.specs.InTheLoop.{Call, Block, Mix, Command, Take, Stretch, after, accepted, afterAll, someAccepted, changesLoop, reloops, isNever, stops, ending, InTheLoop}
 
 -- ---- the transport's moves
 
@@ -233,6 +238,25 @@ ordered-alive c s e k = last (c .stop) e
     last true h = absurd h
     last false h = woken-alive (c .resume) p (paused (c .pause))
 
+-- ---- a loop that is not taken
+
+-- refused by the table, or by the command set: the given voice
+pub taken-refused : (snd : List Float) (t : LoopTable) (k : ℕ) (v : StaticSound) → ((taken snd t k v) .refusal ≡ 0 → ⊥) → (taken snd t k v) .sound ≡ v
+unfolding taken
+taken-refused snd t k v = go (eqb (f .refusal) 0)
+  where
+    f : LoopFound
+    f = found t k
+
+    c : Commands
+    c = loopCommand (f .slot)
+
+    go : (b : Bool)
+        → let r = cond {A = Commanded} b (commanded snd v (loopCommand (f .slot))) (record { refusal = f .refusal; sound = v; position = positiveZero }) in
+        (r .refusal ≡ 0 → ⊥) → r .sound ≡ v
+    go true n = ap (λ (a : Commanded). a .sound) (commanded-refused snd v c n)
+    go false n = refl
+
 -- ---- one call
 
 -- of an accepted call what is asked, of a refused one nothing
@@ -322,6 +346,11 @@ module _ (s e : ℕ) (v : StaticSound) (h : In s e v) where
           rw (commanded-done snd v o (commanded-passed snd v o (eqb-true ((commanded snd v o) .refusal) 0 q)))
           (set-next c snd o (asked (reloops c) (accepted c v) q k) (asked (stops c) (accepted c v) q))
       go false q = rw (commanded-refused snd v o (eqb-false ((commanded snd v o) .refusal) 0 q)) (untouched c)
+  next (Take snd t n) k = subst (λ (w : StaticSound). Next s e (Take snd t n) v w) (sym (taken-refused snd t n v (λ z. refuses ((taken snd t n v) .refusal) z k))) (untouched (Take snd t n))
+    where
+      refuses : (r : ℕ) → r ≡ 0 → T (not (eqb r 0 && true)) → ⊥
+      refuses r z h = subst (λ (x : ℕ). T (not (eqb x 0 && true))) z h
+  next (Stretch snd) k = untouched (Stretch snd)
 
 -- ---- a row of calls
 

@@ -20,5 +20,6 @@ pub mod AtZero
 pub mod Examples
 pub mod Archive
 pub mod ArchiveSchedules
+pub mod ArchiveInTheLoop
 pub mod Coincide
 pub mod Promises

@@ -26,6 +26,7 @@ use Rattle.theorems.proofs.Budget.{block-budget, mix-budget, stream-bud
 use Rattle.theorems.proofs.StartTicks.{half-reached, moved-together, tick-starts, mix-tick-starts}
 use Rattle.theorems.proofs.Archive.{archive-cut-blocks, archive-cut-mixes}
 use Rattle.theorems.proofs.ArchiveSchedules.{archive-any-sizes, archive-any-sizes-mix, archive-all-accepted, archive-all-accepted-mix}
+use Rattle.theorems.proofs.ArchiveInTheLoop.{archive-in-the-loop}
 use Rattle.theorems.proofs.Coincide.{coincide}
 use Rattle.theorems.proofs.AtZero.{reads-b}
 use Rattle.theorems.proofs.Examples.{examples-hold}
@@ -99,6 +100,7 @@ promises =
       there-and-back = there-and-back;
       permutations = permutations;
       in-the-loop = in-the-loop;
+      archive-in-the-loop = archive-in-the-loop;
       updates-fit = updates-fit;
       blocks-fit = blocks-fit;
       mixes-fit = mixes-fit;

@@ -1,5 +1,6 @@
 -- Whether a promise says enough (docs/RULES.md): any two outcomes that one contract allows for one input coincide. A line for each public function,
 -- over its contract itself: `Post` is all that the function ensures, of what it is given, what it answers and what the lent buffers hold at its end.
+-- The functions that replay a trace are above this crate: crates/evenings/specs/Coincide.antt has their lines.
 use mathlib.Core.Path.{_≡_}
 use mathlib.Core.List.{List}
 use denote.Ref.{RefT, now, ptr}
@@ -13,12 +14,22 @@ use Rattle.playback_state_manager.proofs as playback_state_manager
 use Rattle.start_time.proofs as start_time
 use Rattle.lanes.proofs as lanes
 use Rattle.moving.proofs as moving
+use Rattle.trail.proofs as trail
 use Rattle.voice.proofs as voice
 use Rattle.creation.proofs as creation
 use Rattle.command_set.proofs as command_set
 use Rattle.playing.proofs as playing
+use Rattle.riding.proofs as riding
 use Rattle.block.proofs as block
 use Rattle.static_sound.proofs as static_sound
+use Rattle.loop_table.proofs as loop_table
+use Rattle.take_loop.proofs as take_loop
+use Rattle.decibels.proofs as decibels
+use Rattle.semitones.proofs as semitones
+use Rattle.layout.proofs as layout
+use Rattle.settings.proofs as settings
+use Rattle.trace.proofs as trace
+use Rattle.salvage.proofs as salvage
 use Rattle.records.proofs as records
 use Rattle.inputs.proofs as inputs
 use Rattle.cableowl.proofs as cableowl
@@ -32,9 +43,9 @@ module _ {K : Type 0} {A R S : K → Type 0} where
   abbrev pub Decides : Allows K A R S → Type 0
   Decides P = (k : K) (a : A k) (x y : R k) (s t : S k) → P k a x s → P k a y t → x ≡ y
 
-  -- and so do the samples of a buffer that it writes
-  abbrev pub DecidesWith : (samples : (k : K) → S k → List Float) → Allows K A R S → Type 0
-  DecidesWith samples P = (k : K) (a : A k) (x y : R k) (s t : S k) → P k a x s → P k a y t → (x ≡ y) × (samples k s ≡ samples k t)
+  -- and so does what it leaves: all of a buffer or a number that it writes, or the part of a buffer that the answer says is in use
+  abbrev pub DecidesWith : {B : Type 0} (left : (k : K) → R k → S k → B) → Allows K A R S → Type 0
+  DecidesWith left P = (k : K) (a : A k) (x y : R k) (s t : S k) → P k a x s → P k a y t → (x ≡ y) × (left k x s ≡ left k y t)
 
 -- a part of what was lent: its samples and its place coincide
 abbrev pub DecidesPart : {K : Type 0} {A S : K → Type 0} → Allows K A (λ (k : K). RefT (List Float)) S → Type 0
@@ -99,18 +110,55 @@ pub record Coincide : Type 0 where
   pub moving-moving-push-frame-to-resampler : Decides moving.Moving.push_frame_to_resampler.Reads.Post
   pub moving-moving-update-position : Decides moving.Moving.update_position.Reads.Post
   pub moving-moving-update-positions : Decides moving.Moving.update_positions.Reads.Post
+  -- trail
+  pub trail-track-of : Decides trail.track_of.Reads.Post
+  pub trail-after : Decides trail.after.Reads.Post
+  pub trail-after-steps : Decides trail.after_steps.Reads.Post
+  pub trail-has-room-after : Decides trail.has_room_after.Reads.Post
+  pub trail-before : Decides trail.before.Reads.Post
+  pub trail-before-steps : Decides trail.before_steps.Reads.Post
+  pub trail-has-room-before : Decides trail.has_room_before.Reads.Post
+  pub trail-wraps-after : Decides trail.wraps_after.Reads.Post
+  pub trail-frame-at : Decides trail.frame_at.Reads.Post
+  pub trail-trail-at : Decides trail.trail_at.Reads.Post
+  pub trail-is-trail : Decides trail.is_trail.Reads.Post
   -- creation
   pub creation-blank : Decides creation.blank.Reads.Post
   pub creation-new : Decides creation.new.Reads.Post
   -- command_set
   pub command-set-on-start-processing : Decides command_set.on_start_processing.Reads.Post
-  -- playing and block
-  pub playing-play : DecidesWith (λ k s. s .1 .1 .1 .1 .1 .1 .1 .0 .now) playing.play.Reads.Post
-  pub block-block : DecidesWith (λ k s. s .1 .1 .1 .1 .1 .1 .1 .0 .now) block.block.Reads.Post
+  -- playing, riding and block
+  pub playing-play : DecidesWith (λ k r s. s .1 .1 .1 .1 .1 .1 .1 .0 .now) playing.play.Reads.Post
+  pub riding-gains-at : Decides riding.gains_at.Reads.Post
+  pub riding-play : DecidesWith (λ k r s. s .1 .1 .1 .1 .1 .1 .1 .0 .now) riding.play.Reads.Post
+  pub block-block : DecidesWith (λ k r s. s .1 .1 .1 .1 .1 .1 .1 .0 .now) block.block.Reads.Post
   -- static_sound
-  pub static-sound-process : DecidesWith (λ k s. s .1 .1 .1 .1 .1 .1 .1 .1 .1 .0 .now) static_sound.process.Reads.Post
-  pub static-sound-process-into : DecidesWith (λ k s. s .1 .1 .1 .1 .1 .1 .1 .1 .1 .0 .now) static_sound.process_into.Reads.Post
+  pub static-sound-process : DecidesWith (λ k r s. s .1 .1 .1 .1 .1 .1 .1 .1 .1 .0 .now) static_sound.process.Reads.Post
+  pub static-sound-process-into : DecidesWith (λ k r s. s .1 .1 .1 .1 .1 .1 .1 .1 .1 .0 .now) static_sound.process_into.Reads.Post
   pub static-sound-stretch : DecidesPart static_sound.stretch.Reads.Post
+  -- loop_table and take_loop
+  pub loop-table-looptable-new : Decides loop_table.LoopTable.new.Reads.Post
+  pub loop-table-looptable-write : Decides loop_table.LoopTable.write.Reads.Post
+  pub loop-table-looptable-clear : Decides loop_table.LoopTable.clear.Reads.Post
+  pub loop-table-looptable-read : Decides loop_table.LoopTable.read.Reads.Post
+  pub take-loop-take : Decides take_loop.take.Reads.Post
+  -- decibels and semitones
+  pub decibels-as-amplitude : DecidesWith (λ k r s. s .1 .0 .now) decibels.as_amplitude.Reads.Post
+  pub decibels-fade-ramp : DecidesWith (λ k r s. s .1 .1 .1 .0 .now) decibels.fade_ramp.Reads.Post
+  pub semitones-raised : Decides semitones.raised.Reads.Post
+  -- layout
+  pub layout-begin : Decides layout.begin.Reads.Post
+  pub layout-put-rows : DecidesWith (λ k r s. s .0 .now) layout.put_rows.Reads.Post
+  pub layout-rows-fit : Decides layout.rows_fit.Reads.Post
+  pub layout-rows-length : Decides layout.rows_length.Reads.Post
+  pub layout-copy : DecidesWith (λ k r s. s .1 .1 .1 .0 .now) layout.copy.Reads.Post
+  -- settings
+  pub settings-load : Decides settings.load.Reads.Post
+  pub settings-store : DecidesWith (λ k r s. s .1 .1 .0 .now) settings.store.Reads.Post
+  -- trace and salvage
+  pub trace-read : Decides trace.read.Reads.Post
+  pub trace-write : DecidesWith (λ k r s. s .0 .now) trace.write.Reads.Post
+  pub salvage-salvage : DecidesWith (λ k r s. s .1 .0 .now) salvage.salvage.Reads.Post
   -- records and inputs
   pub records-decode : Decides records.decode.Reads.Post
   pub records-encode : Decides records.encode.Reads.Post
@@ -121,6 +169,19 @@ pub record Coincide : Type 0 where
   pub cableowl-cableowl-version : Decides cableowl.cableowl_version.Reads.Post
   pub cableowl-cableowl-new : Decides cableowl.cableowl_new.Reads.Post
   pub cableowl-cableowl-on-start-processing : Decides cableowl.cableowl_on_start_processing.Reads.Post
-  pub cableowl-cableowl-process : DecidesWith (λ k s. s .1 .1 .1 .1 .1 .1 .1 .1 .1 .0 .now) cableowl.cableowl_process.Reads.Post
-  pub cableowl-cableowl-process-into : DecidesWith (λ k s. s .1 .1 .1 .1 .1 .1 .1 .1 .1 .0 .now) cableowl.cableowl_process_into.Reads.Post
+  pub cableowl-cableowl-process : DecidesWith (λ k r s. s .1 .1 .1 .1 .1 .1 .1 .1 .1 .0 .now) cableowl.cableowl_process.Reads.Post
+  pub cableowl-cableowl-process-into : DecidesWith (λ k r s. s .1 .1 .1 .1 .1 .1 .1 .1 .1 .0 .now) cableowl.cableowl_process_into.Reads.Post
   pub cableowl-cableowl-stretch : Decides cableowl.cableowl_stretch.Reads.Post
+  pub cableowl-cableowl-amplitude : DecidesWith (λ k r s. s .1 .0 .now) cableowl.cableowl_amplitude.Reads.Post
+  pub cableowl-cableowl-fade-ramp : DecidesWith (λ k r s. s .1 .1 .1 .0 .now) cableowl.cableowl_fade_ramp.Reads.Post
+  pub cableowl-cableowl-loop-table : Decides cableowl.cableowl_loop_table.Reads.Post
+  pub cableowl-cableowl-write-loop : Decides cableowl.cableowl_write_loop.Reads.Post
+  pub cableowl-cableowl-clear-loop : Decides cableowl.cableowl_clear_loop.Reads.Post
+  pub cableowl-cableowl-read-loop : Decides cableowl.cableowl_read_loop.Reads.Post
+  pub cableowl-cableowl-take-loop : Decides cableowl.cableowl_take_loop.Reads.Post
+  pub cableowl-cableowl-store-settings : DecidesWith (λ k r s. s .1 .0 .now) cableowl.cableowl_store_settings.Reads.Post
+  pub cableowl-cableowl-load-settings : DecidesWith (λ k r s. s .1 .1 .0 .now) cableowl.cableowl_load_settings.Reads.Post
+  pub cableowl-cableowl-settings-of : Decides cableowl.cableowl_settings_of.Reads.Post
+  pub cableowl-cableowl-read-record : Decides cableowl.cableowl_read_record.Reads.Post
+  pub cableowl-cableowl-write-record : DecidesWith (λ k r s. s .0 .now) cableowl.cableowl_write_record.Reads.Post
+  pub cableowl-cableowl-salvage : DecidesWith (λ k r s. s .1 .0 .now) cableowl.cableowl_salvage.Reads.Post

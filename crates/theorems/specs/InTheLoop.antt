@@ -1,5 +1,6 @@
 -- Once in the loop, always in the loop. Take a well formed voice whose transport plays inside its loop, and any row of calls: blocks, into an output or into a mix,
--- and command sets, each with a sound of its own. As long as no accepted one holds a loop command, the transport still plays, inside that loop;
+-- command sets, loops taken from a table and stretches, each with a sound of its own. A loop that is taken counts as a loop command.
+-- As long as no accepted one holds a loop command, the transport still plays, inside that loop;
 -- and the voice is Stopped only if an accepted one held a stop command or a never answer, or if it was Stopping or Stopped at first.
 -- Of refused calls nothing is asked: they may hold anything. Seeks are commands like others, and stay inside.
 use Prim.Native.Nat.{ℕ}
@@ -21,6 +22,8 @@ use Rattle.command_set.specs.declared.LoopCommand.{LoopCommand}
 use Rattle.command_set.specs.declared.LoopCommand.the-variants as loop
 use Rattle.command_set.specs.declared.Commands.{Commands}
 use Rattle.command_set.specs.Commands.{commanded}
+use Rattle.loop_table.specs.declared.LoopTable.{LoopTable}
+use Rattle.take_loop.specs.Taking.{taken}
 use Rattle.block.specs.declared.Signals.{Signals}
 use Rattle.static_sound.specs.Entries.{processed, processedInto}
 
@@ -31,17 +34,24 @@ pub data Call : Type 0 where
   Block : (sound : List Float) (dt : Float) (lanes : Lanes) (signals : Signals) (out : List Float) → Call
   Mix : (sound : List Float) (dt : Float) (lanes : Lanes) (signals : Signals) (mix : List Float) (from : ℕ) → Call
   Command : (sound : List Float) (commands : Commands) → Call
+  Take : (sound : List Float) (table : LoopTable) (slot : ℕ) → Call
+  Stretch : (sound : List Float) → Call
 
--- the voice that a call gives back
+-- the voice that a call gives back; a stretch gives back none, so it stays as it is
 abbrev pub after : Call → StaticSound → StaticSound
 after (Block snd dt b g out) v = (processed snd v dt b g out) .answer .sound
 after (Mix snd dt b g mix from) v = (processedInto snd v dt b g mix from) .answer .sound
 after (Command snd c) v = (commanded snd v c) .sound
+after (Take snd t k) v = (taken snd t k v) .sound
+after (Stretch snd) v = v
 
+-- a stretch has no refusal: over a wrong voice it is empty
 abbrev pub accepted : Call → StaticSound → Bool
 accepted (Block snd dt b g out) v = eqb ((processed snd v dt b g out) .answer .refusal) 0
 accepted (Mix snd dt b g mix from) v = eqb ((processedInto snd v dt b g mix from) .answer .refusal) 0
 accepted (Command snd c) v = eqb ((commanded snd v c) .refusal) 0
+accepted (Take snd t k) v = eqb ((taken snd t k v) .refusal) 0
+accepted (Stretch snd) v = true
 
 -- a row of calls, the first one first, each on what the one before left
 unfoldable pub afterAll : List Call → StaticSound → StaticSound
@@ -60,11 +70,13 @@ changesLoop loop.Keep = false
 changesLoop loop.Clear = true
 changesLoop (loop.Set r) = true
 
--- a loop command
+-- a loop command, or a loop that is taken
 abbrev pub reloops : Call → Bool
 reloops (Block snd dt b g out) = false
 reloops (Mix snd dt b g mix from) = false
 reloops (Command snd c) = changesLoop (c .«loop_region»)
+reloops (Take snd t k) = true
+reloops (Stretch snd) = false
 
 abbrev pub isNever : StartAnswer → Bool
 isNever answer.Waiting = false
@@ -76,6 +88,8 @@ abbrev pub stops : Call → Bool
 stops (Block snd dt b g out) = isNever (answering (g .start)) || isNever (g .resume)
 stops (Mix snd dt b g mix from) = isNever (answering (g .start)) || isNever (g .resume)
 stops (Command snd c) = c .stop
+stops (Take snd t k) = false
+stops (Stretch snd) = false
 
 -- Stopping or Stopped
 abbrev pub ending : PlaybackState → Bool

@@ -19,6 +19,7 @@ use Rattle.theorems.specs.Examples.{ExamplesHold}
 use Rattle.theorems.specs.Archive.{CutBlocksC, CutMixesC}
 use Rattle.theorems.specs.ArchiveSchedules.{AnySizesC, AnySizesMixC, AllAcceptedC, AllAcceptedMixC}
 use Rattle.theorems.specs.ArchiveKept.{ArchiveKeeps, ReadBack, UnlawfulRefused, TagsRefused, PartIsStretch}
+use Rattle.theorems.specs.ArchiveInTheLoop.{InTheLoopC}
 use Rattle.theorems.specs.Coincide.{Coincide}
 
 pub record Promises : Type 0 where
@@ -76,6 +77,7 @@ pub record Promises : Type 0 where
   pub there-and-back : ThereAndBack
   pub permutations : Permutations
   pub in-the-loop : InTheLoop
+  pub archive-in-the-loop : InTheLoopC
   -- what the counts of wraps mean inside a loop: positions, steps and wraps fit
   pub updates-fit : UpdatesFit
   pub blocks-fit : BlocksFit

@@ -100,7 +100,7 @@ MixesTell =
     → let a = (processedInto snd v dt b g mix from) .answer in
     FedVoice snd v → a .refusal ≡ 0 → live (begun g v) ≡ true → Tells snd dt (rows b) (begun g v) (a .«lowest_count»)
 
--- a block that does not sound, or has no frames, reports 4, and so does a refused one
+-- a block that does not sound reports 4, accepted or refused (of every refused block BlocksKeep says so, in Kept)
 abbrev pub SilenceTells : Type 0
 SilenceTells =
     (snd : List Float) (v : StaticSound) (dt : Float) (b : Lanes) (g : Signals) (out : List Float)

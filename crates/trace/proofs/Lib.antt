@@ -4,4 +4,5 @@ pub mod Rounds
 pub mod Sends
 pub mod Traces
 pub mod Windows
+pub mod Answers
 pub mod Promises

@@ -97,16 +97,16 @@ written-trace bs = again (length bs) bs (omega arith)
 -- ---- records written into a buffer
 
 -- bytes put into a buffer
-abbrev put : List ℕ → ℕ → List ℕ → List ℕ
+abbrev pub put : List ℕ → ℕ → List ℕ → List ℕ
 put buf at p = (take at buf ++ p) ++ drop (at + length p) buf
 
-record One (buf : List ℕ) (at : ℕ) (e : Entry) (w : Written) : Type 0 where
-  takes : takes e ≡ true
-  room : at + length (recordOf (e .kind) (e .numbers)) ≤ length buf
-  next : w .next ≡ at + length (recordOf (e .kind) (e .numbers))
-  buffer : w .buffer ≡ put buf at (recordOf (e .kind) (e .numbers))
+pub record One (buf : List ℕ) (at : ℕ) (e : Entry) (w : Written) : Type 0 where
+  pub takes : takes e ≡ true
+  pub room : at + length (recordOf (e .kind) (e .numbers)) ≤ length buf
+  pub next : w .next ≡ at + length (recordOf (e .kind) (e .numbers))
+  pub buffer : w .buffer ≡ put buf at (recordOf (e .kind) (e .numbers))
 
-written-one : (buf : List ℕ) (at : ℕ) (e : Entry) → writeRecord buf at (e .kind) (e .numbers) .number ≡ 0 → One buf at e (writeRecord buf at (e .kind) (e .numbers))
+pub written-one : (buf : List ℕ) (at : ℕ) (e : Entry) → writeRecord buf at (e .kind) (e .numbers) .number ≡ 0 → One buf at e (writeRecord buf at (e .kind) (e .numbers))
 unfolding writeRecord
 written-one buf at e z = go (known (e .kind)) (fine (body (e .kind)) [] (e .numbers)) (leb (length r) (length buf - at)) refl refl refl z
   where
@@ -146,7 +146,7 @@ put-put buf at p q h =
     ∙ ap (λ (z : List ℕ). z ++ drop (n + length q) buf) (append-assoc a p q)
     ∙ ap (λ (z : ℕ). (a ++ (p ++ q)) ++ drop z buf) m
 
-put-length : (buf : List ℕ) (at : ℕ) (p : List ℕ) → at + length p ≤ length buf → length (put buf at p) ≡ length buf
+pub put-length : (buf : List ℕ) (at : ℕ) (p : List ℕ) → at + length p ≤ length buf → length (put buf at p) ≡ length buf
 put-length buf at p h =
     let a = take at buf in
     let d = drop (at + length p) buf in

@@ -1,6 +1,7 @@
 -- A record has at most 575 bytes, so from a window of as many, or of all that is left, the same is read as from the whole.
 use mathlib.Core.Path.{_≡_, refl, sym, ap, _∙_}
 use Prim.Native.Nat.{ℕ, zero, suc, _+_, _-_, _%_, _≤_, _<_}
+use native.Mathlib.Nat.{le-refl, le-trans}
 use native.Mathlib.Omega.{arith}
 use mathlib.Core.Bool.{Bool, true, false, _&&_, cond}
 use mathlib.Core.List.{List, [], _∷_, _++_, append-nil}
@@ -218,3 +219,66 @@ bodied-answered (good l hs bs) h = go (possible (getD hs 2 0) (getD hs 3 0))
 pub refusal-numbered : (bs : List ℕ) (n : ℕ) → readRecord bs ≡ refused n → 0 < n
 unfolding readRecord answered said
 refusal-numbered bs n e = omega (arith, ap answered e, bodied-answered (steps headRows (good 5 [] bs)) (rows-said headRows (good 5 [] bs) head-rows-sound (omega arith)))
+
+-- ---- reading leaves no more input than there was
+
+unfoldable behind : Reading → ℕ
+behind (bad k) = 0
+behind (good l us rest) = length rest
+
+row-behind : (r : Row) (d : Reading) → behind (step r d) ≤ behind d
+unfolding behind step taken
+row-behind r (bad k) = le-refl 0
+row-behind r (good left vs bs) = go (stands r vs) (leb w left) (leb w (length bs)) (within r n) (leb left (length bs))
+  where
+    w : ℕ
+    w = r .width
+
+    n : ℕ
+    n = num (take w bs)
+
+    go : (a b c d e : Bool) → behind (cond a (cond b (cond c (cond d (good (left - w) (vs ++ (n ∷ [])) (drop w bs)) (bad (r .refusal))) (bad 18)) (cond e (bad 17) (bad 18))) (good left (vs ++ (0 ∷ [])) bs)) ≤ length bs
+    go true true true true e = omega (arith, length-drop w bs)
+    go true true true false e = omega arith
+    go true true false d e = omega arith
+    go true false c d true = omega arith
+    go true false c d false = omega arith
+    go false b c d e = le-refl (length bs)
+
+rows-behind : (rs : List Row) (d : Reading) → behind (steps rs d) ≤ behind d
+unfolding steps
+rows-behind [] d = le-refl (behind d)
+rows-behind (r ∷ rs) d = le-trans (rows-behind rs (step r d)) (row-behind r d)
+
+-- the bytes behind a record that is found
+unfoldable pub unread : Found → ℕ
+unread (refused k) = 0
+unread (found k ws rest) = length rest
+
+ended-behind : (k : ℕ) (d : Reading) → unread (ended k d) ≤ behind d
+unfolding unread ended behind
+ended-behind k (bad n) = le-refl 0
+ended-behind k (good l ws rest) = go (eqb l 0)
+  where
+    go : (b : Bool) → unread (cond b (found k ws rest) (refused 17)) ≤ length rest
+    go true = le-refl (length rest)
+    go false = omega arith
+
+bodied-behind : (d : Reading) → unread (bodied d) ≤ behind d
+unfolding unread bodied behind
+bodied-behind (bad n) = le-refl 0
+bodied-behind (good l hs bs) = go (possible (getD hs 2 0) (getD hs 3 0))
+  where
+    k : ℕ
+    k = getD hs 2 0
+
+    r : Reading
+    r = good (getD hs 3 0) [] bs
+
+    go : (b : Bool) → unread (cond b (ended k (steps (body k) (good (getD hs 3 0) [] bs))) (refused 17)) ≤ length bs
+    go true = le-trans (ended-behind k (steps (body k) r)) (rows-behind (body k) r)
+    go false = omega arith
+
+pub unread-few : (bs : List ℕ) → unread (readRecord bs) ≤ length bs
+unfolding readRecord behind
+unread-few bs = le-trans (bodied-behind (steps headRows (good 5 [] bs))) (rows-behind headRows (good 5 [] bs))

@@ -1,6 +1,7 @@
 -- One record of the bytes: the end, a refused record, a record played.
-use mathlib.Core.Path.{_≡_, refl, sym, ap, _∙_}
+use mathlib.Core.Path.{_≡_, refl, sym, ap, _∙_, subst}
 use Prim.Native.Nat.{ℕ, _-_, _≤_, _<_}
+use native.Mathlib.Nat.{le-refl}
 use native.Mathlib.Omega.{arith}
 use mathlib.Core.Bool.{Bool, true, false}
 use mathlib.Core.List.{List, [], _∷_}
@@ -8,6 +9,7 @@ use lib.ListN.{length, drop, length-drop, drop-of-length-le}
 use borrow.Author.Tests.{eq-eqb, ne-eqb}
 use Rattle.trace.specs.declared.Record.{Record}
 use Rattle.trace.specs.Records.{Found, refused, found, readRecord, valued, recordAt}
+use Rattle.trace.proofs.Windows.{unread, unread-few}
 use Rattle.lines.specs.Lines.{refusedLine}
 use Rattle.turns.specs.Runs.{Course, Turn, after, Step, judged, stepOf}
 
@@ -72,3 +74,15 @@ in-bytes len at (found k ws rest) h = omega arith
 pub next-in : (s : List ℕ) (at : ℕ) (r : Record) → at ≤ length s → r ≡ recordAt s at → r .next ≤ length s
 unfolding recordAt
 next-in s at r h e = omega (arith, ap (λ (x : Record). x .next) e, in-bytes (length s) at (readRecord (drop at s)) h)
+
+-- and does not begin before its place
+on-bytes : (len at : ℕ) (d : Found) → at ≤ len → unread d ≤ len - at → at ≤ valued len at d .next
+unfolding valued unread
+on-bytes len at (refused n) h k = le-refl at
+on-bytes len at (found k ws rest) h i = omega arith
+
+pub next-on : (s : List ℕ) (at : ℕ) (r : Record) → at ≤ length s → r ≡ recordAt s at → at ≤ r .next
+unfolding recordAt
+next-on s at r h e =
+    let u : unread (readRecord (drop at s)) ≤ length s - at = subst (λ (n : ℕ). unread (readRecord (drop at s)) ≤ n) (length-drop at s) (unread-few (drop at s)) in
+    omega (arith, ap (λ (x : Record). x .next) e, on-bytes (length s) at (readRecord (drop at s)) h u)

@@ -189,7 +189,7 @@ pub fn advance(
     line: &mut [u8],
 ) -> Advanced
     requires { ⌜ (at ≤ length (now bytes)) × (128 ≤ length (now sound)) × (run .samples ≤ length (now sound)) × (139 ≤ length (now line)) ⌝ }
-    ensures { λ r. ⌜ (advancedOf r at (now (sound .exit)) (now (line .exit)) ≡ stepOf (courseOf run (now (sound .entry))) place (drop at (now (bytes .entry)))) × (r .next ≤ length (now (bytes .entry))) × (r .run .samples ≤ length (now (sound .exit))) × (r .written ≤ length (now (line .exit))) ⌝ }
+    ensures { λ r. ⌜ (advancedOf r at (now (sound .exit)) (now (line .exit)) ≡ stepOf (courseOf run (now (sound .entry))) place (drop at (now (bytes .entry)))) × (r .next ≤ length (now (bytes .entry))) × (r .run .samples ≤ length (now (sound .exit))) × (r .written ≤ length (now (line .exit))) × (at ≤ r .next) ⌝ }
 {
     if at == bytes.len() {
         return Advanced {

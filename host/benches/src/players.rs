@@ -2,7 +2,7 @@
 
 use std::{fmt::Write, time::Instant};
 
-use cableowl::{Lanes, Level, Player, Settings, Signals, StaticSound, Tween};
+use cableowl::{Frames, Lanes, Level, Player, Settings, Signals, StaticSound, Tween};
 
 use crate::workload::{HZ, Looped, Voice, Workload};
 
@@ -50,8 +50,8 @@ impl Mixes for Vec<Player> {
 }
 
 fn settings(voice: usize) -> Settings {
-    let all = Settings::new(HZ).loop_region(0..);
-    all.start_position(701 * voice).playback_rate(0.93)
+    let all = Settings::new(HZ).loop_region(..);
+    all.start_position(Frames(701 * voice)).playback_rate(0.93)
 }
 
 /// Players; those that move go on moving for the whole measurement.

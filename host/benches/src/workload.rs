@@ -197,9 +197,10 @@ impl<'a> Safe<'a> {
     /// If the settings are refused, which they are not.
     #[must_use]
     pub fn new(workload: &Workload, sound: &'a [f32]) -> Self {
+        let frames = cableowl::Frames;
         let settings = cableowl::Settings::new(HZ)
-            .start_position(workload.first())
-            .loop_region(workload.loop_start()..workload.loop_end())
+            .start_position(frames(workload.first()))
+            .loop_region(frames(workload.loop_start())..frames(workload.loop_end()))
             .playback_rate(workload.rate);
         Self {
             voice: cableowl::StaticSound::new(settings, sound).expect("accepted settings"),

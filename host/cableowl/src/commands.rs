@@ -29,11 +29,11 @@ pub enum ResumeCommand {
 /// A command set: at most one of each, applied in the order of the fields. The default is empty.
 ///
 /// ```
-/// use cableowl::{Commands, Settings, StaticSound};
+/// use cableowl::{Commands, Frames, Settings, StaticSound};
 ///
 /// let sound = [0.0; 20];
 /// let mut voice = StaticSound::new(Settings::new(1), &sound)?;
-/// let step_back = Commands::new().set_loop_region(2..6).seek_to(3.0);
+/// let step_back = Commands::new().set_loop_region(Frames(2)..Frames(6)).seek_to(3.0);
 /// voice.on_start_processing(&sound, step_back)?;
 /// assert_eq!(voice.state().loop_region, Some((2, 6)));
 /// # Ok::<(), cableowl::Refusal>(())

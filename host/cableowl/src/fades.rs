@@ -1,5 +1,7 @@
 //! Levels in decibels and fades: the table and the ramp of `crates/decibels`.
 
+use std::hint::black_box;
+
 use crate::{Refusal, ffi, float_mode};
 
 /// The most frames a ramp may have.
@@ -20,11 +22,13 @@ pub const MAX_RAMP_FRAMES: usize = 65_536;
 /// assert_eq!(Level::new(602), Err(Refusal::Level));
 /// # Ok::<(), Refusal>(())
 /// ```
+#[doc(alias = "Decibels")]
 #[derive(Debug, Clone, Copy, PartialEq, Eq, PartialOrd, Ord, Hash)]
 pub struct Level(u32);
 
 impl Level {
-    /// Full level, amplitude 1.
+    /// Full level, amplitude 1: kira's `Decibels::IDENTITY`.
+    #[doc(alias = "IDENTITY")]
     pub const FULL: Self = Self(0);
 
     /// Silence, amplitude 0. The level before it, 600, is 60 decibels down and no silence.
@@ -40,6 +44,31 @@ impl Level {
             0..=601 => Ok(Self(tenths)),
             _ => Err(Refusal::Level),
         }
+    }
+
+    /// The level of this many decibels, 0 or below: rounded to the nearest tenth, a half down; silence
+    /// below -60.05. kira's `Decibels` go above 0, and are silence from -60 on.
+    ///
+    /// ```
+    /// use cableowl::{Level, Refusal};
+    ///
+    /// assert_eq!(Level::decibels(-6.0), Level::new(60));
+    /// assert_eq!(Level::decibels(0.0), Ok(Level::FULL));
+    /// assert_eq!(Level::decibels(-60.0), Level::new(600));
+    /// assert_eq!(Level::decibels(f32::NEG_INFINITY), Ok(Level::SILENCE));
+    /// assert_eq!(Level::decibels(0.1), Err(Refusal::Decibels));
+    /// ```
+    ///
+    /// # Errors
+    ///
+    /// [`Refusal::Decibels`] above 0, and for NaN.
+    pub fn decibels(decibels: f32) -> Result<Self, Refusal> {
+        if decibels.is_nan() || decibels > 0.0 {
+            return Err(Refusal::Decibels);
+        }
+        // Exact: 24 bits times 4.
+        let tenths = float_mode::plain(|| black_box(black_box(f64::from(decibels)) * -10.0));
+        Ok(Self(tenths.round().min(601.0) as u32))
     }
 
     /// Tenths of a decibel below full level, 601 for silence.

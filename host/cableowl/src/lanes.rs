@@ -168,6 +168,16 @@ impl<'a> BlockLanes<'a> {
         self.frames
     }
 
+    /// How many frames have a rate of 0.
+    pub(crate) fn still(&self) -> u64 {
+        let still = match self.rate {
+            Lane::Constant(0.0) => self.frames,
+            Lane::Constant(_) => 0,
+            Lane::PerFrame(rates) => rates.iter().filter(|rate| **rate == 0.0).count(),
+        };
+        still as u64
+    }
+
     /// The record of the block, if one can hold it: constant lanes of its length. Its frames are not
     /// judged.
     pub(crate) fn block(&self, time_step: f64, signals: Signals) -> Result<Block, Refusal> {

@@ -3,8 +3,9 @@
 //! A voice plays a lent sound in blocks. What is heard does not depend on how the host cuts time
 //! into blocks: **block size may change when a command is heard, and nothing else.** Every call
 //! takes any input and refuses bad input by number ([`Refusal`]); a refused call changes nothing.
-//! No call of a voice or a player panics, allocates, waits or keeps what it was lent, and none
-//! depends on the thread's float mode: a host may flush subnormals to zero on its audio thread.
+//! No call of a voice or a player panics, allocates (but for `play` and for saving as bytes), waits or
+//! keeps what it was lent, and none depends on the thread's float mode: a host may flush subnormals
+//! to zero on its audio thread.
 //!
 //! A [`Player`] has volume, rate, panning and fades with tweens of its own, by kira's words, and plays
 //! outputs of any length:
@@ -46,6 +47,23 @@
 //! # Ok::<(), cableowl::Refusal>(())
 //! ```
 //!
+//! # Coming from kira
+//!
+//! | kira's name | here |
+//! |---|---|
+//! | `AudioManager::play`, `StaticSoundData` | [`Player::play`], with interleaved samples |
+//! | `StaticSoundHandle` | [`Player`] itself; from another thread a [`Command`] through the host's channel |
+//! | `StaticSoundSettings` | [`Settings`]; `volume` and `panning` are commands before the first frame, `fade_in_tween` is [`Player::fade_in_tween`] |
+//! | `set_loop_region(None)` | [`Player::clear_loop_region`] |
+//! | `Decibels(-6.0)` | [`Level::decibels(-6.0)`](Level::decibels) |
+//! | `PlaybackRate(0.5)`, `Panning(-1.0)` | the numbers `0.5` and `-1.0` |
+//! | `Semitones` | [`SavedSettings::pitch`] |
+//! | `Tween`, `Easing`, `PlaybackState`, `PlaybackPosition`, `Region` | the same names; a range of frames is `Frames(6)..Frames(11)` |
+//! | `Tween::start_time` with `StartTime::Delayed` | [`Tween::delay`] |
+//! | `start_time` of a sound, `StartTime::Delayed` | [`Settings::start_waits`](Settings::start_waits()) and [`Player::start_after`] |
+//! | `StartTime::ClockTime` | [`Player::start_at_tick`] |
+//! | `resume_at`, modulators, effects, tracks, streams | not here |
+//!
 //! What a host does with a voice can be recorded, and played again from its bytes: [`trace`].
 //!
 //! docs/RULES.md states the exact rules; the definitions of the crates below
@@ -70,21 +88,22 @@ mod saved_settings;
 mod settings;
 mod state;
 mod static_sound;
+mod stopping;
 pub mod trace;
 
 pub use commands::{Commands, LoopCommand, ResumeCommand};
 pub use fades::{Level, MAX_RAMP_FRAMES, fade_ramp};
 pub use lanes::{BlockLanes, Lane, Lanes};
 pub use loop_table::{Hall, LoopTable};
-pub use playback_position::{EndPosition, PlaybackPosition, Region};
+pub use playback_position::{EndPosition, Frames, PlaybackPosition, Region};
 pub use playback_state::{PlaybackState, Signals, StartAnswer, StartSignal};
-pub use player::{Command, Player, RecordedPlayer, SharedPlayer, Ticks, Tween};
+pub use player::{Command, Easing, Part, Player, RecordedPlayer, SharedPlayer, Ticks, Tween};
 pub use refusal::{LaneName, Refusal};
 pub use saved::Unreadable;
 pub use saved_settings::{SavedSettings, SettingsVersion};
 pub use settings::Settings;
 pub use state::{Frame, RecentFrame, State, Wraps};
-pub use static_sound::{Processed, StaticSound};
+pub use static_sound::{Processed, StaticSound, Usage};
 
 /// The examples of README.md, tried with the others.
 #[cfg(doctest)]

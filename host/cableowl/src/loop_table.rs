@@ -2,7 +2,7 @@
 
 use std::ops::Range;
 
-use crate::{Refusal, ffi};
+use crate::{Frames, Refusal, Region, ffi};
 
 /// One of the two halls.
 #[derive(Debug, Clone, Copy, PartialEq, Eq, Hash)]
@@ -110,6 +110,12 @@ impl LoopTable {
         let found = ffi::read_loop(self.table, slot as u64);
         Refusal::check(found.refusal)?;
         Ok(found.slot.start..found.slot.end)
+    }
+
+    /// The same, as a loop command takes it.
+    pub(crate) fn region(&self, slot: usize) -> Result<Region, Refusal> {
+        let frames = self.read(slot)?;
+        Ok((Frames(frames.start as usize)..Frames(frames.end as usize)).into())
     }
 
     fn change(&mut self, answer: ffi::LoopChanged) -> Result<(), Refusal> {

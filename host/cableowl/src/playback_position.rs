@@ -28,9 +28,26 @@ impl From<f64> for PlaybackPosition {
     }
 }
 
-impl From<usize> for PlaybackPosition {
-    fn from(samples: usize) -> Self {
-        Self::Samples(samples)
+/// A frame's number, or a count of frames: `Frames(6)..Frames(11)` is a region of 5 frames, and
+/// `6.0..11.0` one of 5 seconds. A bare integer is neither:
+///
+/// ```compile_fail
+/// let region = cableowl::Region::from(6..11);
+/// ```
+///
+/// ```
+/// use cableowl::{Frames, PlaybackPosition, Region};
+///
+/// let region = Region::from(Frames(6)..Frames(11));
+/// assert_eq!(region.start, PlaybackPosition::Samples(6));
+/// ```
+#[doc(alias = "Samples")]
+#[derive(Debug, Clone, Copy, PartialEq, Eq, PartialOrd, Ord, Hash)]
+pub struct Frames(pub usize);
+
+impl From<Frames> for PlaybackPosition {
+    fn from(frames: Frames) -> Self {
+        Self::Samples(frames.0)
     }
 }
 
@@ -45,19 +62,19 @@ pub enum EndPosition {
 
 /// A part of a sound, its end exclusive.
 ///
-/// Ranges of seconds and of frames turn into regions.
+/// Ranges of seconds and of [`Frames`] turn into regions.
 ///
 /// ```
-/// use cableowl::{EndPosition, PlaybackPosition, Region};
+/// use cableowl::{EndPosition, Frames, PlaybackPosition, Region};
 ///
 /// let sentence = Region::from(2.5..4.0);
 /// assert_eq!(sentence.start, PlaybackPosition::Seconds(2.5));
 ///
-/// let rest = Region::from(100..);
+/// let rest = Region::from(Frames(100)..);
 /// assert_eq!(rest.start, PlaybackPosition::Samples(100));
 /// assert_eq!(rest.end, EndPosition::EndOfAudio);
 ///
-/// assert_eq!(Region::from(..), Region::from(0..));
+/// assert_eq!(Region::from(..), Region::from(Frames(0)..));
 /// ```
 #[derive(Debug, Clone, Copy, PartialEq)]
 pub struct Region {

@@ -2,46 +2,56 @@
 
 mod block;
 mod command;
+mod easing;
+mod part;
 mod playing;
+mod queue;
 mod recorded;
 mod room;
+mod saved;
 mod shared;
 mod tween;
 
-use std::hint::black_box;
+use std::{hint::black_box, time::Duration};
 
 pub use command::{Command, Ticks};
+pub use easing::Easing;
+pub use part::Part;
 pub use recorded::RecordedPlayer;
 pub use shared::SharedPlayer;
 pub use tween::Tween;
 
 use self::{
-    command::{judge_loop, judge_seek_by, judge_seek_to},
+    part::Parts,
     playing::Place,
+    queue::{Press, Queue, Seek},
     room::{Amplitudes, Room, amplitudes},
-    tween::Parameter,
+    tween::{Parameter, Ramp, frames},
 };
 use crate::{
-    Commands, Level, LoopCommand, PlaybackState, Processed, Refusal, Region, ResumeCommand,
-    Settings, State, StaticSound, Wraps, float_mode, refusal,
+    Level, LoopTable, PlaybackState, Processed, Refusal, Region, Settings, State, StaticSound,
+    Wraps, float_mode, refusal,
 };
 
-/// A voice that fades, slows and pans by itself: what kira's users know, in kira's words, and no
-/// block size to be heard.
+/// A voice with volume, rate, panning and fades of its own: what kira's users know, by kira's names,
+/// and no block size can be heard in it.
 ///
 /// Volume, playback rate, panning and the fade of a pause, resume or stop are parameters, each led by
-/// linear [`Tween`]s. **A parameter's value is a function of how many frames have passed since its
-/// command, and a state changes at the very frame where its fade ends**, so the same commands at the
-/// same frames give the same samples, states and counts, bit for bit, however the host cuts time:
-/// outputs of any length, of 0 frames too.
+/// [`Tween`]s. **A parameter's value is a function of how many frames have passed since its command,
+/// and a state changes at the very frame where its fade ends**, so the same commands at the same
+/// frames give the same samples, states and counts, bit for bit, however the host cuts time: outputs
+/// of any length, of 0 frames too.
 ///
-/// Commands are heard with the next frame. Those that come before the same frame are one set: of each
-/// kind the last counts, and they are obeyed in kira's order (loop, pause, resume, stop, seek_by,
-/// seek_to; parameters beside them). What is bad is refused at once, with the number that the voice
-/// has for it, and changes nothing.
+/// **Commands are obeyed with the next frame, all of them, in the order in which they were given**, so
+/// a long block obeys what short ones obey. `seek_by(-1.0)` twice steps back two seconds; `resume` and
+/// then `pause` pauses. A parameter's tween starts from its value before that frame, and its last
+/// target counts. (kira keeps the last command of each kind and obeys the kinds in an order of its
+/// own: docs/DIFFERENCES.md.) 64 seeks can wait for one frame; one more is refused
+/// ([`Refusal::Queue`]), and nothing else is ever refused for room. What is bad is refused at once and
+/// changes nothing; what was accepted is not refused later.
 ///
-/// No call panics, waits or depends on the thread's float mode; none but [`Player::play`] and `clone`
-/// allocates.
+/// No call panics, waits or depends on the thread's float mode. Only [`Player::play`], `clone`,
+/// [`Player::to_bytes`] and [`Player::from_bytes`] allocate.
 ///
 /// ```
 /// use std::time::Duration;
@@ -62,6 +72,8 @@ use crate::{
 /// assert_eq!(player.state(), PlaybackState::Paused);
 /// # Ok::<(), cableowl::Refusal>(())
 /// ```
+#[doc(alias = "StaticSoundHandle")]
+#[doc(alias = "StaticSoundData")]
 #[derive(Debug, Clone)]
 pub struct Player {
     voice: StaticSound,
@@ -76,23 +88,12 @@ pub struct Player {
     rate: Parameter<f64>,
     panning: Parameter<f64>,
     amplitudes: &'static Amplitudes,
-    /// What the voice is told before the next frame, if anything.
-    commands: Option<Commands>,
-    /// The fade that goes with them.
-    next_fade: Option<Fade>,
+    /// What is obeyed with the next frame.
+    queue: Queue,
     /// The frame at which the sound's own start comes.
     starts_at: Option<u64>,
     counts: Processed,
     room: Room,
-}
-
-/// A fade that begins with the next frame.
-#[derive(Debug, Clone, Copy)]
-struct Fade {
-    to: Level,
-    frames: u64,
-    /// Its command's place in kira's order: the last one's fade counts.
-    order: u8,
 }
 
 impl Player {
@@ -112,31 +113,36 @@ impl Player {
     ///
     /// # Errors
     ///
-    /// Refusals 2 to 7, as [`StaticSound::new`]; then 10 for an output rate of 0, and 12 for a
-    /// playback rate that is too fast.
+    /// Refusals 2 to 7, as [`StaticSound::new`]; then [`Refusal::OutputRate`] for an output rate of 0,
+    /// and [`Refusal::TooFast`] for a playback rate that is too fast.
+    #[doc(alias = "AudioManager")]
     pub fn play(settings: Settings, output_rate: u32, sound: &[f32]) -> Result<Self, Refusal> {
         let voice = StaticSound::new(settings, sound)?;
+        Self::of(voice, settings.playback_rate, output_rate)
+    }
+
+    /// A player of this voice, its parameters at rest.
+    fn of(voice: StaticSound, rate: f64, output_rate: u32) -> Result<Self, Refusal> {
         if output_rate == 0 {
-            return Err(Refusal::TimeStep);
+            return Err(Refusal::OutputRate);
         }
-        let rate = f64::from(output_rate);
+        let frames = f64::from(output_rate);
         let player = Self {
             voice,
             output_rate,
-            time_step: float_mode::plain(|| black_box(1.0 / black_box(rate))),
+            time_step: float_mode::plain(|| black_box(1.0 / black_box(frames))),
             clock: 0,
             volume: Parameter::new(0),
             fade: Parameter::new(0),
-            rate: Parameter::new(settings.playback_rate),
+            rate: Parameter::new(rate),
             panning: Parameter::new(0.0),
             amplitudes: amplitudes(),
-            commands: None,
-            next_fade: None,
+            queue: Queue::new(),
             starts_at: None,
             counts: Processed::NONE,
             room: Room::new(),
         };
-        player.judge_rate(settings.playback_rate)?;
+        player.judge_rate(rate)?;
         Ok(player)
     }
 
@@ -144,40 +150,37 @@ impl Player {
     /// state is `Playing` meanwhile, and the fade runs though the start waits.
     #[must_use]
     pub fn fade_in_tween(mut self, tween: impl Into<Tween>) -> Self {
-        let frames = tween.into().frames(self.output_rate);
-        self.fade = Parameter::new(tenths(Level::SILENCE));
-        self.fade.set(tenths(Level::FULL), self.clock, frames);
+        self.fade_in(tween.into());
         self
+    }
+
+    fn fade_in(&mut self, tween: Tween) {
+        self.fade = Parameter::new(tenths(Level::SILENCE));
+        let ramp = self.ramp(tween);
+        self.fade.set(tenths(Level::FULL), self.clock, ramp);
     }
 
     /// Fades out, then pauses: `Pausing`, and `Paused` from the frame on where the fade ends.
     pub fn pause(&mut self, tween: impl Into<Tween>) {
-        self.next_commands().pause = true;
-        self.fade_next(Level::SILENCE, tween.into(), 0);
+        let ramp = self.ramp(tween);
+        self.queue.press(Press::Pause, ramp);
     }
 
     /// Resumes and fades in: `Resuming`, and `Playing` from the frame on where the fade ends.
     pub fn resume(&mut self, tween: impl Into<Tween>) {
-        self.next_commands().resume = ResumeCommand::AtOnce;
-        self.fade_next(Level::FULL, tween.into(), 1);
+        let ramp = self.ramp(tween);
+        self.queue.press(Press::Resume, ramp);
     }
 
     /// Fades out, then stops for ever: `Stopping`, and `Stopped` from the frame on where the fade
-    /// ends.
+    /// ends. A resume before that frame takes it back.
     pub fn stop(&mut self, tween: impl Into<Tween>) {
-        self.next_commands().stop = true;
-        self.fade_next(Level::SILENCE, tween.into(), 2);
+        let ramp = self.ramp(tween);
+        self.queue.press(Press::Stop, ramp);
     }
 
-    fn next_commands(&mut self) -> &mut Commands {
-        self.commands.get_or_insert_default()
-    }
-
-    fn fade_next(&mut self, to: Level, tween: Tween, order: u8) {
-        let frames = tween.frames(self.output_rate);
-        if self.next_fade.is_none_or(|fade| fade.order <= order) {
-            self.next_fade = Some(Fade { to, frames, order });
-        }
+    fn ramp(&self, tween: impl Into<Tween>) -> Ramp {
+        tween.into().ramp(self.output_rate)
     }
 
     /// Leads the playback rate to another value: the speed, and below 0 (minus zero too) backward. The
@@ -185,16 +188,17 @@ impl Player {
     ///
     /// # Errors
     ///
-    /// [`Refusal::PlaybackRate`] where it is not finite, [`Refusal::Advance`] where it is too fast:
-    /// more than 256 frames of the sound a frame of output.
+    /// [`Refusal::PlaybackRate`] where it is not finite, [`Refusal::TooFast`] where it is more than 256
+    /// frames of the sound a frame of output.
+    #[doc(alias = "PlaybackRate")]
     pub fn set_playback_rate(
         &mut self,
         playback_rate: f64,
         tween: impl Into<Tween>,
     ) -> Result<(), Refusal> {
         self.judge_rate(playback_rate)?;
-        let frames = tween.into().frames(self.output_rate);
-        float_mode::plain(|| black_box(&mut self.rate).set(playback_rate, self.clock, frames));
+        let ramp = self.ramp(tween);
+        float_mode::plain(|| black_box(&mut self.rate).set(playback_rate, self.clock, ramp));
         Ok(())
     }
 
@@ -210,15 +214,16 @@ impl Player {
         };
         match rate.is_finite() {
             false => Err(Refusal::PlaybackRate),
-            true if float_mode::plain(too_far) => Err(Refusal::Advance { frame: 0 }),
+            true if float_mode::plain(too_far) => Err(Refusal::TooFast),
             true => Ok(()),
         }
     }
 
     /// Leads the volume to another level, straight in decibels, rounded down to tenths.
+    #[doc(alias = "Decibels")]
     pub fn set_volume(&mut self, volume: Level, tween: impl Into<Tween>) {
-        let frames = tween.into().frames(self.output_rate);
-        self.volume.set(tenths(volume), self.clock, frames);
+        let (volume, ramp) = (tenths(volume), self.ramp(tween));
+        float_mode::plain(|| black_box(&mut self.volume).set(volume, self.clock, ramp));
     }
 
     /// Leads the panning to another value: -1 is hard left, 0 the centre, 1 hard right, and beyond
@@ -227,57 +232,98 @@ impl Player {
     ///
     /// # Errors
     ///
-    /// [`Refusal::Lane`] where it is not finite, since its gains would not be.
+    /// [`Refusal::Panning`] where it is not finite.
+    #[doc(alias = "Panning")]
     pub fn set_panning(&mut self, panning: f32, tween: impl Into<Tween>) -> Result<(), Refusal> {
         if !panning.is_finite() {
-            return Err(Refusal::Lane {
-                lane: crate::LaneName::Left,
-                frame: 0,
-            });
+            return Err(Refusal::Panning);
         }
-        let frames = tween.into().frames(self.output_rate);
-        let panning = f64::from(panning);
-        float_mode::plain(|| black_box(&mut self.panning).set(panning, self.clock, frames));
+        let (panning, ramp) = (f64::from(panning), self.ramp(tween));
+        float_mode::plain(|| black_box(&mut self.panning).set(panning, self.clock, ramp));
         Ok(())
     }
 
-    /// Loops this part, counted from the slice's start.
+    /// Loops this part, counted from the slice's start: seconds, or
+    /// [`Frames`](crate::Frames).
     ///
     /// # Errors
     ///
     /// [`Refusal::LoopRegion`].
     pub fn set_loop_region(&mut self, loop_region: impl Into<Region>) -> Result<(), Refusal> {
-        let loop_region = loop_region.into();
-        judge_loop(&self.voice.state(), loop_region)?;
-        self.next_commands().loop_region = LoopCommand::Set(loop_region);
-        Ok(())
+        self.queue.set_loop(&self.voice.state(), loop_region.into())
     }
 
-    /// Loops no more.
-    pub fn clear_loop_region(&mut self) {
-        self.next_commands().loop_region = LoopCommand::Clear;
-    }
-
-    /// Moves by so many seconds.
+    /// Loops what a slot of a table holds, as [`Player::set_loop_region`]. What the table becomes
+    /// afterwards changes nothing here.
+    ///
+    /// ```
+    /// use cableowl::{Hall, LoopTable, Player, Settings};
+    ///
+    /// let sound = [0.5; 20];
+    /// let mut table = LoopTable::new(10);
+    /// table.write(Hall::B, 8, 3..6)?;
+    /// let mut player = Player::play(Settings::new(1), 1, &sound)?;
+    /// player.take_loop(&table, 8)?;
+    /// player.process(&sound, &mut [0.0; 2])?;
+    /// assert_eq!(player.voice().state().loop_region, Some((3, 6)));
+    /// # Ok::<(), cableowl::Refusal>(())
+    /// ```
     ///
     /// # Errors
     ///
-    /// [`Refusal::Seek`].
+    /// [`Refusal::LoopSlot`], [`Refusal::EmptySlot`]; then [`Refusal::LoopRegion`], since a table is
+    /// judged over all frames of the sound, a player's loop over its slice.
+    pub fn take_loop(&mut self, table: &LoopTable, slot: usize) -> Result<(), Refusal> {
+        self.set_loop_region(table.region(slot)?)
+    }
+
+    /// Removes the loop: kira's `set_loop_region(None)`.
+    pub fn clear_loop_region(&mut self) {
+        self.queue.clear_loop();
+    }
+
+    /// Moves by this many seconds.
+    ///
+    /// # Errors
+    ///
+    /// [`Refusal::Seek`], judged from where the commands before it lead; [`Refusal::Queue`] where 64
+    /// seeks wait for the next frame.
     pub fn seek_by(&mut self, seconds: f64) -> Result<(), Refusal> {
-        judge_seek_by(&self.voice.state(), seconds)?;
-        self.next_commands().seek_by = Some(seconds);
-        Ok(())
+        self.queue.seek(&self.voice.state(), Seek::By(seconds))
     }
 
     /// Moves to this many seconds.
     ///
     /// # Errors
     ///
-    /// [`Refusal::Seek`].
+    /// As [`Player::seek_by`].
     pub fn seek_to(&mut self, seconds: f64) -> Result<(), Refusal> {
-        judge_seek_to(&self.voice.state(), seconds)?;
-        self.next_commands().seek_to = Some(seconds);
-        Ok(())
+        self.queue.seek(&self.voice.state(), Seek::To(seconds))
+    }
+
+    /// Starts a sound that waits ([`Settings::start_waits`](Settings::start_waits())) after this
+    /// delay, rounded to whole frames, a half up: kira's `StartTime::Delayed`. A later call takes its
+    /// place.
+    ///
+    /// ```
+    /// use std::time::Duration;
+    ///
+    /// use cableowl::{Player, Settings};
+    ///
+    /// let sound = [0.5; 200];
+    /// let mut player = Player::play(Settings::new(1_000).start_waits(true), 1_000, &sound)?;
+    /// player.start_after(Duration::from_millis(3));
+    /// let mut out = [0.0; 20];
+    /// player.process(&sound, &mut out)?;
+    /// assert_eq!(out.iter().position(|sample| *sample != 0.0), Some(2 * 3));
+    /// # Ok::<(), cableowl::Refusal>(())
+    /// ```
+    #[doc(alias = "start_time")]
+    #[doc(alias = "StartTime")]
+    #[doc(alias = "Delayed")]
+    pub fn start_after(&mut self, delay: Duration) {
+        let frames = frames(delay, self.output_rate);
+        self.starts_at = Some(self.clock.saturating_add(frames));
     }
 
     /// Starts a sound that waits ([`Settings::start_waits`](Settings::start_waits())) at the first
@@ -323,29 +369,57 @@ impl Player {
             Command::ClearLoopRegion => self.clear_loop_region(),
             Command::SeekBy(seconds) => self.seek_by(seconds)?,
             Command::SeekTo(seconds) => self.seek_to(seconds)?,
+            Command::StartAfter(delay) => self.start_after(delay),
             Command::StartAtTick(tick, ticks) => self.start_at_tick(tick, ticks),
         }
         Ok(())
     }
 
-    /// Plays so many frames as `out` has, interleaved, left then right, in place of what stands there.
-    /// Told are the counts of this call.
+    /// Plays as many frames as `out` has, interleaved, left then right, in place of what `out` holds.
+    /// Returns the counts of this call.
     ///
     /// # Errors
     ///
-    /// Refusal 1 where the sound is not the one it was created with, by its length; then 9 where the
-    /// samples are odd in number. Nothing is changed or written.
+    /// Refusal 1 where the sound is not the one it was created with, by its length; then
+    /// [`Refusal::OddOutput`]. Nothing is changed or written.
     pub fn process(&mut self, sound: &[f32], out: &mut [f32]) -> Result<Processed, Refusal> {
         self.run(sound, out, Place::Out, &mut ())
     }
 
-    /// The same, added to what stands there.
+    /// The same, added to what `out` holds.
     ///
     /// # Errors
     ///
     /// As [`Player::process`].
     pub fn mix(&mut self, sound: &[f32], out: &mut [f32]) -> Result<Processed, Refusal> {
         self.run(sound, out, Place::Mix, &mut ())
+    }
+
+    /// As [`Player::process`], and reports the call in parts, each played in one state. However the
+    /// host cuts time, the same frames have the same states: sums over them do not depend on it.
+    ///
+    /// ```
+    /// use cableowl::{PlaybackState, Player, Settings, Tween};
+    ///
+    /// let sound = [0.5; 200];
+    /// let mut player = Player::play(Settings::new(1_000), 1_000, &sound)?;
+    /// player.pause(Tween::from_millis(4));
+    /// let mut parts = Vec::new();
+    /// player.process_parts(&sound, &mut [0.0; 20], |part| parts.push((part.frames, part.state)))?;
+    /// assert_eq!(parts, [(3, PlaybackState::Pausing), (7, PlaybackState::Paused)]);
+    /// # Ok::<(), cableowl::Refusal>(())
+    /// ```
+    ///
+    /// # Errors
+    ///
+    /// As [`Player::process`].
+    pub fn process_parts(
+        &mut self,
+        sound: &[f32],
+        out: &mut [f32],
+        report: impl FnMut(Part),
+    ) -> Result<Processed, Refusal> {
+        self.run(sound, out, Place::Out, &mut Parts(report))
     }
 
     /// What it is doing.
@@ -392,8 +466,9 @@ impl Player {
     /// The volume of the last frame.
     #[must_use]
     pub fn volume(&self) -> Level {
+        let tenths = float_mode::plain(|| black_box(black_box(&self.volume).before(self.clock)));
         // Never refused: both ends of a tween are levels.
-        Level::new(self.volume.before(self.clock).into()).unwrap_or(Level::SILENCE)
+        Level::new(tenths.into()).unwrap_or(Level::SILENCE)
     }
 
     /// The panning of the last frame.
@@ -408,8 +483,13 @@ impl Player {
         &self.voice
     }
 
-    /// Gives the voice a state that was saved, and drops commands that are not heard yet. Parameters
-    /// stay, and the direction is the playback rate's; a state in a fade waits for the next command.
+    /// Gives the voice a state that was saved, and drops commands that are not obeyed yet. Volume,
+    /// rate and panning stay, and the direction is the rate's.
+    ///
+    /// A voice's state does not say how far its fade was, so the fade begins again and takes the
+    /// default tween's 10 milliseconds: `Pausing` and `Stopping` from full level to silence, `Resuming`
+    /// from silence to full level; each ends as it would have. `Playing` is at full level, any other
+    /// state at silence. To go on from the very level, save the whole player ([`Player::to_bytes`]).
     ///
     /// # Errors
     ///
@@ -419,7 +499,20 @@ impl Player {
             return Err(Refusal::State);
         }
         self.voice = StaticSound::from_state(state, sound)?;
-        (self.commands, self.next_fade) = (None, None);
+        self.queue.clear();
+        let (from, to) = match state.playback_state {
+            PlaybackState::Playing => (Level::FULL, Level::FULL),
+            PlaybackState::Pausing | PlaybackState::Stopping => (Level::FULL, Level::SILENCE),
+            PlaybackState::Resuming => (Level::SILENCE, Level::FULL),
+            PlaybackState::Paused | PlaybackState::WaitingToResume | PlaybackState::Stopped => {
+                (Level::SILENCE, Level::SILENCE)
+            }
+        };
+        self.fade = Parameter::new(tenths(from));
+        if from != to {
+            let ramp = self.ramp(Tween::default());
+            self.fade.set(tenths(to), self.clock, ramp);
+        }
         Ok(())
     }
 }

@@ -106,6 +106,18 @@ pub enum Refusal {
     SavedField,
     /// 25: a salvage's output.
     Output,
+    /// 26: a player's seek, where 64 wait for the next frame already.
+    Queue,
+    /// A player's output rate: the number is 10, a time step's.
+    OutputRate,
+    /// A player's panning: the number is 11, that of the gains.
+    Panning,
+    /// A player's playback rate: the number is 12, an advance's.
+    TooFast,
+    /// A player's output: the number is 9, a block's.
+    OddOutput,
+    /// A level in decibels: the number is 13, a level's.
+    Decibels,
 }
 
 impl Refusal {
@@ -121,11 +133,11 @@ impl Refusal {
             Self::LoopRegion => 6,
             Self::PlaybackRate => 7,
             Self::Seek => 8,
-            Self::Block => 9,
-            Self::TimeStep => 10,
-            Self::Lane { .. } => 11,
-            Self::Advance { .. } => 12,
-            Self::Level => 13,
+            Self::Block | Self::OddOutput => 9,
+            Self::TimeStep | Self::OutputRate => 10,
+            Self::Lane { .. } | Self::Panning => 11,
+            Self::Advance { .. } | Self::TooFast => 12,
+            Self::Level | Self::Decibels => 13,
             Self::Ramp => 14,
             Self::Mark => 15,
             Self::Kind => 16,
@@ -138,10 +150,11 @@ impl Refusal {
             Self::Version => 23,
             Self::SavedField => 24,
             Self::Output => 25,
+            Self::Queue => 26,
         }
     }
 
-    /// All that name no place, by number.
+    /// All that name no place and that the archive gives, by number.
     pub(crate) const PLAIN: &[Self] = &[
         Self::State,
         Self::SampleRate,
@@ -270,6 +283,18 @@ impl Refusal {
                 "hall A writes and clears slots 0 to 7, hall B slots 8 to 15: ask the other hall"
             }
             Self::EmptySlot => "the slot holds no loop: its hall must write one first",
+            Self::Queue => {
+                "64 seeks wait for the next frame already: play a frame, then seek again"
+            }
+            Self::Decibels => "decibels must be a number, and at most 0, which is full level",
+            Self::OutputRate => "the output rate, its frames a second, must be at least 1",
+            Self::Panning => "the panning must be finite: -1 is left, 0 the centre, 1 right",
+            Self::TooFast => {
+                "the playback rate is too fast: it may play at most 256 frames of the sound in a frame of output"
+            }
+            Self::OddOutput => {
+                "the output must have an even number of samples, left and right in turn"
+            }
         }
     }
 }

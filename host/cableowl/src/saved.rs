@@ -22,7 +22,7 @@ const HAS_SLICE: u8 = 8;
 const HAS_LOOP: u8 = 16;
 const ALL_FLAGS: u8 = 31;
 
-/// Why bytes are no saved state; by its number refusal 1, and it turns into that.
+/// Why bytes are no saved state or player; by its number refusal 1, and it turns into that.
 #[derive(Debug, Clone, Copy, PartialEq, Eq, Hash)]
 #[non_exhaustive]
 pub enum Unreadable {
@@ -34,8 +34,10 @@ pub enum Unreadable {
     Length,
     /// Their check is not that of the bytes: something has changed on the way.
     Check,
-    /// A byte has a value that the layout does not name.
+    /// A byte has a value that the layout does not name, or a number is one that no player has.
     Value,
+    /// They are of a player of another sound, by its length.
+    Sound,
 }
 
 impl Unreadable {
@@ -50,16 +52,19 @@ impl fmt::Display for Unreadable {
     fn fmt(&self, f: &mut fmt::Formatter<'_>) -> fmt::Result {
         write!(f, "refusal {}: ", self.number())?;
         match self {
-            Self::Mark => f.write_str("these bytes are not a saved state: they begin otherwise"),
+            Self::Mark => f.write_str("these bytes are not what was saved: they begin otherwise"),
             Self::Version(version) => write!(
                 f,
-                "this saved state is of version {version}, and this library reads versions {UNCOUNTED} and {VERSION}"
+                "these bytes are of version {version}, which this library does not read"
             ),
-            Self::Length => f.write_str("this saved state is cut short or has bytes after its end"),
+            Self::Length => f.write_str("these bytes are cut short, or more follow their end"),
             Self::Check => {
-                f.write_str("this saved state was damaged: its check is not that of its bytes")
+                f.write_str("these bytes were damaged: their check is not that of the rest")
             }
-            Self::Value => f.write_str("this saved state has a byte that means nothing"),
+            Self::Value => f.write_str("one of these bytes means nothing"),
+            Self::Sound => f.write_str(
+                "the saved player is of another sound: lend the samples it was created with",
+            ),
         }
     }
 }
@@ -190,24 +195,24 @@ impl State {
 }
 
 /// The bytes not yet read.
-struct Reader<'a>(&'a [u8]);
+pub struct Reader<'a>(pub &'a [u8]);
 
 impl Reader<'_> {
-    fn take<const N: usize>(&mut self) -> Option<[u8; N]> {
+    pub fn take<const N: usize>(&mut self) -> Option<[u8; N]> {
         let (taken, rest) = self.0.split_first_chunk()?;
         self.0 = rest;
         Some(*taken)
     }
 
-    fn byte(&mut self) -> Option<u8> {
+    pub fn byte(&mut self) -> Option<u8> {
         self.take().map(u8::from_le_bytes)
     }
 
-    fn word(&mut self) -> Option<u32> {
+    pub fn word(&mut self) -> Option<u32> {
         self.take().map(u32::from_le_bytes)
     }
 
-    fn double_word(&mut self) -> Option<u64> {
+    pub fn double_word(&mut self) -> Option<u64> {
         self.take().map(u64::from_le_bytes)
     }
 
@@ -278,7 +283,7 @@ impl Reader<'_> {
 }
 
 /// The check of zip, PNG and Ethernet: polynomial 0x04C11DB7, bits turned round.
-fn crc_32(bytes: &[u8]) -> u32 {
+pub fn crc_32(bytes: &[u8]) -> u32 {
     let shifted = |crc: u32, _| (crc >> 1) ^ (0xedb8_8320 * (crc & 1));
     let with_byte = |crc: u32, byte: &u8| (0..8).fold(crc ^ u32::from(*byte), shifted);
     !bytes.iter().fold(u32::MAX, with_byte)

@@ -1,6 +1,6 @@
 //! Settings saved as bytes: docs/SETTINGS.md has their layout.
 
-use crate::{PlaybackPosition, Refusal, Region, Settings, ffi, float_mode};
+use crate::{Frames, Refusal, Region, Settings, ffi, float_mode};
 
 /// The version of a record of saved settings, or the newest that a reader knows.
 #[derive(Debug, Clone, Copy, PartialEq, Eq, PartialOrd, Ord, Hash)]
@@ -57,6 +57,7 @@ pub struct SavedSettings {
     /// The rate before the pitch.
     pub playback_rate: f64,
     /// Whole semitones, -24 to 24; version 1 takes 0 alone.
+    #[doc(alias = "Semitones")]
     pub pitch: i8,
 }
 
@@ -121,10 +122,11 @@ impl SavedSettings {
     #[must_use]
     pub fn settings(&self, sample_rate: u32) -> Settings {
         let settings = float_mode::plain(|| ffi::settings_of(&self.words(), sample_rate));
-        let frames = |(start, end): (u32, u32)| Region::from(start as usize..end as usize);
+        let frames = |frame: u32| Frames(frame as usize);
+        let region = |(start, end)| Region::from(frames(start)..frames(end));
         Settings {
-            start_position: PlaybackPosition::Samples(self.start as usize),
-            loop_region: self.loop_region.map(frames),
+            start_position: frames(self.start).into(),
+            loop_region: self.loop_region.map(region),
             reverse: self.reverse,
             playback_rate: settings.playback_rate,
             ..Settings::new(sample_rate)

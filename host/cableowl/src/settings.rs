@@ -6,14 +6,16 @@ use crate::{PlaybackPosition, Region, ffi};
 /// loop, at once.
 ///
 /// ```
-/// use cableowl::{Settings, StaticSound};
+/// use cableowl::{Frames, Settings, StaticSound};
 ///
 /// let sound = [0.0; 20];
-/// let settings = Settings::new(48_000).start_position(3).loop_region(2..6).reverse(true);
+/// let settings = Settings::new(48_000).start_position(Frames(3));
+/// let settings = settings.loop_region(Frames(2)..Frames(6)).reverse(true);
 /// let voice = StaticSound::new(settings, &sound)?;
 /// assert_eq!(voice.state().loop_region, Some((2, 6)));
 /// # Ok::<(), cableowl::Refusal>(())
 /// ```
+#[doc(alias = "StaticSoundSettings")]
 #[derive(Debug, Clone, Copy, PartialEq)]
 #[non_exhaustive]
 pub struct Settings {
@@ -103,7 +105,10 @@ impl Settings {
         self
     }
 
-    /// Lets the start wait for an answer, or not.
+    /// Lets the start wait for an answer, or not: kira's `start_time`, where it is not `Immediate`. A
+    /// player starts it by [`Player::start_after`](crate::Player::start_after) or
+    /// [`Player::start_at_tick`](crate::Player::start_at_tick).
+    #[doc(alias = "start_time")]
     #[must_use]
     pub fn start_waits(mut self, start_waits: bool) -> Self {
         self.start_waits = start_waits;

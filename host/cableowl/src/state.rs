@@ -78,6 +78,15 @@ pub struct State {
     pub wraps: Wraps,
 }
 
+impl State {
+    /// Whether the position moves backward: where the held rate's sign bit is set, turned round by
+    /// `reverse`.
+    #[must_use]
+    pub fn is_backward(&self) -> bool {
+        self.playback_rate.is_sign_negative() != self.reverse
+    }
+}
+
 impl Default for State {
     /// The blank state: stopped, not playing, every number 0. It is not well formed.
     fn default() -> Self {

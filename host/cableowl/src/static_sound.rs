@@ -22,6 +22,52 @@ pub struct Processed {
     /// For a block cut in two it is the smaller of the two, unless the voice had stopped by the cut:
     /// over a sound of one frame, three frames report 0, but two and then one report 1 and 4.
     pub lowest_count: u32,
+    /// Of the steps, those backward.
+    pub steps_back: u64,
+    /// How its frames were spent.
+    pub usage: Usage,
+}
+
+/// How the frames of a block were spent: each is played, paused or silent.
+///
+/// A [`Player`](crate::Player) counts by the frame, so the sums do not depend on how time is cut. A
+/// bare voice that runs off its sound goes on to its block's end (docs/RULES.md, "Creation, commands,
+/// block"), and all frames of that block count as played.
+#[derive(Debug, Clone, Copy, PartialEq, Eq, Hash, Default)]
+pub struct Usage {
+    /// Frames in which the sound played, those of fades too.
+    pub played: u64,
+    /// Frames in which it was paused, or waited to resume.
+    pub paused: u64,
+    /// Frames before the sound's own start, and after the voice has stopped.
+    pub silent: u64,
+    /// Of the played frames, those at a rate of 0.
+    pub still: u64,
+}
+
+impl Usage {
+    /// A block's frames, `still` of them at a rate of 0, by the state after it.
+    fn of_block(frames: u64, still: u64, state: &ffi::State, steps: u64) -> Self {
+        let mut usage = Self::default();
+        match PlaybackState::from_number(state.state) {
+            _ if state.started == 0 => usage.silent = frames,
+            Some(PlaybackState::Paused | PlaybackState::WaitingToResume) => usage.paused = frames,
+            // With a step it stopped in this block: it ran off its sound.
+            Some(PlaybackState::Stopped) if steps == 0 => usage.silent = frames,
+            _ => (usage.played, usage.still) = (frames, still),
+        }
+        usage
+    }
+
+    /// Of two parts, one after the other.
+    fn and(self, next: Self) -> Self {
+        Self {
+            played: self.played.saturating_add(next.played),
+            paused: self.paused.saturating_add(next.paused),
+            silent: self.silent.saturating_add(next.silent),
+            still: self.still.saturating_add(next.still),
+        }
+    }
 }
 
 impl Processed {
@@ -29,6 +75,13 @@ impl Processed {
     pub(crate) const NONE: Self = Self {
         steps: 0,
         lowest_count: 4,
+        steps_back: 0,
+        usage: Usage {
+            played: 0,
+            paused: 0,
+            silent: 0,
+            still: 0,
+        },
     };
 
     /// Of two parts, one after the other.
@@ -36,6 +89,8 @@ impl Processed {
         Self {
             steps: self.steps.saturating_add(next.steps),
             lowest_count: self.lowest_count.min(next.lowest_count),
+            steps_back: self.steps_back.saturating_add(next.steps_back),
+            usage: self.usage.and(next.usage),
         }
     }
 }
@@ -165,9 +220,10 @@ impl StaticSound {
         signals: Signals,
         out: &mut [f32],
     ) -> Result<Processed, Refusal> {
+        let still = lanes.still();
         let (lanes, signals) = (lanes.lend(), signals.into());
         let answer = float_mode::plain(|| ffi::process(self.state, sound, lanes, dt, signals, out));
-        self.take(answer, dt, lanes)
+        self.take(answer, dt, lanes, still)
     }
 
     /// Plays a block into a longer buffer from frame `from` on; every other sample stays.
@@ -199,21 +255,22 @@ impl StaticSound {
         mix: &mut [f32],
         from: usize,
     ) -> Result<Processed, Refusal> {
+        let still = lanes.still();
         let (lanes, signals, from) = (lanes.lend(), signals.into(), from as u64);
         let answer = float_mode::plain(|| {
             ffi::process_into(self.state, sound, lanes, dt, signals, mix, from)
         });
-        self.take(answer, dt, lanes)
+        self.take(answer, dt, lanes, still)
     }
 
     /// The part of the lent samples that the voice plays: its slice's, or all. Empty only where
     /// the voice and the sound would be refused with 1.
     ///
     /// ```
-    /// use cableowl::{Settings, StaticSound};
+    /// use cableowl::{Frames, Settings, StaticSound};
     ///
     /// let sound = [0.0, 0.5, 1.0, 1.5, 2.0, 2.5];
-    /// let voice = StaticSound::new(Settings::new(1).slice(1..3), &sound)?;
+    /// let voice = StaticSound::new(Settings::new(1).slice(Frames(1)..Frames(3)), &sound)?;
     /// let part = voice.stretch(&sound);
     /// assert_eq!(part, [1.0, 1.5, 2.0, 2.5]);
     /// assert_eq!(part.as_ptr(), sound[2..].as_ptr(), "the lent samples themselves");
@@ -263,10 +320,10 @@ impl StaticSound {
     /// wrap, creation's own three among them. [`Wraps`] says what is counted.
     ///
     /// ```
-    /// use cableowl::{Lanes, Settings, Signals, StaticSound};
+    /// use cableowl::{Frames, Lanes, Settings, Signals, StaticSound};
     ///
     /// let sound = [0.5; 20];
-    /// let mut voice = StaticSound::new(Settings::new(1).loop_region(2..5), &sound)?;
+    /// let mut voice = StaticSound::new(Settings::new(1).loop_region(Frames(2)..Frames(5)), &sound)?;
     /// let before = voice.wraps();
     /// let mut lanes = Lanes::new();
     /// voice.process(&sound, lanes.frames(30), 1.0, Signals::default(), &mut [0.0; 60])?;
@@ -329,12 +386,16 @@ impl StaticSound {
         answer: ffi::Processed,
         dt: f64,
         lanes: ffi::Lanes,
+        still: u64,
     ) -> Result<Processed, Refusal> {
         Refusal::check_block(answer.refusal, self.state.sample_rate, dt, lanes)?;
         self.state = answer.state;
+        let (steps, frames) = (answer.steps, lanes.rate.len() as u64);
         Ok(Processed {
-            steps: answer.steps,
+            steps,
             lowest_count: answer.lowest_count,
+            steps_back: if self.state().is_backward() { steps } else { 0 },
+            usage: Usage::of_block(frames, still, &self.state, steps),
         })
     }
 }

@@ -4,11 +4,12 @@
 use std::{
     alloc::{GlobalAlloc, Layout, System},
     cell::Cell,
+    time::Duration,
 };
 
 use cableowl::{
-    Command, Commands, Lanes, Level, Player, RecordedPlayer, Refusal, Settings, Signals, State,
-    StaticSound, Ticks, Tween,
+    Command, Commands, Easing, Frames, Lanes, Level, Player, RecordedPlayer, Refusal, Settings,
+    Signals, State, StaticSound, Ticks, Tween,
     trace::{Recorder, Replay, Trace, salvage},
 };
 
@@ -51,14 +52,19 @@ fn evening(sound: &[f32], lanes: &mut Lanes, out: &mut [f32]) -> Result<State, R
     let settings = Settings::new(48_000)
         .loop_region(0.001..0.01)
         .start_waits(true);
-    assert!(StaticSound::new(settings.slice(5..5), sound).is_err());
+    assert!(StaticSound::new(settings.slice(Frames(5)..Frames(5)), sound).is_err());
     let mut voice = StaticSound::new(settings, sound)?;
     let (dt, signals) = (
         1.0 / 48_000.0,
         Signals::new().start(cableowl::StartAnswer::Now),
     );
     for frames in [0, 1, 64, 4_096, 511, 4_096] {
-        voice.on_start_processing(sound, Commands::new().seek_by(0.5).set_loop_region(1..7))?;
+        voice.on_start_processing(
+            sound,
+            Commands::new()
+                .seek_by(0.5)
+                .set_loop_region(Frames(1)..Frames(7)),
+        )?;
         let part = &mut out[..2 * frames];
         voice.process(sound, lanes.frames(frames).volume(0.5), dt, signals, part)?;
         voice.process_into(sound, lanes.frames(frames).rate(0.7), dt, signals, out, 3)?;
@@ -105,6 +111,7 @@ fn no_call_allocates() {
 
 /// Every call of a player, accepted and refused, outputs of each size, every parameter in motion and at rest.
 fn player_evening(player: &mut Player, sound: &[f32], out: &mut [f32]) -> Result<State, Refusal> {
+    player.start_after(Duration::from_secs(1));
     player.start_at_tick(
         3,
         Ticks {
@@ -124,7 +131,10 @@ fn player_evening(player: &mut Player, sound: &[f32], out: &mut [f32]) -> Result
             player.set_loop_region(0.001..0.01)?;
             player.seek_by(0.25)?;
             player.seek_to(0.5)?;
-            assert!(player.seek_to(f64::NAN).is_err() && player.set_loop_region(4..4).is_err());
+            assert!(
+                player.seek_to(f64::NAN).is_err()
+                    && player.set_loop_region(Frames(4)..Frames(4)).is_err()
+            );
             assert!(player.set_playback_rate(1.0e9, tween).is_err());
             player.set_playback_rate(1.5, tween)?;
             let played = player.mix(sound, &mut out[..samples]);
@@ -132,6 +142,13 @@ fn player_evening(player: &mut Player, sound: &[f32], out: &mut [f32]) -> Result
             player.clear_loop_region();
         }
     }
+    // More seeks than can wait, and a tween with a curve and a delay.
+    player.process(sound, &mut out[..200])?;
+    let tween = Tween::default().delayed(Duration::from_millis(3));
+    player.set_panning(-0.3, tween.easing(Easing::InOutPowf(1.5)))?;
+    let refused = (0..100).filter(|_| player.seek_by(-0.001).is_err()).count();
+    assert_eq!(refused, 100 - 64);
+    player.process_parts(sound, &mut out[..2_000], |_| {})?;
     // Past the sound's end: it stops within a block.
     player.process(sound, out)?;
     let (state, _) = (player.voice().state(), player.position());
@@ -159,7 +176,7 @@ fn no_call_of_a_player_allocates() {
 fn recorded(lanes: &mut Lanes, replay: &mut Replay, room: &mut [u8], out: &mut [u8]) -> usize {
     let (sound, long) = ([0.25; 16], [0.25; 200]);
     let mut recorder = Recorder::new(room);
-    let _ = recorder.create(Settings::new(1).loop_region(0..), &sound);
+    let _ = recorder.create(Settings::new(1).loop_region(..), &sound);
     for frames in [0, 1, 8, 1_024] {
         let _ = recorder.on_start_processing(&sound, Commands::new().seek_by(0.5));
         let mut samples = [0.0; 2 * 1_024];

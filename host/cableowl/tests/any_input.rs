@@ -1,8 +1,9 @@
 // No input makes a call panic; a refused one changes nothing, and what an accepted one leaves behind is well formed.
 
 use cableowl::{
-    Commands, Frame, Lanes, LoopCommand, PlaybackPosition, PlaybackState, RecentFrame, Refusal,
-    Region, ResumeCommand, Settings, Signals, StartAnswer, StartSignal, State, StaticSound,
+    Commands, Frame, Frames, Lanes, LoopCommand, PlaybackPosition, PlaybackState, RecentFrame,
+    Refusal, Region, ResumeCommand, Settings, Signals, StartAnswer, StartSignal, State,
+    StaticSound,
 };
 use random::Random;
 
@@ -36,7 +37,7 @@ fn range(random: &mut Random) -> (usize, usize) {
 fn position(random: &mut Random) -> PlaybackPosition {
     match random.coin() {
         true => float(random).into(),
-        false => whole(random).into(),
+        false => Frames(whole(random)).into(),
     }
 }
 

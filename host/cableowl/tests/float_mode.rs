@@ -1,6 +1,6 @@
 // The host's float mode does not matter: in each one the same frames, the same refusals, and every call returns.
 
-use cableowl::{Commands, Lanes, Refusal, Settings, Signals, State, StaticSound};
+use cableowl::{Commands, Frames, Lanes, Refusal, Settings, Signals, State, StaticSound};
 
 mod mode;
 
@@ -48,7 +48,9 @@ fn the_same_frames() {
     let rates: Vec<f64> = (0..200).map(|i| 0.1 + f64::from(i) / 70.0).collect();
     let fades: Vec<f32> = (0..200).map(|i| 1.0 / (1.0 + i as f32)).collect();
     let heard = in_every_mode(|| {
-        let settings = Settings::new(44_100).loop_region(3..31).reverse(true);
+        let settings = Settings::new(44_100)
+            .loop_region(Frames(3)..Frames(31))
+            .reverse(true);
         let mut voice = StaticSound::new(settings, &sound).unwrap();
         let (mut lanes, mut out) = (Lanes::new(), [0.0; 400]);
         let mut heard = Vec::new();
@@ -78,7 +80,9 @@ fn the_same_frames() {
 fn a_held_rate_just_below_0_is_backward() {
     let sound = small_sound();
     let state = in_every_mode(|| {
-        let settings = Settings::new(1).start_position(9).playback_rate(-5.0e-324);
+        let settings = Settings::new(1)
+            .start_position(Frames(9))
+            .playback_rate(-5.0e-324);
         whole(&StaticSound::new(settings, &sound).unwrap().state())
     });
     assert_eq!(State::from_bytes(&state).unwrap().position, 6);

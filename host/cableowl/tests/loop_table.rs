@@ -3,7 +3,8 @@
 use std::ops::Range;
 
 use cableowl::{
-    Commands, Hall, Lanes, LoopTable, PlaybackPosition, Refusal, Settings, Signals, StaticSound,
+    Commands, Frames, Hall, Lanes, LoopTable, PlaybackPosition, Refusal, Settings, Signals,
+    StaticSound,
 };
 use random::Random;
 
@@ -69,7 +70,7 @@ fn a_refused_take_changes_nothing() {
     let sound = sound();
     let mut table = LoopTable::new(FRAMES);
     table.write(Hall::A, 0, 2..12).unwrap();
-    let voice = StaticSound::new(Settings::new(1).slice(0..6), &sound).unwrap();
+    let voice = StaticSound::new(Settings::new(1).slice(Frames(0)..Frames(6)), &sound).unwrap();
     let another = &sound[2..];
     for (sound, slot, refusal) in [
         (&sound[..], 16, Refusal::LoopSlot),

@@ -1,8 +1,8 @@
 // Each of the twelve refusals through the API, and that a refused call changes nothing.
 
 use cableowl::{
-    BlockLanes, Commands, LaneName, Lanes, PlaybackPosition, Refusal, Settings, Signals, State,
-    StaticSound,
+    BlockLanes, Commands, Frames, LaneName, Lanes, PlaybackPosition, Refusal, Settings, Signals,
+    State, StaticSound,
 };
 
 /// Ten frames.
@@ -157,8 +157,8 @@ fn creation_2_to_7() {
         assert_eq!(created(plain, sound), Err(Refusal::FrameCount));
     }
     for settings in [
-        plain.slice(3..3),
-        plain.slice(3..11),
+        plain.slice(Frames(3)..Frames(3)),
+        plain.slice(Frames(3)..Frames(11)),
         plain.slice(f64::NAN..),
     ] {
         assert_eq!(created(settings, &SOUND), Err(Refusal::Slice));
@@ -166,12 +166,15 @@ fn creation_2_to_7() {
     for start in [
         PlaybackPosition::Samples(10),
         f64::INFINITY.into(),
-        usize::MAX.into(),
+        Frames(usize::MAX).into(),
     ] {
         let refused = created(plain.start_position(start), &SOUND);
         assert_eq!(refused, Err(Refusal::StartPosition));
     }
-    for settings in [plain.loop_region(4..4), plain.loop_region(4.0..11.0)] {
+    for settings in [
+        plain.loop_region(Frames(4)..Frames(4)),
+        plain.loop_region(4.0..11.0),
+    ] {
         assert_eq!(created(settings, &SOUND), Err(Refusal::LoopRegion));
     }
     for rate in [f64::NAN, f64::NEG_INFINITY] {
@@ -183,14 +186,14 @@ fn creation_2_to_7() {
 #[test]
 fn the_lowest_wins() {
     let all_wrong = Settings::new(0)
-        .slice(9..11)
+        .slice(Frames(9)..Frames(11))
         .start_position(f64::NAN)
-        .loop_region(9..11)
+        .loop_region(Frames(9)..Frames(11))
         .playback_rate(f64::NAN);
     assert_eq!(created(all_wrong, &[]), Err(Refusal::SampleRate));
     let all_wrong = Commands::new()
         .set_playback_rate(f64::NAN)
-        .set_loop_region(4..4)
+        .set_loop_region(Frames(4)..Frames(4))
         .seek_to(f64::NAN);
     assert_eq!(commanded(all_wrong), Err(Refusal::LoopRegion));
 }
@@ -198,7 +201,9 @@ fn the_lowest_wins() {
 #[test]
 fn commands_6_to_8() {
     assert_eq!(commanded(Commands::new()), Ok(0.0));
-    let looped = Commands::new().pause().set_loop_region(9..11);
+    let looped = Commands::new()
+        .pause()
+        .set_loop_region(Frames(9)..Frames(11));
     assert_eq!(commanded(looped), Err(Refusal::LoopRegion));
     let rated = Commands::new().stop().set_playback_rate(f64::INFINITY);
     assert_eq!(commanded(rated), Err(Refusal::PlaybackRate));

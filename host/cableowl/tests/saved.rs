@@ -1,16 +1,16 @@
 // Saved states: bytes that are read back, and bytes that are refused.
 
 use cableowl::{
-    Commands, Lanes, Refusal, Settings, Signals, State, StaticSound, Unreadable, Wraps,
+    Commands, Frames, Lanes, Refusal, Settings, Signals, State, StaticSound, Unreadable, Wraps,
 };
 
 const SOUND: [f32; 40] = [0.25; 40];
 
 fn state() -> State {
     let settings = Settings::new(44_100)
-        .slice(1..19)
-        .start_position(15)
-        .loop_region(2..9);
+        .slice(Frames(1)..Frames(19))
+        .start_position(Frames(15))
+        .loop_region(Frames(2)..Frames(9));
     let mut voice = StaticSound::new(settings.reverse(true), &SOUND).unwrap();
     let mut lanes = Lanes::new();
     let lanes = lanes.frames(5).rate(0.3);

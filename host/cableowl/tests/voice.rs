@@ -1,7 +1,7 @@
 // What a voice does when its calls are accepted: the rules' examples through the API.
 
 use cableowl::{
-    Commands, Lanes, PlaybackState, Refusal, Settings, Signals, StartAnswer, StartSignal,
+    Commands, Frames, Lanes, PlaybackState, Refusal, Settings, Signals, StartAnswer, StartSignal,
     StaticSound, Wraps,
 };
 
@@ -75,13 +75,49 @@ fn a_block_reports_the_lowest_count_it_read() {
     let voice = StaticSound::new(Settings::new(1), &sound).unwrap();
     let counts = lowest_counts(voice, &sound, &[1, 1, 1, 1, 1, 1]);
     assert_eq!(counts, [4, 3, 2, 1, 4, 4]);
-    let looped = StaticSound::new(Settings::new(1).loop_region(0..3), &sound).unwrap();
+    let looped =
+        StaticSound::new(Settings::new(1).loop_region(Frames(0)..Frames(3)), &sound).unwrap();
     assert_eq!(lowest_counts(looped, &sound, &[100]), [4]);
 
     // A silent block reads no window.
     let waiting = StaticSound::new(Settings::new(1).start_waits(true), &one).unwrap();
     assert_eq!(waiting.state().time_until_empty, 2);
     assert_eq!(lowest_counts(waiting, &one, &[2]), [4]);
+}
+
+#[test]
+fn a_block_says_what_its_frames_were_spent_on() {
+    let sound = ramp(50);
+    let settings = Settings::new(1).start_waits(true).reverse(true);
+    let mut voice = StaticSound::new(settings, &sound).unwrap();
+    let mut lanes = Lanes::new();
+    let mut spent = |commands: Commands, rates: &[f64], signals: Signals| {
+        voice.on_start_processing(&sound, commands).unwrap();
+        let lanes = lanes.frames(rates.len()).rate(rates);
+        let mut out = vec![0.0; 2 * rates.len()];
+        let block = voice
+            .process(&sound, lanes, 1.0, signals, &mut out)
+            .unwrap();
+        let usage = block.usage;
+        let frames = [usage.played, usage.paused, usage.silent, usage.still];
+        (frames, block.steps, block.steps_back)
+    };
+    let none = Commands::new;
+    let started = Signals::new().start(StartAnswer::Now);
+    let finished = Signals::new().finished(true);
+    let rates = [1.0, 0.0, -0.0, 2.0];
+    assert_eq!(spent(none(), &rates, Signals::new()), ([0, 0, 4, 0], 0, 0));
+    assert_eq!(spent(none(), &rates, started), ([4, 0, 0, 2], 3, 3));
+    assert_eq!(
+        spent(none().pause(), &rates, Signals::new()),
+        ([4, 0, 0, 2], 3, 3)
+    );
+    assert_eq!(spent(none(), &rates, finished), ([0, 4, 0, 0], 0, 0));
+    let turned = none().resume().set_playback_rate(-1.0);
+    assert_eq!(spent(turned, &[1.0], finished), ([1, 0, 0, 0], 1, 0));
+    // It runs off in this block, and is silent in the next.
+    assert_eq!(spent(none(), &[30.0; 3], Signals::new()).0, [3, 0, 0, 0]);
+    assert_eq!(spent(none(), &[30.0; 3], Signals::new()).0, [0, 0, 3, 0]);
 }
 
 fn wraps(voice: &StaticSound) -> (u32, u32) {
@@ -95,7 +131,7 @@ fn wraps(voice: &StaticSound) -> (u32, u32) {
 fn wraps_are_counted_by_direction() {
     // The smallest: each of creation's three steps wraps.
     let one = [0.5; 2];
-    let smallest = Settings::new(1).loop_region(0..1);
+    let smallest = Settings::new(1).loop_region(Frames(0)..Frames(1));
     let mut voice = StaticSound::new(smallest, &one).unwrap();
     assert_eq!(wraps(&voice), (3, 0));
     play(&mut voice, &one, 5);
@@ -109,17 +145,20 @@ fn wraps_are_counted_by_direction() {
 
     // One a step, from outside the loop too, and however many lengths it goes back.
     let sound = ramp(10);
-    let far = Settings::new(1).start_position(9).loop_region(0..2);
+    let far = Settings::new(1)
+        .start_position(Frames(9))
+        .loop_region(Frames(0)..Frames(2));
     let voice = StaticSound::new(far, &sound).unwrap();
     assert_eq!((voice.state().position, wraps(&voice)), (0, (2, 0)));
-    let unlooped = StaticSound::new(Settings::new(1).start_position(9), &sound).unwrap();
+    let unlooped = StaticSound::new(Settings::new(1).start_position(Frames(9)), &sound).unwrap();
     assert_eq!(wraps(&unlooped), (0, 0));
 }
 
 #[test]
 fn no_command_changes_the_wraps() {
     let sound = ramp(10);
-    let mut voice = StaticSound::new(Settings::new(1).loop_region(3..6), &sound).unwrap();
+    let mut voice =
+        StaticSound::new(Settings::new(1).loop_region(Frames(3)..Frames(6)), &sound).unwrap();
     play(&mut voice, &sound, 7);
     let counted = wraps(&voice);
     assert_eq!(counted, (2, 0));
@@ -127,7 +166,7 @@ fn no_command_changes_the_wraps() {
         Commands::new().seek_to(8.0),
         Commands::new().seek_to(0.0),
         Commands::new().seek_by(7.0),
-        Commands::new().set_loop_region(1..2),
+        Commands::new().set_loop_region(Frames(1)..Frames(2)),
         Commands::new().clear_loop_region(),
         Commands::new().set_playback_rate(-1.0).pause(),
         Commands::new().stop(),
@@ -141,7 +180,7 @@ fn no_command_changes_the_wraps() {
 #[test]
 fn a_count_of_wraps_stands_still_at_its_limit() {
     let one = [0.5; 2];
-    let mut state = StaticSound::new(Settings::new(1).loop_region(0..1), &one)
+    let mut state = StaticSound::new(Settings::new(1).loop_region(Frames(0)..Frames(1)), &one)
         .unwrap()
         .state();
     (state.wraps.forward, state.wraps.backward) = (u32::MAX - 2, u32::MAX);
@@ -158,8 +197,8 @@ fn positions_steps_and_wraps_fit() {
     let mut lanes = Lanes::new();
     for (rate, length) in [(1.0, 3), (1.0, 1), (-1.0, 3), (-1.0, 1), (1.0, 7)] {
         let settings = Settings::new(1)
-            .start_position(2)
-            .loop_region(2..2 + length)
+            .start_position(Frames(2))
+            .loop_region(Frames(2)..Frames(2 + length))
             .playback_rate(rate);
         let mut voice = StaticSound::new(settings, &sound).unwrap();
         for speed in [0.3, 1.0, 2.5, 16.0, 255.0] {
@@ -189,7 +228,10 @@ fn creation_fills_the_window() {
     };
     let plain = Settings::new(1);
     assert_eq!(numbers(plain), ([0, 0, 1, 2], 3));
-    let reversed = plain.reverse(true).start_position(2).loop_region(3..6);
+    let reversed = plain
+        .reverse(true)
+        .start_position(Frames(2))
+        .loop_region(Frames(3)..Frames(6));
     assert_eq!(numbers(reversed), ([7, 7, 6, 5], 4));
     assert_eq!(numbers(plain.start_position(2.5)), ([3, 3, 4, 5], 6));
 }
@@ -279,7 +321,7 @@ fn a_start_that_is_due_at_a_tick_comes_and_stays() {
 #[test]
 fn cut_blocks_are_the_same_block() {
     let sound = ramp(50);
-    let settings = Settings::new(1).loop_region(5..17);
+    let settings = Settings::new(1).loop_region(Frames(5)..Frames(17));
     let rates: Vec<f64> = (0..300).map(|i| 0.3 + f64::from(i) / 100.0).collect();
     let uncut = StaticSound::new(settings, &sound).unwrap();
     for size in [300, 1, 7, 64] {
@@ -308,8 +350,8 @@ fn cut_blocks_are_the_same_block() {
 fn a_saved_voice_plays_on() {
     let sound = ramp(20);
     let settings = Settings::new(1)
-        .slice(2..18)
-        .loop_region(3..9)
+        .slice(Frames(2)..Frames(18))
+        .loop_region(Frames(3)..Frames(9))
         .playback_rate(-1.0)
         .reverse(true);
     let mut voice = StaticSound::new(settings, &sound).unwrap();
@@ -327,7 +369,8 @@ fn a_mix_is_touched_in_its_part_alone() {
     let sound = ramp(10);
     let mut lanes = Lanes::new();
     for from in 0..=6 {
-        let mut voice = StaticSound::new(Settings::new(1).start_position(4), &sound).unwrap();
+        let mut voice =
+            StaticSound::new(Settings::new(1).start_position(Frames(4)), &sound).unwrap();
         let mut mix = [9.0; 16];
         let signals = Signals::default();
         let lanes = lanes.frames(2).left(0.5).right(0.25);
@@ -356,7 +399,7 @@ fn the_stretch_is_the_slice_s_samples() {
     let sound = ramp(10);
     let all = StaticSound::new(Settings::new(1), &sound).unwrap();
     assert!(std::ptr::eq(all.stretch(&sound), &sound[..]));
-    let slice = StaticSound::new(Settings::new(1).slice(2..5), &sound).unwrap();
+    let slice = StaticSound::new(Settings::new(1).slice(Frames(2)..Frames(5)), &sound).unwrap();
     assert!(std::ptr::eq(slice.stretch(&sound), &sound[4..10]));
     assert_eq!(slice.stretch(&sound), [2.0, -2.0, 3.0, -3.0, 4.0, -4.0]);
     assert!(slice.stretch(&sound[..18]).is_empty());
@@ -366,7 +409,10 @@ fn the_stretch_is_the_slice_s_samples() {
 #[test]
 fn refusals_are_errors_a_program_can_pass_on() {
     fn evening() -> Result<(), Box<dyn std::error::Error>> {
-        StaticSound::new(Settings::new(1).loop_region(4..4), &[0.0; 20])?;
+        StaticSound::new(
+            Settings::new(1).loop_region(Frames(4)..Frames(4)),
+            &[0.0; 20],
+        )?;
         Ok(())
     }
     let refusal = evening().unwrap_err();

@@ -19,7 +19,8 @@ use std::{
 mod student;
 
 use cableowl::{
-    Commands, Lanes, Level, MAX_BLOCK_FRAMES, Player, Refusal, Settings, StaticSound, Tween,
+    Commands, Frames, Lanes, Level, MAX_BLOCK_FRAMES, Player, Refusal, Settings, StaticSound,
+    Tween,
     trace::{
         Block, LOG_HEAD, Line, Log, MAX_RECORD_BYTES, MAX_SOUND_FRAMES, MAX_TRACED_FRAMES, Record,
         Recorder, ShortSound,
@@ -62,7 +63,7 @@ fn play(
     let mut teller = Log::new();
     teller.created();
     let mut out = vec![0.0; 2 * MAX_BLOCK_FRAMES];
-    let (mut number, mut digest) = (0, 0xcbf2_9ce4_8422_2325);
+    let mut digest = 0xcbf2_9ce4_8422_2325;
     if let Some(log) = &mut log {
         writeln!(log, "{LOG_HEAD}")?;
     }
@@ -73,12 +74,14 @@ fn play(
             let heard = &mut out[..2 * frames];
             let answer = player.process(sound, heard);
             digest = heard.iter().fold(digest, digested);
-            number += 1;
             if let Some(log) = &mut log {
-                let line = Line::of_block(number, frames, player.voice(), answer);
-                let lowest = answer?.lowest_count;
-                writeln!(log, "{}", teller.line(line, Some(player.voice()), lowest))?;
+                writeln!(
+                    log,
+                    "{}",
+                    teller.block(frames, Some(player.voice()), answer)
+                )?;
             }
+            answer?;
             if slip {
                 let mut state = player.voice().state();
                 state.fractional_position = 0.0;
@@ -107,10 +110,11 @@ fn play(
 /// a traced block's lanes are constant.
 fn records() -> Result<Vec<Record>, Refusal> {
     let sound = ShortSound::new(&lesson(MAX_SOUND_FRAMES))?;
-    let settings = Settings::new(LESSON_RATE).loop_region(0..MAX_SOUND_FRAMES);
+    let settings = Settings::new(LESSON_RATE).loop_region(Frames(0)..Frames(MAX_SOUND_FRAMES));
     let mut records = vec![Record::Creation { settings, sound }];
     let short = MAX_SOUND_FRAMES as f64 / (f64::from(LESSON) * f64::from(LESSON_RATE));
-    let frame = |seconds: f64| (seconds / f64::from(LESSON) * MAX_SOUND_FRAMES as f64) as usize;
+    let frame =
+        |seconds: f64| Frames((seconds / f64::from(LESSON) * MAX_SOUND_FRAMES as f64) as usize);
     let (mut clock, mut rate, mut finished) = (0, 1.0, false);
     for (until, act) in acts() {
         while clock < until {
@@ -139,7 +143,7 @@ fn records() -> Result<Vec<Record>, Refusal> {
             Act::StepBack(seconds) => commands.seek_by(-seconds * short),
             Act::Resume => commands.resume(),
             Act::StartOver(seconds) => commands.seek_to(seconds * short),
-            Act::LeaveLoop => commands.set_loop_region(0..MAX_SOUND_FRAMES),
+            Act::LeaveLoop => commands.set_loop_region(Frames(0)..Frames(MAX_SOUND_FRAMES)),
             Act::Stop => commands.stop(),
         };
         finished = matches!(act, Act::Pause | Act::Resume | Act::Stop);

@@ -1,31 +1,38 @@
 //! `cableowl audit`: did this box play as proved? The trace is played again by the rule, and the
-//! box's own log is held to it, block by block.
+//! box's own log is compared with it wherever both have an edge.
 
-use std::path::{Path, PathBuf};
+mod align;
+mod page;
 
-use cableowl::trace::{Line as Proved, LogLine, Record, TraceReader};
+use std::{
+    ops::Range,
+    path::{Path, PathBuf},
+};
+
+use cableowl::PlaybackState;
 
 use crate::{
     course::{Join, Series},
     fault::{Fault, Result},
     input::Input,
-    log::{Before, Block, Form, Line, Log, More},
+    log::{Form, Log},
     out::{Fresh, Out, free_for_a_page},
-    page::{Sink, foot, head},
-    plot::{Plot, escaped, grouped},
-    replay::{Run, fault, number, refused},
+    plot::grouped,
     report::not_an_input,
 };
+use align::{Pair, Part, Segment, What, Why};
 
-/// How many blocks that differ are listed.
+/// How many places that differ are listed.
 const LISTED: usize = 5;
 
-/// A block that differs.
-#[derive(Debug, Clone, PartialEq, Eq)]
+/// A place where the box differs from the rule.
+#[derive(Debug, Clone, Copy, PartialEq)]
 struct Differs {
-    proved: Option<Line>,
-    said: Option<Line>,
+    segment: Segment,
+    what: What,
     creep: i128,
+    /// The seconds up to its end.
+    at: f64,
 }
 
 /// How far the box was from the rule.
@@ -44,148 +51,172 @@ impl Join for Gap {
     }
 }
 
+/// A place from which on nothing is said of the box.
+#[derive(Debug, Clone, PartialEq, Eq)]
+struct Stop {
+    why: Why,
+    /// The last line of the log that was compared before it.
+    after: u64,
+    /// The bytes of a hole in the trace.
+    hole: Option<Range<u64>>,
+    /// The line of the log from which on the audit goes on, or why it does not.
+    resumed: Option<std::result::Result<u64, &'static str>>,
+}
+
+impl Stop {
+    fn words(&self) -> String {
+        let hole = match &self.hole {
+            Some(hole) => format!(", a hole of {} bytes", grouped(hole.end - hole.start)),
+            None => String::new(),
+        };
+        let after = match self.after {
+            0 => String::new(),
+            block => format!(" after block {}", grouped(block)),
+        };
+        let resumed = match self.resumed {
+            Some(Ok(line)) => format!(
+                " and before block {}, where a voice is created behind the hole",
+                grouped(line)
+            ),
+            Some(Err(why)) => format!(", not even behind the hole: {why}"),
+            None => String::new(),
+        };
+        let why = &self.why;
+        format!("{why}{hole}: nothing is said of the box{after}{resumed}")
+    }
+}
+
 /// What an audit found.
+#[derive(Clone)]
 struct Found {
     trace: String,
     log: String,
     form: Form,
+    /// Places that were compared, and the blocks and lines up to them.
+    places: u64,
     blocks: u64,
+    lines: u64,
     frames: u64,
     seconds: f64,
+    sample_rate: u32,
+    looped: bool,
     differing: u64,
     first: Vec<Differs>,
-    first_at: f64,
     creep: i128,
+    /// Whether nothing but steps, places and turns differs.
+    only_moves: bool,
+    /// Whether the steps are those of a player that clears its fraction after each line.
+    clears: bool,
     apart: bool,
     gaps: Series<Gap>,
-    /// Why it broke off, where it did.
-    ended: Option<Fault>,
+    stops: Vec<Stop>,
+}
+
+/// The verdict of an audit.
+#[derive(Debug, Clone, Copy, PartialEq, Eq)]
+enum Verdict {
+    Agrees,
+    Differs,
+    Unknown,
 }
 
 impl Found {
-    fn agrees(&self) -> bool {
-        self.differing == 0 && self.ended.is_none()
+    fn new(trace: &Input, log: &Log) -> Self {
+        Self {
+            trace: trace.name().to_owned(),
+            log: log.name().to_owned(),
+            form: log.form(),
+            places: 0,
+            blocks: 0,
+            lines: 0,
+            frames: 0,
+            seconds: 0.0,
+            sample_rate: 0,
+            looped: false,
+            differing: 0,
+            first: Vec::new(),
+            creep: 0,
+            only_moves: true,
+            clears: true,
+            apart: false,
+            gaps: Series::new(1),
+            stops: Vec::new(),
+        }
     }
 
-    /// One block more, or what only one of the two has.
-    fn compare(&mut self, proved: Option<Line>, said: Option<Line>) -> bool {
-        let steps = |line: Option<Line>| match line {
-            Some(Line::Block(block)) => i128::from(block.steps),
-            _ => 0,
-        };
-        // What only one of them has tells nothing of how far the other came.
-        if proved.is_some() && said.is_some() {
-            self.creep = self.creep.saturating_add(steps(proved) - steps(said));
+    fn verdict(&self) -> Verdict {
+        match (self.differing, self.places) {
+            (1.., _) => Verdict::Differs,
+            (0, 1..) if self.stops.is_empty() => Verdict::Agrees,
+            _ => Verdict::Unknown,
         }
-        let same = match (proved, said) {
-            (Some(proved), Some(said)) => alike(&proved, &said),
-            _ => false,
-        };
-        if !same {
+    }
+
+    /// One place more: whether the box is there where the rule puts it.
+    fn compare(&mut self, segment: &Segment) -> bool {
+        let (rule, said) = (&segment.rule, &segment.said);
+        let begin = self.frames;
+        self.places += 1;
+        self.blocks = self.blocks.saturating_add(rule.lines);
+        self.lines = said.number;
+        let frames = u64::try_from(rule.frames).unwrap_or(u64::MAX);
+        self.frames = self.frames.saturating_add(frames);
+        self.seconds += segment.seconds;
+        self.sample_rate = segment.sample_rate;
+        self.looped |= segment.looped;
+        if !rule.ran_off {
+            let lost = i128::from(rule.steps) - i128::from(said.steps);
+            self.creep = self.creep.saturating_add(lost);
+            self.clears &= is_cleared(segment);
+        }
+        let what = segment.differs();
+        if let Some(what) = what {
             self.differing += 1;
-            if self.first.is_empty() {
-                self.first_at = self.seconds;
-            }
+            self.only_moves &= matches!(what, What::Position | What::Steps | What::Turns);
             if self.first.len() < LISTED {
-                let creep = self.creep;
                 self.first.push(Differs {
-                    proved,
-                    said,
-                    creep,
+                    segment: *segment,
+                    what,
+                    creep: self.creep,
+                    at: self.seconds,
                 });
             }
         }
-        if let (Some(Line::Block(p)), Some(Line::Block(s))) = (proved, said) {
+        if let (Some(p), Some(s)) = (rule.last, said.last) {
             let place = i128::from(p.position) - i128::from(s.position);
             self.apart |= place != 0;
-            let creep = Some(self.creep);
             let gap = Gap {
-                creep,
+                creep: Some(self.creep),
                 place: Some(place),
             };
-            if let Some(held) = self.gaps.at(self.frames) {
+            if let Some(held) = self.gaps.at(begin) {
                 held.join(gap);
             }
         }
-        same
+        what.is_none()
+    }
+
+    fn stop(&mut self, why: Why) {
+        self.stops.push(Stop {
+            why,
+            after: self.lines,
+            hole: None,
+            resumed: None,
+        });
     }
 }
 
-/// Whether a box said what is proved. What was done before the block is the host's to count.
-fn alike(proved: &Line, said: &Line) -> bool {
-    match (proved, said) {
-        (Line::Block(proved), Line::Block(said)) => {
-            let bare = |block: &Block| {
-                (
-                    block.number,
-                    block.frames,
-                    block.steps,
-                    block.state,
-                    block.position,
-                )
-            };
-            let voice = |more: More| (more.lowest, more.forward, more.backward, more.started);
-            let more = match (proved.more, said.more) {
-                (Some(proved), Some(said)) => voice(proved) == voice(said),
-                _ => true,
-            };
-            bare(proved) == bare(said) && more
-        }
-        (
-            Line::Refused {
-                number, refusal, ..
-            },
-            Line::Refused {
-                number: said_number,
-                refusal: said_refusal,
-                ..
-            },
-        ) => (number, refusal) == (said_number, said_refusal),
-        (proved, said) => proved == said,
-    }
+/// Whether the box made the steps of a player that begins each line at fraction 0: the whole frames of
+/// the advance. A millionth of a frame is left for the rounding of the sums.
+fn is_cleared(segment: &Segment) -> bool {
+    let whole = |frames: f64| (frames.max(0.0)).floor() as u64;
+    let advance = segment.advance;
+    let steps = segment.said.steps;
+    let fits = steps == whole(advance + 1e-6) || steps == whole(advance - 1e-6);
+    fits && (segment.said.lines == 1 || advance == 0.0)
 }
 
-/// A proved line, as a log has it.
-fn as_said(line: &LogLine) -> Line {
-    let before = Some(Before {
-        created: line.since.created,
-        seeks: line.since.seeks,
-        restarts: line.since.restarts,
-    });
-    match line.line {
-        Proved::Block {
-            block,
-            frames,
-            steps,
-            state,
-            position,
-        } => Line::Block(Block {
-            number: block,
-            frames,
-            steps,
-            state: state.number() as u8,
-            position,
-            more: before.map(|before| More {
-                lowest: line.lowest as u8,
-                forward: line.forward,
-                backward: line.backward,
-                started: line.started,
-                before,
-            }),
-        }),
-        Proved::RefusedBlock { block, refusal } => Line::Refused {
-            number: block,
-            refusal: number(refusal),
-            before,
-        },
-        Proved::Refused(refused) => Line::Broken {
-            refusal: number(refused.refusal),
-            at: refused.at,
-        },
-    }
-}
-
-/// Audits a log by its trace; whether they agree.
+/// Audits a log by its trace: whether they agree. Where nothing can be said it is a fault.
 pub fn audit(
     trace: &Path,
     log: &Path,
@@ -198,364 +229,308 @@ pub fn audit(
         not_an_input(path, &inputs)?;
         free_for_a_page(path)?;
     }
-    let input = Input::open(trace)?;
-    let log = Log::new(Input::open(log)?)?;
+    let opened = Input::open(trace).and_then(|trace| Ok((trace, Log::new(Input::open(log)?)?)));
+    let (input, log) = opened.map_err(|fault| match fault {
+        Fault::Refused(words) => Fault::Unknown(format!("{words}: nothing is said of the box")),
+        other => other,
+    })?;
     if csv {
-        out.put("block,frames,seconds,steps_proved,steps_said,position_proved,position_said,creep,same\n")?;
+        out.put("block,line,frames,seconds,steps_rule,steps_box,position_rule,position_box,creep,same\n")?;
     }
-    let mut row = |found: &Found, proved: Option<Line>, said: Option<Line>, same: bool| match csv {
-        true => out.put(csv_row(found, proved, said, same)),
+    let mut row = |found: &Found, segment: &Segment, same: bool| match csv {
+        true => out.put(csv_row(found, segment, same)),
         false => Ok(()),
     };
-    let found = found(input, log, &mut row)?;
+    let found = found(input, log, csv, &mut row)?;
     if !csv {
         put_text(&found, out)?;
     }
     if let Some(path) = to {
         let mut file = Fresh::begin(path)?;
-        page(&found, &mut |text| file.put(text.as_bytes()))?;
+        page::page(&found, &mut |text| file.put(text.as_bytes()))?;
         file.replace()?;
     }
-    let agrees = found.agrees();
-    match found.ended {
-        Some(fault) => Err(fault),
-        None => Ok(agrees),
+    match found.verdict() {
+        Verdict::Agrees => Ok(true),
+        Verdict::Differs => Ok(false),
+        // With --csv there is no other place for the sentence.
+        Verdict::Unknown if csv => Err(Fault::Unknown(sentence(&found))),
+        Verdict::Unknown => Err(Fault::Unsaid),
     }
 }
 
-type Rows<'a> = dyn FnMut(&Found, Option<Line>, Option<Line>, bool) -> Result<()> + 'a;
+type Rows<'a> = dyn FnMut(&Found, &Segment, bool) -> Result<()> + 'a;
 
-fn found(mut input: Input, mut log: Log, row: &mut Rows<'_>) -> Result<Found> {
-    let mut found = Found {
-        trace: input.name().to_owned(),
-        log: log.name().to_owned(),
-        form: log.form(),
-        blocks: 0,
-        frames: 0,
-        seconds: 0.0,
-        differing: 0,
-        first: Vec::new(),
-        first_at: 0.0,
-        creep: 0,
-        apart: false,
-        gaps: Series::new(1),
-        ended: None,
-    };
-    let mut run = Run::new();
-    let mut broken = None;
-    for record in TraceReader::new(&mut input) {
-        let record = match record {
-            Ok((_, record)) => record,
-            Err(error) => {
-                broken = Some(error);
+fn found(input: Input, log: Log, csv: bool, row: &mut Rows<'_>) -> Result<Found> {
+    let mut found = Found::new(&input, &log);
+    let mut pair = Pair::new(input, log);
+    // What was found before a hole, where the audit goes on behind it.
+    let mut before_hole: Option<Found> = None;
+    loop {
+        match pair.next() {
+            Ok(segment) => {
+                let same = found.compare(&segment);
+                row(&found, &segment, same)?;
+            }
+            Err(Why::Done) => break,
+            Err(why @ Why::TraceDamaged(_)) if before_hole.is_none() => {
+                found.stop(why);
+                let hole = pair.skip().unwrap_or_default();
+                // Rows that were written cannot be taken back: a table ends at the hole.
+                let resumed = match csv {
+                    true => None,
+                    false => Some(pair.resume()),
+                };
+                if let Some(stop) = found.stops.last_mut() {
+                    stop.hole = Some(hole);
+                    stop.resumed = resumed;
+                }
+                match resumed {
+                    Some(Ok(_)) => before_hole = Some(found.clone()),
+                    _ => break,
+                }
+            }
+            Err(why) => {
+                found.stop(why);
                 break;
             }
-        };
-        let Some(line) = run.play(&record) else {
-            continue;
-        };
-        let proved = as_said(&line);
-        let said = match log.next_line() {
-            Ok(said) => said,
-            Err(fault) => {
-                found.ended = Some(fault);
-                return Ok(found);
-            }
-        };
-        found.blocks += 1;
-        let same = found.compare(Some(proved), said);
-        if let (Record::Block(block), Line::Block(_)) = (&record, &proved) {
-            found.frames = found.frames.saturating_add(block.frames as u64);
-            found.seconds += block.frames as f64 * block.time_step;
-        }
-        row(&found, Some(proved), said, same)?;
-        if said.is_none() {
-            // The box said no more: what it did then is not told.
-            return Ok(found);
         }
     }
-    let last = broken
-        .as_ref()
-        .and_then(refused)
-        .map(|refused| Line::Broken {
-            refusal: number(refused.refusal),
-            at: refused.at,
-        });
-    match log.next_line() {
-        Ok(None) => {}
-        Ok(said) if said == last => {}
-        Ok(said) => {
-            let same = found.compare(None, said);
-            row(&found, None, said, same)?;
+    if let Some(mut before) = before_hole
+        && !pair.as_many_created()
+    {
+        if let Some(stop) = before.stops.last_mut() {
+            stop.resumed = Some(Err(
+                "the log says of another number of voices created behind it than the trace has",
+            ));
         }
-        Err(fault) => found.ended = Some(fault),
-    }
-    if let Some(error) = broken {
-        found.ended = Some(fault(&input, &error));
+        return Ok(before);
     }
     Ok(found)
 }
 
-fn csv_row(found: &Found, proved: Option<Line>, said: Option<Line>, same: bool) -> String {
-    let block = |line: Option<Line>| match line {
-        Some(Line::Block(block)) => Some(block),
-        _ => None,
-    };
-    let cell = |block: Option<Block>, of: fn(&Block) -> u64| {
-        block.map_or(String::new(), |block| of(&block).to_string())
-    };
-    let (p, s) = (block(proved), block(said));
+fn csv_row(found: &Found, segment: &Segment, same: bool) -> String {
+    let (rule, said) = (&segment.rule, &segment.said);
+    let place = |part: &Part| part.last.map_or(String::new(), |b| b.position.to_string());
+    let steps = |part: &Part| part.last.map_or(String::new(), |_| part.steps.to_string());
     let cells = [
-        number_of(proved.or(said)).map_or(String::new(), |number| number.to_string()),
-        cell(p.or(s), |block| block.frames),
+        rule.number.to_string(),
+        said.number.to_string(),
+        rule.frames.to_string(),
         format!("{:.6}", found.seconds),
-        cell(p, |block| block.steps),
-        cell(s, |block| block.steps),
-        cell(p, |block| block.position),
-        cell(s, |block| block.position),
+        steps(rule),
+        steps(said),
+        place(rule),
+        place(said),
         found.creep.to_string(),
         u8::from(same).to_string(),
     ];
     cells.join(",") + "\n"
 }
 
-fn number_of(line: Option<Line>) -> Option<u64> {
-    match line? {
-        Line::Block(Block { number, .. }) | Line::Refused { number, .. } => Some(number),
-        Line::Broken { .. } => None,
-    }
-}
-
-/// A line as it is shown beside another.
-fn told(line: Option<Line>, form: Form, whose: &str) -> String {
-    let Some(line) = line else {
-        return format!("nothing: the {whose} has ended");
+/// A part as it is shown beside another: the words of a log's line.
+fn shown(part: &Part, form: Form) -> String {
+    let (number, frames) = (part.number, part.frames);
+    let Some(last) = part.last else {
+        let refusal = part.refusal.unwrap_or_default();
+        return format!("block={number} refused={refusal}");
     };
-    match line {
-        Line::Block(b) => {
-            let (number, frames, steps, state, position) =
-                (b.number, b.frames, b.steps, b.state, b.position);
-            let mut told = format!(
-                "block={number} frames={frames} steps={steps} state={state} position={position}"
-            );
-            if let (Some(m), Form::Second) = (b.more, form) {
-                let (lowest, forward, backward) = (m.lowest, m.forward, m.backward);
-                let started = u8::from(m.started);
-                told += &format!(
-                    " lowest={lowest} forward={forward} backward={backward} started={started}"
-                );
-            }
-            told
-        }
-        Line::Refused {
-            number, refusal, ..
-        } => format!("block={number} refused={refusal}"),
-        Line::Broken { refusal, at } => format!("refused={refusal} at={at}"),
+    let (steps, position) = (part.steps, last.position);
+    let state = state_name(last.state);
+    let mut words =
+        format!("block={number} frames={frames} steps={steps} state={state} position={position}");
+    if let Some(refusal) = part.refusal {
+        words += &format!(" refused={refusal}");
+    }
+    let (Some(more), true) = (last.more, form != Form::First) else {
+        return words;
+    };
+    let lowest = part.lowest.unwrap_or(4);
+    let (forward, backward, started) = (more.forward, more.backward, u8::from(more.started));
+    words += &format!(" lowest={lowest} forward={forward} backward={backward} started={started}");
+    if let (Some((usage, back)), Some(third), Form::Third) = (part.spent, more.third, form) {
+        let (played, paused, silent, still) =
+            (usage.played, usage.paused, usage.silent, usage.still);
+        let ((start, end), direction, ended) = (
+            third.loop_region,
+            u8::from(third.is_backward),
+            u8::from(third.ended),
+        );
+        words += &format!(" played={played} paused={paused} silent={silent} still={still}");
+        words += &format!(" loop_start={start} loop_end={end} direction={direction}");
+        words += &format!(" steps_back={back} ended={ended}");
+    }
+    words
+}
+
+/// A state's name for people.
+fn state_name(number: u8) -> &'static str {
+    match PlaybackState::from_number(number.into()) {
+        Some(PlaybackState::Playing) => "playing",
+        Some(PlaybackState::Pausing) => "pausing",
+        Some(PlaybackState::Paused) => "paused",
+        Some(PlaybackState::WaitingToResume) => "waiting",
+        Some(PlaybackState::Resuming) => "resuming",
+        Some(PlaybackState::Stopping) => "stopping",
+        Some(PlaybackState::Stopped) => "stopped",
+        None => "unknown",
     }
 }
 
-/// Frames an hour.
-fn hourly(found: &Found) -> Option<f64> {
-    (found.seconds > 0.0).then(|| found.creep as f64 * 3_600.0 / found.seconds)
+/// Seconds for people.
+fn span(seconds: f64) -> String {
+    match seconds.abs() {
+        1.0.. => format!("{seconds:.1} s"),
+        0.01.. => format!("{seconds:.2} s"),
+        _ => format!("{seconds:.4} s"),
+    }
 }
 
-fn behind(creep: i128) -> String {
-    let frames = grouped(u64::try_from(creep.unsigned_abs()).unwrap_or(u64::MAX));
-    match creep {
-        0 => "0 frames, neither behind nor ahead".into(),
-        1.. => format!("{frames} frames behind"),
-        _ => format!("{frames} frames ahead"),
+/// The seconds of the sound that the box is behind; below 0 it is ahead.
+fn behind_seconds(found: &Found) -> f64 {
+    match found.sample_rate {
+        0 => 0.0,
+        rate => found.creep as f64 / f64::from(rate),
+    }
+}
+
+/// How much later the sound is after an hour.
+fn hourly(found: &Found) -> Option<f64> {
+    (found.seconds > 0.0).then(|| behind_seconds(found) * 3_600.0 / found.seconds)
+}
+
+fn behind(found: &Found) -> String {
+    let frames = grouped(u64::try_from(found.creep.unsigned_abs()).unwrap_or(u64::MAX));
+    let seconds = span(behind_seconds(found).abs());
+    match found.creep {
+        0 => "neither behind nor ahead".into(),
+        1.. => format!("{frames} frames of the sound behind, {seconds}"),
+        _ => format!("{frames} frames of the sound ahead, {seconds}"),
     }
 }
 
 fn an_hour(hourly: f64) -> String {
-    let way = if hourly < 0.0 { "ahead" } else { "behind" };
-    format!(
-        "{} frames {way} in an hour",
-        grouped(hourly.abs().round() as u64)
-    )
+    let way = if hourly < 0.0 { "earlier" } else { "later" };
+    format!("{} {way} after an hour", span(hourly.abs()))
 }
 
 /// What was found, in a sentence.
-fn verdict(found: &Found) -> String {
-    let blocks = grouped(found.blocks);
-    if found.differing > 0 {
-        let first = found.first.first();
-        let number = first.and_then(|first| number_of(first.proved.or(first.said)));
-        let place = number.map_or("after its last block".into(), |n| {
-            format!("at block {}", grouped(n))
-        });
-        return format!(
-            "{} is not what {} proves, first {place}",
-            found.log, found.trace
-        );
+fn sentence(found: &Found) -> String {
+    let (trace, log) = (&found.trace, &found.log);
+    match (found.verdict(), found.first.first()) {
+        (Verdict::Differs, Some(first)) => format!("{log}: {}", difference(found, first)),
+        (Verdict::Agrees, _) => {
+            let compared = compared(found);
+            format!("{log} says what the rule gives for {trace}, {compared}")
+        }
+        _ => {
+            let stops: Vec<String> = found.stops.iter().map(Stop::words).collect();
+            match (stops.is_empty(), found.places) {
+                (true, _) => format!(
+                    "{trace} has no block and {log} has no line: nothing is said of the box"
+                ),
+                (false, 0) => format!("{trace} and {log}: {}", stops.join("; ")),
+                (false, _) => format!(
+                    "{trace} and {log}: {}; what was compared agrees, {}",
+                    stops.join("; "),
+                    compared(found)
+                ),
+            }
+        }
     }
-    match found.ended {
-        Some(_) => format!(
-            "{} and {} agree for {blocks} blocks, where the audit broke off",
-            found.log, found.trace
+}
+
+/// What was compared, in words.
+fn compared(found: &Found) -> String {
+    let (blocks, lines) = (grouped(found.blocks), grouped(found.lines));
+    let seconds = span(found.seconds);
+    match found.places == found.blocks && found.places == found.lines {
+        true => format!(
+            "block by block: {}, {seconds}",
+            count(found.places, "block")
         ),
-        None => format!(
-            "{} is what {} proves, block by block: {blocks} blocks",
-            found.log, found.trace
+        false => format!(
+            "at all {} where a block of the one and a line of the other end together ({blocks} blocks, {lines} lines, {seconds})",
+            count(found.places, "frame")
         ),
     }
 }
 
+fn count(number: u64, name: &str) -> String {
+    let plural = if number == 1 { "" } else { "s" };
+    format!("{} {name}{plural}", grouped(number))
+}
+
+/// The difference, as a person at the desk would say it.
+fn difference(found: &Found, first: &Differs) -> String {
+    let block = grouped(first.segment.said.first);
+    let place = format!(
+        "first at block {block}, {} into the evening",
+        span(first.at)
+    );
+    let creeps = found.only_moves && found.creep != 0;
+    if let (true, Some(hourly)) = (creeps, hourly(found)) {
+        let sound = if found.looped { "loop" } else { "sound" };
+        let cause = match found.clears && found.creep > 0 {
+            true => "; a player that clears its fraction at block edges does this",
+            false => "",
+        };
+        return format!("the {sound} creeps: {}; {place}{cause}", an_hour(hourly));
+    }
+    format!("{} differs, {place}", first.what.name())
+}
+
 fn put_text(found: &Found, out: &mut Out<'_>) -> Result<()> {
-    let mark = match (found.differing > 0, &found.ended) {
-        (true, _) => "DIFFERS",
-        (false, None) => "AGREES",
-        (false, Some(_)) => "BROKEN OFF",
+    let mark = match found.verdict() {
+        Verdict::Agrees => "AGREES",
+        Verdict::Differs => "DIFFERS",
+        Verdict::Unknown => "UNKNOWN",
     };
-    out.put(format!("{mark}: {}\n", verdict(found)))?;
+    out.put(format!("{mark}: {}\n", sentence(found)))?;
     let Some(first) = found.first.first() else {
         return Ok(());
     };
-    out.put(format!(
-        "  proved  {}\n",
-        told(first.proved, found.form, "trace")
-    ))?;
-    out.put(format!(
-        "  said    {}\n",
-        told(first.said, found.form, "log")
-    ))?;
-    out.put("     block      steps proved   said      place proved   said      creep\n")?;
+    for (name, part) in [
+        ("the rule", &first.segment.rule),
+        ("the box ", &first.segment.said),
+    ] {
+        out.put(format!("  {name}  {}\n", shown(part, found.form)))?;
+    }
+    out.put("     block       steps: rule     box       place: rule     box       creep\n")?;
     for differs in &found.first {
-        let block = |line: Option<Line>| match line {
-            Some(Line::Block(block)) => (block.steps.to_string(), block.position.to_string()),
-            Some(Line::Refused { refusal, .. }) => (format!("({refusal})"), "-".into()),
-            _ => ("-".into(), "-".into()),
+        let cells = |part: &Part| match part.last {
+            Some(block) => (part.steps.to_string(), block.position.to_string()),
+            None => (
+                format!("({})", part.refusal.unwrap_or_default()),
+                "-".into(),
+            ),
         };
-        let number = number_of(differs.proved.or(differs.said)).map_or("-".into(), grouped);
-        let (proved, said) = (block(differs.proved), block(differs.said));
+        let (rule, said) = (cells(&differs.segment.rule), cells(&differs.segment.said));
         out.put(format!(
-            "{number:>10} {:>17} {:>6} {:>17} {:>6} {:>10}\n",
-            proved.0, said.0, proved.1, said.1, differs.creep
+            "{:>10} {:>17} {:>7} {:>17} {:>7} {:>11}\n",
+            grouped(differs.segment.said.number),
+            rule.0,
+            said.0,
+            rule.1,
+            said.1,
+            differs.creep
         ))?;
     }
     let more = found.differing - found.first.len() as u64;
     if more > 0 {
         out.put(format!(
-            "  and {} blocks more; --csv tells each block\n",
-            grouped(more)
+            "  and {} more; --csv has all of them\n",
+            count(more, "place")
         ))?;
     }
-    let hourly = hourly(found).map_or(String::new(), |hourly| format!(": {}", an_hour(hourly)));
     out.put(format!(
-        "  after {} blocks, {:.1} seconds, the box is {}{hourly}\n",
-        grouped(found.blocks),
-        found.seconds,
-        behind(found.creep)
-    ))
-}
-
-/// The audit's page.
-fn page(found: &Found, put: &mut Sink<'_>) -> Result<()> {
-    head("Did this box play as proved?", put)?;
-    let class = if found.agrees() { "good" } else { "bad" };
-    put(&format!(
-        "<p class=\"lede {class}\">{}</p>\n<p class=\"note\">The trace is played again by the proved rule; the log is what the box said of itself. A step is one frame of the sound.</p>\n",
-        escaped(&verdict(found))
+        "  after {}, {}, the box is {}\n",
+        count(found.blocks, "block"),
+        span(found.seconds),
+        behind(found)
     ))?;
-    if let Some(fault) = &found.ended {
-        put(&format!(
-            "<p class=\"bad\">{}</p>\n",
-            escaped(&fault.to_string())
-        ))?;
+    for stop in &found.stops {
+        out.put(format!("  {}\n", stop.words()))?;
     }
-    put("<dl>\n")?;
-    let facts = [
-        ("Blocks compared", grouped(found.blocks)),
-        ("Blocks that differ", grouped(found.differing)),
-        ("Seconds", format!("{:.1}", found.seconds)),
-        ("At the end", behind(found.creep)),
-        ("Creep", hourly(found).map_or("not told".into(), an_hour)),
-    ];
-    for (name, says) in facts {
-        put(&format!("<div><dt>{name}</dt><dd>{says}</dd></div>\n"))?;
-    }
-    put("</dl>\n")?;
-    creep_plot(found, put)?;
-    if !found.first.is_empty() {
-        put(
-            "<h3>The first blocks that differ</h3>\n<div class=\"scroll\"><table id=\"differing\" class=\"lines\"><thead><tr><th>Proved</th><th>Said</th><th>Creep</th></tr></thead><tbody>\n",
-        )?;
-        for differs in &found.first {
-            put(&format!(
-                "<tr><td>{}</td><td>{}</td><td>{}</td></tr>\n",
-                escaped(&told(differs.proved, found.form, "trace")),
-                escaped(&told(differs.said, found.form, "log")),
-                differs.creep
-            ))?;
-        }
-        put("</tbody></table></div>\n")?;
-    }
-    foot(put)
-}
-
-/// The creep over time; where the steps agree and the places do not, the places' difference.
-fn creep_plot(found: &Found, put: &mut Sink<'_>) -> Result<()> {
-    let by_steps = |gap: &Gap| gap.creep;
-    let by_place = |gap: &Gap| gap.place;
-    let steps_differ = found
-        .gaps
-        .held
-        .iter()
-        .any(|gap| by_steps(gap).is_some_and(|c| c != 0));
-    let (of, title, words): (fn(&Gap) -> Option<i128>, _, _) = match (steps_differ, found.apart) {
-        (false, true) => (
-            by_place,
-            "How far apart the places are",
-            "Upward: the proved place minus the one that the box said, in frames of the sound.",
-        ),
-        _ => (
-            by_steps,
-            "How far the box is behind",
-            "Upward: frames of the sound that the box is behind the proved player. A box that plays as proved stays at 0.",
-        ),
-    };
-    put(&format!(
-        "<h3>{title}</h3>\n<p class=\"note\">Across: the evening's time. {words}</p>\n"
-    ))?;
-    let second = match found.frames {
-        0 => 0.0,
-        frames => found.seconds / frames as f64,
-    };
-    let width = found.gaps.width;
-    let points: Vec<(f64, f64)> = found
-        .gaps
-        .held
-        .iter()
-        .enumerate()
-        .filter_map(|(index, gap)| Some(((index as u64 * width) as f64 * second, of(gap)? as f64)))
-        .collect();
-    if points.is_empty() {
-        return put("<p class=\"note\">There is no block to draw.</p>\n");
-    }
-    let low = points.iter().fold(0.0, |low: f64, point| low.min(point.1));
-    let high = points
-        .iter()
-        .fold(0.0, |high: f64, point| high.max(point.1));
-    let mut plot = Plot::new(
-        280.0,
-        found.seconds,
-        low,
-        if high > low { high } else { low + 4.0 },
-    );
-    plot.numbers();
-    let mut path = String::new();
-    for (index, (at, creep)) in points.iter().enumerate() {
-        let how = if index == 0 { 'M' } else { 'L' };
-        path += &format!("{how}{:.1} {:.1}", plot.x(*at), plot.y(*creep));
-    }
-    if !found.first.is_empty() {
-        plot.mark(
-            "first",
-            found.first_at,
-            "the first block that differs begins here",
-        );
-    }
-    plot.put(&format!("<path class=\"creep\" d=\"{path}\"/>"));
-    put(&plot.done("how far the box is behind, over the evening"))
+    Ok(())
 }

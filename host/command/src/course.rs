@@ -1,6 +1,6 @@
 //! The course of an evening, for the plots: at most so many stretches of time, whatever its length.
 
-use crate::figures::{Kind, REFUSALS, Told};
+use crate::figures::{REFUSALS, Told};
 
 /// How many stretches are held; where there are more, neighbours are joined.
 pub const STRETCHES: usize = 480;
@@ -164,16 +164,8 @@ impl Course {
             stretch.join(Stretch {
                 places: told.position.map(|place| (place, place, place)),
                 leapt,
-                paused: if told.kind == Kind::Paused {
-                    told.frames
-                } else {
-                    0
-                },
-                silent: if told.kind == Kind::Silent {
-                    told.frames
-                } else {
-                    0
-                },
+                paused: told.usage.paused,
+                silent: told.usage.silent,
                 frames: told.frames,
                 seeks: told.seeks,
                 lowest: told.lowest,

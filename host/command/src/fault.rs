@@ -9,6 +9,10 @@ pub enum Fault {
     Usage(String),
     /// A file is not what it should be, or cannot be read or written: exit 1.
     Refused(String),
+    /// An audit can say nothing of the box: exit 3.
+    Unknown(String),
+    /// The same, and its sentence stands in the output already.
+    Unsaid,
     /// Who read the output has gone: nothing is said.
     Closed,
 }
@@ -40,6 +44,7 @@ impl Fault {
         match self {
             Self::Usage(_) => 2,
             Self::Refused(_) => 1,
+            Self::Unknown(_) | Self::Unsaid => 3,
             Self::Closed => 0,
         }
     }
@@ -48,7 +53,8 @@ impl Fault {
 impl fmt::Display for Fault {
     fn fmt(&self, f: &mut fmt::Formatter<'_>) -> fmt::Result {
         match self {
-            Self::Usage(words) | Self::Refused(words) => f.write_str(words),
+            Self::Usage(words) | Self::Refused(words) | Self::Unknown(words) => f.write_str(words),
+            Self::Unsaid => f.write_str("nothing can be said of the box"),
             Self::Closed => f.write_str("the output was closed"),
         }
     }

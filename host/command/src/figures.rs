@@ -1,5 +1,7 @@
 //! The figures of an evening, taken from its log line by line; docs/TOOLS.md says how each is told.
 
+use cableowl::Usage;
+
 use crate::log::{Before, Block, Form, Line};
 
 /// The refusals that a block may have, each with a column of its own.
@@ -12,18 +14,19 @@ pub struct Figures {
     pub blocks: u64,
     /// Frames of the accepted blocks.
     pub frames: u64,
-    /// Of these: in blocks that played.
+    /// Of these, frames that were played.
     pub played: u64,
-    /// In blocks that were paused, or waited to resume.
+    /// Frames that were paused, or waited to resume.
     pub paused: u64,
-    /// In blocks that were silent: not started, or stopped.
+    /// Frames that were silent: not started, or stopped.
     pub silent: u64,
-    /// In blocks that played by their state, but without a step.
-    pub still: u64,
+    /// Of the played frames, those at a rate of 0; form 3 alone.
+    pub still: Option<u64>,
     /// Frames of the sound that were stepped over.
     pub steps: u64,
-    /// Blocks in which the place moved further than their steps.
-    pub jumps: u64,
+    /// Blocks in which the place moved further than their steps; form 1 alone, since the number depends
+    /// on the block size.
+    pub jumps: Option<u64>,
     /// Times round the loop, forward and backward.
     pub rounds: Option<u64>,
     /// Seeks.
@@ -59,8 +62,8 @@ pub struct Told {
     pub frames: u64,
     /// The place after it, if it moved.
     pub position: Option<u64>,
-    /// What the voice did.
-    pub kind: Kind,
+    /// What its frames were spent on.
+    pub usage: Usage,
     /// Times round the loop.
     pub rounds: u64,
     /// The loop's length, where a round tells it.
@@ -75,19 +78,6 @@ pub struct Told {
     pub refusal: Option<u8>,
 }
 
-/// What a voice did in a block.
-#[derive(Debug, Clone, Copy, PartialEq, Eq)]
-pub enum Kind {
-    /// It played.
-    Played,
-    /// It was paused, or waited to resume.
-    Paused,
-    /// It had not started, or was stopped.
-    Silent,
-    /// It was refused.
-    Refused,
-}
-
 /// The figures so far.
 #[derive(Debug, Clone)]
 pub struct Count {
@@ -99,13 +89,15 @@ pub struct Count {
 impl Count {
     /// No line yet.
     pub fn new(form: Form) -> Self {
-        let second = (form == Form::Second).then_some(0);
+        let from_second = (form != Form::First).then_some(0);
         Self {
             figures: Figures {
-                rounds: second,
-                seeks: second,
-                restarts: second,
-                lowest: second.map(|_| 4),
+                still: (form == Form::Third).then_some(0),
+                jumps: (form == Form::First).then_some(0),
+                rounds: from_second,
+                seeks: from_second,
+                restarts: from_second,
+                lowest: from_second.map(|_| 4),
                 ..Figures::default()
             },
             position: None,
@@ -143,7 +135,7 @@ impl Count {
             clock: figures.frames,
             frames: 0,
             position: None,
-            kind: Kind::Refused,
+            usage: Usage::default(),
             rounds: 0,
             length: None,
             jumped: false,
@@ -154,16 +146,18 @@ impl Count {
     }
 
     fn accepted(&mut self, block: &Block) -> Told {
-        let kind = kind(block);
+        let usage = usage(block);
         let before = block.more.map(|more| more.before);
         let seeks = self.before(before);
         let rounds = self.rounds(block);
         let moved = self.position.map(|from| block.position.abs_diff(from));
         let jumped = moved.is_some_and(|moved| moved > block.steps);
         let undisturbed = before.is_some_and(|b| (b.created, b.seeks) == (0, 0));
-        let length = match undisturbed {
-            true => self.length(block, rounds),
-            false => None,
+        let third = block.more.and_then(|more| more.third);
+        let length = match third.map(|third| third.loop_region) {
+            Some((start, end)) => end.checked_sub(start).filter(|length| *length > 0),
+            None if undisturbed => self.length(block, rounds),
+            None => None,
         };
         self.position = Some(block.position);
         let figures = &mut self.figures;
@@ -171,22 +165,18 @@ impl Count {
         raise(&mut figures.blocks, 1);
         raise(&mut figures.frames, block.frames);
         raise(&mut figures.steps, block.steps);
-        raise(&mut figures.jumps, jumped.into());
-        match kind {
-            Kind::Played => raise(&mut figures.played, block.frames),
-            Kind::Paused => raise(&mut figures.paused, block.frames),
-            Kind::Silent | Kind::Refused => raise(&mut figures.silent, block.frames),
-        }
-        if kind == Kind::Played && block.steps == 0 {
-            raise(&mut figures.still, block.frames);
-        }
+        add(&mut figures.jumps, jumped.into());
+        raise(&mut figures.played, usage.played);
+        raise(&mut figures.paused, usage.paused);
+        raise(&mut figures.silent, usage.silent);
+        add(&mut figures.still, usage.still);
         let lowest = block.more.map(|more| more.lowest);
         figures.lowest = figures.lowest.min(lowest.map(u64::from));
         Told {
             clock,
             frames: block.frames,
             position: Some(block.position),
-            kind,
+            usage,
             rounds: rounds.map_or(0, |(forward, backward)| forward + backward),
             length,
             jumped,
@@ -201,7 +191,6 @@ impl Count {
         let Some(before) = before else {
             return 0;
         };
-        let add = |sum: &mut Option<u64>, more| *sum = sum.map(|sum| sum.saturating_add(more));
         add(&mut self.figures.seeks, before.seeks);
         add(&mut self.figures.restarts, before.restarts);
         if before.created > 0 {
@@ -245,52 +234,29 @@ impl Count {
     }
 }
 
-/// What the voice did in an accepted block: docs/TOOLS.md, "How each figure is told".
-fn kind(block: &Block) -> Kind {
-    let started = block.more.is_none_or(|more| more.started);
-    match block.state {
-        _ if !started => Kind::Silent,
-        2 | 3 => Kind::Paused,
-        6 if block.steps == 0 => Kind::Silent,
-        _ => Kind::Played,
+/// What the frames of an accepted block were spent on: docs/TOOLS.md, "How each figure is told". The
+/// forms 1 and 2 count a block whole, by the state at its end.
+fn usage(block: &Block) -> Usage {
+    if let Some(third) = block.more.and_then(|more| more.third) {
+        return third.usage;
     }
+    let started = block.more.is_none_or(|more| more.started);
+    let mut usage = Usage::default();
+    match block.state {
+        _ if !started => usage.silent = block.frames,
+        2 | 3 => usage.paused = block.frames,
+        6 if block.steps == 0 => usage.silent = block.frames,
+        _ => usage.played = block.frames,
+    }
+    usage
+}
+
+fn add(sum: &mut Option<u64>, more: u64) {
+    *sum = sum.map(|sum| sum.saturating_add(more));
 }
 
 fn raise(sum: &mut u64, more: u64) {
     *sum = sum.saturating_add(more);
-}
-
-/// All logs together: a figure is told where each of them tells it.
-pub fn total(all: &[Figures]) -> Figures {
-    let sum = |of: fn(&Figures) -> u64| all.iter().map(of).fold(0, u64::saturating_add);
-    let told = |of: fn(&Figures) -> Option<u64>| {
-        let numbers: Option<Vec<u64>> = all.iter().map(of).collect();
-        numbers.map(|numbers| numbers.into_iter().fold(0, u64::saturating_add))
-    };
-    let mut refused = [0; REFUSALS.len()];
-    for (column, sum) in refused.iter_mut().enumerate() {
-        for figures in all {
-            raise(sum, figures.refused[column]);
-        }
-    }
-    let lowest: Option<Vec<u64>> = all.iter().map(|figures| figures.lowest).collect();
-    Figures {
-        blocks: sum(|f| f.blocks),
-        frames: sum(|f| f.frames),
-        played: sum(|f| f.played),
-        paused: sum(|f| f.paused),
-        silent: sum(|f| f.silent),
-        still: sum(|f| f.still),
-        steps: sum(|f| f.steps),
-        jumps: sum(|f| f.jumps),
-        rounds: told(|f| f.rounds),
-        seeks: told(|f| f.seeks),
-        restarts: told(|f| f.restarts),
-        lowest: lowest.and_then(|numbers| numbers.into_iter().min()),
-        refused,
-        refused_otherwise: sum(|f| f.refused_otherwise),
-        broken: None,
-    }
 }
 
 /// The five quantiles that are told, by their names: each in hundredths.

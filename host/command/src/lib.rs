@@ -25,7 +25,7 @@ use out::Out;
 use words::{Asked, HELP};
 
 /// Does what the words ask for, and tells the exit status: 0; 1 where a file was refused or an audit
-/// found a difference; 2 where the words mean nothing.
+/// found a difference; 2 where the words mean nothing; 3 where an audit can say nothing of the box.
 pub fn run(
     words: impl IntoIterator<Item = OsString>,
     out: impl Write,
@@ -35,8 +35,8 @@ pub fn run(
     let mut complain = |fault: &Fault| {
         // There is nowhere to say that it could not be said.
         let _ = match fault {
-            Fault::Closed => Ok(()),
-            Fault::Refused(_) => writeln!(complaints, "cableowl: {fault}"),
+            Fault::Closed | Fault::Unsaid => Ok(()),
+            Fault::Refused(_) | Fault::Unknown(_) => writeln!(complaints, "cableowl: {fault}"),
             Fault::Usage(_) => {
                 writeln!(complaints, "cableowl: {fault}; 'cableowl help' tells more")
             }

@@ -1,17 +1,21 @@
-//! A log, line by line: what a box said of one voice, one line a block (docs/TOOLS.md has the two
-//! forms). Any bytes are taken; what is no log is told in one sentence with its line.
+//! A log, line by line: what a box said of one voice, one line a block or callback (docs/TOOLS.md has
+//! the three forms). Any bytes are taken; what is no log is told in one sentence with its line.
 
 use std::{fmt, io::Read};
 
+use cableowl::Usage;
+
 use crate::{fault::Result, input::Input};
 
-/// Which of the two forms a log has.
+/// Which of the three forms a log has.
 #[derive(Debug, Clone, Copy, PartialEq, Eq)]
 pub enum Form {
     /// The lines that replay prints.
     First,
-    /// `log=2`, then lines that tell more.
+    /// `log=2`, then lines that tell more: the form of older boxes.
     Second,
+    /// `log=3`, then lines that also say what their frames were spent on.
+    Third,
 }
 
 impl Form {
@@ -20,6 +24,7 @@ impl Form {
         match self {
             Self::First => 1,
             Self::Second => 2,
+            Self::Third => 3,
         }
     }
 }
@@ -35,7 +40,7 @@ pub enum Line {
         number: u64,
         /// The refusal's.
         refusal: u8,
-        /// What came before it; the second form alone.
+        /// What came before it; form 1 does not say it.
         before: Option<Before>,
     },
     /// A record that the reader refused, where the run ended.
@@ -60,11 +65,11 @@ pub struct Block {
     pub state: u8,
     /// The place after it.
     pub position: u64,
-    /// What the second form tells beside.
+    /// What the forms 2 and 3 say besides.
     pub more: Option<More>,
 }
 
-/// What the second form tells of an accepted block.
+/// What the forms 2 and 3 say of an accepted block.
 #[derive(Debug, Clone, Copy, PartialEq, Eq)]
 pub struct More {
     /// The lowest window count that it read, 0 to 4.
@@ -75,8 +80,25 @@ pub struct More {
     pub backward: u32,
     /// Whether the sound's own start has come.
     pub started: bool,
+    /// What form 3 says besides.
+    pub third: Option<Third>,
     /// What came before it.
     pub before: Before,
+}
+
+/// What form 3 alone says of an accepted block.
+#[derive(Debug, Clone, Copy, PartialEq, Eq)]
+pub struct Third {
+    /// What its frames were spent on.
+    pub usage: Usage,
+    /// The loop after it, its end exclusive; 0 and 0 where there is none.
+    pub loop_region: (u64, u64),
+    /// Whether the voice moves backward after it.
+    pub is_backward: bool,
+    /// Of the steps, those backward.
+    pub steps_back: u64,
+    /// Whether the position has run off the sound.
+    pub ended: bool,
 }
 
 /// What was done to the voice between the line before and this one.
@@ -90,8 +112,8 @@ pub struct Before {
     pub restarts: u64,
 }
 
-/// The longest line: the second form with every number at its longest has fewer bytes.
-const LONGEST: usize = 320;
+/// The longest line: form 3 with every number at its longest has fewer bytes.
+const LONGEST: usize = 512;
 
 /// A line of this form, without its line feed.
 pub fn parse(text: &[u8], form: Form) -> std::result::Result<Line, Wrong> {
@@ -107,7 +129,7 @@ pub fn parse(text: &[u8], form: Form) -> std::result::Result<Line, Wrong> {
         let refusal = words.number(b" refused=", 255)? as u8;
         let before = match form {
             Form::First => None,
-            Form::Second => Some(words.before()?),
+            Form::Second | Form::Third => Some(words.before()?),
         };
         words.end()?;
         return Ok(Line::Refused {
@@ -122,11 +144,15 @@ pub fn parse(text: &[u8], form: Form) -> std::result::Result<Line, Wrong> {
     let position = words.number(b" position=", u64::MAX)?;
     let more = match form {
         Form::First => None,
-        Form::Second => Some(More {
+        Form::Second | Form::Third => Some(More {
             lowest: words.number(b" lowest=", 4)? as u8,
             forward: words.number(b" forward=", u32::MAX.into())? as u32,
             backward: words.number(b" backward=", u32::MAX.into())? as u32,
             started: words.number(b" started=", 1)? == 1,
+            third: match form {
+                Form::Third => Some(words.third(frames, steps)?),
+                _ => None,
+            },
             before: words.before()?,
         }),
     };
@@ -202,6 +228,37 @@ impl Words<'_> {
         Ok(number)
     }
 
+    /// What form 3 says of a block of so many frames and steps.
+    fn third(&mut self, frames: u64, steps: u64) -> std::result::Result<Third, Wrong> {
+        let usage = Usage {
+            played: self.number(b" played=", frames)?,
+            paused: self.number(b" paused=", frames)?,
+            silent: self.number(b" silent=", frames)?,
+            still: self.number(b" still=", frames)?,
+        };
+        let spent = [usage.played, usage.paused, usage.silent].map(u128::from);
+        if spent.iter().sum::<u128>() != frames.into() {
+            return Err(self.wrong("played, paused and silent frames are not all frames together"));
+        }
+        if usage.still > usage.played {
+            return Err(self.wrong("more frames at a rate of 0 than were played"));
+        }
+        let (start, end) = (
+            self.number(b" loop_start=", u64::MAX)?,
+            self.number(b" loop_end=", u64::MAX)?,
+        );
+        if start >= end && (start, end) != (0, 0) {
+            return Err(self.wrong("the loop ends before it starts"));
+        }
+        Ok(Third {
+            usage,
+            loop_region: (start, end),
+            is_backward: self.number(b" direction=", 1)? == 1,
+            steps_back: self.number(b" steps_back=", steps)?,
+            ended: self.number(b" ended=", 1)? == 1,
+        })
+    }
+
     fn before(&mut self) -> std::result::Result<Before, Wrong> {
         Ok(Before {
             created: self.number(b" created=", u64::MAX)?,
@@ -235,6 +292,8 @@ pub struct Log {
     blocks: u64,
     broken: bool,
     counts: Option<(u32, u32)>,
+    /// The line and the byte where the log was cut inside a line.
+    cut: Option<(u64, u64)>,
 }
 
 impl Log {
@@ -252,17 +311,26 @@ impl Log {
             blocks: 0,
             broken: false,
             counts: None,
+            cut: None,
         };
         log.fill()?;
         if log.held().starts_with(b"log=") {
-            let first = log.take()?;
-            if first != Some(b"log=2".as_slice()) {
-                let words = "this form of a log is not known: 'log=2' is, and replay's lines are";
-                return Err(log.input.wrong(format_args!("line 1: {words}")));
-            }
-            log.form = Form::Second;
+            log.form = match log.take()? {
+                Some(b"log=2") => Form::Second,
+                Some(b"log=3") | None => Form::Third,
+                Some(_) => {
+                    let words = "this form of a log is not known: the forms 1, 2 and 3 are";
+                    return Err(log.input.wrong(format_args!("line 1: {words}")));
+                }
+            };
         }
         Ok(log)
+    }
+
+    /// Where the log was cut inside a line, in words; once its last complete line has been read.
+    pub fn cut(&self) -> Option<String> {
+        let (line, place) = self.cut?;
+        Some(format!("line {line} (byte {place}) breaks off"))
     }
 
     /// Its form.
@@ -275,7 +343,7 @@ impl Log {
         self.input.name()
     }
 
-    /// The next line, or none at the log's end.
+    /// The next complete line, or none at the log's end.
     pub fn next_line(&mut self) -> Result<Option<Line>> {
         let (number, place, form) = (self.line, self.place, self.form);
         let wrong = |words: &dyn fmt::Display| format!("line {number} (byte {place}): {words}");
@@ -370,11 +438,16 @@ impl Log {
             .take(LONGEST + 1)
             .position(|byte| *byte == b'\n')
         else {
+            let (line, place) = (self.line, self.place);
+            if held.len() <= LONGEST && begins_a_line(held, line == 1) {
+                self.cut = Some((line, place));
+                self.from = self.until;
+                return Ok(None);
+            }
             let words = match held.len() > LONGEST {
                 true => format!("no line of a log has more than {LONGEST} bytes: this is no log"),
-                false => "the last line has no line feed: the log was cut off here".into(),
+                false => "these last bytes begin no line of a log".into(),
             };
-            let (line, place) = (self.line, self.place);
             return Err(self
                 .input
                 .wrong(format_args!("line {line} (byte {place}): {words}")));
@@ -385,6 +458,12 @@ impl Log {
         self.place += length as u64 + 1;
         Ok(self.room.get(from..from + length))
     }
+}
+
+/// Whether bytes without a line feed may be what a power loss left of a line.
+fn begins_a_line(bytes: &[u8], is_first: bool) -> bool {
+    let begins = |word: &[u8]| bytes.starts_with(word) || word.starts_with(bytes);
+    begins(b"block=") || begins(b"refused=") || is_first && begins(b"log=")
 }
 
 #[cfg(test)]

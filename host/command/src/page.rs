@@ -7,7 +7,7 @@ use crate::{
     log::Form,
     out::PAGE_MARK,
     plot::{Plot, escaped, grouped, time},
-    report::{COLUMNS, Evening, Told, minutes, refused, spaced},
+    report::{COLUMNS, Evening, Told, lacking, minutes, refused, spaced},
 };
 
 /// How the pages look.
@@ -98,6 +98,9 @@ pub fn report(evenings: &[Evening], rows: &[Told], rate: u32, put: &mut Sink<'_>
         )?;
         table("evenings", &FEW, rows, folder, put)?;
         put(NOT_TOLD)?;
+        for sentence in lacking(rows, &FEW.map(|column| (column, words_of(column)))) {
+            put(&format!("<p class=\"note\">{sentence}</p>\n"))?;
+        }
     }
     for evening in evenings {
         section(evening, folder, rate, put)?;
@@ -126,7 +129,13 @@ const FEW: [&str; 8] = [
     "refused",
 ];
 
-const NOT_TOLD: &str = "<p class=\"note\">– is not told: the log's lines do not say it. A log of form 2 tells times round the loop, seeks, restarts by hand and window counts.</p>\n";
+const NOT_TOLD: &str = "<p class=\"note\">– is not told: the log's lines do not say it. Logs of the forms 2 and 3 say times round the loop, seeks, restarts by hand and window counts; form 3 also says the minutes at a rate of 0.</p>\n";
+
+/// A column's words for people.
+fn words_of(column: &'static str) -> &'static str {
+    let named = COLUMNS.iter().find(|(name, _)| *name == column);
+    named.map_or(column, |(_, words)| words)
+}
 
 /// The folder that all logs lie in, up to its slash; empty where they lie in several.
 fn shared_folder(evenings: &[Evening]) -> &str {
@@ -204,6 +213,11 @@ fn section(evening: &Evening, folder: &str, rate: u32, put: &mut Sink<'_>) -> Re
     if let Some((refusal, at)) = figures.broken {
         put(&format!(
             "<p class=\"bad\">The run ended at a record that was refused with {refusal}, at byte {at}.</p>\n"
+        ))?;
+    }
+    if let Some(cut) = &evening.cut {
+        put(&format!(
+            "<p class=\"bad\">The log was cut short: {cut}. The figures are those of the lines before it.</p>\n"
         ))?;
     }
     if figures.frames == 0 {
@@ -309,7 +323,7 @@ fn places(course: &Course, form: Form, rate: f64, put: &mut Sink<'_>) -> Result<
     )?;
     match form {
         Form::First => put(" – Of a log of form 1 loops and seeks are not told apart.</p>\n"),
-        Form::Second => put(
+        Form::Second | Form::Third => put(
             "<span class=\"key\" style=\"background:#f9dc98\"></span>a loop that was gone round<span class=\"key\" style=\"background:#7b3fa0\"></span>a seek</p>\n",
         ),
     }

@@ -4,9 +4,7 @@ use std::path::Path;
 
 use cableowl::{
     Refusal,
-    trace::{
-        LOG_HEAD, Line, Log, LogLine, Record, Refused, Replay, ShortSound, TraceError, TraceReader,
-    },
+    trace::{LOG_HEAD, Line, Log, LogLine, Record, Replay, ShortSound, TraceError, TraceReader},
 };
 
 use crate::{
@@ -16,7 +14,7 @@ use crate::{
     out::Out,
 };
 
-/// A trace's run, told in the second form: each line begins with the first form's.
+/// A trace's run: for each block the line of form 1, and the line of form 3.
 pub struct Run {
     replay: Replay,
     sound: ShortSound,
@@ -33,8 +31,13 @@ impl Run {
         }
     }
 
-    /// Plays a record, and tells the line of a block.
-    pub fn play(&mut self, record: &Record) -> Option<LogLine> {
+    /// Whether there is a voice.
+    pub fn has_voice(&self) -> bool {
+        self.replay.voice().is_some()
+    }
+
+    /// Plays a record, and returns the lines of a block in the forms 1 and 3.
+    pub fn play(&mut self, record: &Record) -> Option<(Line, LogLine)> {
         let before = self.replay.voice().cloned();
         let line = self.replay.play(record);
         match (record, before, self.replay.voice()) {
@@ -55,15 +58,19 @@ impl Run {
             }
             _ => {}
         }
-        line.map(|line| {
-            self.log
-                .line(line, self.replay.voice(), self.replay.lowest_count())
-        })
+        let line = line?;
+        let (frames, answer) = match line {
+            Line::Block { frames, .. } => (frames as usize, Ok(self.replay.counts())),
+            Line::RefusedBlock { refusal, .. } => (0, Err(refusal)),
+            // Played again, every record was read.
+            Line::Refused(refused) => (0, Err(refused.refusal)),
+        };
+        Some((line, self.log.block(frames, self.replay.voice(), answer)))
     }
 }
 
 /// A record that cannot be read, as a fault.
-pub fn fault(input: &Input, error: &TraceError) -> Fault {
+fn fault(input: &Input, error: &TraceError) -> Fault {
     match error {
         TraceError::Io(error) => input.unread(error),
         TraceError::Refused(refused) => input.wrong(refused),
@@ -75,15 +82,15 @@ pub fn fault(input: &Input, error: &TraceError) -> Fault {
 pub fn replay(trace: &Path, form: Form, out: &mut Out<'_>) -> Result<()> {
     let mut input = Input::open(trace)?;
     let mut broken = None;
-    if form == Form::Second {
+    if form == Form::Third {
         out.put(format!("{LOG_HEAD}\n"))?;
     }
     let mut run = Run::new();
     for record in TraceReader::new(&mut input) {
         match record {
             Ok((_, record)) => match (run.play(&record), form) {
-                (Some(line), Form::First) => out.put(format!("{}\n", line.line))?,
-                (Some(line), Form::Second) => out.put(format!("{line}\n"))?,
+                (Some((_, line)), Form::Third) => out.put(format!("{line}\n"))?,
+                (Some((line, _)), _) => out.put(format!("{line}\n"))?,
                 (None, _) => {}
             },
             Err(error) => broken = Some(error),
@@ -99,14 +106,6 @@ pub fn replay(trace: &Path, form: Form, out: &mut Out<'_>) -> Result<()> {
         out.put(format!("{}\n", Line::Refused(refused)))?;
     }
     Err(fault(&input, &error))
-}
-
-/// The record that was refused, if that is what is wrong.
-pub fn refused(error: &TraceError) -> Option<Refused> {
-    match error {
-        TraceError::Refused(refused) => Some(*refused),
-        _ => None,
-    }
 }
 
 /// A refusal's number, as a log has it.

@@ -8,7 +8,7 @@ use std::{
 use crate::{
     course::Course,
     fault::{Fault, Result},
-    figures::{Count, Figures, QUANTILES, REFUSALS, quantile, total},
+    figures::{Count, Figures, QUANTILES, REFUSALS, quantile},
     input::Input,
     log::{Form, Log},
     out::{Fresh, Out, free_for_a_page, same},
@@ -26,6 +26,8 @@ pub struct Evening {
     pub figures: Figures,
     /// Its course.
     pub course: Course,
+    /// Where the log was cut inside a line, in words.
+    pub cut: Option<String>,
 }
 
 /// A row of the report, by what it is.
@@ -37,6 +39,8 @@ pub enum Row {
     Total,
     /// Over all of them.
     Quantile,
+    /// How many of them tell each figure.
+    Logs,
 }
 
 impl Row {
@@ -46,6 +50,7 @@ impl Row {
             Self::Log => "log",
             Self::Total => "total",
             Self::Quantile => "quantile",
+            Self::Logs => "logs",
         }
     }
 }
@@ -58,7 +63,7 @@ pub const COLUMNS: [(&str, &str); 21] = [
     ("minutes_played", "Minutes played"),
     ("minutes_paused", "Minutes paused"),
     ("minutes_silent", "Minutes silent"),
-    ("minutes_still", "Minutes without a step"),
+    ("minutes_still", "Minutes at a rate of 0"),
     ("steps", "Steps"),
     ("jumps", "Jumps"),
     ("rounds", "Times round the loop"),
@@ -87,9 +92,9 @@ fn cells(figures: &Figures) -> Cells {
         Some(figures.played),
         Some(figures.paused),
         Some(figures.silent),
-        Some(figures.still),
+        figures.still,
         Some(figures.steps),
-        Some(figures.jumps),
+        figures.jumps,
         figures.rounds,
         figures.seeks,
         figures.restarts,
@@ -124,7 +129,7 @@ impl Told {
             let (column, _) = COLUMNS[index];
             index += 1;
             let number = cell?;
-            Some(match column.starts_with("minutes") {
+            Some(match column.starts_with("minutes") && row != Row::Logs {
                 true => minutes(number, rate),
                 false => number.to_string(),
             })
@@ -160,23 +165,71 @@ pub fn rows(evenings: &[Evening], rate: u32) -> Vec<Told> {
     if evenings.len() < 2 {
         return rows;
     }
-    let figures: Vec<Figures> = evenings.iter().map(|evening| evening.figures).collect();
-    let mut sum = cells(&total(&figures));
-    let broken = all
-        .iter()
-        .filter_map(|cells| cells[COLUMNS.len() - 1])
-        .sum();
-    sum[COLUMNS.len() - 1] = Some(broken);
-    rows.push(Told::new(Row::Total, "total", None, sum, rate));
+    let told = columns_of(&all);
+    let sums = over(&told, |column, numbers| match column {
+        "lowest_count" => numbers.iter().copied().min(),
+        _ => numbers.iter().copied().reduce(u64::saturating_add),
+    });
+    rows.push(Told::new(Row::Total, "total", None, sums, rate));
     for (name, hundredths) in QUANTILES {
-        let mut cells = Cells::default();
-        for (column, cell) in cells.iter_mut().enumerate() {
-            let numbers: Option<Vec<u64>> = all.iter().map(|cells| cells[column]).collect();
-            *cell = numbers.and_then(|numbers| quantile(&numbers, hundredths));
-        }
+        let cells = over(&told, |_, numbers| quantile(numbers, hundredths));
         rows.push(Told::new(Row::Quantile, name, None, cells, rate));
     }
+    let counts = over(&told, |_, numbers| Some(numbers.len() as u64));
+    rows.push(Told::new(Row::Logs, "logs that say it", None, counts, rate));
     rows
+}
+
+/// The figures of each column, of the logs that tell it.
+type Columns = [Vec<u64>; COLUMNS.len()];
+
+fn columns_of(all: &[Cells]) -> Columns {
+    let mut columns = Columns::default();
+    for cells in all {
+        for (column, cell) in columns.iter_mut().zip(cells) {
+            column.extend(cell);
+        }
+    }
+    columns
+}
+
+/// A row over the logs: one figure for each column.
+fn over(columns: &Columns, figure: impl Fn(&str, &[u64]) -> Option<u64>) -> Cells {
+    let mut cells = Cells::default();
+    let named = COLUMNS.iter().zip(columns);
+    for (cell, ((column, _), numbers)) in cells.iter_mut().zip(named) {
+        *cell = figure(column, numbers);
+    }
+    cells
+}
+
+/// Which totals and quantiles lack a log: a sentence for each number of logs. The columns are given
+/// with the names that they are shown by.
+pub fn lacking(rows: &[Told], columns: &[(&str, &str)]) -> Vec<String> {
+    let logs = rows.iter().filter(|told| told.row == Row::Log).count();
+    let Some(counts) = rows.iter().find(|told| told.row == Row::Logs) else {
+        return Vec::new();
+    };
+    let mut named: Vec<(usize, Vec<&str>)> = Vec::new();
+    for (column, name) in columns {
+        let index = COLUMNS.iter().position(|(held, _)| held == column);
+        let cell = index.and_then(|index| counts.cells.get(index)?.as_deref());
+        let Some(count) = cell.and_then(|cell| cell.parse().ok()) else {
+            continue;
+        };
+        if (1..logs).contains(&count) {
+            match named.iter_mut().find(|(held, _)| *held == count) {
+                Some((_, names)) => names.push(name),
+                None => named.push((count, vec![name])),
+            }
+        }
+    }
+    let sentence = |(count, names): (usize, Vec<&str>)| {
+        let [count, logs] = [count, logs].map(|number| grouped(number as u64));
+        let names = names.join(", ");
+        format!("{names}: over {count} of {logs} logs, since the others do not say it")
+    };
+    named.into_iter().map(sentence).collect()
 }
 
 /// Reads a log to its end.
@@ -194,6 +247,7 @@ fn read(path: &Path, rate: u32) -> Result<Evening> {
         form: log.form(),
         figures: count.figures(),
         course,
+        cut: log.cut(),
     })
 }
 
@@ -213,7 +267,15 @@ pub fn report(
     let mut evenings = Vec::new();
     for path in logs {
         match read(path, rate) {
-            Ok(evening) => evenings.push(evening),
+            Ok(evening) => {
+                if let Some(cut) = &evening.cut {
+                    let name = &evening.name;
+                    complain(&Fault::refused(format!(
+                        "{name}: {cut}, as after a power loss: the lines before it are reported"
+                    )));
+                }
+                evenings.push(evening);
+            }
             Err(fault) => complain(&fault),
         }
     }
@@ -292,9 +354,10 @@ fn put_one(evening: &Evening, rate: u32, out: &mut Out<'_>) -> Result<()> {
         grouped(rate.into())
     ))?;
     let still = match figures.still {
-        0 => String::new(),
-        still => format!(", {} of them without a step", minutes(still, rate)),
+        None | Some(0) => String::new(),
+        Some(still) => format!(", {} of them at a rate of 0", minutes(still, rate)),
     };
+    let jumps = figures.jumps.map(|jumps| ("jumps", grouped(jumps)));
     let lines = [
         ("blocks", grouped(figures.blocks)),
         (
@@ -305,14 +368,15 @@ fn put_one(evening: &Evening, rate: u32, out: &mut Out<'_>) -> Result<()> {
         ("paused", time(figures.paused)),
         ("silent", time(figures.silent)),
         ("steps", grouped(figures.steps)),
-        ("jumps", grouped(figures.jumps)),
+    ];
+    let more = [
         ("times round the loop", told(figures.rounds)),
         ("seeks", told(figures.seeks)),
         ("restarts by hand", told(figures.restarts)),
         ("lowest window count", told(figures.lowest)),
         ("refused blocks", refused(figures)),
     ];
-    for (name, says) in lines {
+    for (name, says) in lines.into_iter().chain(jumps).chain(more) {
         out.put(format!("  {name:<21}{says}\n"))?;
     }
     if let Some((refusal, at)) = figures.broken {
@@ -368,7 +432,7 @@ fn put_table(rows: &[Told], rate: u32, out: &mut Out<'_>) -> Result<()> {
             .chain(SHORT.map(|(_, name)| name.to_owned()))
             .collect(),
     ];
-    for told in rows {
+    for told in rows.iter().filter(|told| told.row != Row::Logs) {
         let cell = |column: &str| {
             let index = COLUMNS.iter().position(|(name, _)| *name == column)?;
             told.cells.get(index)?.clone()
@@ -397,6 +461,9 @@ fn put_table(rows: &[Told], rate: u32, out: &mut Out<'_>) -> Result<()> {
         }
         out.put(line.trim_end())?;
         out.put("\n")?;
+    }
+    for sentence in lacking(rows, &SHORT) {
+        out.put(format!("{sentence}\n"))?;
     }
     Ok(())
 }

@@ -65,7 +65,7 @@ pub enum Asked {
 pub const HELP: &str = "\
 cableowl: what a listening box's evening came to
 
-  cableowl replay [--log 2] TRACE
+  cableowl replay [--log 3] TRACE
       plays a recorded evening again: one line a block
   cableowl salvage TRACE OUT
       copies the complete records of a damaged trace to a new file
@@ -80,7 +80,8 @@ cableowl: what a listening box's evening came to
 A file named - is standard input. A log is what replay prints, or what a box
 said of its voice (docs/TOOLS.md). HZ is the box's frames a second, 48000
 where it is not given. It exits with 0; with 1 where a file was refused or an
-audit found a difference; with 2 where these words are not kept.
+audit found a difference; with 2 where these words are not kept; with 3 where
+an audit can say nothing of the box.
 ";
 
 /// The frames a second that are taken where none are given.
@@ -208,8 +209,8 @@ impl Given {
         self.only("replay", &["--log"])?;
         let form = match self.log.as_deref().map(OsStr::to_str) {
             None | Some(Some("1")) => Form::First,
-            Some(Some("2")) => Form::Second,
-            Some(_) => return Err(Fault::usage("--log is 1 or 2, the form of the lines")),
+            Some(Some("3")) => Form::Third,
+            Some(_) => return Err(Fault::usage("--log is 1 or 3, the form of the lines")),
         };
         let [trace] = self.files("replay takes one file, a trace")?;
         Ok(Asked::Replay { trace, form })
@@ -336,7 +337,7 @@ mod tests {
                 "replay a b",
                 "replay takes one file, a trace, and 2 were given",
             ),
-            ("replay --log 3 a", "--log is 1 or 2, the form of the lines"),
+            ("replay --log 2 a", "--log is 1 or 3, the form of the lines"),
             ("replay --csv a", "replay has no option --csv"),
             ("replay --log", "'--log' needs a word after it"),
             (

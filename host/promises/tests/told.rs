@@ -1,9 +1,6 @@
 //! Every public function's promise is told, and a function whose promise is not told is found.
 
-use promises::{
-    Told, all_functions, all_public_functions, callers_told, files_named, functions,
-    public_functions,
-};
+use promises::{Function, Told, all_functions, all_laws, callers_told, files_named, functions};
 use std::fs;
 use std::path::{Path, PathBuf};
 
@@ -19,14 +16,20 @@ fn told() -> Told {
     Told {
         promises: read("docs/PROMISES.md"),
         exceptions: read("docs/EXCEPTIONS.md"),
-        laws: read("crates/theorems/specs/Coincide.antt"),
+        laws: all_laws(&root().join("crates")),
     }
+}
+
+fn public_functions() -> Vec<Function> {
+    let mut all = all_functions(&root().join("crates"));
+    all.retain(|f| f.public);
+    all
 }
 
 #[test]
 fn every_public_function_has_its_promise_told() {
     let told = told();
-    let functions = all_public_functions(&root().join("crates"));
+    let functions = public_functions();
     assert!(functions.len() > 50, "only {} found", functions.len());
     let missing: Vec<String> = functions.iter().filter_map(|f| told.missing(f)).collect();
     assert!(missing.is_empty(), "{}", missing.join("\n"));
@@ -34,26 +37,89 @@ fn every_public_function_has_its_promise_told() {
 
 #[test]
 fn a_function_is_found_in_its_type_and_alone() {
-    let source = "impl Transport {\n    pub fn seek_to(mut self) -> Transport\n    {\n    }\n}\n\npub fn judge(\n    dt: f64,\n) -> u32\n{\n}\n#[no_mangle]\npub extern \"C\" fn cableowl_new() -> u32 {\n}\nfn private() {\n}\n";
+    let source = "impl Transport {\n    pub fn seek_to(mut self) -> Transport\n    {\n    }\n}\n\npub fn judge(\n    dt: f64,\n) -> u32\n{\n}\n#[no_mangle]\npub extern \"C\" fn cableowl_new() -> u32 {\n}\nfn private() {\n}\npub(crate) fn sealed() {\n}\n";
+    let found = functions("k", source);
+    let named = |public: bool| -> Vec<&str> {
+        let found = found.iter().filter(|f| f.public == public);
+        found.map(|f| f.path.as_str()).collect()
+    };
     assert_eq!(
-        public_functions("k", source),
+        named(true),
         ["k::Transport::seek_to", "k::judge", "k::cableowl_new"]
     );
+    assert_eq!(named(false), ["k::private", "k::sealed"]);
+}
+
+/// A public function with this parameter and contract.
+fn public(krate: &str, name: &str, parameter: &str, contract: &str) -> Function {
+    let source = format!("pub fn {name}(\n    {parameter},\n)\n    {contract}\n{{\n}}\n");
+    functions(krate, &source).remove(0)
 }
 
 #[test]
 fn what_is_not_told_is_missed() {
     let mut told = told();
-    assert!(told.missing("numbers::narrow").is_none());
-    assert!(told.missing("numbers::widen").is_some());
+    let ensures = "ensures { λ r. ⌜ x ⌝ }";
+    let narrow = public("numbers", "narrow", "x: f64", ensures);
+    let widen = public("numbers", "widen", "x: f64", ensures);
+    assert!(told.missing(&narrow).is_none());
+    assert!(told.missing(&widen).is_some());
     told.promises
         .push_str("\n| `numbers::widen` | `wide` | |\n");
-    let words = told.missing("numbers::widen").expect("it has no law");
+    let words = told.missing(&widen).expect("it has no law");
     assert!(words.contains("numbers-widen"), "{words}");
-    told.laws.push_str("\npub numbers-widen : Decides _\n");
-    assert!(told.missing("numbers::widen").is_none());
+    let law = "\npub numbers-widen : Decides numbers.widen.Reads.Post\n";
+    told.laws.push_str(&law.replace(".widen", ".narrow"));
+    let words = told.missing(&widen).expect("its law is another's");
+    assert!(words.contains("numbers.narrow"), "{words}");
+    told.laws = told.laws.replace(&law.replace(".widen", ".narrow"), law);
+    assert!(told.missing(&widen).is_none());
+    let unpromised = public("numbers", "widen", "x: f64", "requires { ⌜ x ⌝ }");
+    let words = told.missing(&unpromised).expect("it promises nothing");
+    assert!(words.contains("no `ensures`"), "{words}");
+    let writing = public("numbers", "widen", "x: &mut f64", ensures);
+    let words = told.missing(&writing).expect("what it leaves is not told");
+    assert!(words.contains("what it leaves"), "{words}");
     told.laws.clear();
-    assert!(told.missing("numbers::narrow").is_some());
+    assert!(told.missing(&narrow).is_some());
+}
+
+#[test]
+fn what_is_excused_has_no_law_and_is_no_entry() {
+    let mut told = told();
+    let ensures = "ensures { λ r. ⌜ x ⌝ }";
+    let excuse = |told: &mut Told, name: &str| {
+        told.exceptions
+            .push_str(&format!("| `{name}` | why not |\n"));
+    };
+    let narrow = public("numbers", "narrow", "x: f64", ensures);
+    excuse(&mut told, "numbers::narrow");
+    let words = told.missing(&narrow).expect("it is excused for nothing");
+    assert!(words.contains("need not excuse"), "{words}");
+    told.laws.clear();
+    assert!(told.missing(&narrow).is_none());
+    let entry = public("cableowl", "cableowl_new", "x: u32", ensures);
+    for name in ["cableowl::cableowl_new", "cableowl::*", "*::cableowl_new"] {
+        excuse(&mut told, name);
+        let words = told.missing(&entry).expect("an entry is never excused");
+        assert!(words.contains("cableowl-cableowl-new"), "{words}");
+    }
+}
+
+#[test]
+fn each_excuse_is_of_a_function_that_is_there() {
+    let told = told();
+    let functions = public_functions();
+    let idle: Vec<&str> = told
+        .excused()
+        .filter(|row| {
+            !functions.iter().any(|f| match row.split_once('*') {
+                Some((start, end)) => f.path.starts_with(start) && f.path.ends_with(end),
+                None => f.path == *row,
+            })
+        })
+        .collect();
+    assert!(idle.is_empty(), "no such public function: {idle:?}");
 }
 
 #[test]
@@ -108,11 +174,15 @@ fn each_function_that_asks_has_a_row_with_its_callers() {
     let told = callers_told(&read("docs/EXCEPTIONS.md"));
     let mut wrong = Vec::new();
     for asking in all.iter().filter(|f| f.asks) {
-        let Some((_, named)) = told.iter().find(|(path, _)| *path == asking.path) else {
+        let Some(row) = told.iter().find(|row| row.path == asking.path) else {
             wrong.push(format!("{}: no row", asking.path));
             continue;
         };
-        let mut named = named.clone();
+        if row.public != asking.public {
+            let table = if asking.public { "public" } else { "private" };
+            wrong.push(format!("{}: it is {table}", asking.path));
+        }
+        let mut named = row.callers.clone();
         let mut calling: Vec<String> = all
             .iter()
             .filter(|f| f.calls(&asking.path))
@@ -124,9 +194,9 @@ fn each_function_that_asks_has_a_row_with_its_callers() {
             wrong.push(format!("{}: {named:?} against {calling:?}", asking.path));
         }
     }
-    for (path, _) in &told {
-        if !all.iter().any(|f| f.asks && f.path == *path) {
-            wrong.push(format!("{path}: asks nothing"));
+    for row in &told {
+        if !all.iter().any(|f| f.asks && f.path == row.path) {
+            wrong.push(format!("{}: asks nothing", row.path));
         }
     }
     assert!(told.len() > 20, "only {} found", told.len());

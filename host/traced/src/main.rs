@@ -109,7 +109,7 @@ fn print() -> Result<String, String> {
 fn recording() -> Result<String, Refusal> {
     const BLOCKS: u32 = 200_000;
     let (sound, mut lanes, mut out) = ([0.5; 128], Lanes::new(), [0.0; 128]);
-    let settings = Settings::new(48_000).loop_region(0..);
+    let settings = Settings::new(48_000).loop_region(..);
     let (step, signals) = (1.0 / 48_000.0, Signals::new());
     let a_block = |seconds: f64| 1e9 * seconds / f64::from(BLOCKS);
 

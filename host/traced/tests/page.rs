@@ -1,7 +1,7 @@
 //! The examples of docs/TRACE.md, read from the page: its records, its short inputs, what is printed, what salvage takes.
 
 use cableowl::{
-    Commands, PlaybackPosition, Region, Settings,
+    Commands, Frames, PlaybackPosition, Region, Settings,
     trace::{Block, Record, ShortSound, read, salvage, write},
 };
 use traced::{entries, hex, page, runs};
@@ -44,7 +44,7 @@ fn its_records() {
     assert_eq!(codes.len(), 4);
     let from_a_second_to_frame_3 = Region {
         start: PlaybackPosition::Seconds(1.0),
-        ..Region::from(..3)
+        ..Region::from(..Frames(3))
     };
     let commands = Commands::new()
         .set_playback_rate(0.5)

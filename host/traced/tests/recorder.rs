@@ -2,7 +2,7 @@
 //! recorded prints, played again, the lines of the evening and sounds the same.
 
 use cableowl::{
-    Commands, Hall, Lanes, LoopTable, Processed, Refusal, Settings, Signals, StartAnswer,
+    Commands, Frames, Hall, Lanes, LoopTable, Processed, Refusal, Settings, Signals, StartAnswer,
     StartSignal, StaticSound,
     trace::{self, Block, Line, Record, Recorded, Recorder, Replay, ShortSound, Trace},
 };
@@ -44,9 +44,9 @@ fn settings(random: &mut Random) -> Settings {
         .reverse(random.one_in(4))
         .start_waits(random.one_in(4));
     match random.below(4) {
-        0 => settings.loop_region(0..),
+        0 => settings.loop_region(..),
         1 => settings.loop_region(0.0..1.0).playback_rate(-1.0),
-        2 => settings.slice(0..random.below(9)),
+        2 => settings.slice(Frames(0)..Frames(random.below(9))),
         _ => settings,
     }
 }
@@ -60,7 +60,7 @@ fn commands(random: &mut Random) -> Commands {
         3 => commands.stop(),
         4 => commands.seek_by(random.unit() * 8.0 - 4.0),
         5 => commands.seek_to(f64::from_bits(random.word())),
-        6 => commands.set_loop_region(random.below(9)..random.below(9)),
+        6 => commands.set_loop_region(Frames(random.below(9))..Frames(random.below(9))),
         7 => commands.clear_loop_region().set_playback_rate(-0.5),
         _ => commands,
     }
@@ -252,7 +252,7 @@ impl<'a> Beside<'a> {
                     assert_eq!(made.recorded, self.ended.map_or(Ok(()), Err));
                     return;
                 };
-                let region = region.start as usize..region.end as usize;
+                let region = Frames(region.start as usize)..Frames(region.end as usize);
                 let record = Record::Commands(Commands::new().set_loop_region(region));
                 let record = self.is_the_creations().then_some(record);
                 self.expect(made, answer, record);

@@ -1,8 +1,8 @@
 //! The compiled writer against the page: random records out and back, every room, and each field of the Rust crate's record.
 
 use cableowl::{
-    Commands, EndPosition, LoopCommand, PlaybackPosition, Refusal, Region, ResumeCommand, Settings,
-    StartAnswer,
+    Commands, EndPosition, Frames, LoopCommand, PlaybackPosition, Refusal, Region, ResumeCommand,
+    Settings, StartAnswer,
     trace::{self, Block, Record, ShortSound},
 };
 use random::Random;
@@ -108,7 +108,7 @@ fn each_field_of_a_creation() {
         let reverse = tag % 2 == 0;
         settings = settings.reverse(reverse).start_waits(!reverse);
         let (settings, start) = match reverse {
-            true => (settings.start_position(9), [0, 9]),
+            true => (settings.start_position(Frames(9)), [0, 9]),
             false => (settings.start_position(0.5), [1, 0.5_f64.to_bits()]),
         };
         let rest = [

@@ -1,12 +1,13 @@
 -- `turns::advance`: the end, a refused record, a record played.
 use mathlib.Core.Path.{_≡_, refl, sym, ap, _∙_}
+use native.Mathlib.Nat.{le-refl}
 use native.Mathlib.Omega.{arith}
 use borrow.Author.Needs.{needs}
 use denote.Ref.{now}
 use Rattle.lines.specs.Lines.{refusedLine}
 use Rattle.turns.specs.Runs.{courseOf}
 use Rattle.turns.proofs.Parts.{prefix, fits}
-use Rattle.turns.proofs.Steps.{at-end, turned-back, played, next-in}
+use Rattle.turns.proofs.Steps.{at-end, turned-back, played, next-in, next-on}
 use Rattle.turns.proofs.advance.Statement.{statement}
 use Rattle.turns.proofs.advance.Tie as tie
 use Rattle.turns.proofs.advance.Reads as reads
@@ -19,7 +20,7 @@ returns : tie.Need-returns
 returns c =
     let g = c .before .before .before .before in
     let a = g .args in
-    (at-end (courseOf (a .run) (now (a .sound))) (a .place) (a .at) (now (a .bytes)) (c .if1 .taken), g .pre .0, g .pre .2, omega arith)
+    (at-end (courseOf (a .run) (now (a .sound))) (a .place) (a .at) (now (a .bytes)) (c .if1 .taken), g .pre .0, g .pre .2, omega arith, le-refl (a .at))
 
 read-requires : tie.Need-read-requires
 read-requires c κs = search needs
@@ -40,7 +41,7 @@ returns-2 c =
     let a = g .args in
     let e = q .put-refused .ensures in
     let l = refusedLine (r .read .result .refusal) (a .place) in
-    (turned-back (courseOf (a .run) (now (a .sound))) (a .place) (a .at) (now (a .bytes)) (r .read .result) (r .read .ensures) (g .pre .0) (o .if1 .left) _ (i .if2 .taken) (prefix (now (a .line)) (q .put-refused .last .0) l (q .put-refused .result) (e .0) (e .1) (omega (arith, e .1, e .2, g .pre .3))), g .pre .0, g .pre .2, fits (now (a .line)) (q .put-refused .last .0) l (q .put-refused .result) (e .0) (e .2) (g .pre .3))
+    (turned-back (courseOf (a .run) (now (a .sound))) (a .place) (a .at) (now (a .bytes)) (r .read .result) (r .read .ensures) (g .pre .0) (o .if1 .left) _ (i .if2 .taken) (prefix (now (a .line)) (q .put-refused .last .0) l (q .put-refused .result) (e .0) (e .1) (omega (arith, e .1, e .2, g .pre .3))), g .pre .0, g .pre .2, fits (now (a .line)) (q .put-refused .last .0) l (q .put-refused .result) (e .0) (e .2) (g .pre .3), le-refl (a .at))
 
 turn-requires : tie.Need-turn-requires
 turn-requires c κs = search needs
@@ -60,7 +61,7 @@ returns-3 c =
     let g = o .before .before .before .before in
     let a = g .args in
     let e = t .turn .ensures in
-    (played (courseOf (a .run) (now (a .sound))) (a .place) (a .at) (now (a .bytes)) (r .read .result) (r .read .ensures) (g .pre .0) (o .if1 .left) _ _ (i .if2 .left) (e .0) (e .1), next-in (now (a .bytes)) (a .at) (r .read .result) (g .pre .0) (r .read .ensures), e .2, e .3)
+    (played (courseOf (a .run) (now (a .sound))) (a .place) (a .at) (now (a .bytes)) (r .read .result) (r .read .ensures) (g .pre .0) (o .if1 .left) _ _ (i .if2 .left) (e .0) (e .1), next-in (now (a .bytes)) (a .at) (r .read .result) (g .pre .0) (r .read .ensures), e .2, e .3, next-on (now (a .bytes)) (a .at) (r .read .result) (g .pre .0) (r .read .ensures))
 
 pub advance-spec : {M : Type 1} → statement M
 advance-spec =

@@ -2,7 +2,10 @@
 
 use std::ops::Range;
 
-use crate::{BlockLanes, Lane, Lanes, Processed, Refusal, Signals, StaticSound, trace::Block};
+use crate::{
+    BlockLanes, Lane, Lanes, Processed, Refusal, Signals, StaticSound, stopping::until_it_stops,
+    trace::Block,
+};
 
 /// What a voice is given for a block.
 #[derive(Debug, Clone, Copy)]
@@ -61,10 +64,8 @@ impl Given<'_> {
             .block(self.time_step, self.signals)
     }
 
-    /// Plays the whole block, or as much as there is of it until the voice runs off its sound's end:
-    /// **the block ends with the frame in which the voice stops**, since what a voice does after that
-    /// depends on where its block ends (docs/RULES.md, "Creation, commands, block"). Told are the
-    /// frames played and their counts.
+    /// Plays the whole block, or as much of it as there is until the voice runs off its sound's end.
+    /// Returns the frames played and their counts.
     pub fn play_all(
         &self,
         frames: usize,
@@ -72,28 +73,9 @@ impl Given<'_> {
         lanes: &mut Lanes,
         out: &mut [f32],
     ) -> Result<(usize, Processed), Refusal> {
-        let mut before = voice.clone();
-        let all = self.play(0..frames, voice, lanes, out)?;
-        // Without a step nothing ran off: it was silent, or has stopped by its signals.
-        if !voice.finished() || all.steps == 0 {
-            return Ok((frames, all));
-        }
-        // It stops after more than `low` frames, at most `high`. The frames that are played again are
-        // the same frames.
-        let (mut low, mut high, mut counts) = (0, frames, Processed::NONE);
-        while high - low > 1 {
-            let middle = low + (high - low) / 2;
-            let mut tried = before.clone();
-            let part = self.play(low..middle, &mut tried, lanes, out)?;
-            if tried.finished() {
-                high = middle;
-            } else {
-                (low, before, counts) = (middle, tried, counts.and(part));
-            }
-        }
-        let last = self.play(low..high, &mut before, lanes, out)?;
-        *voice = before;
-        Ok((high, counts.and(last)))
+        until_it_stops(voice, frames, |part, voice| {
+            self.play(part, voice, lanes, out)
+        })
     }
 }
 

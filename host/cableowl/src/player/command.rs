@@ -1,7 +1,8 @@
 //! One command to a player, as a value that goes through a channel; and how commands are judged.
 
-use std::hint::black_box;
+use std::{hint::black_box, time::Duration};
 
+use super::queue::Seek;
 use crate::{EndPosition, Level, PlaybackPosition, Refusal, Region, State, Tween, float_mode};
 
 /// A counter of 32 bits that wraps, as the host reads it now, and how fast it counts.
@@ -38,6 +39,8 @@ pub enum Command {
     SeekBy(f64),
     /// [`Player::seek_to`](crate::Player::seek_to).
     SeekTo(f64),
+    /// [`Player::start_after`](crate::Player::start_after).
+    StartAfter(Duration),
     /// [`Player::start_at_tick`](crate::Player::start_at_tick).
     StartAtTick(u32, Ticks),
 }
@@ -45,8 +48,8 @@ pub enum Command {
 /// Places are below this frame number: docs/RULES.md, "Seconds to frames".
 const FRAME_LIMIT: f64 = 4_294_967_296.0;
 
-/// Refusal 6, as the voice would give it.
-pub fn judge_loop(state: &State, region: Region) -> Result<(), Refusal> {
+/// A loop in frames, or refusal 6 as the voice would give it.
+pub fn frames_of(state: &State, region: Region) -> Result<(u64, u64), Refusal> {
     let frames = state
         .slice
         .map_or(state.num_frames, |(start, end)| end.saturating_sub(start)) as u64;
@@ -65,31 +68,36 @@ pub fn judge_loop(state: &State, region: Region) -> Result<(), Refusal> {
         EndPosition::Custom(place) => frame_of(place),
     };
     match (frame_of(region.start), end) {
-        (Some(start), Some(end)) if start < end && end <= frames => Ok(()),
+        (Some(start), Some(end)) if start < end && end <= frames => Ok((start, end)),
         _ => Err(Refusal::LoopRegion),
     }
 }
 
-/// Refusal 8 of a seek to so many seconds, as the voice would give it.
-pub fn judge_seek_to(state: &State, seconds: f64) -> Result<(), Refusal> {
-    let rate = f64::from(state.sample_rate);
-    let product = float_mode::plain(|| black_box(black_box(seconds) * rate));
-    lawful_seek(seconds, product)
-}
-
-/// Refusal 8 of a seek by so many seconds, as the voice would give it.
-pub fn judge_seek_by(state: &State, seconds: f64) -> Result<(), Refusal> {
-    let (rate, position) = (f64::from(state.sample_rate), state.position as f64);
-    let product = float_mode::plain(|| {
-        let (position, seconds) = black_box((position, seconds));
-        black_box((position / rate + seconds) * rate)
-    });
-    lawful_seek(seconds, product)
-}
-
-fn lawful_seek(seconds: f64, product: f64) -> Result<(), Refusal> {
+/// The frame that a seek from this position asks for, or refusal 8 as the voice would give it. In
+/// the float mode of the thread.
+pub fn judge_seek(sample_rate: u32, position: u64, seek: Seek) -> Result<u64, Refusal> {
+    let rate = f64::from(sample_rate);
+    let (seconds, product) = match seek {
+        Seek::By(seconds) => (seconds, (position as f64 / rate + seconds) * rate),
+        Seek::To(seconds) => (seconds, seconds * rate),
+    };
     match seconds.is_finite() && product < FRAME_LIMIT {
-        true => Ok(()),
+        // Below 0 it is 0.
+        true => Ok(product as u64),
         false => Err(Refusal::Seek),
+    }
+}
+
+/// Where a seek from `position` to the frame `to` lands: docs/RULES.md, "The transport".
+pub fn wrapped(position: u64, to: u64, loop_region: Option<(u64, u64)>) -> u64 {
+    match loop_region {
+        Some((start, end)) if to > position && to >= end => {
+            start.saturating_add((to - start) % (end - start))
+        }
+        Some((start, end)) if to <= position && to < start => {
+            let length = end - start;
+            start.saturating_add((length - (start - to) % length) % length)
+        }
+        _ => to,
     }
 }

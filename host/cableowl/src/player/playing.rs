@@ -2,9 +2,16 @@
 
 use std::hint::black_box;
 
-use super::{Player, block::Given, recorded::Watch, room::gains};
+use super::{
+    Player,
+    block::Given,
+    part,
+    queue::Press,
+    recorded::Watch,
+    room::{first, gain_lanes, gains},
+};
 use crate::{
-    Lane, MAX_BLOCK_FRAMES, Processed, Refusal, Signals, StartAnswer, float_mode,
+    Commands, Lane, Level, MAX_BLOCK_FRAMES, Processed, Refusal, Signals, StartAnswer, float_mode,
     trace::MAX_TRACED_FRAMES,
 };
 
@@ -42,7 +49,7 @@ impl Player {
             return Err(Refusal::State);
         }
         if !out.len().is_multiple_of(2) {
-            return Err(Refusal::Block);
+            return Err(Refusal::OddOutput);
         }
         let (mut counts, mut rest) = (Processed::NONE, out);
         while !rest.is_empty() {
@@ -55,20 +62,31 @@ impl Player {
         Ok(counts)
     }
 
-    /// Tells the voice its commands, and turns it round where the rate of the next frame has.
+    /// Tells the voice what is queued, set after set, and turns it round where the rate of the next
+    /// frame has.
     fn obey<W: Watch>(&mut self, sound: &[f32], watch: &mut W) -> Result<(), Refusal> {
         let rate = self.rate.at(self.clock);
-        if rate.is_sign_negative() != self.voice.playback_rate().is_sign_negative() {
-            self.commands.get_or_insert_default().playback_rate = Some(rate);
+        let turns = rate.is_sign_negative() != self.voice.playback_rate().is_sign_negative();
+        if !turns && self.queue.is_empty() {
+            return Ok(());
         }
-        if let Some(commands) = self.commands.take() {
-            self.voice.on_start_processing(sound, commands)?;
-            watch.told(commands);
+        // Nothing in a row of commands depends on the direction: the first set turns it.
+        let mut turn = turns.then_some(rate);
+        for mut commands in self.queue.sets() {
+            commands.playback_rate = turn.take();
+            if commands != Commands::new() {
+                self.voice.on_start_processing(sound, commands)?;
+                watch.told(commands);
+            }
         }
-        if let Some(fade) = self.next_fade.take() {
-            self.fade
-                .set(super::tenths(fade.to), self.clock, fade.frames);
+        if let Some(presses) = self.queue.presses() {
+            let to = match presses.last {
+                Press::Resume => Level::FULL,
+                Press::Pause | Press::Stop => Level::SILENCE,
+            };
+            self.fade.set(super::tenths(to), self.clock, presses.fade);
         }
+        self.queue.clear();
         Ok(())
     }
 
@@ -89,8 +107,11 @@ impl Player {
         let frames = until(clock, Some(self.fade.ends()), frames);
         let frames = until(clock, self.starts_at, frames);
         let room = &mut self.room;
-        let rate = self.rate.lane(clock, frames, &mut room.rate, |rate| rate);
-        let frames = one_direction(rate).min(frames);
+        let rate = self.rate.lane(clock, first(&mut room.rate, frames));
+        let frames = match self.rate.may_turn() {
+            true => one_direction(rate).min(frames),
+            false => frames,
+        };
 
         let amplitude = |tenths: u16| self.amplitudes.get(usize::from(tenths)).copied();
         let amplitude = |tenths| amplitude(tenths).unwrap_or_default();
@@ -98,19 +119,25 @@ impl Player {
             Some(frame) if frame <= clock => StartAnswer::Now,
             _ => StartAnswer::Waiting,
         };
-        let (left, right) = (|at| gains(at).0, |at| gains(at).1);
+        let panning = self.panning.lane(clock, first(&mut room.panning, frames));
+        let left = first(&mut room.left, frames);
+        let right = first(&mut room.right, frames);
+        let (left, right) = gain_lanes(panning, left, right);
+        let fade = first(&mut room.fade, frames);
+        let volume = first(&mut room.volume, frames);
         let given = Given {
             sound,
-            fade: self.fade.lane(clock, frames, &mut room.fade, amplitude),
-            volume: self.volume.lane(clock, frames, &mut room.volume, amplitude),
-            left: self.panning.lane(clock, frames, &mut room.left, left),
-            right: self.panning.lane(clock, frames, &mut room.right, right),
+            fade: self.fade.lane(clock, fade, amplitude),
+            volume: self.volume.lane(clock, volume, amplitude),
+            left,
+            right,
             rate,
             time_step: self.time_step,
             signals: Signals::new()
                 .finished(clock == self.fade.ends())
                 .start(start),
         };
+        let told = self.voice.playback_state();
         let (voice, lanes) = (&mut self.voice, &mut room.lanes);
         let out = out.get_mut(..2 * frames).unwrap_or_default();
         let (frames, counts) = match place {
@@ -125,6 +152,9 @@ impl Player {
         };
         if W::RECORDS {
             watch.played(given.record(frames, lanes), voice, counts);
+        }
+        if W::PARTS {
+            watch.part(part::of(&given, frames, told, voice, counts));
         }
         self.clock = clock.saturating_add(frames as u64);
         Ok((frames, counts))

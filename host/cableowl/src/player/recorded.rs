@@ -1,6 +1,6 @@
 //! A player that is recorded as it plays: its constant stretches become the records of a trace.
 
-use super::{Command, Player, Tween, playing::Place};
+use super::{Command, Part, Player, Tween, playing::Place};
 use crate::{
     Commands, Processed, Refusal, Settings, StaticSound,
     trace::{Block, Line, Record, Recorded, ShortSound, write},
@@ -8,24 +8,23 @@ use crate::{
 
 /// Who learns what a player's voice is told and given.
 pub trait Watch {
-    /// Whether a block must be one that a record can hold.
-    const RECORDS: bool;
+    /// Whether a block must be one that a record can hold; then `played` is called.
+    const RECORDS: bool = false;
+    /// Whether `part` is called.
+    const PARTS: bool = false;
 
     /// The voice was told these.
-    fn told(&mut self, commands: Commands);
+    fn told(&mut self, _: Commands) {}
 
     /// The voice, as it is now, played this block.
-    fn played(&mut self, block: Result<Block, Refusal>, voice: &StaticSound, counts: Processed);
+    fn played(&mut self, _: Result<Block, Refusal>, _: &StaticSound, _: Processed) {}
+
+    /// This part of the call was played.
+    fn part(&mut self, _: Part) {}
 }
 
 /// Nobody.
-impl Watch for () {
-    const RECORDS: bool = false;
-
-    fn told(&mut self, _: Commands) {}
-
-    fn played(&mut self, _: Result<Block, Refusal>, _: &StaticSound, _: Processed) {}
-}
+impl Watch for () {}
 
 /// A [`Player`] over a sound of at most 64 frames that plays and is recorded in one go, into a lent
 /// buffer (docs/TRACE.md).
@@ -37,16 +36,17 @@ impl Watch for () {
 ///
 /// As with a [`Recorder`](crate::trace::Recorder), **what the buffer holds is the evening up to the
 /// first record that it could not hold**: the player plays on, it and every later call say why
-/// ([`Recorded::recorded`]), and nothing more is written. A call of n frames needs room for at most
-/// 42 bytes a frame, and 52 for each turn of the direction and 52 for the commands before it; a host
-/// that records for long keeps [`RecordedPlayer::bytes`] and calls [`RecordedPlayer::clear`] in time.
+/// ([`Recorded::recorded`]), and nothing more is written. A call of n frames needs at most 42 bytes a
+/// frame, 52 for each turn of the direction, 52 for each seek before it and 52 for its other commands
+/// together; a host that records for long keeps [`RecordedPlayer::bytes`] and calls
+/// [`RecordedPlayer::clear`] in time.
 ///
 /// ```
-/// use cableowl::{Command, RecordedPlayer, Settings, Tween, trace::lines};
+/// use cableowl::{Command, Frames, RecordedPlayer, Settings, Tween, trace::lines};
 ///
 /// let sound = [0.5; 16];
 /// let mut buffer = [0; 4_096];
-/// let settings = Settings::new(1_000).loop_region(2..6);
+/// let settings = Settings::new(1_000).loop_region(Frames(2)..Frames(6));
 /// let mut player = RecordedPlayer::play(settings, 1_000, &sound, &mut buffer)?;
 /// let (mut out, mut log) = ([0.0; 40], Vec::new());
 /// player.process(&mut out, |line| log.push(line)).recorded?;

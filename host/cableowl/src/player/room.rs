@@ -2,7 +2,7 @@
 
 use std::{f32::consts::SQRT_2, fmt, sync::OnceLock};
 
-use crate::{Lanes, Level, MAX_BLOCK_FRAMES, fade_ramp};
+use crate::{Lane, Lanes, Level, MAX_BLOCK_FRAMES, fade_ramp};
 
 /// The amplitude of each level.
 pub type Amplitudes = [f32; 602];
@@ -21,11 +21,30 @@ pub fn amplitudes() -> &'static Amplitudes {
 /// The gains of a panning, as kira's `Frame::panned` has them.
 pub fn gains(panning: f64) -> (f32, f32) {
     let panning = panning as f32;
-    if panning == 0.0 {
-        return (1.0, 1.0);
-    }
     let right = (panning.clamp(-1.0, 1.0) + 1.0) * 0.5;
-    ((1.0 - right).sqrt() * SQRT_2, right.sqrt() * SQRT_2)
+    let gains = ((1.0 - right).sqrt() * SQRT_2, right.sqrt() * SQRT_2);
+    // Chosen last, so that a loop over gains vectorises.
+    if panning == 0.0 { (1.0, 1.0) } else { gains }
+}
+
+/// The lanes of both gains of a lane of pannings.
+pub fn gain_lanes<'a>(
+    panning: Lane<f64>,
+    left: &'a mut [f32],
+    right: &'a mut [f32],
+) -> (Lane<'a, f32>, Lane<'a, f32>) {
+    match panning {
+        Lane::Constant(panning) => {
+            let (left, right) = gains(panning);
+            (Lane::Constant(left), Lane::Constant(right))
+        }
+        Lane::PerFrame(pannings) => {
+            for ((panning, left), right) in pannings.iter().zip(&mut *left).zip(&mut *right) {
+                (*left, *right) = gains(*panning);
+            }
+            (Lane::PerFrame(left), Lane::PerFrame(right))
+        }
+    }
 }
 
 /// Room for a block's lanes and frames, made once.
@@ -36,22 +55,29 @@ pub struct Room {
     pub left: Vec<f32>,
     pub right: Vec<f32>,
     pub rate: Vec<f64>,
+    pub panning: Vec<f64>,
     pub played: Vec<f32>,
 }
 
 impl Room {
     pub fn new() -> Self {
-        let lane = || Vec::with_capacity(MAX_BLOCK_FRAMES);
+        let lane = || vec![0.0; MAX_BLOCK_FRAMES];
         Self {
             lanes: Lanes::new(),
             fade: lane(),
             volume: lane(),
             left: lane(),
             right: lane(),
-            rate: Vec::with_capacity(MAX_BLOCK_FRAMES),
+            rate: vec![0.0; MAX_BLOCK_FRAMES],
+            panning: vec![0.0; MAX_BLOCK_FRAMES],
             played: vec![0.0; 2 * MAX_BLOCK_FRAMES],
         }
     }
+}
+
+/// The first numbers of a lane's room, so many as a block has frames, which is never more than it has.
+pub fn first<N>(room: &mut [N], frames: usize) -> &mut [N] {
+    room.get_mut(..frames).unwrap_or_default()
 }
 
 /// A clone has as much room; nothing in it lasts from block to block.

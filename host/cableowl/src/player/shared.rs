@@ -5,7 +5,7 @@ use std::{
     sync::Arc,
 };
 
-use crate::{Player, Processed, Refusal, Settings};
+use crate::{Part, Player, Processed, Refusal, Settings, Tween, Unreadable};
 
 /// A [`Player`] bound to a shared sound: one value to send to the audio thread. It is a player by
 /// `Deref`, for the commands; its own [`process`](SharedPlayer::process()) and
@@ -47,11 +47,28 @@ impl SharedPlayer {
         Ok(Self { player, sound })
     }
 
+    /// As [`Player::fade_in_tween`].
+    #[must_use]
+    pub fn fade_in_tween(mut self, tween: impl Into<Tween>) -> Self {
+        self.player.fade_in(tween.into());
+        self
+    }
+
+    /// As [`Player::from_bytes`].
+    ///
+    /// # Errors
+    ///
+    /// As [`Player::from_bytes`].
+    pub fn from_bytes(bytes: &[u8], sound: Arc<[f32]>) -> Result<Self, Unreadable> {
+        let player = Player::from_bytes(bytes, &sound)?;
+        Ok(Self { player, sound })
+    }
+
     /// As [`Player::process`].
     ///
     /// # Errors
     ///
-    /// Refusal 9 where the samples are odd in number.
+    /// [`Refusal::OddOutput`].
     pub fn process(&mut self, out: &mut [f32]) -> Result<Processed, Refusal> {
         self.player.process(&self.sound, out)
     }
@@ -60,9 +77,22 @@ impl SharedPlayer {
     ///
     /// # Errors
     ///
-    /// Refusal 9 where the samples are odd in number.
+    /// [`Refusal::OddOutput`].
     pub fn mix(&mut self, out: &mut [f32]) -> Result<Processed, Refusal> {
         self.player.mix(&self.sound, out)
+    }
+
+    /// As [`Player::process_parts`].
+    ///
+    /// # Errors
+    ///
+    /// [`Refusal::OddOutput`].
+    pub fn process_parts(
+        &mut self,
+        out: &mut [f32],
+        report: impl FnMut(Part),
+    ) -> Result<Processed, Refusal> {
+        self.player.process_parts(&self.sound, out, report)
     }
 
     /// The sound.

@@ -1,12 +1,12 @@
-//! A log of the second form: what a block's line cannot tell is told beside it (docs/TOOLS.md).
+//! A log of form 3: what a box says of a voice, one line a block or callback (docs/TOOLS.md).
 
 use std::fmt;
 
 use super::Line;
-use crate::{Commands, State, StaticSound};
+use crate::{Commands, Processed, Refusal, State, StaticSound, Usage};
 
-/// The line that a log of the second form begins with.
-pub const LOG_HEAD: &str = "log=2";
+/// The line that a log of form 3 begins with.
+pub const LOG_HEAD: &str = "log=3";
 
 /// What happened to a voice since the line before.
 #[derive(Debug, Clone, Copy, PartialEq, Eq, Hash, Default)]
@@ -20,35 +20,42 @@ pub struct Since {
     pub restarts: u64,
 }
 
-/// Makes the lines of a log of the second form: it is told what happens between two blocks.
+/// Makes the lines of a log of form 3. The host says what happens between two blocks; each line says
+/// what its block's frames were spent on.
+///
+/// Every figure that `cableowl report` takes from the lines of a [`Player`](crate::Player) is the same
+/// for callbacks of any length.
 ///
 /// ```
-/// use cableowl::{Commands, Lanes, Settings, Signals, StaticSound, trace::{LOG_HEAD, Line, Log}};
+/// use cableowl::{Frames, Player, Settings, trace::{LOG_HEAD, Log}};
 ///
 /// let sound = [0.5; 20];
 /// let mut log = Log::new();
-/// let mut told = format!("{LOG_HEAD}\n");
-/// let mut voice = StaticSound::new(Settings::new(1).loop_region(2..5), &sound)?;
+/// let mut text = format!("{LOG_HEAD}\n");
+/// let mut player = Player::play(Settings::new(1).loop_region(Frames(2)..Frames(5)), 1, &sound)?;
 /// log.created();
-/// let (mut lanes, mut out) = (Lanes::new(), [0.0; 12]);
-/// for number in 1..=2 {
-///     let answer = voice.process(&sound, lanes.frames(6), 1.0, Signals::new(), &mut out);
-///     let line = Line::of_block(number, 6, &voice, answer);
-///     told += &format!("{}\n", log.line(line, Some(&voice), answer?.lowest_count));
-///     let (before, commands) = (voice.state(), Commands::new().seek_to(2.0));
-///     voice.on_start_processing(&sound, commands)?;
-///     log.commanded(&commands, &before, &voice.state());
+/// let mut out = [0.0; 12];
+/// for _ in 0..2 {
+///     let answer = player.process(&sound, &mut out);
+///     text += &format!("{}\n", log.block(6, Some(player.voice()), answer));
+///     player.seek_to(2.0)?;
+///     log.seeked(true);
 /// }
 /// assert_eq!(
-///     told,
-///     "log=2\n\
-///      block=1 frames=6 steps=6 state=0 position=3 lowest=4 forward=2 backward=0 started=1 created=1 seeks=0 restarts=0\n\
-///      block=2 frames=6 steps=6 state=0 position=2 lowest=4 forward=4 backward=0 started=1 created=0 seeks=1 restarts=1\n"
+///     text,
+///     "log=3\n\
+///      block=1 frames=6 steps=6 state=0 position=3 lowest=4 forward=2 backward=0 started=1 \
+///      played=6 paused=0 silent=0 still=0 loop_start=2 loop_end=5 direction=0 steps_back=0 ended=0 \
+///      created=1 seeks=0 restarts=0\n\
+///      block=2 frames=6 steps=6 state=0 position=2 lowest=4 forward=4 backward=0 started=1 \
+///      played=6 paused=0 silent=0 still=0 loop_start=2 loop_end=5 direction=0 steps_back=0 ended=0 \
+///      created=0 seeks=1 restarts=1\n"
 /// );
 /// # Ok::<(), cableowl::Refusal>(())
 /// ```
 #[derive(Debug, Clone, Default)]
 pub struct Log {
+    blocks: u64,
     since: Since,
     begun: bool,
 }
@@ -78,7 +85,7 @@ impl Log {
         if commands.seek_by.is_some() {
             self.seeked(false);
         }
-        let went_back = match after.playback_rate.is_sign_negative() != after.reverse {
+        let went_back = match after.is_backward() {
             true => after.position > before.position,
             false => after.position < before.position,
         };
@@ -87,16 +94,42 @@ impl Log {
         }
     }
 
-    /// A line of the first form with what the second tells beside: `voice` is the voice after the
-    /// block, `lowest_count` the block's answer. Without a voice every number is 0.
-    pub fn line(&mut self, line: Line, voice: Option<&StaticSound>, lowest_count: u32) -> LogLine {
-        let state = voice.map(StaticSound::state).unwrap_or_default();
+    /// The line of the next block or callback: its frames, the voice after it, and its answer. Without
+    /// a voice every number is 0.
+    pub fn block(
+        &mut self,
+        frames: usize,
+        voice: Option<&StaticSound>,
+        answer: Result<Processed, Refusal>,
+    ) -> LogLine {
+        raise(&mut self.blocks, 1);
+        let block = self.blocks;
+        let answer = match voice {
+            Some(voice) => answer.map(|counts| (voice.state(), counts)),
+            None => Err(answer.err().unwrap_or(Refusal::State)),
+        };
+        let (state, counts) = answer.unwrap_or((State::default(), Processed::NONE));
+        let line = match answer {
+            Ok(_) => Line::Block {
+                block,
+                frames: frames as u64,
+                steps: counts.steps,
+                state: state.playback_state,
+                position: state.position as u64,
+            },
+            Err(refusal) => Line::RefusedBlock { block, refusal },
+        };
         LogLine {
             line,
-            lowest: lowest_count,
+            lowest: counts.lowest_count,
             forward: state.wraps.forward,
             backward: state.wraps.backward,
             started: state.started,
+            usage: counts.usage,
+            loop_region: state.loop_region.unwrap_or_default(),
+            is_backward: state.is_backward(),
+            steps_back: counts.steps_back,
+            ended: !state.playing,
             since: std::mem::take(&mut self.since),
         }
     }
@@ -106,11 +139,11 @@ fn raise(count: &mut u64, by: u64) {
     *count = count.saturating_add(by);
 }
 
-/// A line of a log of the second form. `Display` writes it without the line feed that ends it.
+/// A line of a log of form 3. `Display` writes it without the line feed that ends it.
 #[derive(Debug, Clone, Copy, PartialEq, Eq, Hash)]
 #[non_exhaustive]
 pub struct LogLine {
-    /// The line of the first form that it begins with.
+    /// What it has in common with a line of form 1.
     pub line: Line,
     /// The lowest window count that the block read.
     pub lowest: u32,
@@ -120,6 +153,16 @@ pub struct LogLine {
     pub backward: u32,
     /// Whether the sound's own start has come.
     pub started: bool,
+    /// How the block's frames were spent.
+    pub usage: Usage,
+    /// The loop after the block, its end exclusive; 0 and 0 where there is none.
+    pub loop_region: (usize, usize),
+    /// Whether the voice moves backward after the block.
+    pub is_backward: bool,
+    /// Of the block's steps, those backward.
+    pub steps_back: u64,
+    /// Whether the position has run off the sound.
+    pub ended: bool,
     /// What happened since the line before.
     pub since: Since,
 }
@@ -127,21 +170,44 @@ pub struct LogLine {
 impl fmt::Display for LogLine {
     fn fmt(&self, f: &mut fmt::Formatter<'_>) -> fmt::Result {
         self.line.fmt(f)?;
-        let (lowest, forward, backward) = (self.lowest, self.forward, self.backward);
-        let started = u32::from(self.started);
+        match self.line {
+            Line::Refused(_) => return Ok(()),
+            Line::RefusedBlock { .. } => {}
+            Line::Block { .. } => self.voice(f)?,
+        }
         let Since {
             created,
             seeks,
             restarts,
         } = self.since;
-        match self.line {
-            Line::Refused(_) => return Ok(()),
-            Line::RefusedBlock { .. } => {}
-            Line::Block { .. } => write!(
-                f,
-                " lowest={lowest} forward={forward} backward={backward} started={started}"
-            )?,
-        }
         write!(f, " created={created} seeks={seeks} restarts={restarts}")
+    }
+}
+
+impl LogLine {
+    /// What the line of an accepted block says of the voice, after the words of form 1.
+    fn voice(&self, f: &mut fmt::Formatter<'_>) -> fmt::Result {
+        let (lowest, forward, backward) = (self.lowest, self.forward, self.backward);
+        let [started, direction, ended] =
+            [self.started, self.is_backward, self.ended].map(u32::from);
+        let Usage {
+            played,
+            paused,
+            silent,
+            still,
+        } = self.usage;
+        let ((start, end), back) = (self.loop_region, self.steps_back);
+        write!(
+            f,
+            " lowest={lowest} forward={forward} backward={backward} started={started}"
+        )?;
+        write!(
+            f,
+            " played={played} paused={paused} silent={silent} still={still}"
+        )?;
+        write!(
+            f,
+            " loop_start={start} loop_end={end} direction={direction} steps_back={back} ended={ended}"
+        )
     }
 }

@@ -33,12 +33,12 @@ pub struct Recorded<T> {
 /// No call panics or allocates.
 ///
 /// ```
-/// use cableowl::{Commands, Lanes, Settings, Signals, trace::{Recorder, lines}};
+/// use cableowl::{Commands, Frames, Lanes, Settings, Signals, trace::{Recorder, lines}};
 ///
 /// let sound = [0.5; 16];
 /// let mut buffer = [0; 4_096];
 /// let mut recorder = Recorder::new(&mut buffer);
-/// recorder.create(Settings::new(1).loop_region(2..6), &sound).answer?;
+/// recorder.create(Settings::new(1).loop_region(Frames(2)..Frames(6)), &sound).answer?;
 /// let mut log = Vec::new();
 ///
 /// // A fade of four frames at the end of a block of eight: cut at each change.
@@ -112,7 +112,7 @@ impl<'a> Recorder<'a> {
     /// Takes a loop from a table, as [`StaticSound::take_loop`]; recorded as the command set that it
     /// is. Where the table refuses there is none, and nothing is recorded.
     pub fn take_loop(&mut self, sound: &[f32], table: &LoopTable, slot: usize) -> Recorded<f64> {
-        let region = match table.read(slot) {
+        let region = match table.region(slot) {
             Ok(region) => region,
             Err(refusal) => {
                 return Recorded {
@@ -125,7 +125,7 @@ impl<'a> Recorder<'a> {
             Some(voice) => voice.take_loop(sound, table, slot),
             None => Err(Refusal::State),
         };
-        let commands = Commands::new().set_loop_region(region.start as usize..region.end as usize);
+        let commands = Commands::new().set_loop_region(region);
         let record = self.of_this_sound(sound, Record::Commands(commands));
         self.recorded(answer, record)
     }

@@ -1,11 +1,14 @@
 //! A trace played again.
 
-use std::io::{self, Read, Write};
+use std::{
+    io::{self, Read, Write},
+    ops::Range,
+};
 
 use super::{
     Block, Line, MAX_TRACED_FRAMES, Record, Refused, ShortSound, Trace, TraceError, TraceReader,
 };
-use crate::{Lanes, Refusal, StaticSound};
+use crate::{Lanes, Processed, Refusal, Signals, StaticSound, stopping::until_it_stops};
 
 /// A run of a trace: takes its records one after the other, plays them, and tells the line of each
 /// block.
@@ -21,7 +24,7 @@ pub struct Replay {
     lanes: Lanes,
     out: Vec<f32>,
     heard: usize,
-    lowest_count: u32,
+    counts: Processed,
 }
 
 impl Replay {
@@ -35,7 +38,7 @@ impl Replay {
             lanes: Lanes::new(),
             out: vec![0.0; 2 * MAX_TRACED_FRAMES],
             heard: 0,
-            lowest_count: 4,
+            counts: Processed::NONE,
         }
     }
 
@@ -60,7 +63,7 @@ impl Replay {
 
     fn block(&mut self, block: &Block) -> Line {
         self.blocks = self.blocks.saturating_add(1);
-        (self.heard, self.lowest_count) = (0, 4);
+        (self.heard, self.counts) = (0, Processed::NONE);
         let number = self.blocks;
         let refused = |refusal| Line::RefusedBlock {
             block: number,
@@ -74,13 +77,21 @@ impl Replay {
             // No record has so many frames.
             return refused(Refusal::Block);
         };
-        let lanes = self.lanes.frames(block.frames).fade(block.fade);
-        let lanes = lanes.volume(block.volume).left(block.left);
-        let lanes = lanes.right(block.right).rate(block.rate);
-        let sound = self.sound.samples();
-        let answer = voice.process(sound, lanes, block.time_step, block.signals(), out);
-        if let Ok(processed) = &answer {
-            (self.heard, self.lowest_count) = (samples, processed.lowest_count);
+        let (lanes, sound, before) = (&mut self.lanes, self.sound.samples(), voice.clone());
+        let answer = play(block, 0..block.frames, voice, lanes, sound, out);
+        if let Ok(processed) = answer {
+            (self.heard, self.counts) = (samples, processed);
+            if voice.finished() && processed.steps > 0 {
+                let mut again = before;
+                let stops = until_it_stops(&mut again, block.frames, |part, voice| {
+                    play(block, part, voice, lanes, sound, out)
+                });
+                // Not refused: the whole block was not.
+                if let Ok((frames, counts)) = stops {
+                    self.counts = counts;
+                    self.counts.usage.silent = (block.frames - frames) as u64;
+                }
+            }
         }
         Line::of_block(number, block.frames, voice, answer)
     }
@@ -91,10 +102,12 @@ impl Replay {
         &self.out[..self.heard]
     }
 
-    /// The lowest window count that the last block read; 4 where it was refused.
+    /// What the last block reports, up to the frame in which its voice stopped where it ran off its
+    /// sound: so the sums over blocks do not depend on how they are cut. What a block of no frames
+    /// reports where it was refused.
     #[must_use]
-    pub fn lowest_count(&self) -> u32 {
-        self.lowest_count
+    pub fn counts(&self) -> Processed {
+        self.counts
     }
 
     /// The voice as it is now, if there is one.
@@ -108,6 +121,29 @@ impl Default for Replay {
     fn default() -> Self {
         Self::new()
     }
+}
+
+/// Plays a part of a recorded block into its place of the block's output; the part at its beginning
+/// takes the signals.
+fn play(
+    block: &Block,
+    part: Range<usize>,
+    voice: &mut StaticSound,
+    lanes: &mut Lanes,
+    sound: &[f32],
+    out: &mut [f32],
+) -> Result<Processed, Refusal> {
+    let signals = match part.start {
+        0 => block.signals(),
+        _ => Signals::new(),
+    };
+    let lanes = lanes.frames(part.len()).fade(block.fade);
+    let lanes = lanes.volume(block.volume).left(block.left);
+    let lanes = lanes.right(block.right).rate(block.rate);
+    let out = out
+        .get_mut(2 * part.start..2 * part.end)
+        .unwrap_or_default();
+    voice.process(sound, lanes, block.time_step, signals, out)
 }
 
 /// The lines of a trace, played again: see [`lines`].

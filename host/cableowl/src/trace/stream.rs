@@ -4,6 +4,7 @@ use std::{
     error::Error,
     fmt,
     io::{self, Read},
+    ops::Range,
 };
 
 use super::{MAX_RECORD_BYTES, Record, Refused, read};
@@ -41,7 +42,8 @@ impl Error for TraceError {
 
 /// The records of a trace that is read as it goes, each with the place of its first byte: the same
 /// as [`Trace`](super::Trace)'s, in memory that does not grow with the trace. A record that is refused, or an
-/// error in reading, is the last.
+/// error in reading, is the last, unless the reader skips what is damaged
+/// ([`TraceReader::skip_damage`]).
 #[derive(Debug)]
 pub struct TraceReader<R> {
     from: R,
@@ -52,6 +54,8 @@ pub struct TraceReader<R> {
     base: u64,
     /// Whether nothing is left to read.
     ended: bool,
+    /// Whether the record at `at` was refused.
+    refused: bool,
 }
 
 impl<R: Read> TraceReader<R> {
@@ -65,6 +69,7 @@ impl<R: Read> TraceReader<R> {
             end: 0,
             base: 0,
             ended: false,
+            refused: false,
         }
     }
 
@@ -87,10 +92,45 @@ impl<R: Read> TraceReader<R> {
         Ok(())
     }
 
-    /// Nothing more is read or told.
-    fn end<T>(&mut self, with: TraceError) -> Option<Result<T, TraceError>> {
-        (self.ended, self.at) = (true, self.end);
-        Some(Err(with))
+    /// Skips a record that was refused, one byte at a time as [`salvage`](super::salvage()) does, up to
+    /// the next complete record or the trace's end: the records go on from there. Returns the places
+    /// skipped; none where no record was refused.
+    ///
+    /// ```
+    /// use cableowl::{Commands, trace::{Record, TraceReader, write}};
+    ///
+    /// let mut bytes = [0xff; 3 + 12];
+    /// write(&Record::Commands(Commands::new()), &mut bytes, 2)?;
+    /// let mut reader = TraceReader::new(&bytes[..]);
+    /// assert!(reader.next().is_some_and(|record| record.is_err()));
+    /// assert!(reader.next().is_none());
+    /// assert_eq!(reader.skip_damage().ok().flatten(), Some(0..2));
+    /// assert!(reader.next().is_some_and(|record| record.is_ok()));
+    /// # Ok::<(), cableowl::Refusal>(())
+    /// ```
+    ///
+    /// # Errors
+    ///
+    /// What reading gives.
+    pub fn skip_damage(&mut self) -> io::Result<Option<Range<u64>>> {
+        if !self.refused {
+            return Ok(None);
+        }
+        let from = self.place();
+        loop {
+            self.at += 1;
+            self.fill()?;
+            let is_record = || read(&self.held[..self.end], self.at).is_ok();
+            if self.at == self.end || is_record() {
+                self.refused = false;
+                return Ok(Some(from..self.place()));
+            }
+        }
+    }
+
+    /// The place in the trace of the next record.
+    fn place(&self) -> u64 {
+        self.base.wrapping_add(self.at as u64)
     }
 }
 
@@ -98,19 +138,26 @@ impl<R: Read> Iterator for TraceReader<R> {
     type Item = Result<(u64, Record), TraceError>;
 
     fn next(&mut self) -> Option<Self::Item> {
+        if self.refused {
+            return None;
+        }
         if let Err(error) = self.fill() {
-            return self.end(TraceError::Io(error));
+            (self.ended, self.at) = (true, self.end);
+            return Some(Err(TraceError::Io(error)));
         }
         if self.at == self.end {
             return None;
         }
-        let at = self.base.wrapping_add(self.at as u64);
+        let at = self.place();
         match read(&self.held[..self.end], self.at) {
             Ok((record, next)) => {
                 self.at = next;
                 Some(Ok((at, record)))
             }
-            Err(refusal) => self.end(TraceError::Refused(Refused { refusal, at })),
+            Err(refusal) => {
+                self.refused = true;
+                Some(Err(TraceError::Refused(Refused { refusal, at })))
+            }
         }
     }
 }

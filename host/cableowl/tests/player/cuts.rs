@@ -60,6 +60,64 @@ fn no_cutting_of_time_changes_anything() {
     assert!(stopped > rounds / 20 && stopped < rounds);
 }
 
+/// The frames of each state, started or not, those at rate 0, and the steps.
+fn sums(evening: &Evening, mut cut: impl FnMut() -> usize) -> [[u64; 4]; 7] {
+    let (mut player, mut out) = (evening.player(), vec![0.0; 2 * evening.frames]);
+    let (mut clock, mut sums) = (0, [[0; 4]; 7]);
+    let last = (evening.frames, None);
+    let commands = evening.commands.iter();
+    for (end, command) in commands.map(|(at, it)| (*at, Some(*it))).chain([last]) {
+        while clock < end {
+            let until = (clock + cut()).min(end);
+            let call = &mut out[2 * clock..2 * until];
+            let mut frames = 0;
+            player
+                .process_parts(&evening.sound, call, |part| {
+                    let state = &mut sums[part.state.number() as usize];
+                    state[usize::from(part.started)] += part.frames as u64;
+                    state[2] += part.still as u64;
+                    state[3] += part.counts.steps;
+                    frames += part.frames;
+                })
+                .unwrap();
+            assert_eq!(frames, until - clock);
+            clock = until;
+        }
+        let _ = command.map(|command| player.command(command));
+    }
+    sums
+}
+
+#[test]
+fn the_frames_of_each_state_do_not_depend_on_the_cuts() {
+    let mut all = [[0; 4]; 7];
+    for seed in seeds(1_000) {
+        let evening = Evening::any(&mut Random::new(seed));
+        let whole = sums(&evening, || usize::MAX / 2);
+        assert_eq!(sums(&evening, || 1), whole, "seed {seed}");
+        assert_eq!(sums(&evening, schedule(seed)), whole, "seed {seed}");
+        for (sum, part) in all.iter_mut().flatten().zip(whole.iter().flatten()) {
+            *sum += part;
+        }
+    }
+    println!("waiting, started, still, steps of each state: {all:?}");
+    // A player's voice never waits to resume; a stopped one makes no step.
+    let [
+        playing,
+        pausing,
+        paused,
+        waiting,
+        resuming,
+        stopping,
+        stopped,
+    ] = all;
+    assert_eq!((waiting, paused[3], stopped[3]), ([0; 4], 0, 0));
+    let some = [playing, pausing, resuming, stopping]
+        .as_flattened()
+        .to_vec();
+    assert!(some.iter().all(|sum| *sum > 0), "{all:?}");
+}
+
 #[test]
 fn a_mix_adds_what_a_block_plays() {
     for seed in 0..300 {

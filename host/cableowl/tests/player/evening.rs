@@ -3,7 +3,8 @@
 use std::{env, sync::OnceLock, time::Duration};
 
 use cableowl::{
-    Command, Level, PlaybackPosition, Player, Processed, Refusal, Region, Settings, Ticks, Tween,
+    Command, Easing, Frames, Level, PlaybackPosition, Player, Processed, Refusal, Region, Settings,
+    Ticks, Tween,
 };
 use random::Random;
 
@@ -25,7 +26,7 @@ impl Plays for Player {
     }
 
     fn told(&self) -> Vec<u8> {
-        let mut told = self.voice().state().to_bytes();
+        let mut told = self.to_bytes();
         let numbers = [
             self.position().to_bits(),
             self.playback_rate().to_bits(),
@@ -152,7 +153,7 @@ impl Evening {
         let mut settings = Settings::new(sample_rate)
             .reverse(random.one_in(4))
             .playback_rate(any_rate(random))
-            .start_position(random.below(frames_of_sound))
+            .start_position(Frames(random.below(frames_of_sound)))
             .start_waits(random.one_in(5));
         if random.coin() {
             settings = settings.loop_region(any_range(random, frames_of_sound));
@@ -172,10 +173,20 @@ impl Evening {
         if random.one_in(4) {
             evening.fade_in = Some(evening.any_tween(random));
         }
-        for _ in 0..random.below(10) {
+        // Few commands at frames of their own, or many before the same frame: more than can wait.
+        let (commands, together) = match random.below(12) {
+            0 => (random.below(150), 60),
+            1 | 2 => (random.below(20), 5),
+            _ => (random.below(10), 0),
+        };
+        for _ in 0..commands {
             let last = evening.commands.last().map(|(frame, _)| *frame);
+            let again = match together {
+                0 => random.one_in(3),
+                _ => !random.one_in(together),
+            };
             let frame = match last {
-                Some(last) if random.one_in(3) => last,
+                Some(last) if again => last,
                 _ => random.below(frames),
             };
             let command = evening.any_command(random, frames_of_sound);
@@ -185,19 +196,42 @@ impl Evening {
         evening
     }
 
+    /// What a shrunk evening has less of.
+    fn size(&self) -> usize {
+        let settings = [
+            self.fade_in.is_some(),
+            self.settings.loop_region.is_some(),
+            self.settings.reverse,
+            self.settings.playback_rate != 1.0,
+        ];
+        let frames: usize = self.commands.iter().map(|(frame, _)| frame + 1).sum();
+        self.frames + frames + settings.into_iter().filter(|set| *set).count()
+    }
+
     /// A tween of about so many frames as the evening has, or few, or none.
     fn any_tween(&self, random: &mut Random) -> Tween {
         let most = [1, 4, 50, self.frames + 1][random.below(4)];
         let frames = random.below(most + 1) as u64;
-        Tween {
-            duration: Duration::from_nanos(frames * 1_000_000_000 / u64::from(self.output_rate)),
+        let tween = Tween::from(self.duration_of(frames));
+        let tween = match random.below(8) {
+            0 => tween.easing(any_easing(random)),
+            _ => tween,
+        };
+        match random.below(8) {
+            0 => tween.delayed(self.duration_of(random.below(most + 1) as u64)),
+            _ => tween,
         }
+    }
+
+    /// A duration of so many frames.
+    fn duration_of(&self, frames: u64) -> Duration {
+        Duration::from_nanos(frames * 1_000_000_000 / u64::from(self.output_rate))
     }
 
     fn any_command(&self, random: &mut Random, frames: usize) -> Command {
         let tween = self.any_tween(random);
         let seconds = frames as f64 / f64::from(self.settings.sample_rate);
-        match random.below(15) {
+        match random.below(17) {
             0 | 1 => Command::Pause(tween),
             2 | 3 => Command::Resume(tween),
             4 => Command::Stop(tween),
@@ -209,6 +243,8 @@ impl Evening {
             11 => Command::SeekBy((random.unit() * 2.0 - 1.0) * seconds),
             12 => Command::SeekTo(random.unit() * 1.2 * seconds),
             13 => any_bad(random, tween),
+            14 => Command::SeekBy(-seconds * random.unit() / 4.0),
+            15 => Command::StartAfter(self.duration_of(random.below(self.frames + 1) as u64)),
             _ => {
                 let now = any_tick(random);
                 let per_second = match random.below(3) {
@@ -220,6 +256,20 @@ impl Evening {
             }
         }
     }
+}
+
+pub fn any_easing(random: &mut Random) -> Easing {
+    let whole = random.below(6) as i32 - 1;
+    let power = [0.5, 1.5, 3.0, random.unit() * 9.0, -1.0, f64::NAN][random.below(6)];
+    [
+        Easing::Linear,
+        Easing::InPowi(whole),
+        Easing::OutPowi(whole),
+        Easing::InOutPowi(whole),
+        Easing::InPowf(power),
+        Easing::OutPowf(power),
+        Easing::InOutPowf(power),
+    ][random.below(7)]
 }
 
 fn any_tick(random: &mut Random) -> u32 {
@@ -253,9 +303,9 @@ fn any_panning(random: &mut Random) -> f32 {
     ][random.below(7)]
 }
 
-fn any_range(random: &mut Random, frames: usize) -> std::ops::Range<usize> {
+fn any_range(random: &mut Random, frames: usize) -> std::ops::Range<Frames> {
     let start = random.below(frames);
-    start..start + 1 + random.below(frames - start)
+    Frames(start)..Frames(start + 1 + random.below(frames - start))
 }
 
 /// What is refused.
@@ -279,21 +329,31 @@ pub fn shrunk(mut evening: Evening, fails: impl Fn(&Evening) -> bool) -> Evening
         let mut with = |change: &dyn Fn(&mut Evening)| {
             let mut other = evening.clone();
             change(&mut other);
-            if other != *evening && other.frames > 0 {
+            // By its size: a NaN in a command is not even equal to itself.
+            if other.size() < evening.size() && other.frames > 0 {
                 smaller.push(other);
             }
         };
-        for place in 0..evening.commands.len() {
-            with(&|other| {
-                other.commands.remove(place);
-            });
-            with(&|other| other.commands[place].0 /= 2);
-        }
         for frames in [evening.frames / 2, evening.frames - 1] {
             with(&|other| {
                 other.frames = frames;
                 other.commands.retain(|(frame, _)| *frame < frames);
             });
+        }
+        let count = evening.commands.len();
+        // Many at once first: one by one takes minutes where there are many.
+        for length in [count / 2, count / 4, count / 8] {
+            for start in (0..count).step_by(length.max(1)).filter(|_| length > 1) {
+                with(&|other| {
+                    other.commands.drain(start..(start + length).min(count));
+                });
+            }
+        }
+        for place in 0..count {
+            with(&|other| {
+                other.commands.remove(place);
+            });
+            with(&|other| other.commands[place].0 /= 2);
         }
         with(&|other| other.fade_in = None);
         with(&|other| other.settings.loop_region = None);

@@ -3,7 +3,9 @@
 mod cuts;
 mod evening;
 mod modes;
+mod order;
 mod per_block;
+mod saved;
 mod traces;
 mod words;
 

@@ -1,9 +1,11 @@
 // kira's way with parameters, one update a block and a straight line across it, over kira's own text: it differs by how time
-// is cut, and the player is what it comes to with blocks of one frame.
+// is cut, and the player is what it comes to with blocks of one frame and commands in order.
+
+use std::time::Duration;
 
 use cableowl::{
-    Command, Commands, Lanes, Level, LoopCommand, Player, Processed, Refusal, ResumeCommand,
-    Settings, Signals, StaticSound, Tween,
+    Command, Commands, Easing, Frames, Lanes, Level, LoopCommand, Player, Processed, Refusal,
+    ResumeCommand, Settings, Signals, StaticSound, Tween,
 };
 use random::Random;
 
@@ -16,6 +18,8 @@ struct Parameter {
     to: f64,
     passed: u64,
     frames: u64,
+    waits: u64,
+    easing: Easing,
     /// The value before the block, and at its end.
     previous: f64,
     value: f64,
@@ -29,32 +33,41 @@ impl Parameter {
             to: value,
             passed: u64::MAX,
             frames: 0,
+            waits: 0,
+            easing: Easing::Linear,
             previous: value,
             value,
             is_level,
         }
     }
 
-    fn set(&mut self, to: f64, frames: u64) {
-        (self.from, self.to, self.passed, self.frames) = (self.value, to, 0, frames);
+    fn set(&mut self, to: f64, over: Over) {
+        (self.from, self.to, self.passed) = (self.value, to, 0);
+        (self.frames, self.waits, self.easing) = (over.frames, over.delay, over.easing);
     }
 
     /// Says whether its tween has ended with this block.
     fn update(&mut self, frames: u64) -> bool {
         self.previous = self.value;
-        if self.passed == u64::MAX || frames == 0 {
+        let waited = self.waits.min(frames);
+        self.waits -= waited;
+        if self.passed == u64::MAX || frames == waited {
             return false;
         }
-        self.passed += frames;
+        self.passed += frames - waited;
         if self.passed >= self.frames {
             (self.value, self.passed) = (self.to, u64::MAX);
             return true;
         }
         let (passed, all) = (self.passed as f64, self.frames as f64);
-        self.value = match self.is_level {
-            true => ((self.from * (all - passed) + self.to * passed) / all).floor(),
-            false => {
-                let value = self.from + (self.to - self.from) * (passed / all);
+        let way = self.easing.at(passed / all);
+        self.value = match (self.is_level, self.easing) {
+            (true, Easing::Linear) => {
+                ((self.from * (all - passed) + self.to * passed) / all).floor()
+            }
+            (true, _) => (self.from + (self.to - self.from) * way).floor(),
+            (false, _) => {
+                let value = self.from + (self.to - self.from) * way;
                 let ends = [self.from, self.to];
                 // As the player has it: never past an end.
                 match ends[0] <= ends[1] {
@@ -93,7 +106,7 @@ fn gains(panning: f64) -> (f32, f32) {
 }
 
 /// The lanes of a block.
-struct Numbers {
+pub struct Numbers {
     fade: Vec<f32>,
     volume: Vec<f32>,
     left: Vec<f32>,
@@ -102,7 +115,7 @@ struct Numbers {
 }
 
 /// A voice below the parameters: ours, or kira's own text.
-trait Voice {
+pub trait Voice {
     fn create(evening: &Evening) -> Self;
     fn held_rate(&self) -> f64;
     fn obey(&mut self, sound: &[f32], commands: Commands);
@@ -119,9 +132,9 @@ trait Voice {
 }
 
 /// Where a voice is: the state's number, the position, the fraction by its bits, the wraps forward and backward.
-type Place = (u32, usize, u64, u64, u64);
+pub type Place = (u32, usize, u64, u64, u64);
 
-fn our_place(voice: &StaticSound) -> Place {
+pub fn our_place(voice: &StaticSound) -> Place {
     let state = voice.state();
     let wraps = (state.wraps.forward.into(), state.wraps.backward.into());
     let fraction = state.fractional_position.to_bits();
@@ -130,7 +143,7 @@ fn our_place(voice: &StaticSound) -> Place {
 }
 
 /// Ours, with room for its lanes.
-struct Ours(StaticSound, Lanes);
+pub struct Ours(pub StaticSound, Lanes);
 
 impl Voice for Ours {
     fn create(evening: &Evening) -> Self {
@@ -269,70 +282,124 @@ impl Voice for oracle::Oracle {
     }
 }
 
+/// A tween in frames.
+#[derive(Debug, Clone, Copy)]
+struct Over {
+    delay: u64,
+    frames: u64,
+    easing: Easing,
+}
+
+/// A command as the voice is told it, and the fade that goes with it.
+type Told = (Commands, Option<(f64, Over)>);
+
+/// How the commands before one frame are obeyed.
+#[derive(Debug, Clone, Copy, PartialEq)]
+pub enum Obeys {
+    /// Each by itself, in the order in which they were given.
+    InOrder,
+    /// As kira reads them: the last of each kind, in the order of a command set.
+    LikeKira,
+}
+
 /// A player as kira's `sound.rs` shows it: `update` for the whole block, then `interpolated_value` of each frame.
-struct PerBlock<V> {
-    voice: V,
+pub struct PerBlock<V> {
+    pub voice: V,
+    obeys: Obeys,
     output_rate: u32,
     volume: Parameter,
     fade: Parameter,
     rate: Parameter,
     panning: Parameter,
-    commands: Commands,
-    fades: [Option<(f64, u64)>; 3],
+    commands: Vec<Told>,
 }
 
 impl<V: Voice> PerBlock<V> {
-    fn new(evening: &Evening) -> Self {
+    pub fn new(evening: &Evening, obeys: Obeys) -> Self {
         let mut fade = Parameter::new(0.0, true);
         if let Some(tween) = evening.fade_in {
             fade = Parameter::new(601.0, true);
-            fade.set(0.0, frames(tween, evening.output_rate));
+            fade.set(0.0, over(tween, evening.output_rate));
         }
         Self {
             voice: V::create(evening),
+            obeys,
             output_rate: evening.output_rate,
             volume: Parameter::new(0.0, true),
             fade,
             rate: Parameter::new(evening.settings.playback_rate, false),
             panning: Parameter::new(0.0, false),
-            commands: Commands::new(),
-            fades: [None; 3],
+            commands: Vec::new(),
         }
     }
 }
 
-fn frames(tween: Tween, output_rate: u32) -> u64 {
-    let product = tween.duration.as_nanos() * u128::from(output_rate) + 500_000_000;
-    (product / 1_000_000_000) as u64
+fn over(tween: Tween, output_rate: u32) -> Over {
+    let frames = |duration: Duration| {
+        let product = duration.as_nanos() * u128::from(output_rate) + 500_000_000;
+        (product / 1_000_000_000) as u64
+    };
+    Over {
+        delay: frames(tween.delay),
+        frames: frames(tween.duration),
+        easing: tween.easing,
+    }
+}
+
+/// The last command of each kind; of the fades that of the last in the order of a set.
+fn like_kira(row: &[Told]) -> Told {
+    let mut set = Commands::new();
+    let mut fades = [None; 3];
+    for (commands, fade) in row {
+        if commands.loop_region != LoopCommand::Keep {
+            set.loop_region = commands.loop_region;
+        }
+        let presses = [
+            commands.pause,
+            commands.resume != ResumeCommand::No,
+            commands.stop,
+        ];
+        for (kind, _) in presses.iter().enumerate().filter(|(_, is)| **is) {
+            fades[kind] = *fade;
+        }
+        set.pause |= commands.pause;
+        set.stop |= commands.stop;
+        if commands.resume != ResumeCommand::No {
+            set.resume = commands.resume;
+        }
+        set.seek_by = commands.seek_by.or(set.seek_by);
+        set.seek_to = commands.seek_to.or(set.seek_to);
+    }
+    (set, fades.into_iter().flatten().last())
 }
 
 impl<V: Voice> Plays for PerBlock<V> {
     fn command(&mut self, command: Command) -> Result<(), Refusal> {
-        let over = |tween| frames(tween, self.output_rate);
-        match command {
-            Command::Pause(tween) => {
-                self.commands.pause = true;
-                self.fades[0] = Some((601.0, over(tween)));
+        let over = |tween| over(tween, self.output_rate);
+        let none = Commands::new();
+        let told = match command {
+            Command::Pause(tween) => (none.pause(), Some((601.0, over(tween)))),
+            Command::Resume(tween) => (none.resume(), Some((0.0, over(tween)))),
+            Command::Stop(tween) => (none.stop(), Some((601.0, over(tween)))),
+            Command::SetPlaybackRate(rate, tween) => {
+                self.rate.set(rate, over(tween));
+                return Ok(());
             }
-            Command::Resume(tween) => {
-                self.commands = self.commands.resume();
-                self.fades[1] = Some((0.0, over(tween)));
-            }
-            Command::Stop(tween) => {
-                self.commands.stop = true;
-                self.fades[2] = Some((601.0, over(tween)));
-            }
-            Command::SetPlaybackRate(rate, tween) => self.rate.set(rate, over(tween)),
             Command::SetVolume(level, tween) => {
                 self.volume.set(level.tenths().into(), over(tween));
+                return Ok(());
             }
-            Command::SetPanning(panning, tween) => self.panning.set(panning.into(), over(tween)),
-            Command::SetLoopRegion(region) => self.commands = self.commands.set_loop_region(region),
-            Command::ClearLoopRegion => self.commands = self.commands.clear_loop_region(),
-            Command::SeekBy(seconds) => self.commands.seek_by = Some(seconds),
-            Command::SeekTo(seconds) => self.commands.seek_to = Some(seconds),
-            _ => unreachable!("no ticks here"),
-        }
+            Command::SetPanning(panning, tween) => {
+                self.panning.set(panning.into(), over(tween));
+                return Ok(());
+            }
+            Command::SetLoopRegion(region) => (none.set_loop_region(region), None),
+            Command::ClearLoopRegion => (none.clear_loop_region(), None),
+            Command::SeekBy(seconds) => (none.seek_by(seconds), None),
+            Command::SeekTo(seconds) => (none.seek_to(seconds), None),
+            _ => unreachable!("no start here"),
+        };
+        self.commands.push(told);
         Ok(())
     }
 
@@ -341,10 +408,14 @@ impl<V: Voice> Plays for PerBlock<V> {
         if n == 0 {
             return Ok(no_counts());
         }
-        self.voice.obey(sound, std::mem::take(&mut self.commands));
-        for fade in &mut self.fades {
-            if let Some((to, frames)) = fade.take() {
-                self.fade.set(to, frames);
+        let mut row = std::mem::take(&mut self.commands);
+        if self.obeys == Obeys::LikeKira {
+            row = vec![like_kira(&row)];
+        }
+        for (commands, fade) in row {
+            self.voice.obey(sound, commands);
+            if let Some((to, over)) = fade {
+                self.fade.set(to, over);
             }
         }
         self.volume.update(n as u64);
@@ -384,7 +455,7 @@ impl<V: Voice> Plays for PerBlock<V> {
 fn one_command(command: Command, frames: usize) -> Evening {
     Evening {
         sound: (0..40).map(|i| i as f32).collect(),
-        settings: Settings::new(1_000).start_position(4),
+        settings: Settings::new(1_000).start_position(Frames(4)),
         output_rate: 1_000,
         fade_in: None,
         commands: vec![(0, command)],
@@ -421,7 +492,7 @@ fn small_evenings() -> impl Iterator<Item = Evening> {
 #[test]
 fn the_smallest_evenings_that_tell_a_parameter_updated_once_a_block() {
     let per_block = |evening: &Evening| {
-        let new = || PerBlock::<oracle::Oracle>::new(evening);
+        let new = || PerBlock::<oracle::Oracle>::new(evening, Obeys::LikeKira);
         differs(evening, || Box::new(new()))
     };
     let found: Vec<Evening> = small_evenings()
@@ -451,13 +522,14 @@ fn the_smallest_evenings_that_tell_a_parameter_updated_once_a_block() {
     }
 }
 
-/// A random evening without ticks and refusals, which the variant does not have.
+/// A random evening without starts and refusals, which the variant does not have.
 fn plain(random: &mut Random) -> Evening {
     let mut evening = Evening::any(random);
     evening.settings.start_waits = false;
     let mut judge: Player = evening.player();
     evening.commands.retain(|(_, command)| {
-        !matches!(command, Command::StartAtTick(..)) && judge.command(*command).is_ok()
+        let starts = matches!(command, Command::StartAtTick(..) | Command::StartAfter(_));
+        !starts && judge.command(*command).is_ok()
     });
     evening
 }
@@ -469,7 +541,7 @@ fn limit_of<V: Voice>(seeds: impl Iterator<Item = u64>) {
         rounds += 1;
         let evening = plain(&mut Random::new(seed));
         let other = |evening: &Evening, frames| {
-            let mut player = PerBlock::<V>::new(evening);
+            let mut player = PerBlock::<V>::new(evening, Obeys::InOrder);
             let outcome = evening.played(&mut player, &mut || frames);
             (outcome.samples, outcome.counts, player.voice.place())
         };

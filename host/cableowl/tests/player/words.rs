@@ -1,10 +1,11 @@
 // What each word does, frame by frame; what is refused, and that it is what the voice would refuse.
 
-use std::time::Duration;
+use std::{sync::Arc, time::Duration};
 
 use cableowl::{
-    Commands, EndPosition, LaneName, Lanes, Level, PlaybackPosition, PlaybackState, Player,
-    Refusal, Region, Settings, SharedPlayer, Signals, StartSignal, StaticSound, Ticks, Tween,
+    Commands, Easing, EndPosition, Frames, Hall, Lanes, Level, LoopTable, PlaybackPosition,
+    PlaybackState, Player, Refusal, Region, Settings, SharedPlayer, Signals, StartSignal,
+    StaticSound, Ticks, Tween,
 };
 use random::Random;
 
@@ -30,7 +31,7 @@ fn heard(player: &mut Player, sound: &[f32], frames: usize) -> Vec<f32> {
 
 #[test]
 fn pause_and_resume_change_state_where_their_fade_ends() {
-    let (sound, mut player) = counting(100, |settings| settings.start_position(10));
+    let (sound, mut player) = counting(100, |settings| settings.start_position(Frames(10)));
     let amplitude = |tenths| Level::new(tenths).unwrap().amplitude();
     assert_eq!(heard(&mut player, &sound, 2), [10.0, 11.0]);
     player.pause(frames(3));
@@ -67,28 +68,8 @@ fn pause_and_resume_change_state_where_their_fade_ends() {
 }
 
 #[test]
-fn the_commands_before_one_frame_are_one_set_in_kiras_order() {
-    let (sound, mut player) = counting(100, |settings| settings);
-    player.resume(frames(2));
-    player.pause(frames(4));
-    player.seek_by(1.0).unwrap();
-    player.seek_by(0.05).unwrap();
-    heard(&mut player, &sound, 1);
-    assert_eq!(
-        player.state(),
-        PlaybackState::Resuming,
-        "resume comes after pause"
-    );
-    assert_eq!(
-        player.voice().state().position,
-        54,
-        "the last seek_by counts"
-    );
-}
-
-#[test]
 fn a_rate_turns_where_its_tween_passes_zero() {
-    let (sound, mut player) = counting(100, |settings| settings.start_position(50));
+    let (sound, mut player) = counting(100, |settings| settings.start_position(Frames(50)));
     player.set_playback_rate(-1.0, frames(4)).unwrap();
     // Rates 0.5, 0, -0.5, -1: half a frame on, none, half a frame back.
     for (rate, fraction) in [
@@ -115,7 +96,7 @@ fn a_rate_turns_where_its_tween_passes_zero() {
 
 #[test]
 fn volume_and_panning() {
-    let (sound, mut player) = counting(100, |settings| settings.start_position(10));
+    let (sound, mut player) = counting(100, |settings| settings.start_position(Frames(10)));
     player.set_volume(Level::new(3).unwrap(), frames(2));
     let amplitude = |tenths| Level::new(tenths).unwrap().amplitude();
     let levels = [
@@ -145,12 +126,110 @@ fn volume_and_panning() {
 
 #[test]
 fn a_fade_in_leaves_the_state_playing() {
-    let (sound, player) = counting(100, |settings| settings.start_position(10));
+    let (sound, player) = counting(100, |settings| settings.start_position(Frames(10)));
     let mut player = player.fade_in_tween(frames(2));
     let half = Level::new(300).unwrap().amplitude();
     assert_eq!(heard(&mut player, &sound, 1), [10.0 * half]);
     assert_eq!(player.state(), PlaybackState::Playing);
     assert_eq!(heard(&mut player, &sound, 1), [11.0]);
+}
+
+#[test]
+fn a_shared_player_fades_in() {
+    let sound: Arc<[f32]> = vec![1.0; 200].into();
+    let play = || SharedPlayer::play(Settings::new(1_000), 1_000, Arc::clone(&sound));
+    let mut player = play().unwrap().fade_in_tween(frames(2));
+    let mut out = [9.0; 4];
+    player.process(&mut out).unwrap();
+    let half = Level::new(300).unwrap().amplitude();
+    assert_eq!(out, [half, half, 1.0, 1.0]);
+}
+
+#[test]
+fn a_player_takes_a_loop_from_a_table() {
+    let (sound, mut player) = counting(10, |settings| settings.slice(Frames(0)..Frames(8)));
+    let mut table = LoopTable::new(10);
+    table.write(Hall::A, 3, 2..6).unwrap();
+    table.write(Hall::B, 9, 2..10).unwrap();
+    player.take_loop(&table, 3).unwrap();
+    assert_eq!(player.take_loop(&table, 4), Err(Refusal::EmptySlot));
+    assert_eq!(player.take_loop(&table, 16), Err(Refusal::LoopSlot));
+    assert_eq!(
+        player.take_loop(&table, 9),
+        Err(Refusal::LoopRegion),
+        "past the slice"
+    );
+    table.clear(Hall::A, 3).unwrap();
+    heard(&mut player, &sound, 1);
+    assert_eq!(player.voice().state().loop_region, Some((2, 6)));
+}
+
+#[test]
+fn a_range_of_frames_names_its_unit() {
+    // `6..11` does not compile: the example of `Frames` says so.
+    let looped = |region: Region| {
+        let sound = vec![0.5; 40];
+        let settings = Settings::new(1).loop_region(region);
+        let state = StaticSound::new(settings, &sound).unwrap().state();
+        state.loop_region
+    };
+    assert_eq!(looped((Frames(6)..Frames(11)).into()), Some((6, 11)));
+    assert_eq!(looped((6.0..11.0).into()), Some((6, 11)));
+    assert_eq!(looped((Frames(6)..).into()), Some((6, 20)));
+    assert_eq!(looped((..Frames(11)).into()), Some((0, 11)));
+}
+
+#[test]
+fn a_level_in_decibels_is_its_nearest_tenth() {
+    for tenths in 0..=600 {
+        let decibels = -(tenths as f32) / 10.0;
+        assert_eq!(Level::decibels(decibels), Level::new(tenths));
+    }
+    let tenths = |decibels| Level::decibels(decibels).map(Level::tenths);
+    assert_eq!(tenths(-6.04), Ok(60));
+    assert_eq!(tenths(-6.06), Ok(61));
+    assert_eq!(tenths(-0.0), Ok(0));
+    assert_eq!(tenths(-60.04), Ok(600));
+    assert_eq!(tenths(-60.06), Ok(601));
+    assert_eq!(tenths(-1.0e30), Ok(601));
+    for bad in [0.01, f32::INFINITY, f32::NAN] {
+        assert_eq!(tenths(bad), Err(Refusal::Decibels));
+    }
+}
+
+#[test]
+fn a_tween_follows_its_curve_after_its_delay() {
+    let (sound, mut player) = counting(100, |settings| settings);
+    let tween = frames(4)
+        .easing(Easing::OutPowi(2))
+        .delayed(Duration::from_millis(2));
+    player.set_playback_rate(3.0, tween).unwrap();
+    player.pause(tween);
+    let mut rates = Vec::new();
+    let mut states = Vec::new();
+    for _ in 0..7 {
+        heard(&mut player, &sound, 1);
+        rates.push(player.playback_rate());
+        states.push(player.state());
+    }
+    // 7/16, 12/16 and 15/16 of the way from 1 to 3.
+    assert_eq!(rates, [1.0, 1.0, 1.875, 2.5, 2.875, 3.0, 3.0]);
+    use PlaybackState::{Paused, Pausing};
+    let paused = [Paused; 2];
+    assert_eq!(states, [&[Pausing; 5][..], &paused].concat());
+}
+
+#[test]
+fn a_start_is_delayed_by_a_duration() {
+    for delay in [0, 1, 7, 50] {
+        let (sound, mut player) = counting(100, |settings| settings.start_waits(true));
+        heard(&mut player, &sound, 3);
+        player.start_after(Duration::from_millis(delay));
+        let heard = heard(&mut player, &sound, 80);
+        let first = heard.iter().position(|sample| *sample != 0.0).unwrap();
+        // Frame 0 of the sound is 0.
+        assert_eq!(first as u64, delay + 1);
+    }
 }
 
 #[test]
@@ -177,30 +256,70 @@ fn what_is_bad_is_refused_at_once() {
         player.set_playback_rate(nan, frames(1)),
         Err(Refusal::PlaybackRate)
     );
-    let too_fast = Err(Refusal::Advance { frame: 0 });
+    let too_fast = Err(Refusal::TooFast);
     assert_eq!(player.set_playback_rate(256.0, frames(1)), Ok(()));
     assert_eq!(
         player.set_playback_rate(-256.0_f64.next_up(), frames(1)),
         too_fast
     );
-    let (lane, frame) = (LaneName::Left, 0);
     assert_eq!(
         player.set_panning(f32::INFINITY, frames(1)),
-        Err(Refusal::Lane { lane, frame })
+        Err(Refusal::Panning)
     );
-    assert_eq!(player.set_loop_region(4..4), Err(Refusal::LoopRegion));
+    assert_eq!(
+        player.set_loop_region(Frames(4)..Frames(4)),
+        Err(Refusal::LoopRegion)
+    );
     assert_eq!(player.seek_to(nan), Err(Refusal::Seek));
     let mut out = [7.0; 5];
     assert_eq!(player.process(&sound[2..], &mut out), Err(Refusal::State));
-    assert_eq!(player.process(&sound, &mut out), Err(Refusal::Block));
-    assert_eq!(player.mix(&sound, &mut out), Err(Refusal::Block));
+    assert_eq!(player.process(&sound, &mut out), Err(Refusal::OddOutput));
+    assert_eq!(player.mix(&sound, &mut out), Err(Refusal::OddOutput));
     assert_eq!((out, player.frames()), ([7.0; 5], 0));
     let play = |settings, rate| Player::play(settings, rate, &sound).map(|_| ());
     assert_eq!(play(Settings::new(0), 0), Err(Refusal::SampleRate));
-    assert_eq!(play(Settings::new(1), 0), Err(Refusal::TimeStep));
+    assert_eq!(play(Settings::new(1), 0), Err(Refusal::OutputRate));
     assert_eq!(play(Settings::new(1).playback_rate(256.1), 1), too_fast);
     assert_eq!(play(Settings::new(768_000), 3_000), Ok(()));
     assert_eq!(play(Settings::new(768_000), 2_999), too_fast);
+}
+
+#[test]
+fn a_refusal_names_what_the_caller_gave() {
+    let (sound, mut player) = counting(10, |settings| settings);
+    let play = |settings, rate| Player::play(settings, rate, &sound).unwrap_err();
+    let too_fast = Settings::new(1_000).playback_rate(300.0);
+    for (refusal, number, word) in [
+        (
+            player.set_panning(f32::NAN, frames(1)).unwrap_err(),
+            11,
+            "panning",
+        ),
+        (
+            player.process(&sound, &mut [0.0; 3]).unwrap_err(),
+            9,
+            "output",
+        ),
+        (player.mix(&sound, &mut [0.0; 3]).unwrap_err(), 9, "output"),
+        (play(Settings::new(1_000), 0), 10, "output rate"),
+        (play(too_fast, 1_000), 12, "playback rate"),
+        (
+            player.set_playback_rate(-300.0, frames(1)).unwrap_err(),
+            12,
+            "playback rate",
+        ),
+    ] {
+        let said = refusal.to_string();
+        assert_eq!(refusal.number(), number);
+        assert!(
+            said.starts_with(&format!("refusal {number}: the {word}")),
+            "{said}"
+        );
+        assert!(
+            !said.contains("lane") && !said.contains("time step"),
+            "{said}"
+        );
+    }
 }
 
 #[test]
@@ -241,7 +360,7 @@ fn any_place(random: &mut Random, frames: usize) -> PlaybackPosition {
 #[test]
 fn what_a_player_refuses_is_what_its_voice_would() {
     let random = &mut Random::new(27);
-    let mut refused = [0; 2];
+    let (mut refused, mut counts) = ([0_usize; 2], [0_usize; 2]);
     for _ in 0..20_000 {
         let frames = 1 + random.below(12);
         let rate = [1, 2, 3, 768_000][random.below(4)];
@@ -249,50 +368,50 @@ fn what_a_player_refuses_is_what_its_voice_would() {
         let mut settings = Settings::new(rate);
         if random.coin() {
             let start = random.below(frames);
-            settings = settings.slice(start..start + 1 + random.below(frames - start));
+            settings =
+                settings.slice(Frames(start)..Frames(start + 1 + random.below(frames - start)));
         }
         let mut player = Player::play(settings, rate, &sound).unwrap();
         player
             .process(&sound, &mut vec![0.0; 2 * random.below(9)])
             .unwrap();
-        let mut voice = player.voice().clone();
-        let region = Region {
-            start: any_place(random, frames),
-            end: match random.one_in(5) {
-                true => EndPosition::EndOfAudio,
-                false => EndPosition::Custom(any_place(random, frames)),
-            },
-        };
-        let seconds = match any_place(random, frames) {
-            PlaybackPosition::Seconds(seconds) => seconds / f64::from([1, rate][random.below(2)]),
-            PlaybackPosition::Samples(samples) => samples as f64 / f64::from(rate),
-        };
-        let mut told = |commands| voice.on_start_processing(&sound, commands).map(|_| ());
-        let answer = player.set_loop_region(region);
-        assert_eq!(
-            answer,
-            told(Commands::new().set_loop_region(region)),
-            "{region:?}"
-        );
-        refused[0] += usize::from(answer.is_err());
+        // A row of commands before one frame; the voice is told each by itself.
         let mut voice = player.voice().clone();
         let mut told = |commands| voice.on_start_processing(&sound, commands).map(|_| ());
-        let answer = player.seek_to(seconds);
-        assert_eq!(
-            answer,
-            told(Commands::new().seek_to(seconds)),
-            "to {seconds}"
-        );
-        let mut voice = player.voice().clone();
-        let mut told = |commands| voice.on_start_processing(&sound, commands).map(|_| ());
-        let by = player.seek_by(seconds);
-        assert_eq!(by, told(Commands::new().seek_by(seconds)), "by {seconds}");
-        refused[1] += usize::from(answer.is_err());
+        for _ in 0..1 + random.below(4) {
+            let region = Region {
+                start: any_place(random, frames),
+                end: match random.one_in(5) {
+                    true => EndPosition::EndOfAudio,
+                    false => EndPosition::Custom(any_place(random, frames)),
+                },
+            };
+            let seconds = match any_place(random, frames) {
+                PlaybackPosition::Seconds(seconds) => {
+                    seconds / f64::from([1, rate][random.below(2)])
+                }
+                PlaybackPosition::Samples(samples) => samples as f64 / f64::from(rate),
+            };
+            let none = Commands::new();
+            let (kind, answer, commands) = match random.below(4) {
+                0 | 1 => (
+                    0,
+                    player.set_loop_region(region),
+                    none.set_loop_region(region),
+                ),
+                2 => (1, player.seek_to(seconds), none.seek_to(seconds)),
+                _ => (1, player.seek_by(seconds), none.seek_by(seconds)),
+            };
+            assert_eq!(answer, told(commands), "{commands:?}");
+            counts[kind] += 1;
+            refused[kind] += usize::from(answer.is_err());
+        }
         // What was accepted is not refused later.
         player.process(&sound, &mut [0.0; 2]).unwrap();
     }
-    println!("refused: {refused:?} of 20,000 loops and seeks");
-    assert!(refused.iter().all(|count| (1_000..19_000).contains(count)));
+    println!("{refused:?} of {counts:?} loops and seeks are refused");
+    let some = |(refused, count): (&usize, &usize)| (count / 20..count / 20 * 19).contains(refused);
+    assert!(refused.iter().zip(&counts).all(some));
 }
 
 #[test]
@@ -369,7 +488,7 @@ fn a_player_takes_any_command_and_any_length() {
             2 => player.seek_to(number),
             3 => player.seek_by(number),
             4 => player.set_loop_region(number..f64::from_bits(random.word())),
-            5 => player.set_loop_region(random.below(40)..random.below(40)),
+            5 => player.set_loop_region(Frames(random.below(40))..Frames(random.below(40))),
             6 => {
                 player.resume(tween);
                 Ok(())

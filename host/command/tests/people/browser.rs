@@ -74,8 +74,8 @@ fn the_page_shows_the_figures_of_the_values() {
     };
     let room = Room::new("browser");
     for (name, trace, form) in [
-        ("a", looped(), "2"),
-        ("b", three(), "2"),
+        ("a", looped(), "3"),
+        ("b", three(), "3"),
         ("c", looped(), "1"),
     ] {
         let log = room.run_on(&["replay", "--log", form, "-"], &trace).out;
@@ -97,7 +97,7 @@ fn the_page_shows_the_figures_of_the_values() {
     let values = csv(&ran.out);
     let dom = opened(browser, &room, "page.html");
     let shown = rows(&dom);
-    assert_eq!((values.len(), shown.len()), (3 + 1 + 5, 3 + 1 + 5));
+    assert_eq!((values.len(), shown.len()), (3 + 1 + 5 + 1, 3 + 1 + 5 + 1));
     let mut compared = 0;
     for (values, shown) in values.iter().zip(&shown) {
         for (column, text) in shown {

@@ -2,6 +2,7 @@
 
 mod audit;
 mod browser;
+mod cuttings;
 mod files;
 mod log;
 mod replay;

@@ -26,20 +26,57 @@ fn the_rules_example() {
 fn an_empty_trace_prints_nothing() {
     let room = Room::new("replay-empty");
     room.run(&["replay", "-"]).says("");
-    room.run(&["replay", "--log", "2", "-"]).says("log=2\n");
+    room.run(&["replay", "--log", "3", "-"]).says("log=3\n");
 }
 
 #[test]
-fn the_second_form_tells_what_was_done() {
-    let room = Room::new("replay-second");
-    room.run_on(&["replay", "--log", "2", "-"], &looped()).says(
-        "log=2\n\
-         block=1 frames=5 steps=5 state=0 position=4 lowest=4 forward=1 backward=0 started=1 created=1 seeks=0 restarts=0\n\
-         block=2 frames=4 steps=4 state=0 position=4 lowest=4 forward=2 backward=0 started=1 created=0 seeks=0 restarts=0\n\
-         block=3 frames=3 steps=3 state=0 position=5 lowest=4 forward=2 backward=0 started=1 created=0 seeks=1 restarts=1\n\
-         block=4 refused=10 created=0 seeks=1 restarts=0\n\
-         block=5 frames=2 steps=2 state=0 position=2 lowest=4 forward=3 backward=0 started=1 created=0 seeks=0 restarts=0\n\
-         block=6 frames=1 steps=1 state=0 position=4 lowest=4 forward=0 backward=0 started=1 created=1 seeks=0 restarts=1\n",
+fn the_third_form_says_what_was_done() {
+    let room = Room::new("replay-third");
+    let looped_at = |block: &str, played: u64, created: &str| {
+        format!(
+            "{block} started=1 played={played} paused=0 silent=0 still=0 loop_start=2 loop_end=6 direction=0 steps_back=0 ended=0 {created}\n"
+        )
+    };
+    let says = [
+        looped_at(
+            "block=1 frames=5 steps=5 state=0 position=4 lowest=4 forward=1 backward=0",
+            5,
+            "created=1 seeks=0 restarts=0",
+        ),
+        looped_at(
+            "block=2 frames=4 steps=4 state=0 position=4 lowest=4 forward=2 backward=0",
+            4,
+            "created=0 seeks=0 restarts=0",
+        ),
+        looped_at(
+            "block=3 frames=3 steps=3 state=0 position=5 lowest=4 forward=2 backward=0",
+            3,
+            "created=0 seeks=1 restarts=1",
+        ),
+        "block=4 refused=10 created=0 seeks=1 restarts=0\n".into(),
+        looped_at(
+            "block=5 frames=2 steps=2 state=0 position=2 lowest=4 forward=3 backward=0",
+            2,
+            "created=0 seeks=0 restarts=0",
+        ),
+        looped_at(
+            "block=6 frames=1 steps=1 state=0 position=4 lowest=4 forward=0 backward=0",
+            1,
+            "created=1 seeks=0 restarts=1",
+        ),
+    ];
+    let says = says.concat();
+    room.run_on(&["replay", "--log", "3", "-"], &looped())
+        .says(&format!("log=3\n{says}"));
+}
+
+#[test]
+fn a_block_in_which_the_sound_ends_is_played_up_to_the_frame_where_it_stops() {
+    let room = Room::new("replay-ends");
+    // Three frames of sound; the voice stops in the fourth. Form 1 has the block's own steps, 6.
+    room.run_on(&["replay", "--log", "3", "-"], &three()).says(
+        "log=3\n\
+         block=1 frames=6 steps=4 state=6 position=3 lowest=1 forward=0 backward=0 started=1 played=4 paused=0 silent=2 still=0 loop_start=0 loop_end=0 direction=0 steps_back=0 ended=1 created=1 seeks=0 restarts=0\n",
     );
 }
 

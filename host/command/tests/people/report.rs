@@ -1,6 +1,7 @@
 //! `cableowl report`: figures by a second count, quantiles, the three ways to tell them.
 
 use std::{
+    collections::BTreeMap,
     fs::File,
     io::{BufWriter, Write},
     process::Command,
@@ -13,17 +14,16 @@ use crate::room::{CABLEOWL, Room, looped};
 #[test]
 fn one_evening_in_words() {
     let room = Room::new("report-one");
-    let log = room.run_on(&["replay", "--log", "2", "-"], &looped()).out;
+    let log = room.run_on(&["replay", "--log", "3", "-"], &looped()).out;
     room.put("evening.log", log);
     room.run(&["report", "--rate", "1", "evening.log"]).says(
-        "evening.log: a log of form 2, read at 1 frames a second\n\
+        "evening.log: a log of form 3, read at 1 frames a second\n\
          \x20 blocks               6\n\
          \x20 frames               15, 0.250 minutes\n\
          \x20 played               0.250 minutes\n\
          \x20 paused               0.000 minutes\n\
          \x20 silent               0.000 minutes\n\
          \x20 steps                15\n\
-         \x20 jumps                1\n\
          \x20 times round the loop 3\n\
          \x20 seeks                2\n\
          \x20 restarts by hand     2\n\
@@ -33,21 +33,65 @@ fn one_evening_in_words() {
     let log = room.run_on(&["replay", "-"], &looped()).out;
     let ran = room.run_on(&["report", "-"], log.as_bytes());
     assert_eq!(ran.out.matches("not told").count(), 4, "{}", ran.out);
+    assert!(
+        ran.out.contains("\n  jumps                2\n"),
+        "{}",
+        ran.out
+    );
 }
 
-/// An evening as numbers, its log in both forms, and its figures counted in another way.
+/// An evening as numbers: its log in the three forms, and its figures counted in another way, by the
+/// names of the columns.
+#[derive(Default)]
 struct Made {
-    lines: Vec<String>,
-    second: Vec<String>,
-    cells: Vec<u64>,
+    logs: [Vec<String>; 3],
+    /// What all forms say that say it at all.
+    all: Sums,
+    /// What each form says by itself.
+    each: [Sums; 3],
+}
+
+type Sums = BTreeMap<&'static str, u64>;
+
+fn add(sums: &mut Sums, column: &'static str, more: u64) {
+    *sums.entry(column).or_default() += more;
+}
+
+/// What a block of this state counts as in the forms 1 and 2.
+fn counts_as(started: bool, state: usize, steps: u64) -> &'static str {
+    match (started, state) {
+        (false, _) => "silent",
+        (_, 2 | 3) => "paused",
+        (_, 6) if steps == 0 => "silent",
+        _ => "played",
+    }
 }
 
 /// A random evening: rows of blocks in a state, with what a report must tell of them.
 fn made(random: &mut Random) -> Made {
-    let (mut lines, mut second) = (Vec::new(), vec!["log=2".to_owned()]);
-    // frames, played, paused, silent, still, steps, jumps, rounds, seeks, restarts, lowest, 1, 12, other
-    let mut cells = [0, 0, 0, 0, 0, 0, 0, 0, 0, 0, 4, 0, 0, 0];
-    let (mut position, mut turns, mut known) = (random.below(1_000) as u64, 0, false);
+    let mut made = Made::default();
+    made.logs[1].push("log=2".into());
+    made.logs[2].push("log=3".into());
+    for sums in &mut made.each {
+        for column in ["played", "paused", "silent"] {
+            add(sums, column, 0);
+        }
+    }
+    add(&mut made.each[0], "jumps", 0);
+    add(&mut made.each[2], "still", 0);
+    for column in [
+        "frames",
+        "steps",
+        "rounds",
+        "seeks",
+        "restarts",
+        "refused_1",
+        "refused_12",
+        "refused_other",
+    ] {
+        add(&mut made.all, column, 0);
+    }
+    let (mut lowest, mut turns, mut before) = (4, 0, None::<u64>);
     let mut created = 1;
     for number in 1..=random.below(300) {
         let (seeks, restarts) = match random.below(10) {
@@ -55,66 +99,68 @@ fn made(random: &mut Random) -> Made {
             _ => (0, 0),
         };
         let since = format!(" created={created} seeks={seeks} restarts={restarts}");
-        (cells[8], cells[9]) = (cells[8] + seeks, cells[9] + restarts);
+        add(&mut made.all, "seeks", seeks);
+        add(&mut made.all, "restarts", restarts);
         if created > 0 {
             turns = 0;
-            known = false;
         }
         if random.one_in(12) {
-            let refusal = [1, 12, 24][random.below(3)];
-            cells[match refusal {
-                1 => 11,
-                12 => 12,
-                _ => 13,
-            }] += 1;
-            lines.push(format!("block={number} refused={refusal}"));
-            second.push(format!("block={number} refused={refusal}{since}"));
+            let (refusal, column) =
+                [(1, "refused_1"), (12, "refused_12"), (24, "refused_other")][random.below(3)];
+            add(&mut made.all, column, 1);
+            let line = format!("block={number} refused={refusal}");
+            made.logs[1].push(format!("{line}{since}"));
+            made.logs[2].push(format!("{line}{since}"));
+            made.logs[0].push(line);
             created = 0;
             continue;
         }
         let frames = random.below(4_097) as u64;
-        let state = random.below(7);
-        let started = !random.one_in(9);
-        let steps = if random.coin() {
-            random.below(900) as u64
-        } else {
-            0
-        };
-        let before = position;
-        position = random.below(1_000) as u64;
+        let (state, started) = (random.below(7), !random.one_in(9));
+        let steps = random.below(900) as u64 * u64::from(random.coin());
+        let position = random.below(1_000) as u64;
         let gone = random.below(3) as u64;
         turns += gone;
-        let lowest = random.below(5) as u64;
-        lines.push(format!(
+        lowest = lowest.min(random.below(5) as u64);
+        let line = format!(
             "block={number} frames={frames} steps={steps} state={state} position={position}"
-        ));
-        second.push(format!(
-            "{} lowest={lowest} forward={turns} backward=0 started={}{since}",
-            lines[lines.len() - 1],
+        );
+        let second = format!(
+            "{line} lowest={lowest} forward={turns} backward=0 started={}",
             u8::from(started)
-        ));
-        cells[0] += frames;
-        match (started, state) {
-            (false, _) => cells[3] += frames,
-            (_, 2 | 3) => cells[2] += frames,
-            (_, 6) if steps == 0 => cells[3] += frames,
-            _ => {
-                cells[1] += frames;
-                cells[4] += if steps == 0 { frames } else { 0 };
-            }
+        );
+        let played = random.below(frames as usize + 1) as u64;
+        let paused = random.below((frames - played) as usize + 1) as u64;
+        let (silent, still) = (
+            frames - played - paused,
+            random.below(played as usize + 1) as u64,
+        );
+        let third = format!(
+            "{second} played={played} paused={paused} silent={silent} still={still} loop_start=3 loop_end=9 direction=0 steps_back=0 ended=0"
+        );
+        made.logs[0].push(line);
+        made.logs[1].push(format!("{second}{since}"));
+        made.logs[2].push(format!("{third}{since}"));
+        add(&mut made.all, "frames", frames);
+        add(&mut made.all, "steps", steps);
+        add(&mut made.all, "rounds", gone);
+        add(&mut made.each[0], counts_as(true, state, steps), frames);
+        add(&mut made.each[1], counts_as(started, state, steps), frames);
+        for (column, more) in [
+            ("played", played),
+            ("paused", paused),
+            ("silent", silent),
+            ("still", still),
+        ] {
+            add(&mut made.each[2], column, more);
         }
-        cells[5] += steps;
-        cells[6] += u64::from(known && before.abs_diff(position) > steps);
-        cells[7] += gone;
-        cells[10] = cells[10].min(lowest);
-        known = true;
+        let jumped = before.is_some_and(|before| before.abs_diff(position) > steps);
+        add(&mut made.each[0], "jumps", jumped.into());
+        before = Some(position);
         created = u64::from(random.one_in(40));
     }
-    Made {
-        lines,
-        second,
-        cells: cells.to_vec(),
-    }
+    add(&mut made.all, "lowest_count", lowest);
+    made
 }
 
 fn text(lines: &[String]) -> String {
@@ -141,107 +187,132 @@ pub fn cell<'a>(row: &'a [(String, String)], column: &str) -> &'a str {
     &found.unwrap_or_else(|| panic!("no column {column}")).1
 }
 
+/// A row's figure is this; minutes are rounded to thousandths.
+fn is_told(row: &[(String, String)], column: &str, number: u64) {
+    let minutes = format!("minutes_{column}");
+    match row.iter().any(|(held, _)| *held == minutes) {
+        true => {
+            let told: f64 = cell(row, &minutes).parse().unwrap();
+            let ours = number as f64 / 60_000.0;
+            assert!((told - ours).abs() < 0.00051, "{column}: {told} {ours}");
+        }
+        false => assert_eq!(cell(row, column), number.to_string(), "{column}"),
+    }
+}
+
+/// What the forms before this one do not say.
+fn unsaid(form: usize) -> &'static [&'static str] {
+    match form {
+        1 => &[
+            "rounds",
+            "seeks",
+            "restarts",
+            "lowest_count",
+            "minutes_still",
+        ],
+        2 => &["jumps", "minutes_still"],
+        _ => &["jumps"],
+    }
+}
+
 #[test]
 fn figures_are_those_of_a_second_count() {
     let room = Room::new("report-figures");
     let mut random = Random::new(103);
     let evenings: Vec<Made> = (0..200).map(|_| made(&mut random)).collect();
-    let mut words = vec![
-        "report".to_owned(),
-        "--csv".into(),
-        "--rate".into(),
-        "1000".into(),
-    ];
-    for (index, evening) in evenings.iter().enumerate() {
-        let name = format!("{index:03}.log");
-        room.put(&name, text(&evening.second));
-        words.push(name);
-    }
-    let words: Vec<&str> = words.iter().map(String::as_str).collect();
-    let ran = room.run(&words);
-    assert_eq!((ran.status, &*ran.err), (0, ""));
-    let rows = csv(&ran.out);
-    assert_eq!(rows.len(), 200 + 1 + 5);
-    let named = [
-        "frames",
-        "played",
-        "paused",
-        "silent",
-        "still",
-        "steps",
-        "jumps",
-        "rounds",
-        "seeks",
-        "restarts",
-        "lowest_count",
-        "refused_1",
-        "refused_12",
-        "refused_other",
-    ];
-    let minutes = |frames: u64| format!("{:.3}", (frames * 1_000 / 60) as f64 / 1_000_000.0);
-    for (row, evening) in rows.iter().zip(&evenings) {
-        for (name, number) in named.iter().zip(&evening.cells) {
-            let column = format!("minutes_{name}");
-            match row.iter().any(|(held, _)| *held == column) {
-                // The count here cuts, the report rounds: a thousandth apart at most.
-                true => {
-                    let told: f64 = cell(row, &column).parse().unwrap();
-                    let ours: f64 = minutes(*number).parse().unwrap();
-                    assert!((told - ours).abs() < 0.0011, "{column}: {told} {ours}");
-                }
-                false => assert_eq!(cell(row, name), number.to_string(), "{name}"),
-            }
+    for form in 1..=3 {
+        let mut words = ["report", "--csv", "--rate", "1000"]
+            .map(str::to_owned)
+            .to_vec();
+        for (index, evening) in evenings.iter().enumerate() {
+            let name = format!("{index:03}.log");
+            room.put(&name, text(&evening.logs[form - 1]));
+            words.push(name);
         }
-        let blocks = (evening.lines.len() as u64).to_string();
-        assert_eq!(cell(row, "blocks"), blocks);
+        let words: Vec<&str> = words.iter().map(String::as_str).collect();
+        let ran = room.run(&words);
+        assert_eq!((ran.status, &*ran.err), (0, ""));
+        let rows = csv(&ran.out);
+        assert_eq!(rows.len(), 200 + 1 + 5 + 1);
+        for (row, evening) in rows.iter().zip(&evenings) {
+            for (column, number) in evening.all.iter().chain(&evening.each[form - 1]) {
+                if !unsaid(form).contains(column) {
+                    is_told(row, column, *number);
+                }
+            }
+            for column in unsaid(form) {
+                assert_eq!(cell(row, column), "", "{column}");
+            }
+            let blocks = evening.logs[0].len().to_string();
+            assert_eq!(cell(row, "blocks"), blocks);
+        }
+        over_all(&rows[200..], &evenings, form);
     }
-    let total = &rows[200];
+}
+
+/// The total, the quantiles, and how many logs say each figure.
+fn over_all(rows: &[Vec<(String, String)>], evenings: &[Made], form: usize) {
+    let total = &rows[0];
     assert_eq!(
         (cell(total, "row"), cell(total, "name")),
         ("total", "total")
     );
-    for (column, place) in [("steps", 5), ("seeks", 8), ("rounds", 7)] {
-        let sum: u64 = evenings.iter().map(|evening| evening.cells[place]).sum();
-        assert_eq!(cell(total, column), sum.to_string());
-        let mut sorted: Vec<u64> = evenings
-            .iter()
-            .map(|evening| evening.cells[place])
-            .collect();
+    for column in ["steps", "seeks", "rounds", "lowest_count"] {
+        if unsaid(form).contains(&column) {
+            assert!(rows[..6].iter().all(|row| cell(row, column).is_empty()));
+            assert_eq!(cell(&rows[6], column), "0");
+            continue;
+        }
+        let mut sorted: Vec<u64> = evenings.iter().map(|evening| evening.all[column]).collect();
         sorted.sort_unstable();
-        let ranks = [0, 49, 99, 149, 199];
-        for (row, rank) in rows[201..].iter().zip(ranks) {
+        let sum = match column {
+            "lowest_count" => sorted[0],
+            _ => sorted.iter().sum(),
+        };
+        assert_eq!(cell(total, column), sum.to_string(), "{column}");
+        for (row, rank) in rows[1..6].iter().zip([0, 49, 99, 149, 199]) {
             assert_eq!(cell(row, column), sorted[rank].to_string(), "{column}");
         }
+        assert_eq!(cell(&rows[6], column), "200");
     }
 }
 
 #[test]
-fn the_first_form_tells_the_same_where_it_tells_it() {
-    let room = Room::new("report-forms");
-    let mut random = Random::new(108);
-    for _ in 0..40 {
-        let evening = made(&mut random);
-        let told = |lines: &[String]| {
-            let ran = room.run_on(&["report", "--csv", "-"], text(lines).as_bytes());
-            assert_eq!((ran.status, &*ran.err), (0, ""));
-            csv(&ran.out).remove(0)
-        };
-        let (first, second) = (told(&evening.lines), told(&evening.second));
-        for column in [
-            "blocks",
-            "frames",
-            "minutes",
-            "steps",
-            "refused",
-            "refused_1",
-            "refused_12",
-        ] {
-            assert_eq!(cell(&first, column), cell(&second, column), "{column}");
-        }
-        for column in ["rounds", "seeks", "restarts", "lowest_count"] {
-            assert_eq!(cell(&first, column), "", "{column}");
-        }
+fn a_total_over_part_of_the_logs_says_over_how_many() {
+    let room = Room::new("report-part");
+    let mut names = Vec::new();
+    for index in 0..4 {
+        let form = if index == 2 { "1" } else { "3" };
+        let log = room.run_on(&["replay", "--log", form, "-"], &looped()).out;
+        room.put(&format!("{index}.log"), log);
+        names.push(format!("{index}.log"));
     }
+    let mut words = vec!["report", "--html", "page.html", "--rate", "1"];
+    words.extend(names.iter().map(String::as_str));
+    let ran = room.run(&words);
+    assert_eq!((ran.status, &*ran.err), (0, ""));
+    let line = |name: &str| {
+        let mut lines = ran.out.lines().filter(|line| line.starts_with(name));
+        let line = lines.next().unwrap_or_default();
+        line.split_whitespace()
+            .map(str::to_owned)
+            .collect::<Vec<_>>()
+    };
+    // Three times round, two seeks and two restarts in each of the three logs that say it.
+    assert_eq!(line("total")[7..], ["9", "6", "6", "4", "4"]);
+    assert_eq!(line("median")[7..], ["3", "2", "2", "1", "4"]);
+    let says = "rounds, seeks, restarts, lowest: over 3 of 4 logs, since the others do not say it";
+    assert_eq!(ran.out.lines().last(), Some(says));
+    let page = room.read("page.html");
+    assert!(page.contains("Restarts by hand: over 3 of 4 logs, since the others do not say it"));
+    words[1] = "--csv";
+    words.remove(2);
+    let rows = csv(&room.run(&words).out);
+    let cells = |column: &str| [4, 10].map(|row| cell(&rows[row], column).to_owned());
+    assert_eq!(cells("row"), ["total", "logs"]);
+    assert_eq!(cells("restarts"), ["6", "3"]);
+    assert_eq!(cells("steps"), ["60", "4"]);
+    assert_eq!(cells("jumps"), ["2", "1"]);
 }
 
 #[test]

@@ -9,7 +9,7 @@ use std::{
 };
 
 use cableowl::{
-    Commands, Settings,
+    Commands, Frames, Settings,
     trace::{Block, Record, ShortSound, write},
 };
 
@@ -148,7 +148,7 @@ pub fn three() -> Vec<u8> {
 /// new voice.
 pub fn looped() -> Vec<u8> {
     let block = |frames| Record::Block(Block::new(frames, 1.0));
-    let looped = Settings::new(1).loop_region(2..6);
+    let looped = Settings::new(1).loop_region(Frames(2)..Frames(6));
     trace(&[
         creation(looped, 10),
         block(5),

@@ -96,8 +96,8 @@ fn files(room: &Room) {
     let monday = monday();
     room.put("monday.trace", &monday);
     let log = |trace: &[u8], form| room.run_on(&["replay", "--log", form, "-"], trace).out;
-    room.put("monday.log", log(&monday, "2"));
-    room.put("tuesday.log", log(&tuesday(), "2"));
+    room.put("monday.log", log(&monday, "3"));
+    room.put("tuesday.log", log(&tuesday(), "3"));
     room.put("wednesday.log", log(&tuesday(), "1"));
     let mut broken = monday;
     broken[100_000..100_050].fill(0xff);

@@ -1,0 +1,81 @@
+-- Once in the loop, always in the loop, of the archive's own entries, as InTheLoop says of the entries below: each call is given the record that the one before answered.
+-- Records, commands and signals are judged by what they mean: a loop command is one that `loop_command` names, a stop is a `stop` that is not 0.
+use Prim.Native.Nat.{ℕ}
+use mathlib.Core.Path.{_≡_}
+use mathlib.Core.Bool.{Bool, true, false, _&&_, _||_, not}
+use mathlib.Core.List.{List, [], _∷_}
+use lib.Dec.{T, eqb}
+use lib.Ieee.{Float}
+use Rattle.playback_state_manager.specs.declared.PlaybackState.the-variants.{Stopped}
+use Rattle.start_time.specs.Ticks.{answering}
+use Rattle.transport.specs.WellFormed.{Inside}
+use Rattle.lanes.specs.Lanes.{Lanes}
+use Rattle.voice.specs.WellFormed.{wellFormed}
+use Rattle.loop_table.specs.declared.LoopTable.{LoopTable}
+use Rattle.records.specs.declared.CableowlState.{CableowlState}
+use Rattle.inputs.specs.declared.CableowlCommands.{CableowlCommands}
+use Rattle.inputs.specs.declared.CableowlSignals.{CableowlSignals}
+use Rattle.records.specs.Records.{decoded}
+use Rattle.inputs.specs.Inputs.{commandsOf, signalsOf}
+use Rattle.cableowl.specs.Entries.{commandedC, processedC, processedIntoC}
+use Rattle.cableowl.specs.Loops.{takenC}
+use Rattle.theorems.specs.InTheLoop.{changesLoop, isNever, ending}
+
+-- all that a call is given but the record
+pub data CallC : Type 0 where
+  Block : (sound : List Float) (dt : Float) (lanes : Lanes) (signals : CableowlSignals) (out : List Float) → CallC
+  Mix : (sound : List Float) (dt : Float) (lanes : Lanes) (signals : CableowlSignals) (mix : List Float) (from : ℕ) → CallC
+  Command : (sound : List Float) (commands : CableowlCommands) → CallC
+  Take : (sound : List Float) (table : LoopTable) (slot : ℕ) → CallC
+  Stretch : (sound : List Float) → CallC
+
+-- the record that a call gives back; a stretch gives back none, so it stays as it is
+abbrev pub afterC : CallC → CableowlState → CableowlState
+afterC (Block snd dt b g out) c = (processedC snd c dt b g out) .answer .state
+afterC (Mix snd dt b g mix from) c = (processedIntoC snd c dt b g mix from) .answer .state
+afterC (Command snd k) c = (commandedC snd c k) .state
+afterC (Take snd t k) c = (takenC snd t k c) .state
+afterC (Stretch snd) c = c
+
+abbrev pub acceptedC : CallC → CableowlState → Bool
+acceptedC (Block snd dt b g out) c = eqb ((processedC snd c dt b g out) .answer .refusal) 0
+acceptedC (Mix snd dt b g mix from) c = eqb ((processedIntoC snd c dt b g mix from) .answer .refusal) 0
+acceptedC (Command snd k) c = eqb ((commandedC snd c k) .refusal) 0
+acceptedC (Take snd t k) c = eqb ((takenC snd t k c) .refusal) 0
+acceptedC (Stretch snd) c = true
+
+-- a row of calls, the first one first, each on what the one before left
+unfoldable pub afterAllC : List CallC → CableowlState → CableowlState
+afterAllC [] c = c
+afterAllC (d ∷ ds) c = afterAllC ds (afterC d c)
+
+-- whether some accepted call of the row is of a kind
+unfoldable pub someAcceptedC : (CallC → Bool) → List CallC → CableowlState → Bool
+someAcceptedC kind [] c = false
+someAcceptedC kind (d ∷ ds) c = (acceptedC d c && kind d) || someAcceptedC kind ds (afterC d c)
+
+-- a loop command, or a loop that is taken
+abbrev pub reloopsC : CallC → Bool
+reloopsC (Block snd dt b g out) = false
+reloopsC (Mix snd dt b g mix from) = false
+reloopsC (Command snd k) = changesLoop (commandsOf k .«loop_region»)
+reloopsC (Take snd t k) = true
+reloopsC (Stretch snd) = false
+
+-- a stop command or a never answer
+abbrev pub stopsC : CallC → Bool
+stopsC (Block snd dt b g out) = isNever (answering (signalsOf g .start)) || isNever (signalsOf g .resume)
+stopsC (Mix snd dt b g mix from) = isNever (answering (signalsOf g .start)) || isNever (signalsOf g .resume)
+stopsC (Command snd k) = commandsOf k .stop
+stopsC (Take snd t k) = false
+stopsC (Stretch snd) = false
+
+pub record StaysC (s e : ℕ) (ds : List CallC) (c : CableowlState) : Type 0 where
+  pub inside : Inside s e (decoded (afterAllC ds c) .moving .transport)
+  pub stopped : decoded (afterAllC ds c) .moving .state ≡ Stopped → T (someAcceptedC stopsC ds c || ending (decoded c .moving .state))
+
+-- a record that means nothing means the blank voice, which is not well formed
+abbrev pub InTheLoopC : Type 0
+InTheLoopC =
+    (s e : ℕ) (ds : List CallC) (c : CableowlState)
+    → T (wellFormed (decoded c)) → Inside s e (decoded c .moving .transport) → T (not (someAcceptedC reloopsC ds c)) → StaysC s e ds c

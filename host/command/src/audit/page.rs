@@ -1,0 +1,123 @@
+//! The audit's page.
+
+use super::{Found, Gap, Verdict, an_hour, behind, hourly, sentence, shown, span};
+use crate::{
+    fault::Result,
+    page::{Sink, foot, head},
+    plot::{Plot, escaped, grouped},
+};
+
+/// The audit's page.
+pub fn page(found: &Found, put: &mut Sink<'_>) -> Result<()> {
+    head("Did this box play as proved?", put)?;
+    let class = match found.verdict() {
+        Verdict::Agrees => "good",
+        Verdict::Differs | Verdict::Unknown => "bad",
+    };
+    put(&format!(
+        "<p class=\"lede {class}\">{}</p>\n<p class=\"note\">The trace is played again by the proved rule; the log is what the box said of itself. A step is one frame of the sound.</p>\n",
+        escaped(&sentence(found))
+    ))?;
+    if found.verdict() == Verdict::Differs {
+        for stop in &found.stops {
+            put(&format!(
+                "<p class=\"bad\">{}</p>\n",
+                escaped(&stop.words())
+            ))?;
+        }
+    }
+    put("<dl>\n")?;
+    let facts = [
+        ("Blocks compared", grouped(found.blocks)),
+        ("Places that differ", grouped(found.differing)),
+        ("Time", span(found.seconds)),
+        ("At the end", behind(found)),
+        ("Creep", hourly(found).map_or("not told".into(), an_hour)),
+    ];
+    for (name, says) in facts {
+        put(&format!("<div><dt>{name}</dt><dd>{says}</dd></div>\n"))?;
+    }
+    put("</dl>\n")?;
+    creep_plot(found, put)?;
+    if !found.first.is_empty() {
+        put(
+            "<h3>The first places that differ</h3>\n<div class=\"scroll\"><table id=\"differing\" class=\"lines\"><thead><tr><th>The rule</th><th>The box</th><th>Creep</th></tr></thead><tbody>\n",
+        )?;
+        for differs in &found.first {
+            put(&format!(
+                "<tr><td>{}</td><td>{}</td><td>{}</td></tr>\n",
+                escaped(&shown(&differs.segment.rule, found.form)),
+                escaped(&shown(&differs.segment.said, found.form)),
+                differs.creep
+            ))?;
+        }
+        put("</tbody></table></div>\n")?;
+    }
+    foot(put)
+}
+
+/// The creep over time; where the steps agree and the places do not, the places' difference.
+fn creep_plot(found: &Found, put: &mut Sink<'_>) -> Result<()> {
+    let by_steps = |gap: &Gap| gap.creep;
+    let by_place = |gap: &Gap| gap.place;
+    let steps_differ = found
+        .gaps
+        .held
+        .iter()
+        .any(|gap| by_steps(gap).is_some_and(|c| c != 0));
+    let (of, title, words): (fn(&Gap) -> Option<i128>, _, _) = match (steps_differ, found.apart) {
+        (false, true) => (
+            by_place,
+            "How far apart the places are",
+            "Upward: the rule's place minus the box's, in frames of the sound.",
+        ),
+        _ => (
+            by_steps,
+            "How far the box is behind",
+            "Upward: frames of the sound that the box is behind the proved player. A box that plays as proved stays at 0.",
+        ),
+    };
+    put(&format!(
+        "<h3>{title}</h3>\n<p class=\"note\">Across: the evening's time. {words}</p>\n"
+    ))?;
+    let second = match found.frames {
+        0 => 0.0,
+        frames => found.seconds / frames as f64,
+    };
+    let width = found.gaps.width;
+    let points: Vec<(f64, f64)> = found
+        .gaps
+        .held
+        .iter()
+        .enumerate()
+        .filter_map(|(index, gap)| Some(((index as u64 * width) as f64 * second, of(gap)? as f64)))
+        .collect();
+    if points.is_empty() {
+        return put("<p class=\"note\">There is no block to draw.</p>\n");
+    }
+    let low = points.iter().fold(0.0, |low: f64, point| low.min(point.1));
+    let high = points
+        .iter()
+        .fold(0.0, |high: f64, point| high.max(point.1));
+    let mut plot = Plot::new(
+        280.0,
+        found.seconds,
+        low,
+        if high > low { high } else { low + 4.0 },
+    );
+    plot.numbers();
+    let mut path = String::new();
+    for (index, (at, creep)) in points.iter().enumerate() {
+        let how = if index == 0 { 'M' } else { 'L' };
+        path += &format!("{how}{:.1} {:.1}", plot.x(*at), plot.y(*creep));
+    }
+    if let Some(first) = found.first.first() {
+        plot.mark(
+            "first",
+            first.at - first.segment.seconds,
+            "the first block that differs begins here",
+        );
+    }
+    plot.put(&format!("<path class=\"creep\" d=\"{path}\"/>"));
+    put(&plot.done("how far the box is behind, over the evening"))
+}
