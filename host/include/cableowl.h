@@ -32,9 +32,12 @@
  * 23  saved settings of a version that the reader does not know
  * 24  a field of saved settings wrong, or their length
  * 25  salvage: an output shorter than the input
+ * 27  two copies of a loop table are over sounds of different frame counts
+ * 28  two copies of a loop table have one number of changes for a hall and differ in its slots
  *
  * The lowest number wins. Creation uses 2 to 7, a command set 1 and 6 to 8, a block 1 and 9 to 12,
- * a fade ramp 13 and 14; of a loop table a write 1, 6, 20, 21, a clear 1, 20, 21, a read 1, 20, 22;
+ * a fade ramp 13 and 14; of a loop table a write 1, 6, 20, 21, a clear 1, 20, 21, a read 1, 20, 22,
+ * a merge of two copies 1, 27, 28;
  * storing settings 24, then 19, loading them 15, 23, 24 for the length, 18, 24 for a field, in this order;
  * of a trace a read 15 to 18, byte by byte in reading order, a write 16, 17, 19, a salvage 25.
  *
@@ -107,7 +110,9 @@ enum {
     CABLEOWL_REFUSAL_EMPTY_SLOT = 22,
     CABLEOWL_REFUSAL_VERSION = 23,
     CABLEOWL_REFUSAL_SAVED_FIELD = 24,
-    CABLEOWL_REFUSAL_OUTPUT = 25
+    CABLEOWL_REFUSAL_OUTPUT = 25,
+    CABLEOWL_REFUSAL_OTHER_FRAMES = 27,
+    CABLEOWL_REFUSAL_TWO_HALVES = 28
 };
 
 /* What a voice is doing: CableowlState's state. */
@@ -275,6 +280,19 @@ typedef struct CableowlLoopFound {
     uint32_t refusal;
 } CableowlLoopFound;
 
+/* A copy of a loop table, for two boxes that share no memory: the table, and how many writes and clears each hall has
+ * made. Each hall changes its half at one box only, so of two copies of a half the one with the larger number is newer. */
+typedef struct CableowlLoopCopy {
+    CableowlLoopTable table;
+    uint64_t changes_a;
+    uint64_t changes_b;
+} CableowlLoopCopy;
+
+typedef struct CableowlCopyChanged {
+    CableowlLoopCopy copy; /* refused: the given one */
+    uint32_t refusal;
+} CableowlCopyChanged;
+
 /* What a tutor saves of a sound: docs/SETTINGS.md. Eight words. */
 typedef struct CableowlSavedSettings {
     uint64_t start;      /* frames, below 2^32 */
@@ -361,6 +379,17 @@ CableowlLoopChanged cableowl_write_loop(CableowlLoopTable table, uint32_t hall, 
                                         uint64_t end);
 CableowlLoopChanged cableowl_clear_loop(CableowlLoopTable table, uint32_t hall, uint64_t slot);
 CableowlLoopFound cableowl_read_loop(CableowlLoopTable table, uint64_t slot);
+
+/* A copy of an empty table, with no changes by either hall. */
+CableowlLoopCopy cableowl_loop_copy(uint64_t num_frames);
+
+/* A write or a clear of a copy's table. If it is accepted, the hall's number of changes rises by one. */
+CableowlCopyChanged cableowl_write_copy(CableowlLoopCopy copy, uint32_t hall, uint64_t slot, uint64_t start,
+                                        uint64_t end);
+CableowlCopyChanged cableowl_clear_copy(CableowlLoopCopy copy, uint32_t hall, uint64_t slot);
+
+/* Our copy with each hall's newer half. */
+CableowlCopyChanged cableowl_merge_copies(CableowlLoopCopy ours, CableowlLoopCopy theirs);
 
 /* Reads a slot and sets its loop by a command set: the table's refusal, or the command set's answer. */
 CableowlCommanded cableowl_take_loop(CableowlLoopTable table, uint64_t slot, CableowlState state, const float *sound,

@@ -9,6 +9,9 @@ use Rattle.loop_table.specs.declared.Hall.the-variants as hall
 use Rattle.loop_table.specs.declared.LoopTable.{LoopTable}
 use Rattle.loop_table.specs.declared.LoopChanged.{LoopChanged}
 use Rattle.loop_table.specs.Tables.{written, cleared}
+use Rattle.loop_copies.specs.declared.LoopCopy.{LoopCopy}
+use Rattle.loop_copies.specs.declared.CopyChanged.{CopyChanged}
+use Rattle.loop_copies.specs.Copies.{copyWritten, copyCleared}
 use Rattle.take_loop.specs.Taking.{taken}
 use Rattle.records.specs.declared.CableowlState.{CableowlState}
 use Rattle.cableowl.specs.declared.CableowlCommanded.{CableowlCommanded}
@@ -24,6 +27,13 @@ writtenC t h k s e = cond (leb h 1) (written t (hallOf h) k s e) (record { table
 
 abbrev pub clearedC : LoopTable → ℕ → ℕ → LoopChanged
 clearedC t h k = cond (leb h 1) (cleared t (hallOf h) k) (record { table = t; refusal = 1 })
+
+-- the same of a copy of the table
+abbrev pub copyWrittenC : LoopCopy → ℕ → ℕ → ℕ → ℕ → CopyChanged
+copyWrittenC c h k s e = cond (leb h 1) (copyWritten c (hallOf h) k s e) (record { copy = c; refusal = 1 })
+
+abbrev pub copyClearedC : LoopCopy → ℕ → ℕ → CopyChanged
+copyClearedC c h k = cond (leb h 1) (copyCleared c (hallOf h) k) (record { copy = c; refusal = 1 })
 
 -- a voice takes a slot's loop
 unfoldable pub takenC : List Float → LoopTable → ℕ → CableowlState → CableowlCommanded

@@ -5,12 +5,17 @@ ghost use Prim.Native.Nat.{_≤_};
 ghost use Rattle.lanes.specs.Lanes.{five};
 ghost use Rattle.cableowl.specs.Entries.{after, createdC, commandedC, answered, processedC, processedIntoC, partC};
 
+mod copies;
 mod fades;
 mod loops;
 mod once;
 mod saved;
 mod traces;
 
+pub use copies::cableowl_clear_copy;
+pub use copies::cableowl_loop_copy;
+pub use copies::cableowl_merge_copies;
+pub use copies::cableowl_write_copy;
 pub use fades::cableowl_amplitude;
 pub use fades::cableowl_fade_ramp;
 use inputs::CableowlCommands;

@@ -11,7 +11,7 @@ use loop_table::LoopTable;
 use records::CableowlState;
 use records::decode;
 
-fn hall_of(n: u32) -> Hall
+pub(crate) fn hall_of(n: u32) -> Hall
     ensures { λ r. ⌜ r ≡ hallOf n ⌝ }
 {
     if n == 0 {

@@ -15,10 +15,10 @@ use Rattle.loop_table.specs.declared.Hall.the-variants as hall
 use Rattle.loop_table.specs.declared.LoopSlot.{LoopSlot}
 use Rattle.loop_table.specs.declared.LoopTable.{LoopTable}
 use Rattle.loop_table.specs.declared.LoopFound.{LoopFound}
-use Rattle.loop_table.specs.Tables.{unless, slotOf, empty, isEmpty, looping, lawfulTable, owns, refusedSlot, heldIn, changed, refusedWrite, written, refusedClear, cleared, refusedRead, found}
+use Rattle.loop_table.specs.Tables.{unless, slotOf, empty, isEmpty, looping, lawfulTable, same, half, owns, refusedSlot, heldIn, changed, refusedWrite, written, refusedClear, cleared, refusedRead, found}
 use Rattle.take_loop.specs.Taking.{takenFrom, taken}
 use Rattle.halls.specs.Calls.{Call, Write, Clear, Read, Play, New, Take, Command, Block, Mix, Event, ByHall, ByVoice, Numbered, Looked, Told, Played, World, hallTold, tableAfter, voiceTold, voiceAfter, told, next}
-use Rattle.halls.specs.Apart.{same, half, concerns, takesFrom, HallsApart, ofVoice, takesNone, TakenStays}
+use Rattle.halls.specs.Apart.{concerns, takesFrom, HallsApart, ofVoice, takesNone, TakenStays}
 use Rattle.halls.proofs.Stores.{never, Passed, write-passed, clear-passed, held-half, changed-number, changed-frames, changed-lawful, changed-other, changed-own}
 use Rattle.halls.proofs.Rows.{rows-alike}
 
@@ -42,16 +42,16 @@ found-by t k = refl
 found-alike : (h : Hall) (t u : LoopTable) (k : ℕ) → Alike h t u → T (owns h k) → found t k ≡ found u k
 found-alike h t u k a o = found-by t k ∙ ap₂ (foundBy k) (a .lawful) (held-half h t u k o (a .slots)) ∙ sym (found-by u k)
 
-write-alike : (h : Hall) (t u : LoopTable) (k s e : ℕ) → Alike h t u → refusedWrite t h k s e ≡ refusedWrite u h k s e
+pub write-alike : (h : Hall) (t u : LoopTable) (k s e : ℕ) → Alike h t u → refusedWrite t h k s e ≡ refusedWrite u h k s e
 unfolding refusedWrite
 write-alike h t u k s e a = ap₂ (λ (l : Bool) (n : ℕ). unless l 1 (unless (looping n s e) 6 (refusedSlot h k))) (a .lawful) (a .frames)
 
-clear-alike : (h : Hall) (t u : LoopTable) (k : ℕ) → Alike h t u → refusedClear t h k ≡ refusedClear u h k
+pub clear-alike : (h : Hall) (t u : LoopTable) (k : ℕ) → Alike h t u → refusedClear t h k ≡ refusedClear u h k
 unfolding refusedClear
 clear-alike h t u k a = ap (λ (l : Bool). unless l 1 (refusedSlot h k)) (a .lawful)
 
 -- a change by h of both
-changed-both : (h : Hall) (t u : LoopTable) (n m k : ℕ) (s : LoopSlot) → n ≡ m → (n ≡ 0 → Passed h t k s) → (m ≡ 0 → Passed h u k s)
+pub changed-both : (h : Hall) (t u : LoopTable) (n m k : ℕ) (s : LoopSlot) → n ≡ m → (n ≡ 0 → Passed h t k s) → (m ≡ 0 → Passed h u k s)
     → Alike h t u → Alike h ((changed n t k s) .table) ((changed m u k s) .table)
 changed-both h t u n m k s e p q a =
     record {
@@ -61,7 +61,7 @@ changed-both h t u n m k s e p q a =
     }
 
 -- a change of one by the other hall
-changed-one : (h g : Hall) (t u : LoopTable) (n k : ℕ) (s : LoopSlot) → same h g ≡ false → (n ≡ 0 → Passed g t k s) → Alike h t u → Alike h ((changed n t k s) .table) u
+pub changed-one : (h g : Hall) (t u : LoopTable) (n k : ℕ) (s : LoopSlot) → same h g ≡ false → (n ≡ 0 → Passed g t k s) → Alike h t u → Alike h ((changed n t k s) .table) u
 changed-one h g t u n k s d p a =
     record {
       lawful = changed-lawful n k s g t p ∙ a .lawful;
@@ -69,7 +69,7 @@ changed-one h g t u n k s d p a =
       slots = changed-other n k s h g t d p ∙ a .slots;
     }
 
-same-is : (h g : Hall) → same h g ≡ true → h ≡ g
+pub same-is : (h g : Hall) → same h g ≡ true → h ≡ g
 same-is hall.A hall.A e = refl
 same-is hall.A hall.B e = cc
 same-is hall.B hall.A e = cc
@@ -86,7 +86,7 @@ module _ (snd : List Float) (h : Hall) (i : ℕ) where
     pub voice : w .voices i ≡ u .voices i
 
   -- ---- a call that does not concern h and i
-  skipped : (e : Event) (w u : World) → concerns h i e ≡ false → AlikeFor w u → AlikeFor (next snd w e) u
+  pub skipped : (e : Event) (w u : World) → concerns h i e ≡ false → AlikeFor w u → AlikeFor (next snd w e) u
   unfolding written cleared
   skipped (ByHall g (Write k s e)) w u d a =
       record { table = changed-one h g (w .table) (u .table) (refusedWrite (w .table) g k s e) k (slotOf s e) d (write-passed (w .table) g k s e) (a .table); voice = a .voice }
@@ -125,7 +125,7 @@ module _ (snd : List Float) (h : Hall) (i : ℕ) where
   voice-told (Block dt b g out) t u v z o a e = ap (λ (x : StaticSound). Played (processed snd x dt b g out)) e
   voice-told (Mix dt b g mix from) t u v z o a e = ap (λ (x : StaticSound). Played (processedInto snd x dt b g mix from)) e
 
-  moved : (e : Event) (w u : World) → concerns h i e ≡ true → T (takesFrom h e) → AlikeFor w u
+  pub moved : (e : Event) (w u : World) → concerns h i e ≡ true → T (takesFrom h e) → AlikeFor w u
       → (told snd w e ≡ told snd u e) × AlikeFor (next snd w e) (next snd u e)
   moved (ByHall g (Write k s e)) w u d o a = by-own g (Write k s e) w u d a (own-write k s e (w .table) (u .table) (a .table))
   moved (ByHall g (Clear k)) w u d o a = by-own g (Clear k) w u d a (own-clear k (w .table) (u .table) (a .table))

@@ -16,10 +16,10 @@ use Rattle.loop_table.specs.declared.Hall.{Hall}
 use Rattle.loop_table.specs.declared.Hall.the-variants as hall
 use Rattle.loop_table.specs.declared.LoopSlot.{LoopSlot}
 use Rattle.loop_table.specs.declared.LoopTable.{LoopTable}
-use Rattle.loop_table.specs.Tables.{slotOf, empty, isEmpty, lawfulTable, owns, heldIn, changed, refusedWrite, written, refusedClear, cleared, refusedRead, found}
+use Rattle.loop_table.specs.Tables.{slotOf, empty, isEmpty, lawfulTable, same, owns, heldIn, changed, refusedWrite, written, refusedClear, cleared, refusedRead, found}
 use Rattle.loop_table.proofs.Accepted.{write-accepted, clear-accepted}
 use Rattle.halls.specs.Calls.{Write, Clear, Read, Event, ByHall, ByVoice, World, next, after}
-use Rattle.halls.specs.Apart.{same, spares, ReadsFollow}
+use Rattle.halls.specs.Apart.{spares, ReadsFollow}
 use Rattle.halls.proofs.Stores.{so, Passed, write-passed, clear-passed, changed-number, changed-lawful, changed-held}
 
 -- the table is lawful, and slot k holds x

@@ -16,9 +16,8 @@ use Rattle.loop_table.specs.declared.Hall.the-variants as hall
 use Rattle.loop_table.specs.declared.LoopSlot.{LoopSlot}
 use Rattle.loop_table.specs.declared.LoopTable.{LoopTable}
 use Rattle.loop_table.specs.declared.LoopChanged.{LoopChanged}
-use Rattle.loop_table.specs.Tables.{slotOf, empty, isEmpty, looping, lawfulSlot, lawfulTable, owns, heldIn, stored, changed, refusedWrite, refusedClear}
+use Rattle.loop_table.specs.Tables.{slotOf, empty, isEmpty, looping, lawfulSlot, lawfulTable, same, half, owns, heldIn, stored, changed, refusedWrite, refusedClear}
 use Rattle.loop_table.proofs.Accepted.{Own, write-accepted, clear-accepted}
-use Rattle.halls.specs.Apart.{same, half}
 
 pub never : true ≡ false → ⊥
 never e = let z : _≡_ {A = ℕ} 0 1 = cc in omega arith

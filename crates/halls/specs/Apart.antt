@@ -7,26 +7,15 @@ use mathlib.Core.Path.{_≡_}
 use mathlib.Core.Bool.{Bool, true, false, not, _&&_}
 use mathlib.Core.List.{List, _∷_}
 use lib.Dec.{T, eqb}
-use lib.ListN.{length, take, drop}
+use lib.ListN.{length}
 use lib.Ieee.{Float}
 use Rattle.numbers.specs.Lists.{all}
 use Rattle.loop_table.specs.declared.Hall.{Hall}
 use Rattle.loop_table.specs.declared.Hall.the-variants as hall
 use Rattle.loop_table.specs.declared.LoopSlot.{LoopSlot}
 use Rattle.loop_table.specs.declared.LoopTable.{LoopTable}
-use Rattle.loop_table.specs.Tables.{owns, slotOf, empty, found, written, cleared}
+use Rattle.loop_table.specs.Tables.{same, half, owns, slotOf, empty, found, written, cleared}
 use Rattle.halls.specs.Calls.{Write, Clear, Read, New, Take, Command, Block, Mix, Event, ByHall, ByVoice, World, after, answers, only}
-
-abbrev pub same : Hall → Hall → Bool
-same hall.A hall.A = true
-same hall.A hall.B = false
-same hall.B hall.A = false
-same hall.B hall.B = true
-
--- the eight slots that a hall writes
-abbrev pub half : Hall → LoopTable → List LoopSlot
-half hall.A t = take 8 (t .slots)
-half hall.B t = drop 8 (t .slots)
 
 -- writes and clears by h, reads of h's slots by either hall, calls of voice i
 abbrev pub concerns : Hall → ℕ → Event → Bool

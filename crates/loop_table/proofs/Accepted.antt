@@ -9,7 +9,7 @@ use Rattle.loop_table.specs.declared.LoopTable.{LoopTable}
 use Rattle.loop_table.specs.Tables.{unless, looping, lawfulTable, owns, refusedSlot, refusedWrite, refusedClear}
 
 -- a test that gives its number where it fails
-passed : (ok : Bool) (n rest : ℕ) → unless ok (suc n) rest ≡ 0 → T ok × (rest ≡ 0)
+pub passed : (ok : Bool) (n rest : ℕ) → unless ok (suc n) rest ≡ 0 → T ok × (rest ≡ 0)
 passed true n rest h = (tt, h)
 passed false n rest h = let e : _≡_ {A = ℕ} (suc n) 0 = h in absurd (omega arith)
 

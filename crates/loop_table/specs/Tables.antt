@@ -1,9 +1,10 @@
 -- The table of loops (request #109), refusals 1, 6 and 20 to 22: sixteen slots over one sound, slots 0 to 7 written by hall A, 8 to 15 by hall B.
 -- Every loop is in frames and judged over all frames of the sound, which the table records.
 use Prim.Native.Nat.{ℕ}
-use mathlib.Core.Bool.{Bool, _&&_, _||_, cond}
+use mathlib.Core.Bool.{Bool, true, false, _&&_, _||_, cond}
+use mathlib.Core.List.{List}
 use lib.Dec.{eqb, leb, ltb}
-use lib.ListN.{getD, set, replicate}
+use lib.ListN.{getD, set, take, drop, replicate}
 use Rattle.numbers.specs.Lists.{all}
 use Rattle.playback_position.specs.declared.FrameRange.the-variants.{Frames}
 use Rattle.playback_position.specs.Positions.{within}
@@ -44,6 +45,17 @@ lawfulTable t = all (lawfulSlot (t .«num_frames»)) (t .slots)
 abbrev pub owns : Hall → ℕ → Bool
 owns hall.A k = ltb k 8
 owns hall.B k = leb 8 k
+
+abbrev pub same : Hall → Hall → Bool
+same hall.A hall.A = true
+same hall.A hall.B = false
+same hall.B hall.A = false
+same hall.B hall.B = true
+
+-- the eight slots that a hall writes
+abbrev pub half : Hall → LoopTable → List LoopSlot
+half hall.A t = take 8 (t .slots)
+half hall.B t = drop 8 (t .slots)
 
 -- 20 and 21
 abbrev pub refusedSlot : Hall → ℕ → ℕ

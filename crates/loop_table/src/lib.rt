@@ -92,8 +92,8 @@ impl LoopTable {
         }
     }
 
-    // Refusal 1.
-    fn is_lawful(self) -> bool
+    // Whether refusal 1 does not apply.
+    pub fn is_lawful(self) -> bool
         ensures { λ r. ⌜ r ≡ lawfulTable self ⌝ }
     {
         let slots = self.slots;

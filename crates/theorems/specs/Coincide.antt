@@ -26,6 +26,7 @@ use Rattle.riding.proofs as riding
 use Rattle.held.proofs as held
 use Rattle.block.proofs as block
 use Rattle.static_sound.proofs as static_sound
+use Rattle.loop_copies.proofs as loop_copies
 use Rattle.loop_table.proofs as loop_table
 use Rattle.take_loop.proofs as take_loop
 use Rattle.decibels.proofs as decibels
@@ -153,11 +154,16 @@ pub record Coincide : Type 0 where
   pub static-sound-process-held : DecidesWith (λ k r s. s .1 .1 .1 .1 .1 .0 .now) static_sound.process_held.Reads.Post
   pub static-sound-process-held-into : DecidesWith (λ k r s. s .1 .1 .1 .1 .1 .0 .now) static_sound.process_held_into.Reads.Post
   pub static-sound-stretch : DecidesPart static_sound.stretch.Reads.Post
-  -- loop_table and take_loop
+  -- loop_table, loop_copies and take_loop
   pub loop-table-looptable-new : Decides loop_table.LoopTable.new.Reads.Post
   pub loop-table-looptable-write : Decides loop_table.LoopTable.write.Reads.Post
   pub loop-table-looptable-clear : Decides loop_table.LoopTable.clear.Reads.Post
   pub loop-table-looptable-read : Decides loop_table.LoopTable.read.Reads.Post
+  pub loop-table-looptable-is-lawful : Decides loop_table.LoopTable.is_lawful.Reads.Post
+  pub loop-copies-loopcopy-new : Decides loop_copies.LoopCopy.new.Reads.Post
+  pub loop-copies-loopcopy-write : Decides loop_copies.LoopCopy.write.Reads.Post
+  pub loop-copies-loopcopy-clear : Decides loop_copies.LoopCopy.clear.Reads.Post
+  pub loop-copies-loopcopy-merge : Decides loop_copies.LoopCopy.merge.Reads.Post
   pub take-loop-take : Decides take_loop.take.Reads.Post
   -- decibels and semitones
   pub decibels-as-amplitude : DecidesWith (λ k r s. s .1 .0 .now) decibels.as_amplitude.Reads.Post
@@ -199,6 +205,10 @@ pub record Coincide : Type 0 where
   pub cableowl-cableowl-clear-loop : Decides cableowl.cableowl_clear_loop.Reads.Post
   pub cableowl-cableowl-read-loop : Decides cableowl.cableowl_read_loop.Reads.Post
   pub cableowl-cableowl-take-loop : Decides cableowl.cableowl_take_loop.Reads.Post
+  pub cableowl-cableowl-loop-copy : Decides cableowl.cableowl_loop_copy.Reads.Post
+  pub cableowl-cableowl-write-copy : Decides cableowl.cableowl_write_copy.Reads.Post
+  pub cableowl-cableowl-clear-copy : Decides cableowl.cableowl_clear_copy.Reads.Post
+  pub cableowl-cableowl-merge-copies : Decides cableowl.cableowl_merge_copies.Reads.Post
   pub cableowl-cableowl-store-settings : DecidesWith (λ k r s. s .1 .0 .now) cableowl.cableowl_store_settings.Reads.Post
   pub cableowl-cableowl-load-settings : DecidesWith (λ k r s. s .1 .1 .0 .now) cableowl.cableowl_load_settings.Reads.Post
   pub cableowl-cableowl-settings-of : Decides cableowl.cableowl_settings_of.Reads.Post

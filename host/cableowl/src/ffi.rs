@@ -163,6 +163,23 @@ pub struct LoopFound {
     pub refusal: u32,
 }
 
+/// A copy of a loop table, with each hall's number of changes.
+#[repr(C)]
+#[derive(Debug, Clone, Copy, PartialEq, Eq)]
+pub struct LoopCopy {
+    pub table: LoopTable,
+    pub changes_a: u64,
+    pub changes_b: u64,
+}
+
+/// What a write, a clear or a merge of a copy answers.
+#[repr(C)]
+#[derive(Debug, Clone, Copy)]
+pub struct CopyChanged {
+    pub copy: LoopCopy,
+    pub refusal: u32,
+}
+
 /// The lanes of one block, lent.
 #[derive(Debug, Clone, Copy)]
 pub struct Lanes<'a> {
@@ -241,6 +258,20 @@ unsafe extern "C" {
     safe fn cableowl_clear_loop(table: LoopTable, hall: u32, slot: u64) -> LoopChanged;
 
     safe fn cableowl_read_loop(table: LoopTable, slot: u64) -> LoopFound;
+
+    safe fn cableowl_loop_copy(num_frames: u64) -> LoopCopy;
+
+    safe fn cableowl_write_copy(
+        copy: LoopCopy,
+        hall: u32,
+        slot: u64,
+        start: u64,
+        end: u64,
+    ) -> CopyChanged;
+
+    safe fn cableowl_clear_copy(copy: LoopCopy, hall: u32, slot: u64) -> CopyChanged;
+
+    safe fn cableowl_merge_copies(ours: LoopCopy, theirs: LoopCopy) -> CopyChanged;
 
     fn cableowl_take_loop(
         table: LoopTable,
@@ -349,6 +380,22 @@ pub fn clear_loop(table: LoopTable, hall: u32, slot: u64) -> LoopChanged {
 
 pub fn read_loop(table: LoopTable, slot: u64) -> LoopFound {
     cableowl_read_loop(table, slot)
+}
+
+pub fn loop_copy(num_frames: u64) -> LoopCopy {
+    cableowl_loop_copy(num_frames)
+}
+
+pub fn write_copy(copy: LoopCopy, hall: u32, slot: u64, start: u64, end: u64) -> CopyChanged {
+    cableowl_write_copy(copy, hall, slot, start, end)
+}
+
+pub fn clear_copy(copy: LoopCopy, hall: u32, slot: u64) -> CopyChanged {
+    cableowl_clear_copy(copy, hall, slot)
+}
+
+pub fn merge_copies(ours: LoopCopy, theirs: LoopCopy) -> CopyChanged {
+    cableowl_merge_copies(ours, theirs)
 }
 
 pub fn take_loop(table: LoopTable, slot: u64, state: State, sound: &[f32]) -> Commanded {

@@ -240,6 +240,8 @@ fn four_declarations_are_one() {
         ("LoopTable", size_of::<ffi::LoopTable>()),
         ("LoopChanged", size_of::<ffi::LoopChanged>()),
         ("LoopFound", size_of::<ffi::LoopFound>()),
+        ("LoopCopy", size_of::<ffi::LoopCopy>()),
+        ("CopyChanged", size_of::<ffi::CopyChanged>()),
         ("Record", size_of::<ffi::Record>()),
         ("Sent", size_of::<ffi::Sent>()),
         ("Saved", size_of::<ffi::Saved>()),

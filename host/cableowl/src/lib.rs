@@ -78,6 +78,7 @@ mod float_mode;
 #[cfg(test)]
 mod header;
 mod lanes;
+mod loop_copy;
 mod loop_table;
 mod playback_position;
 mod playback_state;
@@ -94,6 +95,7 @@ pub mod trace;
 pub use commands::{Commands, LoopCommand, ResumeCommand};
 pub use fades::{Level, MAX_RAMP_FRAMES, fade_ramp};
 pub use lanes::{BlockLanes, Lane, Lanes};
+pub use loop_copy::LoopCopy;
 pub use loop_table::{Hall, LoopTable};
 pub use playback_position::{EndPosition, Frames, PlaybackPosition, Region};
 pub use playback_state::{PlaybackState, Signals, StartAnswer, StartSignal};

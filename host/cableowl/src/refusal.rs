@@ -106,7 +106,12 @@ pub enum Refusal {
     SavedField,
     /// 25: a salvage's output.
     Output,
-    /// 26: a player's seek, where 64 wait for the next frame already.
+    /// 27: two copies of a loop table over sounds of different frame counts.
+    OtherFrames,
+    /// 28: two copies of a loop table that have one number of changes for a hall and differ in its
+    /// slots.
+    TwoHalves,
+    /// 29: a player's seek, where 64 wait for the next frame already.
     Queue,
     /// A player's output rate: the number is 10, a time step's.
     OutputRate,
@@ -150,7 +155,9 @@ impl Refusal {
             Self::Version => 23,
             Self::SavedField => 24,
             Self::Output => 25,
-            Self::Queue => 26,
+            Self::OtherFrames => 27,
+            Self::TwoHalves => 28,
+            Self::Queue => 29,
         }
     }
 
@@ -179,6 +186,8 @@ impl Refusal {
         Self::Version,
         Self::SavedField,
         Self::Output,
+        Self::OtherFrames,
+        Self::TwoHalves,
     ];
 
     /// The sentence of a number, for those who have only the number: from a log, or in C, where
@@ -310,6 +319,12 @@ impl Refusal {
                 "hall A writes and clears slots 0 to 7, hall B slots 8 to 15: ask the other hall"
             }
             Self::EmptySlot => "the slot holds no loop: its hall must write one first",
+            Self::OtherFrames => {
+                "the two copies are of loop tables over different sounds: merge copies over one sound"
+            }
+            Self::TwoHalves => {
+                "one hall has made the same number of changes in both copies, but its slots differ: two boxes have written for one hall, or one went back to an old copy; keep the copy that is right and write its slots again"
+            }
             Self::Queue => {
                 "64 seeks wait for the next frame already: play a frame, then seek again"
             }

@@ -97,6 +97,13 @@ fn numbers_and_sentences() {
         let said = refusal.to_string();
         assert!(said.starts_with(&format!("refusal {number}: ")), "{said}");
     }
+    for (number, refusal) in [
+        (27, Refusal::OtherFrames),
+        (28, Refusal::TwoHalves),
+        (29, Refusal::Queue),
+    ] {
+        assert_eq!(refusal.number(), number);
+    }
     let said = at(LaneName::Right, 17).to_string();
     assert!(said.starts_with("refusal 11: frame 17 of lane right: fade, volume and gains"));
     let said = at(LaneName::Rate, 0).to_string();

@@ -145,6 +145,27 @@ pub mod entries {
         ) -> CableowlLoopChanged;
         /// A read of a slot.
         pub safe fn cableowl_read_loop(table: CableowlLoopTable, slot: u64) -> CableowlLoopFound;
+        /// A copy of an empty table.
+        pub safe fn cableowl_loop_copy(num_frames: u64) -> CableowlLoopCopy;
+        /// A loop put into a slot of a copy.
+        pub safe fn cableowl_write_copy(
+            copy: CableowlLoopCopy,
+            hall: u32,
+            slot: u64,
+            start: u64,
+            end: u64,
+        ) -> CableowlCopyChanged;
+        /// A slot of a copy emptied.
+        pub safe fn cableowl_clear_copy(
+            copy: CableowlLoopCopy,
+            hall: u32,
+            slot: u64,
+        ) -> CableowlCopyChanged;
+        /// Two copies merged.
+        pub safe fn cableowl_merge_copies(
+            ours: CableowlLoopCopy,
+            theirs: CableowlLoopCopy,
+        ) -> CableowlCopyChanged;
         /// A slot's loop, taken by a voice.
         pub fn cableowl_take_loop(
             table: CableowlLoopTable,

@@ -1,0 +1,6 @@
+-- Two boxes, each with a copy of the loop table.
+pub mod Boxes
+pub mod Merging
+pub mod AsAlone
+pub mod Together
+pub mod Promises

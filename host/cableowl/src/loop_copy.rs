@@ -1,0 +1,105 @@
+//! A copy of a loop table for a box of its own, and two copies merged.
+
+use std::ops::Range;
+
+use crate::{Hall, LoopTable, Refusal, ffi};
+
+/// A copy of a [`LoopTable`] at one of two boxes that share no memory.
+///
+/// Beside the table it holds how many writes and clears each hall has made. Each hall changes its
+/// half at its own box only, so of two copies of a half the one with the larger number is the newer.
+/// A box sends its copy to the other box at any time, and [`merge`](Self::merge) keeps each hall's
+/// newer half.
+///
+/// It is proved that copies may be lost, repeated, late and out of order: a hall's own answers and
+/// slots, and the frames of voices that take loops from these slots, are what they would be without
+/// the other box; a merge never goes back to an older half; and once each box has merged the other's
+/// last copy, both hold the table that one shared table would hold.
+///
+/// ```
+/// use cableowl::{Hall, LoopCopy};
+///
+/// let (mut at_a, mut at_b) = (LoopCopy::new(48_000), LoopCopy::new(48_000));
+/// at_a.write(Hall::A, 0, 0..24_000)?;
+/// at_b.write(Hall::B, 8, 500..600)?;
+/// at_b.clear(Hall::B, 8)?;
+/// at_a.merge(&at_b)?;
+/// at_b.merge(&at_a)?;
+/// assert_eq!(at_a, at_b);
+/// assert_eq!(at_b.table().read(0), Ok(0..24_000));
+/// assert_eq!((at_b.changes(Hall::A), at_b.changes(Hall::B)), (1, 2));
+/// # Ok::<(), cableowl::Refusal>(())
+/// ```
+#[derive(Debug, Clone, Copy, PartialEq, Eq)]
+pub struct LoopCopy {
+    copy: ffi::LoopCopy,
+}
+
+impl LoopCopy {
+    /// An empty table over a sound of so many frames, and no changes.
+    #[must_use]
+    pub fn new(num_frames: u64) -> Self {
+        Self {
+            copy: ffi::loop_copy(num_frames),
+        }
+    }
+
+    /// The table, for reads and for voices that take loops.
+    #[must_use]
+    pub fn table(&self) -> LoopTable {
+        LoopTable {
+            table: self.copy.table,
+        }
+    }
+
+    /// How many writes and clears of a hall this copy has. The number stays at its limit of 64 bits.
+    #[must_use]
+    pub fn changes(&self, hall: Hall) -> u64 {
+        match hall {
+            Hall::A => self.copy.changes_a,
+            Hall::B => self.copy.changes_b,
+        }
+    }
+
+    /// Puts a loop into a slot, in place of what it holds. Call it only at the hall's own box.
+    ///
+    /// # Errors
+    ///
+    /// Refusals 6, 20 and 21, in this order.
+    pub fn write(&mut self, hall: Hall, slot: usize, frames: Range<u64>) -> Result<(), Refusal> {
+        let (start, end) = (frames.start, frames.end);
+        self.change(ffi::write_copy(
+            self.copy,
+            hall as u32,
+            slot as u64,
+            start,
+            end,
+        ))
+    }
+
+    /// Empties a slot, or leaves it empty. Call it only at the hall's own box.
+    ///
+    /// # Errors
+    ///
+    /// Refusals 20 and 21, in this order.
+    pub fn clear(&mut self, hall: Hall, slot: usize) -> Result<(), Refusal> {
+        self.change(ffi::clear_copy(self.copy, hall as u32, slot as u64))
+    }
+
+    /// Takes each hall's newer half.
+    ///
+    /// # Errors
+    ///
+    /// Refusal 27 if the copies are over sounds of different frame counts; 28 if both have the same
+    /// number of changes for a hall and its slots differ, which happens only if a hall was written at
+    /// two boxes or went back to an old copy. Nothing changes then.
+    pub fn merge(&mut self, theirs: &Self) -> Result<(), Refusal> {
+        self.change(ffi::merge_copies(self.copy, theirs.copy))
+    }
+
+    fn change(&mut self, answer: ffi::CopyChanged) -> Result<(), Refusal> {
+        Refusal::check(answer.refusal)?;
+        self.copy = answer.copy;
+        Ok(())
+    }
+}
