@@ -2,6 +2,7 @@
 //! box's own log is compared with it wherever both have an edge.
 
 mod align;
+pub mod folder;
 mod page;
 
 use std::{

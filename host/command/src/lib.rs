@@ -4,10 +4,13 @@
 #![warn(missing_docs)]
 
 mod audit;
+mod by_group;
 mod course;
 mod fault;
 mod figures;
+mod group;
 mod input;
+mod interval;
 mod log;
 mod out;
 mod page;
@@ -75,6 +78,15 @@ fn obey(
             csv,
             page,
         } => report::report(&logs, rate, csv, page.as_deref(), out, complain),
+        Asked::ReportGroups {
+            logs,
+            by,
+            rate,
+            csv,
+        } => by_group::report(&logs, &by, rate, csv, out, complain),
+        Asked::AuditFolders { folders, csv, page } => {
+            audit::folder::audit(&folders, csv, page.as_deref(), out)
+        }
         Asked::Audit {
             trace,
             log,

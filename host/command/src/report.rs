@@ -8,7 +8,7 @@ use std::{
 use crate::{
     course::Course,
     fault::{Fault, Result},
-    figures::{Count, Figures, QUANTILES, REFUSALS, quantile},
+    figures::{self, Count, Figures, QUANTILES, REFUSALS, quantile},
     input::Input,
     log::{Form, Log},
     out::{Fresh, Out, free_for_a_page, same},
@@ -56,7 +56,7 @@ impl Row {
 }
 
 /// The columns: the name in a table, and the words for people.
-pub const COLUMNS: [(&str, &str); 23] = [
+pub const COLUMNS: [(&str, &str); 24] = [
     ("blocks", "Blocks"),
     ("frames", "Frames"),
     ("minutes", "Minutes"),
@@ -71,6 +71,7 @@ pub const COLUMNS: [(&str, &str); 23] = [
     ("restarts", "Restarts by hand"),
     ("pauses", "Pauses"),
     ("ended", "Reached the end"),
+    ("misfits", "Lines that do not fit"),
     ("lowest_count", "Lowest window count"),
     ("refused", "Refused blocks"),
     ("refused_1", "Refused with 1"),
@@ -102,6 +103,7 @@ fn cells(figures: &Figures) -> Cells {
         figures.restarts,
         figures.pauses,
         figures.ended,
+        figures.misfits,
         figures.lowest,
         Some(figures.all_refused()),
         one,
@@ -236,21 +238,41 @@ pub fn lacking(rows: &[Told], columns: &[(&str, &str)]) -> Vec<String> {
     named.into_iter().map(sentence).collect()
 }
 
-/// Reads a log to its end.
-fn read(path: &Path, rate: u32) -> Result<Evening> {
+/// What a log says, read to its end.
+pub struct Read {
+    /// Its name.
+    pub name: String,
+    /// Its form.
+    pub form: Form,
+    /// Its figures.
+    pub figures: Figures,
+    /// Where it was cut inside a line, in words.
+    pub cut: Option<String>,
+}
+
+impl Read {
+    /// A warning where the log was cut inside a line.
+    pub fn warning(&self) -> Option<Fault> {
+        let (name, cut) = (&self.name, self.cut.as_ref()?);
+        Some(Fault::refused(format!(
+            "{name}: {cut}, as after a power loss: the lines before it are reported"
+        )))
+    }
+}
+
+/// Reads a log to its end, and shows each line.
+pub fn figures_of(path: &Path, each: &mut dyn FnMut(&figures::Told)) -> Result<Read> {
     let mut log = Log::new(Input::open(path)?)?;
     let mut count = Count::new(log.form());
-    let mut course = Course::new(rate);
     while let Some(line) = log.next_line()? {
         if let Some(told) = count.add(&line) {
-            course.add(&told);
+            each(&told);
         }
     }
-    Ok(Evening {
+    Ok(Read {
         name: log.name().to_owned(),
         form: log.form(),
         figures: count.figures(),
-        course,
         cut: log.cut(),
     })
 }
@@ -270,15 +292,19 @@ pub fn report(
     }
     let mut evenings = Vec::new();
     for path in logs {
-        match read(path, rate) {
-            Ok(evening) => {
-                if let Some(cut) = &evening.cut {
-                    let name = &evening.name;
-                    complain(&Fault::refused(format!(
-                        "{name}: {cut}, as after a power loss: the lines before it are reported"
-                    )));
+        let mut course = Course::new(rate);
+        match figures_of(path, &mut |told| course.add(told)) {
+            Ok(read) => {
+                if let Some(warning) = read.warning() {
+                    complain(&warning);
                 }
-                evenings.push(evening);
+                evenings.push(Evening {
+                    name: read.name,
+                    form: read.form,
+                    figures: read.figures,
+                    course,
+                    cut: read.cut,
+                });
             }
             Err(fault) => complain(&fault),
         }
@@ -330,7 +356,7 @@ fn put_csv(rows: &[Told], rate: u32, out: &mut Out<'_>) -> Result<()> {
 }
 
 /// A name in comma separated values.
-fn quoted(name: &str) -> String {
+pub fn quoted(name: &str) -> String {
     match name.contains([',', '"', '\n', '\r']) {
         true => format!("\"{}\"", name.replace('"', "\"\"")),
         false => name.to_owned(),
@@ -387,6 +413,13 @@ fn put_one(evening: &Evening, rate: u32, out: &mut Out<'_>) -> Result<()> {
     ];
     for (name, says) in lines.into_iter().chain(jumps).chain(more).chain(ended) {
         out.put(format!("  {name:<21}{says}\n"))?;
+    }
+    if let (Some(misfits), Some(first)) = (figures.misfits, figures.first_misfit) {
+        out.put(format!(
+            "  {} of its lines do not fit: steps, turns and places disagree, first at block {}\n",
+            grouped(misfits),
+            grouped(first)
+        ))?;
     }
     if let Some((refusal, at)) = figures.broken {
         out.put(format!(
@@ -452,15 +485,27 @@ fn put_table(rows: &[Told], rate: u32, out: &mut Out<'_>) -> Result<()> {
         let row: Vec<String> = [told.name.clone()].into_iter().chain(cells).collect();
         table.push(row);
     }
+    for (index, line) in laid_out(&table).iter().enumerate() {
+        if index == logs + 1 {
+            out.put("\n")?;
+        }
+        out.put(format!("{line}\n"))?;
+    }
+    for sentence in lacking(rows, &SHORT) {
+        out.put(format!("{sentence}\n"))?;
+    }
+    Ok(())
+}
+
+/// The lines of a table: the first column to the left, the others to the right.
+pub fn laid_out(table: &[Vec<String>]) -> Vec<String> {
+    let columns = table.iter().map(Vec::len).max().unwrap_or(0);
     let width = |column: usize| {
         let cells = table.iter().filter_map(|row| row.get(column));
         cells.map(|cell| cell.chars().count()).max().unwrap_or(0)
     };
-    let widths: Vec<usize> = (0..=SHORT.len()).map(width).collect();
-    for (index, row) in table.iter().enumerate() {
-        if index == logs + 1 {
-            out.put("\n")?;
-        }
+    let widths: Vec<usize> = (0..columns).map(width).collect();
+    let line = |row: &Vec<String>| {
         let mut line = String::new();
         for (column, (cell, width)) in row.iter().zip(&widths).enumerate() {
             match column {
@@ -468,13 +513,9 @@ fn put_table(rows: &[Told], rate: u32, out: &mut Out<'_>) -> Result<()> {
                 _ => line += &format!("  {cell:>width$}"),
             }
         }
-        out.put(line.trim_end())?;
-        out.put("\n")?;
-    }
-    for sentence in lacking(rows, &SHORT) {
-        out.put(format!("{sentence}\n"))?;
-    }
-    Ok(())
+        line.trim_end().to_owned()
+    };
+    table.iter().map(line).collect()
 }
 
 /// A figure with a comma after each three digits of its whole part.

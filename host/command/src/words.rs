@@ -6,7 +6,9 @@ use std::{
 };
 
 use crate::{
+    by_group,
     fault::{Fault, Result},
+    group::{By, Pattern},
     log::Form,
     out::shown,
 };
@@ -48,6 +50,26 @@ pub enum Asked {
         /// Where the page goes.
         page: Option<PathBuf>,
     },
+    /// The figures of groups of evenings.
+    ReportGroups {
+        /// Their logs, or folders of them.
+        logs: Vec<PathBuf>,
+        /// How they are grouped.
+        by: by_group::Asked,
+        /// Frames a second of the box.
+        rate: u32,
+        /// Told as comma separated values.
+        csv: bool,
+    },
+    /// Every log in some folders held to its trace.
+    AuditFolders {
+        /// The folders.
+        folders: Vec<PathBuf>,
+        /// Told as comma separated values, a row for each box.
+        csv: bool,
+        /// Where the page goes.
+        page: Option<PathBuf>,
+    },
     /// A log held to its trace.
     Audit {
         /// The trace.
@@ -73,8 +95,14 @@ cableowl: what a listening box's evening came to
       shows saved settings
   cableowl report [--rate HZ] [--csv] [--html OUT] LOG..
       the figures of one evening or of many, and a page with plots
+  cableowl report --by box|day|week [--name PATTERN] [--rate HZ] [--csv] LOG..
+  cableowl report --groups FILE [--rate HZ] [--csv] LOG..
+      groups of evenings, and what changed from one to the next: by their
+      names, '{box}_{date}' where no PATTERN is given, or by lines file,group
   cableowl audit [--csv] [--html OUT] TRACE LOG
       did this box play as proved? the first block that differs, and the creep
+  cableowl audit [--csv] [--html OUT] FOLDER..
+      the same of every NAME.trace beside its NAME.log, one row a box
   cableowl help, cableowl version
 
 A file named - is standard input. A log is what replay prints, or what a box
@@ -121,6 +149,9 @@ struct Given {
     page: Option<PathBuf>,
     rate: Option<OsString>,
     log: Option<OsString>,
+    by: Option<OsString>,
+    name: Option<OsString>,
+    groups: Option<PathBuf>,
 }
 
 impl Given {
@@ -159,6 +190,9 @@ impl Given {
             Some("--html") => self.page.replace(value()?.into()).is_some(),
             Some("--rate") => self.rate.replace(value()?).is_some(),
             Some("--log") => self.log.replace(value()?).is_some(),
+            Some("--by") => self.by.replace(value()?).is_some(),
+            Some("--name") => self.name.replace(value()?).is_some(),
+            Some("--groups") => self.groups.replace(value()?.into()).is_some(),
             _ => {
                 let word = shown(Path::new(word));
                 return Err(Fault::usage(format!(
@@ -179,6 +213,9 @@ impl Given {
             ("--html", self.page.is_some()),
             ("--rate", self.rate.is_some()),
             ("--log", self.log.is_some()),
+            ("--by", self.by.is_some()),
+            ("--name", self.name.is_some()),
+            ("--groups", self.groups.is_some()),
         ];
         for (option, given) in given {
             if given && !options.contains(&option) {
@@ -240,7 +277,14 @@ impl Given {
     }
 
     fn report(self) -> Result<Asked> {
-        self.only("report", &["--csv", "--html", "--rate"])?;
+        let by = self.group_by()?;
+        match by {
+            Some(_) => self.only(
+                "report by groups",
+                &["--csv", "--rate", "--by", "--name", "--groups"],
+            )?,
+            None => self.only("report", &["--csv", "--html", "--rate"])?,
+        }
         let rate = self.rate.as_deref().map(OsStr::to_str);
         let rate = match rate {
             None => Some(RATE),
@@ -255,6 +299,14 @@ impl Given {
             return Err(Fault::usage("report takes one log or more"));
         }
         page_is_a_file(self.page.as_deref())?;
+        if let Some(by) = by {
+            return Ok(Asked::ReportGroups {
+                logs: self.files,
+                by,
+                rate,
+                csv: self.csv,
+            });
+        }
         Ok(Asked::Report {
             logs: self.files,
             rate,
@@ -263,10 +315,40 @@ impl Given {
         })
     }
 
+    /// How logs are to be grouped, if they are.
+    fn group_by(&self) -> Result<Option<by_group::Asked>> {
+        let by = match self.by.as_deref().map(OsStr::to_str) {
+            None => None,
+            Some(Some("box")) => Some(By::Box),
+            Some(Some("day")) => Some(By::Day),
+            Some(Some("week")) => Some(By::Week),
+            Some(_) => return Err(Fault::usage("--by is box, day or week")),
+        };
+        let name = self.name.as_deref().unwrap_or(OsStr::new("{box}_{date}"));
+        match (by, &self.groups) {
+            (None, None) if self.name.is_some() => Err(Fault::usage("--name goes with --by")),
+            (None, None) => Ok(None),
+            (None, Some(table)) => Ok(Some(by_group::Asked::Table(table.clone()))),
+            (Some(_), Some(_)) => Err(Fault::usage("give --by or --groups, not both")),
+            (Some(by), None) => {
+                let pattern = Pattern::read(&name.to_string_lossy());
+                let pattern = pattern.map_err(|words| Fault::usage(format!("--name: {words}")))?;
+                Ok(Some(by_group::Asked::Named(by, pattern)))
+            }
+        }
+    }
+
     fn audit(self) -> Result<Asked> {
         self.only("audit", &["--csv", "--html"])?;
         page_is_a_file(self.page.as_deref())?;
         let (csv, page) = (self.csv, self.page.clone());
+        if !self.files.is_empty() && self.files.iter().all(|file| file.is_dir()) {
+            return Ok(Asked::AuditFolders {
+                folders: self.files,
+                csv,
+                page,
+            });
+        }
         let [trace, log] = self.files("audit takes two files, a trace and the box's log")?;
         Ok(Asked::Audit {
             trace,
@@ -356,6 +438,20 @@ mod tests {
                 "--rate is the box's frames a second, 1 to 768000",
             ),
             ("report --csv --csv a", "'--csv' is given twice"),
+            ("report --by hall a", "--by is box, day or week"),
+            ("report --name {box} a", "--name goes with --by"),
+            (
+                "report --by box --name {hall} a",
+                "--name: '{hall}' is none of {box}, {date} and {any}",
+            ),
+            (
+                "report --by box --groups t a",
+                "give --by or --groups, not both",
+            ),
+            (
+                "report --by day --html p a",
+                "report by groups has no option --html",
+            ),
             (
                 "report --html - a",
                 "--html writes a file, so it cannot be '-'",

@@ -11,3 +11,4 @@ mod room;
 mod salvage;
 mod settings;
 mod tools;
+mod week;
