@@ -43,7 +43,7 @@ impl Date {
     pub fn read(text: &str) -> Option<Self> {
         let digits: String = match text.len() {
             8 => text.into(),
-            10 if text.bytes().nth(4) == Some(b'-') && text.bytes().nth(7) == Some(b'-') => {
+            10 if [4, 7].map(|at| text.as_bytes().get(at)) == [Some(&b'-'); 2] => {
                 text.chars().filter(|letter| *letter != '-').collect()
             }
             _ => return None,
