@@ -253,6 +253,11 @@ pub fn state_name(state: PlaybackState) -> &'static str {
     }
 }
 
+/// A state's name as one word.
+pub fn state_word(state: PlaybackState) -> String {
+    state_name(state).replace(' ', "-")
+}
+
 /// What a state means, and what to do.
 fn state_says(state: PlaybackState) -> (&'static str, &'static str) {
     match state {
@@ -291,7 +296,7 @@ fn state_says(state: PlaybackState) -> (&'static str, &'static str) {
 pub fn words() -> Vec<String> {
     let numbers = REFUSALS.iter().map(|refusal| refusal.number.to_string());
     let states = PlaybackState::ALL.into_iter();
-    let states = states.map(|state| state_name(state).replace(' ', "-"));
+    let states = states.map(state_word);
     numbers.chain(states).collect()
 }
 

@@ -4,13 +4,16 @@
 #![warn(missing_docs)]
 
 mod audit;
+mod by_group;
 mod completions;
 mod course;
 mod explain;
 mod fault;
 mod figures;
+mod group;
 mod help;
 mod input;
+mod interval;
 mod log;
 mod man;
 mod out;
@@ -100,6 +103,15 @@ fn obey(words: &[OsString], out: &mut Out<'_>, complain: &mut dyn FnMut(&Fault))
                 sound: sound_rate,
             };
             report::report(&files, rates, csv, page.as_deref(), out, complain)
+        }
+        Asked::ReportGroups {
+            files,
+            by,
+            rate,
+            csv,
+        } => by_group::report(&files, &by, rate, csv, out, complain),
+        Asked::AuditFolders { folders, csv, page } => {
+            audit::folder::audit(&folders, csv, page.as_deref(), out)
         }
         Asked::Audit {
             trace,
