@@ -56,7 +56,7 @@ fn both_versions_are_shown() {
 /// The way a voice goes that is created with these settings: the sign of its first move.
 fn way(settings: SavedSettings) -> bool {
     let sound = [0.5; 40];
-    let created = settings.settings(1).start_position(10);
+    let created = settings.settings(1).start_position(10.0);
     let mut voice = StaticSound::new(created, &sound).unwrap();
     let before = voice.state().position;
     let (mut lanes, mut out) = (Lanes::new(), [0.0; 2]);
