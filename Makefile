@@ -1,6 +1,7 @@
 # make: the main job, a student's evening: played, recorded, played again, audited, reported. make test: the gate, the same
 # as .ci/run. make command: the command that people run. make archive: the archive that C links, for the processor at hand.
-.PHONY: all archive command test
+# make dist: what people install, a tarball and two Debian packages.
+.PHONY: all archive command dist test
 cargo = cd host && CABLEOWL_PROGRESS=/proc/$$$$/fd/2 cargo
 
 # The build script of host/cableowl has rt prove the crates; where a proof fails it says which, and nothing is played.
@@ -14,6 +15,10 @@ command:
 archive:
 	@$(cargo) build --release --offline -p cableowl
 	@ls target/archive/$$(uname -m)/libcableowl.a
+
+dist:
+	@tools/dist
+	@ls -d $(CURDIR)/target/dist/*
 
 test:
 	@tools/gate

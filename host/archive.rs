@@ -1,8 +1,9 @@
 // For build scripts: has `rt` prove a crate of this repository, and links its archive: on x86-64 the one that the kit
 // writes, on Arm (aarch64) one compiled from the same module (archive/module.rs).
 //
-// CABLEOWL_NO_ARCHIVE=1 leaves all of that out, for lints, which link nothing. CABLEOWL_ARCHIVE=module compiles the
-// module on x86-64 too, so that the way to Arm is tried there. CABLEOWL_PROGRESS=FILE has what takes minutes told to
+// CABLEOWL_NO_ARCHIVE=1 leaves all of that out, for lints, which link nothing. CABLEOWL_ARCHIVE=PATH/libcableowl.a links
+// that archive, where it is what this crate expects (archive/given.rs), and proves nothing. CABLEOWL_ARCHIVE=module
+// compiles the module on x86-64 too, so that the way to Arm is tried there. CABLEOWL_PROGRESS=FILE has what takes minutes told to
 // that file; else it is told to the terminal, if there is one.
 
 use std::{
@@ -18,8 +19,13 @@ use std::{
 
 #[path = "archive/convention.rs"]
 mod convention;
+#[path = "archive/given.rs"]
+pub mod given;
 #[path = "archive/module.rs"]
 mod module;
+#[allow(dead_code)]
+#[path = "sha256/src/lib.rs"]
+mod sha256;
 
 type Result<T> = std::result::Result<T, Box<dyn Error>>;
 
@@ -60,6 +66,12 @@ fn prove_and_link(name: &str) -> Result<()> {
     let out = PathBuf::from(env::var("OUT_DIR")?);
     println!("cargo::rustc-link-search=native={}", out.display());
     println!("cargo::rustc-link-lib=static={name}");
+    // The leaves' own archive is for the tests alone, and is always made here.
+    if name == "cableowl"
+        && let Some(archive) = given::asked_for(&root)?
+    {
+        return link_given(&archive, &root, name, &target, &out);
+    }
     let crates = crates_of(&root, name)?;
     watch(&root, &crates);
     let Some(kit) = module::kit() else {
@@ -84,11 +96,31 @@ fn prove_and_link(name: &str) -> Result<()> {
             module::compile(&kit, &proved.module, &exports, &target.arch, &archive)?;
         }
     }
-    // A copy: `rt ci` begins by removing target/.
+    let sources = sources_of(&root, &crates)?;
+    given::Note::of(&archive, &target.arch, &kit.identity()?, &sources)?.write(&archive)?;
+    link_copy(&archive, name, &out)
+}
+
+/// Links a copy: `rt ci` begins by removing target/.
+fn link_copy(archive: &Path, name: &str, out: &Path) -> Result<()> {
     let copy = out.join(format!("lib{name}.a"));
     fs::copy(archive, &copy)?;
     println!("cargo::rustc-env=LINKED_ARCHIVE={}", copy.display());
     Ok(())
+}
+
+/// Links an archive that was made before, where it is what this crate expects.
+fn link_given(archive: &Path, root: &Path, name: &str, target: &Target, out: &Path) -> Result<()> {
+    let sources = match root.join("crates.txt").is_file() {
+        true => {
+            let crates = crates_of(root, name)?;
+            watch(root, &crates);
+            Some(sources_of(root, &crates)?)
+        }
+        false => None,
+    };
+    given::judged(archive, &target.arch, sources)?;
+    link_copy(archive, name, out)
 }
 
 /// How an archive is made: by the kit, or from the module that the kit compiles.
@@ -109,13 +141,9 @@ impl Target {
         let os = env::var("CARGO_CFG_TARGET_OS")?;
         let asked = env::var("CABLEOWL_ARCHIVE").unwrap_or_default();
         let way = match (arch.as_str(), os.as_str(), asked.as_str()) {
-            ("x86_64", "linux", "") => Way::Kit,
-            ("x86_64", "linux", "module") | ("aarch64", "linux", "" | "module") => Way::Module,
-            ("x86_64" | "aarch64", "linux", _) => {
-                return Err(
-                    format!("CABLEOWL_ARCHIVE is 'module' or not set, and not '{asked}'").into(),
-                );
-            }
+            ("x86_64", "linux", "module") | ("aarch64", "linux", _) => Way::Module,
+            // Another word is the path of an archive of `cableowl`; others are made as without it.
+            ("x86_64", "linux", _) => Way::Kit,
             _ => {
                 return Err(format!(
                     "the archive of {name} links into programs for Linux on x86-64 or Arm (aarch64), and this is {arch} {os}"
@@ -304,14 +332,17 @@ impl Proved {
     }
 }
 
-/// Everything that decides what `rt` answers: the kit, crates.txt, and each file of the crates.
+/// Everything that decides what `rt` answers: the kit, and the sources.
 fn proved_from(root: &Path, crates: &BTreeSet<String>, kit: &module::Kit) -> Result<Vec<u8>> {
-    let mut text = format!(
-        "{}\n{}\n",
-        kit.identity()?,
-        fs::read_to_string(root.join("crates.txt"))?
-    )
-    .into_bytes();
+    let mut text = format!("{}\n", kit.identity()?).into_bytes();
+    text.extend(sources_of(root, crates)?);
+    Ok(text)
+}
+
+/// crates.txt, and each file of the crates with its path.
+fn sources_of(root: &Path, crates: &BTreeSet<String>) -> Result<Vec<u8>> {
+    let list = fs::read_to_string(root.join("crates.txt"))?;
+    let mut text = format!("{list}\n").into_bytes();
     for folder in folders(root, crates) {
         for file in files(&folder)? {
             writeln!(text, "{}", file.strip_prefix(root)?.display())?;

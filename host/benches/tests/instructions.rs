@@ -1,4 +1,5 @@
-//! Instructions a frame, counted by callgrind: they may not rise by more than 15 percent over what is recorded here.
+//! Instructions a frame, counted by callgrind: they may not rise by more than 15 percent over what is recorded here. And
+//! divisions in a short loop, which may not rise at all.
 //!
 //! Times depend on the machine and on what else runs there; counts depend on the archive alone, which one clang
 //! compiles. Where there is no valgrind, or nothing is recorded for the processor, that is said, and nothing is tested.
@@ -71,12 +72,24 @@ fn instructions_a_frame_do_not_rise() -> Result<(), Box<dyn Error>> {
     Ok(())
 }
 
+/// The turn at a loop's edge does not divide (#107): tools/divisions has the counts, and where each division is from.
+#[test]
+fn a_turn_at_the_edge_of_a_loop_does_not_divide() -> Result<(), Box<dyn Error>> {
+    let tool = concat!(env!("CARGO_MANIFEST_DIR"), "/../../tools/divisions");
+    let run = Command::new(tool)
+        .args(["20000", env!("CARGO_BIN_EXE_benches")])
+        .output()?;
+    let said = String::from_utf8_lossy(&run.stdout) + String::from_utf8_lossy(&run.stderr);
+    match run.status.code() {
+        Some(0) => Ok(()),
+        Some(2) => unheard(&said),
+        _ => panic!("{said}What divides now, in the archive's functions?"),
+    }
+}
+
 /// Said past the test's own capture of what it prints.
 fn unheard(why: &str) -> Result<(), Box<dyn Error>> {
-    Ok(writeln!(
-        stderr(),
-        "INSTRUCTIONS A FRAME WERE NOT TESTED: {why}"
-    )?)
+    Ok(writeln!(stderr(), "INSTRUCTIONS WERE NOT TESTED: {why}")?)
 }
 
 fn a_frame(cell: Cell) -> Result<f64, Box<dyn Error>> {

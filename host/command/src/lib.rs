@@ -25,6 +25,7 @@ mod salvage;
 mod settings;
 mod summary;
 mod verbs;
+mod version;
 mod words;
 
 use std::{ffi::OsString, io::Write};
@@ -81,11 +82,7 @@ fn obey(words: &[OsString], out: &mut Out<'_>, complain: &mut dyn FnMut(&Fault))
         }
         Asked::Completions(shell) => out.put(completions::of(shell)).map(|()| true),
         Asked::Explain(asked) => explain::explain(&asked, out).map(|()| true),
-        Asked::Version => {
-            let (version, archive) = (env!("CARGO_PKG_VERSION"), cableowl::version());
-            let words = format!("cableowl {version}, C interface {archive}\n");
-            out.put(words).map(|()| true)
-        }
+        Asked::Version => out.put(version::line()).map(|()| true),
         Asked::Summary { trace } => summary::summary(&trace, out).map(|()| true),
         Asked::Replay { trace, form } => replay::replay(&trace, form, out).map(|()| true),
         Asked::Salvage { trace, to } => salvage::salvage(&trace, &to, out).map(|()| true),

@@ -1,9 +1,15 @@
 //! The items of a text that a landing counts: definitions of specs/ and contracts of src/, each by its name, and what
-//! became of them between two commits.
+//! became of them between two commits; and the digest of each statement (`statements`).
 #![deny(unsafe_code)]
 #![warn(missing_docs)]
 
 use std::collections::BTreeMap;
+
+mod sources;
+mod statements;
+
+pub use sources::Sources;
+pub use statements::{FILE, changes, pinned, statements};
 
 /// Items by name, each with its lines that are neither empty nor a comment.
 pub type Items = BTreeMap<String, Vec<String>>;
@@ -11,21 +17,29 @@ pub type Items = BTreeMap<String, Vec<String>>;
 /// Words that may stand before a definition's name.
 const BEFORE: [&str; 6] = ["unfoldable", "abbrev", "opaque", "pub", "record", "data"];
 
-/// The definitions of a text of antt: a name, its type, and all lines up to the next name.
+/// The definitions of a text of antt: a name, its type, and all lines up to the next name. Inside a module with
+/// parameters each begins with the module's first line.
 #[must_use]
 pub fn definitions(text: &str) -> Items {
     let mut found = Items::new();
     let mut current = None;
+    let mut module = None;
     for line in text.lines() {
         if line.trim().is_empty() || line.trim_start().starts_with("--") {
             continue;
         }
-        if let Some(name) = defined(line) {
+        if !line.starts_with(char::is_whitespace) {
+            module = line.starts_with("module ").then_some(line);
+        }
+        let begins = match module {
+            Some(_) => line.strip_prefix("  ").and_then(defined),
+            None => defined(line),
+        };
+        if let Some(name) = begins {
             current = Some(name.to_owned());
-        } else if line.starts_with("use ")
-            || line.starts_with("pub mod ")
-            || line.starts_with("mod ")
-        {
+            let lines = found.entry(name.to_owned()).or_default();
+            lines.extend(module.map(str::to_owned));
+        } else if line.starts_with("module ") || is_use(line) {
             current = None;
         }
         if let Some(name) = &current {
@@ -35,20 +49,24 @@ pub fn definitions(text: &str) -> Items {
     found
 }
 
-/// The name that a line gives a type, where it begins a definition.
+/// Whether a line brings names of other files in, or names a file of its own folder.
+fn is_use(line: &str) -> bool {
+    ["use ", "pub use ", "ghost use ", "pub mod ", "mod "]
+        .iter()
+        .any(|word| line.starts_with(word))
+}
+
+/// The name that a line begins to define: the first after a word such as `abbrev`, else one with its type. Parameters
+/// may stand between a name and its type.
 fn defined(line: &str) -> Option<&str> {
-    if line.starts_with(char::is_whitespace) {
+    if line.starts_with(char::is_whitespace) || is_use(line) {
         return None;
     }
     let mut words = line
         .split_whitespace()
         .skip_while(|word| BEFORE.contains(word));
     let name = words.next()?;
-    let is_record = line
-        .split_whitespace()
-        .any(|word| word == "record" || word == "data");
-    // Parameters may stand between a record's name and its type.
-    (words.next() == Some(":") || (is_record && line.contains(" : "))).then_some(name)
+    (words.next() == Some(":") || !line.starts_with(name)).then_some(name)
 }
 
 /// The contracts of a text of Rattle: for each function that has one, its signature and its clauses.
@@ -74,7 +92,8 @@ pub fn contracts(text: &str) -> Items {
             .iter()
             .chain([&line.to_owned()])
             .any(|line| is_clause(line));
-        if trimmed == "{" || (!has_clause && trimmed.ends_with('{')) {
+        let is_body = trimmed == "{" || trimmed == "{}";
+        if is_body || (!has_clause && trimmed.ends_with(['{', '}'])) {
             if has_clause {
                 found.insert(std::mem::take(name), std::mem::take(lines));
             }
@@ -87,6 +106,7 @@ pub fn contracts(text: &str) -> Items {
 }
 
 fn function(line: &str) -> Option<&str> {
+    let line = line.strip_prefix("pub(crate) ").unwrap_or(line);
     let line = line.strip_prefix("pub ").unwrap_or(line);
     let line = line.strip_prefix("extern \"C\" ").unwrap_or(line);
     let rest = line.strip_prefix("fn ")?;

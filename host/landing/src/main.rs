@@ -8,10 +8,10 @@ use std::{
     process::{Command, ExitCode},
 };
 
-use landing::{Change, Items, change, contracts, definitions};
+use landing::{Change, FILE, Items, Sources, change, changes, contracts, definitions};
 
 /// How the items of a part are read off a commit's files.
-type Reads = fn(&Texts) -> Items;
+type Reads = fn(&Sources) -> Items;
 
 type Result<T> = std::result::Result<T, Box<dyn Error>>;
 
@@ -34,28 +34,41 @@ fn main() -> ExitCode {
 }
 
 fn report(before: &str, after: &str) -> Result<String> {
-    let (old, new) = (Texts::at(before)?, Texts::at(after)?);
+    let (old, new) = (sources_at(before)?, sources_at(after)?);
     let mut text = format!("From {before} to {after}:\n\n");
     text += "| part | new | changed | removed | stayed | lines added | lines removed |\n|---|---|---|---|---|---|---|\n";
     let mut names = String::new();
     let parts: [(&str, Reads); 4] = [
-        ("definitions (specs/)", |texts| {
-            texts.items("specs", definitions)
+        ("definitions (specs/)", |sources| {
+            sources.items("specs", definitions)
         }),
-        ("contracts (src/)", |texts| texts.items("src", contracts)),
-        ("proofs (files of proofs/)", |texts| texts.files("proofs")),
-        ("must-fail edits", |texts| texts.files("must-fail")),
+        ("contracts (src/)", |sources| {
+            sources.items("src", contracts)
+        }),
+        ("proofs (files of proofs/)", |sources| {
+            files(sources, "proofs")
+        }),
+        ("must-fail edits", |sources| files(sources, "must-fail")),
     ];
     for (part, items) in parts {
         let change = change(&items(&old), &items(&new));
         text += &row(part, &change);
         names += &named(part, &change);
     }
-    let code = change(&old.files("src"), &new.files("src"));
+    let code = change(&files(&old, "src"), &files(&new, "src"));
     text += &row("code (files of src/)", &code);
-    let interface = change(&old.interface(), &new.interface());
+    let interface = change(&interface(&old), &interface(&new));
     text += &row("interface (cableowl.h, host/cableowl/src)", &interface);
     names += &named("interface", &interface);
+    // The file of digests is younger than the first landings.
+    if let (Some(before), Some(after)) = (old.0.get(FILE), new.0.get(FILE)) {
+        let (change, moved) = changes(before, after);
+        text += &row("statements (docs/STATEMENTS.txt)", &change);
+        names += &named("statements", &change);
+        for line in moved {
+            names += &format!("  moved: {line}\n");
+        }
+    }
     Ok(format!("{text}{names}"))
 }
 
@@ -89,83 +102,58 @@ fn named(part: &str, change: &Change) -> String {
 }
 
 /// The files of a commit that a landing counts, by path.
-struct Texts(BTreeMap<String, String>);
-
-impl Texts {
-    fn at(commit: &str) -> Result<Self> {
-        let mut found = BTreeMap::new();
-        let list = git(&[
-            "ls-tree",
-            "-r",
-            "--name-only",
-            commit,
-            "--",
-            "crates",
-            "host/include",
-            "host/cableowl/src",
-        ])?;
-        for path in list.lines() {
-            let is_counted = ["rt", "antt", "edit", "h", "rs"].iter().any(|extension| {
-                Path::new(path)
-                    .extension()
-                    .is_some_and(|found| found == *extension)
-            });
-            if is_counted {
-                found.insert(
-                    path.to_owned(),
-                    git(&["show", &format!("{commit}:{path}")])?,
-                );
-            }
+fn sources_at(commit: &str) -> Result<Sources> {
+    let mut found = BTreeMap::new();
+    let list = git(&[
+        "ls-tree",
+        "-r",
+        "--name-only",
+        commit,
+        "--",
+        "crates",
+        "host/include",
+        "host/cableowl/src",
+        FILE,
+    ])?;
+    for path in list.lines() {
+        let is_counted = ["rt", "antt", "edit", "h", "rs"].iter().any(|extension| {
+            Path::new(path)
+                .extension()
+                .is_some_and(|found| found == *extension)
+        });
+        if is_counted || path == FILE {
+            found.insert(
+                path.to_owned(),
+                git(&["show", &format!("{commit}:{path}")])?,
+            );
         }
-        if found.is_empty() {
-            return Err(format!("{commit} has no crates/").into());
-        }
-        Ok(Self(found))
     }
+    if !found.keys().any(|path| path.starts_with("crates/")) {
+        return Err(format!("{commit} has no crates/").into());
+    }
+    Ok(Sources(found))
+}
 
-    /// The files of one part of every crate, as `crate/rest`.
-    fn of<'a>(&'a self, part: &'a str) -> impl Iterator<Item = (&'a str, &'a str, &'a str)> {
-        self.0.iter().filter_map(move |(path, text)| {
-            let (name, rest) = path.strip_prefix("crates/")?.split_once('/')?;
-            Some((
-                name,
-                rest.strip_prefix(part)?.strip_prefix('/')?,
-                text.as_str(),
-            ))
+/// The files of one part of every crate, each by its crate and name.
+fn files(sources: &Sources, part: &str) -> Items {
+    sources
+        .of(part)
+        .map(|(name, rest, text)| {
+            (
+                format!("{name}/{}", rest.trim_end_matches(".edit")),
+                lines(text),
+            )
         })
-    }
+        .collect()
+}
 
-    fn items(&self, part: &str, of: fn(&str) -> Items) -> Items {
-        let mut found = Items::new();
-        for (name, _, text) in self.of(part) {
-            for (item, lines) in of(text) {
-                found
-                    .entry(format!("{name}::{item}"))
-                    .or_default()
-                    .extend(lines);
-            }
-        }
-        found
-    }
-
-    fn files(&self, part: &str) -> Items {
-        self.of(part)
-            .map(|(name, rest, text)| {
-                (
-                    format!("{name}/{}", rest.trim_end_matches(".edit")),
-                    lines(text),
-                )
-            })
-            .collect()
-    }
-
-    fn interface(&self) -> Items {
-        self.0
-            .iter()
-            .filter(|(path, _)| path.starts_with("host/"))
-            .map(|(path, text)| (path.trim_start_matches("host/").to_owned(), lines(text)))
-            .collect()
-    }
+fn interface(sources: &Sources) -> Items {
+    sources
+        .0
+        .iter()
+        .filter(|(path, _)| path.starts_with("host/"))
+        .map(|(path, text)| (path.trim_start_matches("host/").to_owned(), lines(text)))
+        .collect()
 }
 
 fn lines(text: &str) -> Vec<String> {

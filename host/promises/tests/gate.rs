@@ -16,12 +16,15 @@ static TURN: Mutex<()> = Mutex::new(());
 struct Tools {
     machine: &'static str,
     rt: Option<&'static str>,
+    /// What the trial of the only crate's control says.
+    control: &'static str,
     documents: &'static str,
     cargo_test: &'static str,
     rustc: &'static str,
 }
 
 const PROVED: &str = "echo 'rt: ok, 19 crates proved'; echo '206 passed, 0 failed'";
+const ACCEPTED: &str = "echo 'rt: must-fail leaf/control: NOT REFUSED: the crate is still proved with this edit (1 s)'; exit 1";
 const TESTED: &str = "echo 'test result: ok. 4 passed; 0 failed; 0 ignored'; echo 'test result: ok. 3 passed; 0 failed; 0 ignored'";
 const LINKS: &str =
     r#"while [ "$1" != -o ]; do shift; done; printf '#!/bin/sh\n' >"$2"; chmod +x "$2""#;
@@ -31,6 +34,7 @@ impl Default for Tools {
         Self {
             machine: "aarch64",
             rt: Some(PROVED),
+            control: ACCEPTED,
             documents: "true",
             cargo_test: TESTED,
             rustc: LINKS,
@@ -55,7 +59,10 @@ fn gate(name: &str, tools: &Tools) -> (String, bool, String) {
     if let Some(ci) = tools.rt {
         script(
             "rt",
-            &format!("case $1 in version) echo kit ;; ci) {ci} ;; esac"),
+            &format!(
+                "case $1 in version) echo kit ;; ci) {ci} ;; must-fail) {} ;; esac",
+                tools.control
+            ),
         );
     }
     script(
@@ -83,19 +90,33 @@ fn gate(name: &str, tools: &Tools) -> (String, bool, String) {
     (last, run.status.success(), all)
 }
 
-/// A repository with nothing but the gate, removed at the end.
+/// A repository with the gate and a crate with one edit and its control, removed at the end.
 struct Room(PathBuf);
 
 impl Room {
     fn new(name: &str) -> Self {
         let path =
             std::env::temp_dir().join(format!("cableowl-gate-{name}-{}", std::process::id()));
-        for folder in ["bin", "tools", "host"] {
+        for folder in [
+            "bin",
+            "tools/controls",
+            "host",
+            "crates/leaf/must-fail",
+            "target/rlib",
+            "target/stamp",
+        ] {
             fs::create_dir_all(path.join(folder)).unwrap();
         }
-        fs::write(path.join("KIT"), "kit\n").unwrap();
+        for (file, text) in [
+            ("KIT", "kit\n"),
+            ("crates.txt", "leaf:\n"),
+            ("crates/leaf/must-fail/slip.edit", ""),
+            ("tools/controls/leaf.edit", "# slip: said otherwise\n"),
+        ] {
+            fs::write(path.join(file), text).unwrap();
+        }
         let tools = Path::new(env!("CARGO_MANIFEST_DIR")).join("../../tools");
-        for tool in ["gate", "from-proved"] {
+        for tool in ["gate", "from-proved", "controls/accepted"] {
             fs::copy(tools.join(tool), path.join("tools").join(tool)).unwrap();
         }
         Self(path)
@@ -118,13 +139,13 @@ fn ends(name: &str, tools: &Tools, last: &str) -> String {
 
 #[test]
 fn both_halves_are_counted() {
-    ends("well", &Tools::default(), "213 passed, 0 failed");
+    ends("well", &Tools::default(), "214 passed, 0 failed");
     // On x86-64 the way to Arm is tried too.
     let tools = Tools {
         machine: "x86_64",
         ..Tools::default()
     };
-    ends("x86", &tools, "220 passed, 0 failed");
+    ends("x86", &tools, "221 passed, 0 failed");
 }
 
 #[test]
@@ -136,7 +157,7 @@ fn a_failing_rust_test_is_seen_in_the_last_line() {
             cargo_test,
             ..Tools::default()
         },
-        "213 passed, 2 failed",
+        "214 passed, 2 failed",
     );
     assert!(all.contains("2 tests of host/ failed"), "{all}");
 }
@@ -150,7 +171,7 @@ fn a_rust_side_that_does_not_build_is_a_failure() {
             cargo_test,
             ..Tools::default()
         },
-        "206 passed, 1 failed",
+        "207 passed, 1 failed",
     );
     ends(
         "none",
@@ -158,7 +179,7 @@ fn a_rust_side_that_does_not_build_is_a_failure() {
             cargo_test: "true",
             ..Tools::default()
         },
-        "206 passed, 1 failed",
+        "207 passed, 1 failed",
     );
 }
 
@@ -191,6 +212,41 @@ fn a_failing_proof_or_edit_is_seen_in_the_last_line() {
         },
         "213 passed, 1 failed",
     );
+}
+
+#[test]
+fn a_control_that_is_not_accepted_is_a_failure() {
+    for (name, control, words) in [
+        (
+            "refused",
+            "echo 'rt: must-fail leaf/control: refused, as it must be (1 s)'; exit 0",
+            "leaf: NOT accepted: refused, as it must be",
+        ),
+        (
+            "unread",
+            "echo 'rt: must-fail leaf/control: BAD EDIT: an old text is not there'; exit 1",
+            "leaf: NOT accepted: BAD EDIT",
+        ),
+        (
+            "untried",
+            "echo 'rt: a fault in rt'; exit 2",
+            "leaf: NOT accepted: no control was tried: rt: a fault in rt",
+        ),
+        (
+            "unchanged",
+            "mkdir -p target/must-fail/leaf/control; \
+             echo 'crate leaf: modules loaded=9 checked=0' >target/must-fail/leaf/control/.log; \
+             echo 'rt: must-fail leaf/control: NOT REFUSED: the crate is still proved with this edit (1 s)'; exit 1",
+            "leaf: NOT accepted: its control changes no module",
+        ),
+    ] {
+        let tools = Tools {
+            control,
+            ..Tools::default()
+        };
+        let all = ends(name, &tools, "213 passed, 1 failed");
+        assert!(all.contains(words), "{all}");
+    }
 }
 
 #[test]
