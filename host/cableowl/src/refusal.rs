@@ -106,7 +106,7 @@ pub enum Refusal {
     SavedField,
     /// 25: a salvage's output.
     Output,
-    /// 26: a player's seek, where 64 wait for the next frame already.
+    /// 29: a player's seek, where 64 wait for the next frame already.
     Queue,
     /// A player's output rate: the number is 10, a time step's.
     OutputRate,
@@ -150,7 +150,7 @@ impl Refusal {
             Self::Version => 23,
             Self::SavedField => 24,
             Self::Output => 25,
-            Self::Queue => 26,
+            Self::Queue => 29,
         }
     }
 
@@ -197,7 +197,7 @@ impl Refusal {
                 "fade, volume and gains must be finite with no minus sign (minus zero has one), and rates must be finite",
             ),
             12 => Some(Self::Advance { frame: 0 }.sentence()),
-            26 => Some(Self::Queue.sentence()),
+            29 => Some(Self::Queue.sentence()),
             _ => {
                 let named = |refusal: &&Self| refusal.number() == number;
                 Self::PLAIN

@@ -99,8 +99,8 @@ impl Kind {
                 "a part of the sound: two places with .. between them, such as 6.2s..10.9s".into(),
             ),
             Self::Meaning => Some(format!(
-                "a refusal's number from 1 to {}, a state's from 0 to 6, or a state's name",
-                explain::LAST
+                "a refusal's number ({}), a state's (0 to 6), or a state's name",
+                explain::numbers()
             )),
             Self::File | Self::Folder | Self::NewFile | Self::Pattern | Self::Verb => None,
         }
