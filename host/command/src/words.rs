@@ -220,13 +220,14 @@ impl Given {
 
     /// Each word with the kind that it must be of, and the name of what it is.
     fn judge(&self) -> Result<()> {
+        let mut inputs = 0;
         for (option, value) in &self.options {
             if let Some((_, kind)) = option.value {
                 is_of(kind, option.name, value)?;
+                inputs += usize::from(kind == Kind::File && value == "-");
             }
         }
         self.count()?;
-        let mut inputs = 0;
         for (index, word) in self.words.iter().enumerate() {
             let arguments = self.arguments();
             if let Some(argument) = arguments.get(index).or(arguments.last()) {
@@ -544,6 +545,10 @@ mod tests {
             ),
             ("report", "report needs FILE: logs or traces"),
             ("report - -", "standard input, '-', can be read only once"),
+            (
+                "report --groups - -",
+                "standard input, '-', can be read only once",
+            ),
             (
                 "report --rate 0 a",
                 "--rate must be a whole number from 1 to 768000, and not '0'",

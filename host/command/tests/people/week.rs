@@ -74,6 +74,22 @@ fn two_to_nine_in_a_hundred_is_seen_as_a_change() {
 }
 
 #[test]
+fn a_trace_has_the_group_and_the_figures_of_its_log() {
+    let room = Room::new("week-traces");
+    room.put("hall1_2026-11-09.trace", trace(&evening(4)));
+    let log = room.run(&["replay", "--log", "3", "hall1_2026-11-09.trace"]);
+    room.put("hall1_2026-11-09.log", log.out);
+    let by_day = |file: &str| {
+        let ran = room.run(&["report", "--csv", "--by", "day", file]);
+        assert_eq!((ran.status, &*ran.err), (0, ""), "{file}");
+        ran.out
+    };
+    let of_trace = by_day("hall1_2026-11-09.trace");
+    assert_eq!(cell(&csv(&of_trace)[0], "group"), "2026-11-09");
+    assert_eq!(of_trace, by_day("hall1_2026-11-09.log"));
+}
+
+#[test]
 fn the_audit_of_a_week_finds_exactly_the_boxes_that_creep() {
     let room = Room::new("week-audit");
     let mut random = Random::new(40);
