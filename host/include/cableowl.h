@@ -34,6 +34,7 @@
  * 25  salvage: an output shorter than the input
  * 27  two copies of a loop table are over sounds of different frame counts
  * 28  two copies of a loop table have one number of changes for a hall and differ in its slots
+ * 29  the Rust crate's player alone: a seek where 64 wait for the next frame already; no call here answers it
  *
  * The lowest number wins. Creation uses 2 to 7, a command set 1 and 6 to 8, a block 1 and 9 to 12,
  * a fade ramp 13 and 14; of a loop table a write 1, 6, 20, 21, a clear 1, 20, 21, a read 1, 20, 22,
@@ -493,7 +494,7 @@ static inline const char *cableowl_refusal_text(uint64_t number) {
                "version 1), and in bytes the length of their version, 21 or 22";
     case CABLEOWL_REFUSAL_OUTPUT:
         return "the output of a salvage must be at least as long as the trace";
-    case 26: /* of the Rust crate's player alone; a log may have it */
+    case 29: /* of the Rust crate's player alone; a log may have it */
         return "64 seeks wait for the next frame already: play a frame, then seek again";
     default:
         return "no refusal has this number";

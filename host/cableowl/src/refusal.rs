@@ -206,7 +206,7 @@ impl Refusal {
                 "fade, volume and gains must be finite with no minus sign (minus zero has one), and rates must be finite",
             ),
             12 => Some(Self::Advance { frame: 0 }.sentence()),
-            26 => Some(Self::Queue.sentence()),
+            29 => Some(Self::Queue.sentence()),
             _ => {
                 let named = |refusal: &&Self| refusal.number() == number;
                 Self::PLAIN

@@ -2,6 +2,7 @@
 //! box's own log is compared with it wherever both have an edge.
 
 mod align;
+pub mod folder;
 mod page;
 
 use std::{
@@ -352,7 +353,7 @@ fn shown(part: &Part, form: Form) -> String {
         return format!("block={number} refused={refusal}");
     };
     let (steps, position) = (part.steps, last.position);
-    let state = state_name(last.state);
+    let state = state_word(last.state);
     let mut words =
         format!("block={number} frames={frames} steps={steps} state={state} position={position}");
     if let Some(refusal) = part.refusal {
@@ -379,12 +380,10 @@ fn shown(part: &Part, form: Form) -> String {
     words
 }
 
-/// A state's name for people.
-fn state_name(number: u8) -> String {
+/// A state's name as one word.
+fn state_word(number: u8) -> String {
     let state = PlaybackState::from_number(number.into());
-    state.map_or("unknown".into(), |state| {
-        explain::state_name(state).replace(' ', "-")
-    })
+    state.map_or("unknown".into(), explain::state_word)
 }
 
 /// Seconds for people.

@@ -34,11 +34,13 @@ enum Completes {
 
 fn completes(kind: Kind) -> Completes {
     match kind {
-        Kind::File | Kind::NewFile => Completes::Files,
+        Kind::File | Kind::Folder | Kind::NewFile => Completes::Files,
         Kind::OneOf(words) => Completes::Words(words.iter().map(|w| (*w).into()).collect()),
         Kind::Verb => Completes::Words(first_words().iter().map(|w| (*w).into()).collect()),
         Kind::Meaning => Completes::Words(explain::words()),
-        Kind::Number(..) | Kind::Decimal | Kind::Place | Kind::Part => Completes::Nothing,
+        Kind::Number(..) | Kind::Decimal | Kind::Place | Kind::Part | Kind::Pattern => {
+            Completes::Nothing
+        }
     }
 }
 
@@ -151,7 +153,7 @@ fn zsh() -> String {
         for option in verb.all_options() {
             text += &format!(" \\\n            '{}'", zsh_option(option));
         }
-        for argument in verb.arguments {
+        for argument in verb.all_arguments() {
             let (name, kind) = (argument.name, zsh_words(argument.kind));
             text += &match argument.many {
                 crate::verbs::Many::One => format!(" \\\n            ':{name}:{kind}'"),

@@ -230,15 +230,28 @@ const REFUSALS: [Explained; 26] = [
         "Give the call an output as long as the trace. The command does that itself",
     ),
     explained(
-        26,
+        29,
         "a seek too many",
         "a command to a player",
         "Play a frame before the next seek: a player keeps 64 seeks and loop commands until then",
     ),
 ];
 
-/// The last refusal's number.
-pub const LAST: usize = REFUSALS.len();
+/// The numbers of the refusals, in words: `1 to 25 or 29`.
+pub fn numbers() -> String {
+    let mut spans: Vec<(u32, u32)> = Vec::new();
+    for number in REFUSALS.iter().map(|refusal| refusal.number) {
+        match spans.last_mut() {
+            Some((_, last)) if *last + 1 == number => *last = number,
+            _ => spans.push((number, number)),
+        }
+    }
+    let spans = spans.iter().map(|(first, last)| match first == last {
+        true => first.to_string(),
+        false => format!("{first} to {last}"),
+    });
+    spans.collect::<Vec<_>>().join(" or ")
+}
 
 /// A state's name, for people.
 pub fn state_name(state: PlaybackState) -> &'static str {
@@ -251,6 +264,11 @@ pub fn state_name(state: PlaybackState) -> &'static str {
         PlaybackState::Stopping => "stopping",
         PlaybackState::Stopped => "stopped",
     }
+}
+
+/// A state's name as one word.
+pub fn state_word(state: PlaybackState) -> String {
+    state_name(state).replace(' ', "-")
 }
 
 /// What a state means, and what to do.
@@ -291,7 +309,7 @@ fn state_says(state: PlaybackState) -> (&'static str, &'static str) {
 pub fn words() -> Vec<String> {
     let numbers = REFUSALS.iter().map(|refusal| refusal.number.to_string());
     let states = PlaybackState::ALL.into_iter();
-    let states = states.map(|state| state_name(state).replace(' ', "-"));
+    let states = states.map(state_word);
     numbers.chain(states).collect()
 }
 
@@ -338,11 +356,9 @@ mod tests {
 
     #[test]
     fn every_refusal_of_the_library_has_a_number_here() {
-        for (index, refusal) in REFUSALS.iter().enumerate() {
-            assert_eq!(refusal.number as usize, index + 1);
-            assert!(Refusal::text(refusal.number).is_some());
-        }
-        assert_eq!(Refusal::text(REFUSALS.len() as u32 + 1), None);
+        let here: Vec<u32> = REFUSALS.iter().map(|refusal| refusal.number).collect();
+        let known = (0..100).filter(|number| Refusal::text(*number).is_some());
+        assert_eq!(here, known.collect::<Vec<u32>>());
     }
 
     #[test]
@@ -355,7 +371,7 @@ mod tests {
         for name in ["waiting-to-resume", "WaitingToResume", "waiting to resume"] {
             assert_eq!(read(name), Some(Meaning::State(3)), "{name}");
         }
-        for word in ["27", "state=7", "refused=0", "-1", "play", "block=1", ""] {
+        for word in ["30", "state=7", "refused=0", "-1", "play", "block=1", ""] {
             assert_eq!(read(word), None, "{word}");
         }
     }

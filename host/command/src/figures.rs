@@ -37,6 +37,10 @@ pub struct Figures {
     pub pauses: Option<u64>,
     /// 1 where a voice has reached an end of its sound, else 0; form 3 alone.
     pub ended: Option<u64>,
+    /// Lines whose steps, turns and places do not fit; form 3 alone.
+    pub misfits: Option<u64>,
+    /// The first of them, by its block's number.
+    pub first_misfit: Option<u64>,
     /// The lowest window count.
     pub lowest: Option<u64>,
     /// Refused blocks: one count for each of `REFUSALS`.
@@ -88,6 +92,8 @@ pub struct Count {
     figures: Figures,
     position: Option<u64>,
     turns: Option<(u32, u32)>,
+    /// The last block of the voice, where nothing but playing has moved it since.
+    before: Option<Block>,
 }
 
 impl Count {
@@ -99,6 +105,7 @@ impl Count {
                 still: (form == Form::Third).then_some(0),
                 pauses: (form == Form::Third).then_some(0),
                 ended: (form == Form::Third).then_some(0),
+                misfits: (form == Form::Third).then_some(0),
                 jumps: (form == Form::First).then_some(0),
                 rounds: from_second,
                 seeks: from_second,
@@ -108,6 +115,7 @@ impl Count {
             },
             position: None,
             turns: None,
+            before: None,
         }
     }
 
@@ -165,6 +173,12 @@ impl Count {
             None if undisturbed => self.length(block, rounds),
             None => None,
         };
+        if self.before.is_some_and(|before| !fits(&before, block)) {
+            add(&mut self.figures.misfits, 1);
+            let first = &mut self.figures.first_misfit;
+            *first = first.or(Some(block.number));
+        }
+        self.before = Some(*block);
         self.position = Some(block.position);
         let figures = &mut self.figures;
         let clock = figures.frames;
@@ -202,6 +216,9 @@ impl Count {
         add(&mut self.figures.seeks, before.seeks);
         add(&mut self.figures.restarts, before.restarts);
         add(&mut self.figures.pauses, before.pauses.unwrap_or(0));
+        if before.created > 0 || before.seeks > 0 {
+            self.before = None;
+        }
         if before.created > 0 {
             self.turns = Some((0, 0));
             self.position = None;
@@ -258,6 +275,26 @@ fn usage(block: &Block) -> Usage {
         _ => usage.played = block.frames,
     }
     usage
+}
+
+/// Whether a block fits the one before it: a voice that plays inside a loop of L frames goes from p to
+/// p + steps - L * turns, and backward the other way. Where the lines do not say enough, it fits.
+fn fits(before: &Block, block: &Block) -> bool {
+    let third = |block: &Block| Some((block.more?, block.more?.third?));
+    let (Some((was, from)), Some((is, to))) = (third(before), third(block)) else {
+        return true;
+    };
+    let (start, end) = to.loop_region;
+    let inside = (start..end).contains(&before.position);
+    let full = [is.forward, is.backward].contains(&u32::MAX);
+    if from.loop_region != to.loop_region || !inside || full {
+        return true;
+    }
+    let number = |number: u64| i128::from(number);
+    let turns = |now: u32, then: u32| i128::from(now) - i128::from(then);
+    let turns = turns(is.forward, was.forward) - turns(is.backward, was.backward);
+    let way = number(block.steps) - 2 * number(to.steps_back);
+    number(block.position) == number(before.position) + way - number(end - start) * turns
 }
 
 fn add(sum: &mut Option<u64>, more: u64) {

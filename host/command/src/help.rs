@@ -1,6 +1,6 @@
 //! What `help` prints, from the table of verbs.
 
-use crate::verbs::{ABOUT, Argument, PURPOSE, VERBS, Verb};
+use crate::verbs::{ABOUT, PURPOSE, VERBS, Verb};
 
 /// The longest line.
 const WIDTH: usize = 78;
@@ -21,7 +21,7 @@ pub fn all() -> String {
 }
 
 /// What one verb does.
-pub fn of(verb: &Verb) -> String {
+pub fn of(verb: &'static Verb) -> String {
     let mut text = synopsis(verb, 0, 4);
     text += &lines(verb.says, 4, 4);
     for paragraph in verb.about {
@@ -30,11 +30,7 @@ pub fn of(verb: &Verb) -> String {
     }
     if !verb.arguments.is_empty() {
         text += "\nWords:\n";
-        text += &columns(
-            verb.arguments
-                .iter()
-                .map(|a: &Argument| (a.name.into(), a.says)),
-        );
+        text += &columns(verb.all_arguments().map(|a| (a.name.into(), a.says)));
     }
     text += "\nOptions:\n";
     text += &columns(
@@ -54,22 +50,23 @@ pub fn of(verb: &Verb) -> String {
     text
 }
 
-/// How a verb is called; no line ends inside brackets.
+/// How a verb is called, a line or more for each way; no line ends inside brackets.
 fn synopsis(verb: &Verb, first: usize, others: usize) -> String {
     const HELD: &str = "\u{a0}";
-    let mut inside = false;
-    let held = verb
-        .synopsis()
-        .chars()
-        .fold(String::new(), |mut held, letter| {
+    let held = |way: &String| {
+        let mut inside = false;
+        way.chars().fold(String::new(), |mut held, letter| {
             inside = (inside || letter == '[') && letter != ']';
             match letter == ' ' && inside {
                 true => held.push_str(HELD),
                 false => held.push(letter),
             }
             held
-        });
-    lines(&held, first, others).replace(HELD, " ")
+        })
+    };
+    let ways = verb.synopses();
+    let ways = ways.iter().map(|way| lines(&held(way), first, others));
+    ways.collect::<String>().replace(HELD, " ")
 }
 
 /// Names on the left, what is said of them on the right.

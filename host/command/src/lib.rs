@@ -4,13 +4,16 @@
 #![warn(missing_docs)]
 
 mod audit;
+mod by_group;
 mod completions;
 mod course;
 mod explain;
 mod fault;
 mod figures;
+mod group;
 mod help;
 mod input;
+mod interval;
 mod log;
 mod man;
 mod out;
@@ -79,10 +82,7 @@ fn obey(words: &[OsString], out: &mut Out<'_>, complain: &mut dyn FnMut(&Fault))
         }
         Asked::Completions(shell) => out.put(completions::of(shell)).map(|()| true),
         Asked::Explain(asked) => explain::explain(&asked, out).map(|()| true),
-        Asked::Version => {
-            let words = version::line();
-            out.put(words).map(|()| true)
-        }
+        Asked::Version => out.put(version::line()).map(|()| true),
         Asked::Summary { trace } => summary::summary(&trace, out).map(|()| true),
         Asked::Replay { trace, form } => replay::replay(&trace, form, out).map(|()| true),
         Asked::Salvage { trace, to } => salvage::salvage(&trace, &to, out).map(|()| true),
@@ -100,6 +100,15 @@ fn obey(words: &[OsString], out: &mut Out<'_>, complain: &mut dyn FnMut(&Fault))
                 sound: sound_rate,
             };
             report::report(&files, rates, csv, page.as_deref(), out, complain)
+        }
+        Asked::ReportGroups {
+            files,
+            by,
+            rate,
+            csv,
+        } => by_group::report(&files, &by, rate, csv, out, complain),
+        Asked::AuditFolders { folders, csv, page } => {
+            audit::folder::audit(&folders, csv, page.as_deref(), out)
         }
         Asked::Audit {
             trace,

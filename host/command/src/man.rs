@@ -19,17 +19,21 @@ pub fn all() -> String {
 }
 
 /// The page of a verb.
-pub fn of(verb: &Verb) -> String {
+pub fn of(verb: &'static Verb) -> String {
     let mut page = head(&verb.page().to_uppercase(), &verb.page(), verb.says);
-    let synopsis = verb.synopsis();
-    let words = synopsis.strip_prefix("cableowl").unwrap_or_default();
-    page += &format!(".SH SYNOPSIS\n.B cableowl\n{}\n", escaped(words.trim()));
+    let ways = verb.synopses();
+    let ways = ways.iter().map(|way| {
+        let words = way.strip_prefix("cableowl").unwrap_or_default();
+        format!(".B cableowl\n{}\n", escaped(words.trim()))
+    });
+    page += ".SH SYNOPSIS\n";
+    page += &ways.collect::<Vec<_>>().join(".br\n");
     page += ".SH DESCRIPTION\n";
     match verb.about {
         [] => page += &format!("{}.\n", escaped(&capital(verb.says))),
         about => page += &paragraphs(about),
     }
-    for argument in verb.arguments {
+    for argument in verb.all_arguments() {
         let (name, says) = (escaped(argument.name), escaped(argument.says));
         page += &format!(".TP\n.I {name}\n{says}\n");
     }

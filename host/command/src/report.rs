@@ -77,7 +77,7 @@ impl Row {
 }
 
 /// The columns: the name in a table, and the words for people.
-pub const COLUMNS: [(&str, &str); 23] = [
+pub const COLUMNS: [(&str, &str); 24] = [
     ("blocks", "Blocks"),
     ("frames", "Frames"),
     ("minutes", "Minutes"),
@@ -92,6 +92,7 @@ pub const COLUMNS: [(&str, &str); 23] = [
     ("restarts", "Restarts by hand"),
     ("pauses", "Pauses"),
     ("ended", "Reached the end"),
+    ("misfits", "Lines that do not fit"),
     ("lowest_count", "Lowest window count"),
     ("refused", "Refused blocks"),
     ("refused_1", "Refused with 1"),
@@ -123,6 +124,7 @@ fn cells(figures: &Figures) -> Cells {
         figures.restarts,
         figures.pauses,
         figures.ended,
+        figures.misfits,
         figures.lowest,
         Some(figures.all_refused()),
         one,
@@ -259,7 +261,7 @@ pub fn lacking(rows: &[Told], columns: &[(&str, &str)]) -> Vec<String> {
 
 /// Reads a log or a trace to its end. A trace that is damaged is told up to the damage, which comes
 /// with it.
-fn read(path: &Path, rates: Rates) -> Result<(Evening, Option<Damage>)> {
+pub fn read(path: &Path, rates: Rates) -> Result<(Evening, Option<Damage>)> {
     let mut input = Input::open(path)?;
     let kind = input.kind()?;
     input.must_be(&[FileKind::Log, FileKind::Trace], "a log or a trace")?;
@@ -291,7 +293,7 @@ fn read_log(input: Input, rates: Rates) -> Result<Evening> {
 }
 
 /// Where a trace could not be read on.
-struct Damage {
+pub struct Damage {
     fault: Fault,
     /// Whether it only ends too early, as where a box loses power.
     cut_short: bool,
@@ -348,6 +350,25 @@ fn read_trace(mut input: Input, rates: Rates) -> Result<(Evening, Option<Damage>
     Ok((evening, damage))
 }
 
+/// Whether a file was read to its end. One that only ends too early, as after a power loss, passes
+/// with a warning.
+pub fn is_whole(
+    evening: &Evening,
+    damage: Option<&Damage>,
+    complain: &mut dyn FnMut(&Fault),
+) -> bool {
+    if let Some(cut) = &evening.cut {
+        let name = &evening.name;
+        complain(&Fault::refused(format!(
+            "{name}: {cut}, as after a power loss: the lines before it are reported"
+        )));
+    }
+    damage.is_none_or(|damage| {
+        complain(&damage.fault);
+        damage.cut_short
+    })
+}
+
 /// Reports on logs and traces. One that is refused is told by `complain` and left out; one that is
 /// given twice is told too.
 pub fn report(
@@ -374,16 +395,7 @@ pub fn report(
                 continue;
             }
         };
-        if let Some(cut) = &evening.cut {
-            let name = &evening.name;
-            complain(&Fault::refused(format!(
-                "{name}: {cut}, as after a power loss: the lines before it are reported"
-            )));
-        }
-        if let Some(damage) = damage {
-            complain(&damage.fault);
-            all_read &= damage.cut_short;
-        }
+        all_read &= is_whole(&evening, damage.as_ref(), complain);
         if files
             .iter()
             .take(index)
@@ -451,7 +463,7 @@ fn put_csv(rows: &[Told], rate: u32, out: &mut Out<'_>) -> Result<()> {
 }
 
 /// A name in comma separated values.
-fn quoted(name: &str) -> String {
+pub fn quoted(name: &str) -> String {
     match name.contains([',', '"', '\n', '\r']) {
         true => format!("\"{}\"", name.replace('"', "\"\"")),
         false => name.to_owned(),
@@ -511,6 +523,13 @@ fn put_one(evening: &Evening, rate: u32, out: &mut Out<'_>) -> Result<()> {
     ];
     for (name, says) in lines.into_iter().chain(jumps).chain(more).chain(ended) {
         out.put(format!("  {name:<21}{says}\n"))?;
+    }
+    if let (Some(misfits), Some(first)) = (figures.misfits, figures.first_misfit) {
+        out.put(format!(
+            "  {} of its lines do not fit: steps, turns and places disagree, first at block {}\n",
+            grouped(misfits),
+            grouped(first)
+        ))?;
     }
     if let Some((refusal, at)) = figures.broken {
         out.put(format!(
@@ -585,15 +604,27 @@ fn put_table(rows: &[Told], rate: u32, out: &mut Out<'_>) -> Result<()> {
         let row: Vec<String> = [told.name.clone()].into_iter().chain(cells).collect();
         table.push(row);
     }
+    for (index, line) in laid_out(&table).iter().enumerate() {
+        if index == logs + 1 {
+            out.put("\n")?;
+        }
+        out.put(format!("{line}\n"))?;
+    }
+    for sentence in lacking(rows, &SHORT) {
+        out.put(format!("{sentence}\n"))?;
+    }
+    Ok(())
+}
+
+/// The lines of a table: the first column to the left, the others to the right.
+pub fn laid_out(table: &[Vec<String>]) -> Vec<String> {
+    let columns = table.iter().map(Vec::len).max().unwrap_or(0);
     let width = |column: usize| {
         let cells = table.iter().filter_map(|row| row.get(column));
         cells.map(|cell| cell.chars().count()).max().unwrap_or(0)
     };
-    let widths: Vec<usize> = (0..=SHORT.len()).map(width).collect();
-    for (index, row) in table.iter().enumerate() {
-        if index == logs + 1 {
-            out.put("\n")?;
-        }
+    let widths: Vec<usize> = (0..columns).map(width).collect();
+    let line = |row: &Vec<String>| {
         let mut line = String::new();
         for (column, (cell, width)) in row.iter().zip(&widths).enumerate() {
             match column {
@@ -601,13 +632,9 @@ fn put_table(rows: &[Told], rate: u32, out: &mut Out<'_>) -> Result<()> {
                 _ => line += &format!("  {cell:>width$}"),
             }
         }
-        out.put(line.trim_end())?;
-        out.put("\n")?;
-    }
-    for sentence in lacking(rows, &SHORT) {
-        out.put(format!("{sentence}\n"))?;
-    }
-    Ok(())
+        line.trim_end().to_owned()
+    };
+    table.iter().map(line).collect()
 }
 
 /// A figure with a comma after each three digits of its whole part.

@@ -1,7 +1,7 @@
 //! The table of the command's verbs. The parser, `help`, the man pages and the completions all read
 //! it, so they cannot differ.
 
-use std::ffi::OsString;
+use std::{ffi::OsString, slice};
 
 use crate::explain;
 
@@ -17,6 +17,8 @@ pub struct Verb {
     pub options: &'static [Opt],
     /// The words that it takes.
     pub arguments: &'static [Argument],
+    /// Folders that it takes in place of them.
+    pub folders: Option<Argument>,
     /// Examples: the words after `cableowl`, and what they do.
     pub examples: &'static [(&'static str, &'static str)],
     /// Its exit statuses.
@@ -61,6 +63,10 @@ pub enum Many {
 pub enum Kind {
     /// A file that is read; `-` is standard input.
     File,
+    /// A folder.
+    Folder,
+    /// How a file's name says its box and its day.
+    Pattern,
     /// A file that is written.
     NewFile,
     /// One of these words.
@@ -93,10 +99,10 @@ impl Kind {
                 "a part of the sound: two places with .. between them, such as 6.2s..10.9s".into(),
             ),
             Self::Meaning => Some(format!(
-                "a refusal's number from 1 to {}, a state's from 0 to 6, or a state's name",
-                explain::LAST
+                "a refusal's number ({}), a state's (0 to 6), or a state's name",
+                explain::numbers()
             )),
-            Self::File | Self::NewFile | Self::Verb => None,
+            Self::File | Self::Folder | Self::NewFile | Self::Pattern | Self::Verb => None,
         }
     }
 }
@@ -163,6 +169,7 @@ pub const VERBS: &[Verb] = &[
             many: Many::One,
             says: "The trace.",
         }],
+        folders: None,
         examples: &[
             ("replay monday.trace", "Print the lines of Monday evening."),
             (
@@ -207,6 +214,7 @@ pub const VERBS: &[Verb] = &[
                 says: "The new file.",
             },
         ],
+        folders: None,
         examples: &[(
             "salvage broken.trace mended.trace",
             "Recover what can be replayed of broken.trace.",
@@ -235,6 +243,7 @@ pub const VERBS: &[Verb] = &[
             many: Many::One,
             says: "The saved settings.",
         }],
+        folders: None,
         examples: &[(
             "settings show --rate 44100 lesson.settings",
             "Show the settings of a lesson recorded at 44,100 frames a second.",
@@ -291,6 +300,7 @@ pub const VERBS: &[Verb] = &[
             many: Many::One,
             says: "The new file.",
         }],
+        folders: None,
         examples: &[(
             "settings save --loop 6.2s..10.9s --speed 0.75 --rate 44100 lesson.settings",
             "Save a slow loop over one sentence.",
@@ -310,6 +320,7 @@ pub const VERBS: &[Verb] = &[
         about: &[
             "Reads logs and traces: minutes played, paused and silent, times round the loop, seeks, refused blocks. With several files it prints one row for each, the total and five quantiles.",
             "A damaged file is named on standard error and left out. A file that is given twice is named there too, and counts twice.",
+            "With --by or --groups it prints the figures of groups instead, and what changed from one group to the next, with intervals of 95 percent. FILE may then be a folder, which stands for its files NAME.log.",
         ],
         options: &[
             Opt {
@@ -332,6 +343,21 @@ pub const VERBS: &[Verb] = &[
                 value: Some(("OUT", Kind::NewFile)),
                 says: "Also write a page for a browser. An earlier page of this command is replaced, and no other file.",
             },
+            Opt {
+                name: "--by",
+                value: Some(("GROUP", Kind::OneOf(&["box", "day", "week"]))),
+                says: "Group the files by the box, the day or the week in their names.",
+            },
+            Opt {
+                name: "--name",
+                value: Some(("PATTERN", Kind::Pattern)),
+                says: "How a name says its box and its day, {box}_{date} if not given. {any} stands for anything. A date is written 2026-11-15 or 20261115.",
+            },
+            Opt {
+                name: "--groups",
+                value: Some(("TABLE", Kind::File)),
+                says: "Group the files by a table: a file of lines 'file,group'.",
+            },
         ],
         arguments: &[Argument {
             name: "FILE",
@@ -339,11 +365,16 @@ pub const VERBS: &[Verb] = &[
             many: Many::Several,
             says: "Logs or traces.",
         }],
+        folders: None,
         examples: &[
             ("report monday.log", "Print the figures of one evening."),
             (
                 "report --html week.html monday.trace tuesday.log",
                 "Print a table of two evenings and write a page with plots.",
+            ),
+            (
+                "report --by week logs",
+                "Compare the weeks of all logs in a folder.",
             ),
         ],
         statuses: &[
@@ -360,12 +391,13 @@ pub const VERBS: &[Verb] = &[
         says: "did this box play as proved? the first block that differs, and the creep",
         about: &[
             "Plays the trace with the proved player and compares the box's own log with it, at each frame where both have an edge. Where the two cannot be compared, or the trace is damaged, it says so and says nothing of the box.",
+            "Of folders it compares every NAME.trace with the NAME.log beside it, and prints a row for each box.",
         ],
         options: &[
             Opt {
                 name: "--csv",
                 value: None,
-                says: "Print comma separated values, a row for each block.",
+                says: "Print comma separated values: a row for each block, or for each box of a folder.",
             },
             Opt {
                 name: "--html",
@@ -387,13 +419,25 @@ pub const VERBS: &[Verb] = &[
                 says: "The log that the box wrote.",
             },
         ],
-        examples: &[(
-            "audit box.trace box.log",
-            "Say whether the box played as it should.",
-        )],
+        folders: Some(Argument {
+            name: "FOLDER",
+            kind: Kind::Folder,
+            many: Many::Several,
+            says: "Folders of traces and logs.",
+        }),
+        examples: &[
+            (
+                "audit box.trace box.log",
+                "Say whether the box played as it should.",
+            ),
+            (
+                "audit --html week.html week",
+                "Say it of every box of a week, and write a page.",
+            ),
+        ],
         statuses: &[
-            (0, "The log agrees with the trace."),
-            (1, "The log differs."),
+            (0, "The log agrees with the trace; of folders, all agree."),
+            (1, "The log differs; of folders, at least one does."),
             USAGE,
             (
                 3,
@@ -414,6 +458,7 @@ pub const VERBS: &[Verb] = &[
             many: Many::Any,
             says: "A number, a state's name, or a word of a log.",
         }],
+        folders: None,
         examples: &[
             ("explain 12", "Explain refusal 12."),
             (
@@ -429,6 +474,7 @@ pub const VERBS: &[Verb] = &[
         about: &["'cableowl VERB --help' prints the same."],
         options: &[],
         arguments: &[VERB],
+        folders: None,
         examples: &[("help replay", "Print the help of replay.")],
         statuses: &[DONE, USAGE],
     },
@@ -438,6 +484,7 @@ pub const VERBS: &[Verb] = &[
         about: &[],
         options: &[],
         arguments: &[],
+        folders: None,
         examples: &[],
         statuses: &[DONE, USAGE],
     },
@@ -447,6 +494,7 @@ pub const VERBS: &[Verb] = &[
         about: &["For packages. 'cableowl man replay | man -l -' shows a page at once."],
         options: &[],
         arguments: &[VERB],
+        folders: None,
         examples: &[("man replay", "Print the page cableowl-replay(1).")],
         statuses: &[DONE, USAGE],
     },
@@ -463,6 +511,7 @@ pub const VERBS: &[Verb] = &[
             many: Many::One,
             says: "bash, zsh or fish.",
         }],
+        folders: None,
         examples: &[(
             "completions bash",
             "Print what bash reads to complete the words of cableowl.",
@@ -479,13 +528,21 @@ const VERB: Argument = Argument {
 };
 
 impl Verb {
-    /// How it is called: `cableowl replay [--log FORM] TRACE`.
-    pub fn synopsis(&self) -> String {
+    /// How it is called, in each of its ways: `cableowl replay [--log FORM] TRACE`.
+    pub fn synopses(&self) -> Vec<String> {
+        let mut ways = vec![self.synopsis(self.arguments)];
+        if let Some(folders) = &self.folders {
+            ways.push(self.synopsis(slice::from_ref(folders)));
+        }
+        ways
+    }
+
+    fn synopsis(&self, arguments: &[Argument]) -> String {
         let mut line = format!("cableowl {}", self.name);
         for option in self.options {
             line += &format!(" [{}]", option.spelt());
         }
-        for argument in self.arguments {
+        for argument in arguments {
             line += &match (argument.many, argument.name) {
                 (Many::One, name) => format!(" {name}"),
                 (Many::Any, name) => format!(" [{name}..]"),
@@ -493,6 +550,11 @@ impl Verb {
             };
         }
         line
+    }
+
+    /// The words that it takes, in each of its ways.
+    pub fn all_arguments(&'static self) -> impl Iterator<Item = &'static Argument> {
+        self.arguments.iter().chain(&self.folders)
     }
 
     /// The name of its man page: `cableowl-settings-show`.

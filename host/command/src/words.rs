@@ -3,16 +3,19 @@
 use std::{
     ffi::{OsStr, OsString},
     path::{Path, PathBuf},
+    slice,
 };
 
 use crate::{
+    by_group,
     completions::Shell,
     explain::Meaning,
     fault::{Fault, Result},
+    group::{By, Pattern},
     log::Form,
     out::shown,
     settings::{Part, Place, Save},
-    verbs::{self, HELP, Kind, Many, Opt, VERBS, Verb, list},
+    verbs::{self, Argument, HELP, Kind, Many, Opt, VERBS, Verb, list},
 };
 
 /// What is asked for.
@@ -70,6 +73,26 @@ pub enum Asked {
         /// Frames a second of the sound, where they are given.
         sound_rate: Option<u32>,
         /// Told as comma separated values.
+        csv: bool,
+        /// Where the page goes.
+        page: Option<PathBuf>,
+    },
+    /// The figures of groups of evenings.
+    ReportGroups {
+        /// Their logs and traces, or folders of logs.
+        files: Vec<PathBuf>,
+        /// How they are grouped.
+        by: by_group::Asked,
+        /// Frames a second of the box.
+        rate: u32,
+        /// Told as comma separated values.
+        csv: bool,
+    },
+    /// Every log in some folders compared with its trace.
+    AuditFolders {
+        /// The folders.
+        folders: Vec<PathBuf>,
+        /// Told as comma separated values, a row for each box.
         csv: bool,
         /// Where the page goes.
         page: Option<PathBuf>,
@@ -197,15 +220,16 @@ impl Given {
 
     /// Each word with the kind that it must be of, and the name of what it is.
     fn judge(&self) -> Result<()> {
+        let mut inputs = 0;
         for (option, value) in &self.options {
             if let Some((_, kind)) = option.value {
                 is_of(kind, option.name, value)?;
+                inputs += usize::from(kind == Kind::File && value == "-");
             }
         }
         self.count()?;
-        let mut inputs = 0;
         for (index, word) in self.words.iter().enumerate() {
-            let arguments = self.verb.arguments;
+            let arguments = self.arguments();
             if let Some(argument) = arguments.get(index).or(arguments.last()) {
                 is_of(argument.kind, argument.name, word)?;
                 inputs += usize::from(argument.kind == Kind::File && word == "-");
@@ -217,9 +241,23 @@ impl Given {
         }
     }
 
+    /// Whether the words are folders, which the verb takes in place of its other words.
+    fn are_folders(&self) -> bool {
+        let all = self.words.iter().all(|word| Path::new(word).is_dir());
+        self.verb.folders.is_some() && !self.words.is_empty() && all
+    }
+
+    /// The words that the verb takes.
+    fn arguments(&self) -> &'static [Argument] {
+        match &self.verb.folders {
+            Some(folders) if self.are_folders() => slice::from_ref(folders),
+            _ => self.verb.arguments,
+        }
+    }
+
     /// As many words as the verb takes.
     fn count(&self) -> Result<()> {
-        let arguments = self.verb.arguments;
+        let arguments = self.arguments();
         if let Some(missing) = arguments.get(self.words.len())
             && matches!(missing.many, Many::One | Many::Several)
         {
@@ -237,7 +275,7 @@ impl Given {
             Some(word) if !endless => Err(Fault::usage(format!(
                 "'{}' is one word too many: the words are '{}'",
                 shown(Path::new(word)),
-                self.verb.synopsis()
+                self.verb.synopses().join("' or '")
             ))),
             _ => Ok(()),
         }
@@ -245,6 +283,10 @@ impl Given {
 
     fn path(&self, index: usize) -> PathBuf {
         self.words.get(index).map(PathBuf::from).unwrap_or_default()
+    }
+
+    fn paths(&self) -> Vec<PathBuf> {
+        self.words.iter().map(PathBuf::from).collect()
     }
 
     fn number(&self, name: &str) -> Option<i64> {
@@ -302,12 +344,25 @@ impl Given {
                 save: self.save(rate),
                 to: self.path(0),
             },
-            "report" => Asked::Report {
-                rate,
-                sound_rate: self.rate("--sound-rate"),
+            "report" => match self.group_by()? {
+                Some(by) => Asked::ReportGroups {
+                    files: self.paths(),
+                    by,
+                    rate,
+                    csv: self.has("--csv"),
+                },
+                None => Asked::Report {
+                    rate,
+                    sound_rate: self.rate("--sound-rate"),
+                    csv: self.has("--csv"),
+                    page: page(),
+                    files: self.paths(),
+                },
+            },
+            "audit" if self.are_folders() => Asked::AuditFolders {
+                folders: self.paths(),
                 csv: self.has("--csv"),
                 page: page(),
-                files: self.words.iter().map(PathBuf::from).collect(),
             },
             "audit" => Asked::Audit {
                 trace: self.path(0),
@@ -334,6 +389,34 @@ impl Given {
         }
     }
 
+    /// How files are to be grouped, if they are.
+    fn group_by(&self) -> Result<Option<by_group::Asked>> {
+        let by = match self.value("--by").and_then(OsStr::to_str) {
+            None => None,
+            Some("box") => Some(By::Box),
+            Some("day") => Some(By::Day),
+            Some(_) => Some(By::Week),
+        };
+        let asked = match (by, self.value("--groups")) {
+            (None, _) if self.has("--name") => return Err(Fault::usage("--name goes with --by")),
+            (None, None) => return Ok(None),
+            (None, Some(table)) => by_group::Asked::Table(table.into()),
+            (Some(_), Some(_)) => return Err(Fault::usage("give --by or --groups, not both")),
+            (Some(by), None) => {
+                let name = self.value("--name").unwrap_or(OsStr::new("{box}_{date}"));
+                let pattern = Pattern::read(&name.to_string_lossy());
+                let pattern = pattern.map_err(|words| Fault::usage(format!("--name: {words}")))?;
+                by_group::Asked::Named(by, pattern)
+            }
+        };
+        for option in ["--html", "--sound-rate"] {
+            if self.has(option) {
+                return Err(Fault::usage(format!("a report by groups has no {option}")));
+            }
+        }
+        Ok(Some(asked))
+    }
+
     fn save(&self, rate: u32) -> Save {
         let text = |name| self.value(name).and_then(OsStr::to_str);
         Save {
@@ -357,7 +440,8 @@ fn decimal(text: &str) -> Option<f64> {
 fn is_of(kind: Kind, name: &str, word: &OsStr) -> Result<()> {
     let text = word.to_str();
     let good = match kind {
-        Kind::File | Kind::Verb => true,
+        // What is wrong with a pattern is said where it is read.
+        Kind::File | Kind::Folder | Kind::Verb | Kind::Pattern => true,
         Kind::NewFile if word == "-" => {
             return Err(Fault::usage(format!(
                 "{name} is a file to write, and cannot be '-'"
@@ -462,11 +546,32 @@ mod tests {
             ("report", "report needs FILE: logs or traces"),
             ("report - -", "standard input, '-', can be read only once"),
             (
+                "report --groups - -",
+                "standard input, '-', can be read only once",
+            ),
+            (
                 "report --rate 0 a",
                 "--rate must be a whole number from 1 to 768000, and not '0'",
             ),
             ("report --csv --csv a", "--csv is given twice"),
             ("report --csv=1 a", "--csv takes no value"),
+            (
+                "report --by hall a",
+                "--by must be box, day or week, and not 'hall'",
+            ),
+            ("report --name {box} a", "--name goes with --by"),
+            (
+                "report --by box --name {hall} a",
+                "--name: '{hall}' is none of {box}, {date} and {any}",
+            ),
+            (
+                "report --by box --groups t a",
+                "give --by or --groups, not both",
+            ),
+            (
+                "report --by day --html p a",
+                "a report by groups has no --html",
+            ),
             (
                 "report --html - a",
                 "--html is a file to write, and cannot be '-'",

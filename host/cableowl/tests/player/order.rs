@@ -143,7 +143,7 @@ fn sixty_four_seeks_wait_and_one_more_is_refused() {
     let said = Refusal::Queue.to_string();
     assert_eq!(
         said,
-        "refusal 26: 64 seeks wait for the next frame already: play a frame, then seek again"
+        "refusal 29: 64 seeks wait for the next frame already: play a frame, then seek again"
     );
     // Nothing else is refused for room, however often.
     for _ in 0..1_000 {

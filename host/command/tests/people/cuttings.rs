@@ -154,8 +154,9 @@ fn the_same_evening_has_the_same_figures_for_every_block_size() {
         "before the start, and after the end: {silent}"
     );
     assert_eq!(cell(first, "jumps"), "", "it depends on the block size");
-    let counted = ["seeks", "restarts", "pauses", "ended"].map(|column| cell(first, column));
-    assert_eq!(counted, ["2", "1", "5", "1"]);
+    let columns = ["seeks", "restarts", "pauses", "ended", "misfits"];
+    let counted = columns.map(|column| cell(first, column));
+    assert_eq!(counted, ["2", "1", "5", "1", "0"]);
 }
 
 #[test]

@@ -14,8 +14,8 @@ fn every_refusal_is_explained_by_the_library_s_sentence() {
     let all = room.run(&["explain"]);
     assert_eq!((all.status, &*all.err), (0, ""));
     let mut explained = String::new();
-    for number in 1..=26 {
-        let means = Refusal::text(number).expect("a sentence");
+    let texts = (1..100).filter_map(|number| Some((number, Refusal::text(number)?)));
+    for (number, means) in texts {
         let one = room.run(&["explain", &format!("refused={number}")]);
         assert_eq!((one.status, &*one.err), (0, ""), "{number}");
         let begins = format!("refusal {number}: ");
@@ -49,8 +49,8 @@ fn every_refusal_is_explained_by_the_library_s_sentence() {
         both.contains("refusal 2: ") && both.contains("state 2: paused"),
         "{both}"
     );
-    room.run(&["explain", "27"]).is_no_use(
-        "WORD must be a refusal's number from 1 to 26, a state's from 0 to 6, or a state's name, and not '27'",
+    room.run(&["explain", "30"]).is_no_use(
+        "WORD must be a refusal's number (1 to 25 or 29), a state's (0 to 6), or a state's name, and not '30'",
         "explain",
     );
 }

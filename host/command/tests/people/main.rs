@@ -13,4 +13,5 @@ mod room;
 mod salvage;
 mod settings;
 mod tools;
+mod week;
 mod words;

@@ -219,9 +219,10 @@ fn unsaid(form: usize) -> &'static [&'static str] {
             "lowest_count",
             "pauses",
             "ended",
+            "misfits",
             "minutes_still",
         ],
-        2 => &["jumps", "minutes_still", "pauses", "ended"],
+        2 => &["jumps", "minutes_still", "pauses", "ended", "misfits"],
         _ => &["jumps"],
     }
 }
@@ -286,6 +287,41 @@ fn over_all(rows: &[Vec<(String, String)>], evenings: &[Made], form: usize) {
         }
         assert_eq!(cell(&rows[6], column), "200");
     }
+}
+
+#[test]
+fn a_line_whose_steps_turns_and_places_disagree_is_named() {
+    let room = Room::new("report-misfit");
+    let block = |number: u64, position: u64, turns: u64, more: &str| {
+        format!(
+            "block={number} frames=8 steps=8 state=0 position={position} lowest=4 forward={turns} backward=0 started=1 played=8 paused=0 silent=0 still=0 loop_start=2 loop_end=8 direction=0 steps_back=0 ended=0 {more} restarts=0 pauses=0\n"
+        )
+    };
+    let still = "created=0 seeks=0";
+    let fits = [
+        "log=3\n".to_owned(),
+        block(1, 3, 0, "created=1 seeks=0"),
+        block(2, 5, 1, still),
+        block(3, 7, 2, still),
+        // After a seek, and from outside the loop, the lines do not say enough.
+        block(4, 1, 2, "created=0 seeks=1"),
+        block(5, 9, 9, still),
+    ];
+    let told = |log: String| {
+        room.put("a.log", log);
+        let ran = room.run(&["report", "a.log"]);
+        assert_eq!((ran.status, &*ran.err), (0, ""));
+        let last = ran.out.lines().last().unwrap_or_default().to_owned();
+        last.trim_start().to_owned()
+    };
+    assert_eq!(told(fits.concat()), "reached the end      no");
+    let says = "1 of its lines do not fit: steps, turns and places disagree, first at block 3";
+    let mut wrong = fits.clone();
+    wrong[3] = block(3, 7, 1, still);
+    assert_eq!(told(wrong[..4].concat()), says);
+    let mut wrong = fits;
+    wrong[3] = block(3, 6, 2, still);
+    assert_eq!(told(wrong[..4].concat()), says);
 }
 
 #[test]

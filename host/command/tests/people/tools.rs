@@ -106,6 +106,16 @@ fn files(room: &Room) {
     room.put("box.trace", trace(&records));
     room.put("box.log", log(&trace(&records), "1"));
     room.put("creeping.log", creeping(&records));
+    for folder in ["logs", "week"] {
+        fs::create_dir(room.0.join(folder)).unwrap();
+    }
+    room.put("logs/hall1_2026-11-09.log", room.read("tuesday.log"));
+    room.put("logs/hall1_2026-11-16.log", room.read("monday.log"));
+    for (name, log) in [("hall1", "box.log"), ("hall2", "creeping.log")] {
+        room.put(&format!("week/{name}.trace"), trace(&records));
+        room.put(&format!("week/{name}.log"), room.read(log));
+    }
+    room.put("week/hall3.log", room.read("monday.log"));
     let saved = SavedSettings {
         start: 44_100,
         loop_region: Some((273_420, 480_690)),

@@ -23,7 +23,10 @@ fn verbs() -> Vec<String> {
         let words: Vec<&str> = line.split(' ').take_while(lower).collect();
         words.join(" ")
     });
-    verbs.collect()
+    let mut verbs: Vec<String> = verbs.collect();
+    // A verb that can be called in two ways has two lines.
+    verbs.dedup();
+    verbs
 }
 
 fn of_verb(first: &str, verb: &str, last: &[&str]) -> String {
