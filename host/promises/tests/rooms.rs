@@ -1,4 +1,5 @@
-//! README names every page of docs/ and every room of crates/ and host/.
+//! The maps are complete: `crates.txt` has a comment for each crate, README names every page, and
+//! docs/ARCHITECTURE.md names every folder of `host/`.
 
 use std::fs;
 use std::path::{Path, PathBuf};
@@ -7,37 +8,59 @@ fn root() -> PathBuf {
     Path::new(env!("CARGO_MANIFEST_DIR")).join("../..")
 }
 
+fn read(path: &str) -> String {
+    fs::read_to_string(root().join(path)).unwrap_or_else(|e| panic!("{path}: {e}"))
+}
+
 /// The names in a folder that this holds for.
 fn names(folder: &str, wanted: impl Fn(&Path) -> bool) -> Vec<String> {
     let entries = fs::read_dir(root().join(folder)).unwrap_or_else(|e| panic!("{folder}: {e}"));
     let paths = entries.map(|entry| entry.unwrap().path());
     let names = paths.filter(|path| wanted(path)).map(|path| {
-        let stem = path.file_stem().unwrap();
-        stem.to_string_lossy().into_owned()
+        let name = path.file_name().unwrap();
+        name.to_string_lossy().into_owned()
     });
     names.collect()
 }
 
+fn none_missing(map: &str, missing: Vec<String>) {
+    assert!(missing.is_empty(), "{map} lacks {}", missing.join(", "));
+}
+
 #[test]
-fn readme_names_every_page_and_room() {
-    let readme = fs::read_to_string(root().join("README.md")).unwrap();
-    let has = |text: &str| readme.contains(text);
-    let pages = names("docs", |path| path.extension().is_some_and(|e| e == "md"));
-    let rooms = |folder| {
-        names(folder, |path| {
-            path.join("src").is_dir() || path.join("Cargo.toml").is_file()
-        })
+fn crates_txt_says_what_each_crate_is_for() {
+    let map = read("crates.txt");
+    let lines: Vec<&str> = map.lines().collect();
+    let explained = |name: &str| {
+        let at = lines
+            .iter()
+            .position(|line| line.starts_with(&format!("{name}:")));
+        at.is_some_and(|at| at > 0 && lines[at - 1].starts_with("# "))
     };
-    let unnamed_pages = pages.into_iter().filter(|page| !has(&format!("{page} (")));
-    let unnamed_rooms = ["crates", "host"].into_iter().flat_map(|folder| {
-        let named = move |room: String| format!("`{folder}/{room}`");
-        rooms(folder).into_iter().map(named)
+    let crates = names("crates", |path| path.join("src").is_dir());
+    let missing = crates.into_iter().filter(|name| !explained(name)).collect();
+    none_missing("crates.txt: a comment above the line of", missing);
+}
+
+#[test]
+fn readme_names_every_page() {
+    let readme = read("README.md");
+    let pages = names("docs", |path| {
+        path.extension().is_some_and(|e| e == "md" || e == "txt")
     });
-    let unnamed_rooms = unnamed_rooms.filter(|room| !has(room));
-    let unnamed: Vec<String> = unnamed_pages.chain(unnamed_rooms).collect();
-    assert!(
-        unnamed.is_empty(),
-        "README does not name {}",
-        unnamed.join(", ")
-    );
+    let missing = pages
+        .into_iter()
+        .filter(|page| !readme.contains(page.as_str()));
+    none_missing("README.md", missing.collect());
+}
+
+#[test]
+fn architecture_names_every_folder_of_host() {
+    let page = read("docs/ARCHITECTURE.md");
+    let folders = names("host", |path| path.join("Cargo.toml").is_file());
+    let missing = folders
+        .into_iter()
+        .map(|folder| format!("`host/{folder}`"))
+        .filter(|folder| !page.contains(folder.as_str()));
+    none_missing("docs/ARCHITECTURE.md", missing.collect());
 }
