@@ -309,6 +309,7 @@ witnesses =
       archive-tags-refused = (omega arith, omega arith);
       block-ends = record { accepted = accepted; live = live-now; inside = omega arith };
       mix-ends = record { accepted = accepted-mix; live = live-now; inside = omega arith };
+      held-blocks = (record { accepted = accepted; inside = omega arith }, awake-first, record { accepted = accepted-mix; inside = omega arith }, accepted, accepted-mix, record { accepted = accepted; small = omega arith; slow = slow }, record { accepted = accepted-mix; small = omega arith; slow = slow }, silent);
       steps-made = accepted;
       mix-steps-made = accepted-mix;
       block-budget = (record { accepted = accepted; small = omega arith; slow = slow }, silent);

@@ -29,6 +29,8 @@ use Rattle.records.specs.Records.{decoded, encoded}
 use Rattle.inputs.specs.declared.CableowlPlace.{CableowlPlace}
 use Rattle.inputs.specs.declared.CableowlCommands.{CableowlCommands}
 use Rattle.inputs.specs.declared.CableowlSignals.{CableowlSignals}
+use Rattle.held.specs.declared.Held.{Held}
+use Rattle.held.specs.Held.{once}
 use Rattle.theorems.specs.Accepted.{AcceptedBlock, AcceptedMix, Silent}
 use Rattle.theorems.specs.Alike.{Awake}
 use Rattle.theorems.specs.Cut.{MayCut}
@@ -85,6 +87,10 @@ ending =
 -- two frames at full volume
 abbrev pub lanes : Lanes
 lanes = let ones = one ∷ one ∷ [] in five ones ones ones ones ones
+
+-- the same numbers, given once
+abbrev pub ones : Held
+ones = record { fade = one; volume = one; left = one; right = one; rate = one }
 
 -- the start is due at tick 4,294,967,295, and the tick now is 0, past the wrap
 abbrev pub due : Signals
@@ -200,6 +206,7 @@ pub record Witnesses : Type 0 where
   pub archive-tags-refused : Unknown 1 2 × Unknown 2 3
   pub block-ends : Sounds ten voice one lanes due output 1
   pub mix-ends : SoundsMix ten voice one lanes due mix 1 1
+  pub held-blocks : MayCut ten voice one (once ones 2) due output 1 × Awake ((processed ten voice one (firstLanes 1 (once ones 2)) due (take 2 output)) .answer .sound) × MayCutMix ten voice one (once ones 2) due mix 1 1 × AcceptedBlock ten voice one (once ones 2) due output × AcceptedMix ten voice one (once ones 2) due mix 1 × SlowBlock 1 ten voice one (once ones 2) due output × SlowMix 1 ten voice one (once ones 2) due mix 1 × Silent waiting unstarted
   pub steps-made : AcceptedBlock ten voice one lanes due output
   pub mix-steps-made : AcceptedMix ten voice one lanes due mix 1
   pub block-budget : SlowBlock 1 ten voice one lanes due output × Silent waiting unstarted

@@ -134,6 +134,6 @@ module _ (snd : List Float) (n : ℕ) (h : Hall) (i : ℕ) where
       at-merge false d = subst (λ (b : Box). R (worldOf b) u) (sym (put-other q h new (w .box) d)) r
 
 pub as-alone : AsAlone
-as-alone snd n vs h i ss few t =
-    let p = alone-row snd n h i ss (begun n vs) (oneTable n (vs h)) (going-begun snd n vs ss few) (record { table = record { lawful = refl; frames = refl; slots = refl }; voice = refl }) t in
+as-alone snd n vs h i ss q =
+    let p = alone-row snd n h i ss (begun n vs) (oneTable n (vs h)) (going-begun snd n vs ss (q .few)) (record { table = record { lawful = refl; frames = refl; slots = refl }; voice = refl }) (q .own) in
     record { answered = p .0; slots = p .1 .table .slots; voice = p .1 .voice }

@@ -5,4 +5,5 @@ pub mod Reach
 pub mod Steps
 pub mod Alone
 pub mod Shared
+pub mod Witnesses
 pub mod Promises

@@ -3,6 +3,7 @@ use Rattle.theorems_boxes.specs.Promises.{Promises}
 use Rattle.theorems_boxes.proofs.Merging.{never-back, any-order, any-times, any-grouping}
 use Rattle.theorems_boxes.proofs.Alone.{as-alone}
 use Rattle.theorems_boxes.proofs.Shared.{together, last-copy-catches, none-refused}
+use Rattle.theorems_boxes.proofs.Witnesses.{witnesses}
 
 pub promises : Promises
 promises =
@@ -15,4 +16,5 @@ promises =
       together = together;
       last-copy-catches = last-copy-catches;
       none-refused = none-refused;
+      witnesses = witnesses;
     }

@@ -80,8 +80,7 @@ table-ext t u e f g = built t ∙ ap₂ (λ (k : ℕ) (s : List LoopSlot). recor
     built t = ap (λ (s : List LoopSlot). record { «num_frames» = t .«num_frames»; slots = s }) (sym (take-append-drop 8 (t .slots)))
 
 pub together : Together
-together snd n vs g ss few a b =
-    table-ext ((w) .box g .copy .table) shared (al g .frames) (to hall.A a) (to hall.B b)
+together snd n vs g ss q = table-ext (w .box g .copy .table) shared (al g .frames) (to hall.A (q .of-a)) (to hall.B (q .of-b))
   where
     w : Boxes
     w = afterSteps snd (begun n vs) ss
@@ -90,20 +89,20 @@ together snd n vs g ss few a b =
     shared = sharedTable snd n (vs g) ss
 
     r : Reached n (copies w) (w .sent)
-    r = (going-all snd n ss (begun n vs) (going-begun snd n vs ss few)) .reached
+    r = (going-all snd n ss (begun n vs) (going-begun snd n vs ss (q .few))) .reached
 
     al : (h : Hall) → Alike h (tables w h) shared
-    al = shared-row snd n ss (begun n vs) (oneTable n (vs g)) (going-begun snd n vs ss few) (λ h. record { lawful = refl; frames = refl; slots = refl })
+    al = shared-row snd n ss (begun n vs) (oneTable n (vs g)) (going-begun snd n vs ss (q .few)) (λ h. record { lawful = refl; frames = refl; slots = refl })
 
     to : (h : Hall) → changesOf h (w .box g .copy) ≡ changesOf h (w .box h .copy) → half h (tables w g) ≡ half h shared
     to h e = r .here g .from h ∙ ap (r .hist h) e ∙ sym (r .here h .from h) ∙ al h .slots
 
 pub last-copy-catches : LastCopyCatches
-last-copy-catches snd n vs g h ss k few e =
+last-copy-catches snd n vs g h ss k q =
     ap (λ (b : Box). changesOf h (b .copy)) (put-own g new (w .box))
     ∙ ap (changesOf h) (merge-is n (copies w) (w .sent) r g k)
     ∙ ap (λ (v : View). v .number) (view-merged h c d (r .here g .sixteen) (sent-good n (copies w) (w .sent) r g k .sixteen))
-    ∙ picked (λ (v : View). v .number ≡ r .bound h) (view h c) (view h d) (λ l. e ∙ r .own h) (λ l. same-number (changesOf h c) (changesOf h d) (r .bound h) (e ∙ r .own h) l (r .here g .below h))
+    ∙ picked (λ (v : View). v .number ≡ r .bound h) (view h c) (view h d) (λ l. q .all ∙ r .own h) (λ l. same-number (changesOf h c) (changesOf h d) (r .bound h) (q .all ∙ r .own h) l (r .here g .below h))
     ∙ sym (r .own h)
     ∙ sym (merge-own n (copies w) (w .sent) r g k h)
     ∙ ap (changesOf h) (put-copies g new w h)
@@ -112,7 +111,7 @@ last-copy-catches snd n vs g h ss k few e =
     w = afterSteps snd (begun n vs) ss
 
     r : Reached n (copies w) (w .sent)
-    r = (going-all snd n ss (begun n vs) (going-begun snd n vs ss few)) .reached
+    r = (going-all snd n ss (begun n vs) (going-begun snd n vs ss (q .few))) .reached
 
     c : LoopCopy
     c = w .box g .copy

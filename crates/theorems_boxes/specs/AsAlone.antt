@@ -18,7 +18,12 @@ pub record Alone (snd : List Float) (n : ℕ) (vs : Hall → ℕ → StaticSound
   pub slots : half h ((afterSteps snd (begun n vs) ss) .box h .copy .table) ≡ half h ((after snd (oneTable n (vs h)) (aloneRow h ss)) .table)
   pub voice : (afterSteps snd (begun n vs) ss) .box h .voices i ≡ (after snd (oneTable n (vs h)) (aloneRow h ss)) .voices i
 
+-- what is asked: few steps, in which voice i of hall h takes loops from h's slots alone
+pub record OwnLoops (h : Hall) (i : ℕ) (ss : List Step) : Type 0 where
+  pub few : Few ss
+  pub own : T (all (takesFrom h) (only (concerns h i) (aloneRow h ss)))
+
 abbrev pub AsAlone : Type 0
 AsAlone =
     (snd : List Float) (n : ℕ) (vs : Hall → ℕ → StaticSound) (h : Hall) (i : ℕ) (ss : List Step)
-    → Few ss → T (all (takesFrom h) (only (concerns h i) (aloneRow h ss))) → Alone snd n vs h i ss
+    → OwnLoops h i ss → Alone snd n vs h i ss

@@ -3,4 +3,5 @@ pub mod Boxes
 pub mod Merging
 pub mod AsAlone
 pub mod Together
+pub mod Witnesses
 pub mod Promises

@@ -2,6 +2,7 @@
 use Rattle.theorems_boxes.specs.Merging.{NeverBack, AnyOrder, AnyTimes, AnyGrouping}
 use Rattle.theorems_boxes.specs.AsAlone.{AsAlone}
 use Rattle.theorems_boxes.specs.Together.{Together, LastCopyCatches, NoneRefused}
+use Rattle.theorems_boxes.specs.Witnesses.{Witnesses}
 
 pub record Promises : Type 0 where
   -- no older half replaces a newer one
@@ -16,3 +17,5 @@ pub record Promises : Type 0 where
   pub together : Together
   pub last-copy-catches : LastCopyCatches
   pub none-refused : NoneRefused
+  -- an input for each that meets what it asks
+  pub witnesses : Witnesses

@@ -13,20 +13,31 @@ use Rattle.theorems_boxes.specs.Boxes.{Step, Merges, Boxes, stepped, aft
 abbrev pub reached : List Float → ℕ → (Hall → ℕ → StaticSound) → List Step → Boxes
 reached snd n vs ss = afterSteps snd (begun n vs) ss
 
--- both boxes have all changes
+-- ---- what is asked
+
+-- few steps, after which box g has all changes of both halls
+pub record AllCaught (snd : List Float) (n : ℕ) (vs : Hall → ℕ → StaticSound) (g : Hall) (ss : List Step) : Type 0 where
+  pub few : Few ss
+  pub of-a : Caught g hall.A (reached snd n vs ss)
+  pub of-b : Caught g hall.B (reached snd n vs ss)
+
+-- few steps, after which the k-th copy that was sent has all of h's changes
+pub record LastCopy (snd : List Float) (n : ℕ) (vs : Hall → ℕ → StaticSound) (g h : Hall) (ss : List Step) (k : ℕ) : Type 0 where
+  pub few : Few ss
+  pub all : changesOf h (getD ((reached snd n vs ss) .sent) k ((reached snd n vs ss) .box g .copy)) ≡ changesOf h ((reached snd n vs ss) .box h .copy)
+
+-- ---- the theorems
+
 abbrev pub Together : Type 0
 Together =
     (snd : List Float) (n : ℕ) (vs : Hall → ℕ → StaticSound) (g : Hall) (ss : List Step)
-    → Few ss → Caught g hall.A (reached snd n vs ss) → Caught g hall.B (reached snd n vs ss)
-    → (reached snd n vs ss) .box g .copy .table ≡ sharedTable snd n (vs g) ss
+    → AllCaught snd n vs g ss → (reached snd n vs ss) .box g .copy .table ≡ sharedTable snd n (vs g) ss
 
 -- a merge of a copy that has all of h's changes
 abbrev pub LastCopyCatches : Type 0
 LastCopyCatches =
     (snd : List Float) (n : ℕ) (vs : Hall → ℕ → StaticSound) (g h : Hall) (ss : List Step) (k : ℕ)
-    → Few ss
-    → changesOf h (getD ((reached snd n vs ss) .sent) k ((reached snd n vs ss) .box g .copy)) ≡ changesOf h ((reached snd n vs ss) .box h .copy)
-    → Caught g h (stepped snd (reached snd n vs ss) (Merges g k))
+    → LastCopy snd n vs g h ss k → Caught g h (stepped snd (reached snd n vs ss) (Merges g k))
 
 abbrev pub NoneRefused : Type 0
 NoneRefused =

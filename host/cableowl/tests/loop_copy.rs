@@ -51,7 +51,10 @@ fn two_boxes_come_to_hold_the_shared_table() {
                     boxes[at].merge(&copy).unwrap();
                     assert_eq!(boxes[at], again);
                 }
-                _ => accepted[at] += u64::from(change(&mut random, hall, &mut boxes[at], &mut shared).is_ok()),
+                _ => {
+                    accepted[at] +=
+                        u64::from(change(&mut random, hall, &mut boxes[at], &mut shared).is_ok())
+                }
             }
             for (own, slots) in boxes.iter().zip([0..8, 8..16]) {
                 for slot in slots {
