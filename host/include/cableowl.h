@@ -494,6 +494,12 @@ static inline const char *cableowl_refusal_text(uint64_t number) {
                "version 1), and in bytes the length of their version, 21 or 22";
     case CABLEOWL_REFUSAL_OUTPUT:
         return "the output of a salvage must be at least as long as the trace";
+    case CABLEOWL_REFUSAL_OTHER_FRAMES:
+        return "the two copies are of loop tables over different sounds: merge copies over one sound";
+    case CABLEOWL_REFUSAL_TWO_HALVES:
+        return "one hall has made the same number of changes in both copies, but its slots differ: two boxes have "
+               "written for one hall, or one went back to an old copy; keep the copy that is right and write its slots "
+               "again";
     case 29: /* of the Rust crate's player alone; a log may have it */
         return "64 seeks wait for the next frame already: play a frame, then seek again";
     default:

@@ -3,7 +3,7 @@
 use cableowl::{Hall, LoopCopy, LoopTable, Refusal};
 use random::Random;
 
-const FRAMES: u64 = 40;
+const FRAMES: usize = 40;
 
 /// A write or a clear, by slot: the hall is the slot's own, or now and then the other.
 fn change(
@@ -12,8 +12,11 @@ fn change(
     copy: &mut LoopCopy,
     table: &mut LoopTable,
 ) -> Result<(), Refusal> {
-    let slot = random.below(17) as usize;
-    let (start, end) = (random.below(FRAMES + 2), random.below(FRAMES + 3));
+    let slot = random.below(17);
+    let (start, end) = (
+        random.below(FRAMES + 2) as u64,
+        random.below(FRAMES + 3) as u64,
+    );
     let (ours, shared) = if random.below(3) == 0 {
         (copy.clear(hall, slot), table.clear(hall, slot))
     } else {
@@ -30,18 +33,18 @@ fn change(
 fn two_boxes_come_to_hold_the_shared_table() {
     let mut random = Random::new(39);
     for _ in 0..2_000 {
-        let mut shared = LoopTable::new(FRAMES);
-        let mut boxes = [LoopCopy::new(FRAMES); 2];
+        let mut shared = LoopTable::new(FRAMES as u64);
+        let mut boxes = [LoopCopy::new(FRAMES as u64); 2];
         let mut accepted = [0_u64; 2];
         let mut sent = Vec::new();
         for _ in 0..random.below(60) {
-            let at = random.below(2) as usize;
+            let at = random.below(2);
             let hall = [Hall::A, Hall::B][at];
             match random.below(4) {
                 0 => sent.push(boxes[at]),
                 // Any copy that was ever sent, late or again, one's own too; most are lost.
                 1 if !sent.is_empty() => {
-                    let copy: LoopCopy = sent[random.below(sent.len() as u64) as usize];
+                    let copy: LoopCopy = sent[random.below(sent.len())];
                     let before = boxes[at];
                     boxes[at].merge(&copy).unwrap();
                     for hall in [Hall::A, Hall::B] {

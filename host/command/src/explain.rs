@@ -230,6 +230,18 @@ const REFUSALS: [Explained; 26] = [
         "Give the call an output as long as the trace. The command does that itself",
     ),
     explained(
+        27,
+        "copies of loop tables over different sounds",
+        "a merge of two copies",
+        "Merge copies over one sound: the two tables record different frame counts",
+    ),
+    explained(
+        28,
+        "two halves with one number of changes",
+        "a merge of two copies",
+        "Find out which box wrote for that hall twice, or went back to an old copy. Keep the copy that is right and write its slots again",
+    ),
+    explained(
         29,
         "a seek too many",
         "a command to a player",
@@ -237,7 +249,7 @@ const REFUSALS: [Explained; 26] = [
     ),
 ];
 
-/// The numbers of the refusals, in words: `1 to 25 or 29`.
+/// The numbers of the refusals, in words: `1 to 25 or 27 to 29`.
 pub fn numbers() -> String {
     let mut spans: Vec<(u32, u32)> = Vec::new();
     for number in REFUSALS.iter().map(|refusal| refusal.number) {
