@@ -208,6 +208,7 @@ fn four_declarations_are_one() {
         "inputs/src/lib",
         "cableowl/src/lib",
         "loop_table/src/lib",
+        "loop_copies/src/lib",
         "trace/src/lib",
         "trace/src/writes",
         "salvage/src/lib",

@@ -78,7 +78,7 @@ const READING: &str = "reading a trace, or saved settings";
 const TRACE: &str = "reading or writing a trace";
 
 /// All refusals.
-const REFUSALS: [Explained; 26] = [
+const REFUSALS: [Explained; 28] = [
     explained(
         1,
         "a state or a sound that does not fit",

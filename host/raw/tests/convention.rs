@@ -54,7 +54,15 @@ fn the_crates_that_are_linked_have_theirs() {
             .join("src")
     };
     for (name, count) in [("cableowl", 19), ("exports", 20)] {
-        let below = ["records", "inputs", "loop_table", "trace", "salvage"].map(src);
+        let below = [
+            "records",
+            "inputs",
+            "loop_table",
+            "loop_copies",
+            "trace",
+            "salvage",
+        ]
+        .map(src);
         let exports = convention::exports(&src(name), &below).unwrap();
         assert!(exports.names().count() >= count);
         exports.in_c().unwrap();
