@@ -30,7 +30,15 @@ const CELLS: [Cell; 7] = [
 const RECORDED: [(&str, [Option<f64>; 7]); 2] = [
     (
         "aarch64",
-        [Some(78.8), Some(93.4), Some(81.1), None, None, None, None],
+        [
+            Some(48.8),
+            Some(62.9),
+            Some(49.5),
+            Some(172.2),
+            Some(180.9),
+            Some(48.8),
+            Some(51.6),
+        ],
     ),
     (
         "x86_64",
