@@ -33,7 +33,7 @@ const RECORDED: [(&str, [Option<f64>; 7]); 2] = [
         [
             Some(48.8),
             Some(62.9),
-            Some(49.5),
+            Some(74.8),
             Some(172.2),
             Some(180.9),
             Some(48.8),
