@@ -169,7 +169,9 @@ Measured on {}.
 /// Where the rest of the time is, and what others take.
 const REST: &str = "## Where the time is
 
-Of some 78 instructions a frame on Arm (0.93, blocks of 512, callgrind; kira's text 121): 67 are the ride's loop, 9 judge the lanes, 2 are the call's own part (the state's test and its translation, the trail's test, the answer), about 1,000 a call, which at 64 frames is 16. Of the loop's 67 about 26 are the two channels' cubic and gains, four lanes at a time for two frames; 16 the advance, the sum and its narrowing; 22 the places and the reads; 3 keep what the registers do not hold. Below 1 a rate spares kira's text updates and ours nothing: its frames cost the same at 0.5 as at 1. A block is played frame by frame, at 1.25 to 1.5 of kira's time, where its window is no trail: the first block after creation, one after a seek, the last frames of a sound without a loop, a window with a NaN.
+On Arm a frame costs 48.8 instructions (0.93, blocks of 512, one rate for the whole block, callgrind; kira's text 121), 51.6 if the rates vary, 74.8 in a loop of 3 frames, which goes round two frames per iteration. A call costs about 1,000 instructions of its own: the state's check and its translation, the window's check, the answer. Most of a call's fixed time is spent on copies of the voice between functions. What is left to half of kira's time: constant lanes are not recognised, both entries have a body of their own, and lanes given once are played by a plain loop. Below 1 a rate spares kira's text updates and ours nothing: our frames cost the same at 0.5 as at 1. A block is played frame by frame, at 1.25 to 1.5 of kira's time, if its window is not four neighbouring frames of the track: the first block after creation, one after a seek, the last frames of a sound without a loop, a window with a NaN.
+
+Ratios differ between processors more than instructions do. With the form before this one a Neoverse N1 took 0.65 of kira's time at 0.93 and 512, and a Neoverse V1 0.85: kira's text is twice as fast on the V1, ours 1.45 times.
 
 ## Beside others
 
@@ -183,7 +185,7 @@ Time a frame over that of kira's text in the same run, stereo, looped, rate 0.93
 | libxmp spline | 0.48 / 0.49 / 0.48 | less: 16 bit, the rate is fixed in a tick |
 | libopenmpt cubic | 0.40 / 0.37 / 0.36 | less: 16 bit, the rate is fixed in a tick |
 | fluidsynth 4th order | 1.47 / 1.42 / 1.38 | more: a filter, envelopes |
-| ours, on Arm (the table above) | 0.81 / 0.65 / 0.63 | as kira's, with every check, proved |
+| ours, on Arm (the table above) | 0.76 / 0.60 / 0.58 | as kira's, with every check, proved |
 ";
 
 /// Processor, system, compiler and day of the run, as far as they can be told.
