@@ -32,7 +32,7 @@ const RECORDED: [(&str, [Option<f64>; 7]); 2] = [
         "aarch64",
         [
             Some(48.8),
-            Some(62.9),
+            None,
             Some(74.8),
             Some(172.2),
             Some(180.9),
