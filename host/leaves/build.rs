@@ -1,4 +1,4 @@
-// Links the proved archive of crates/exports.
+// Links the proved archive of crates/test_exports.
 
 use std::process::ExitCode;
 
@@ -6,5 +6,5 @@ use std::process::ExitCode;
 mod archive;
 
 fn main() -> ExitCode {
-    archive::link("exports")
+    archive::link("test_exports")
 }

@@ -4,27 +4,27 @@ use Prim.Native.Nat.{ℕ, _≤_}
 use mathlib.Core.List.{List}
 use lib.ListN.{length}
 use lib.Ieee.{Float}
-use Rattle.lanes.specs.Lanes.{Lanes}
-use Rattle.voice.specs.declared.StaticSound.{StaticSound}
-use Rattle.creation.specs.declared.Settings.{Settings}
-use Rattle.creation.specs.declared.Created.{Created}
-use Rattle.creation.specs.Creation.{created}
-use Rattle.command_set.specs.declared.Commands.{Commands}
-use Rattle.command_set.specs.declared.Commanded.{Commanded}
-use Rattle.command_set.specs.Commands.{commanded}
-use Rattle.block.specs.declared.Signals.{Signals}
-use Rattle.playing.specs.declared.Processed.{Processed}
-use Rattle.playing.specs.Plays.{Outcome}
+use Rattle.sound_lanes.specs.Lanes.{Lanes}
+use Rattle.sound_state.specs.declared.StaticSound.{StaticSound}
+use Rattle.sound_creation.specs.declared.Settings.{Settings}
+use Rattle.sound_creation.specs.declared.Created.{Created}
+use Rattle.sound_creation.specs.Creation.{created}
+use Rattle.sound_commands.specs.declared.Commands.{Commands}
+use Rattle.sound_commands.specs.declared.Commanded.{Commanded}
+use Rattle.sound_commands.specs.Commands.{commanded}
+use Rattle.sound_block.specs.declared.Signals.{Signals}
+use Rattle.sound_slow_path.specs.declared.Processed.{Processed}
+use Rattle.sound_slow_path.specs.Plays.{Outcome}
 use Rattle.static_sound.specs.Entries.{processed, processedInto}
-use Rattle.records.specs.declared.CableowlState.{CableowlState}
-use Rattle.inputs.specs.declared.CableowlSettings.{CableowlSettings}
-use Rattle.inputs.specs.declared.CableowlCommands.{CableowlCommands}
-use Rattle.inputs.specs.declared.CableowlSignals.{CableowlSignals}
+use Rattle.c_state.specs.declared.CableowlState.{CableowlState}
+use Rattle.c_inputs.specs.declared.CableowlSettings.{CableowlSettings}
+use Rattle.c_inputs.specs.declared.CableowlCommands.{CableowlCommands}
+use Rattle.c_inputs.specs.declared.CableowlSignals.{CableowlSignals}
 use Rattle.cableowl.specs.declared.CableowlCreated.{CableowlCreated}
 use Rattle.cableowl.specs.declared.CableowlCommanded.{CableowlCommanded}
 use Rattle.cableowl.specs.declared.CableowlProcessed.{CableowlProcessed}
-use Rattle.records.specs.Records.{decoded, encoded}
-use Rattle.inputs.specs.Inputs.{settingsOf, commandsOf, signalsOf}
+use Rattle.c_state.specs.Records.{decoded, encoded}
+use Rattle.c_inputs.specs.Inputs.{settingsOf, commandsOf, signalsOf}
 use Rattle.cableowl.specs.Entries.{after, createdC, commandedC, answered, OutcomeC, processedC, processedIntoC}
 use Rattle.cableowl.proofs.Few.{countOf, ours-few, created-few, commanded-ours, processed-ours, into-ours, processed-low, into-low}
 

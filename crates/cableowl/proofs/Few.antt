@@ -9,24 +9,24 @@ use mathlib.Core.List.{List}
 use lib.Dec.{T, eqb, eqb→eq}
 use lib.ListN.{length}
 use lib.Ieee.{Float}
-use Rattle.lanes.specs.Lanes.{Lanes, rows}
-use Rattle.voice.specs.declared.StaticSound.{StaticSound}
-use Rattle.voice.specs.Voices.{span, offset}
-use Rattle.voice.specs.WellFormed.{ours}
-use Rattle.voice.proofs.Formed.{setup-parts, span-inside, ours-parts}
-use Rattle.creation.specs.declared.Settings.{Settings}
-use Rattle.creation.specs.Creation.{refusedNew, made, blankSound, created}
-use Rattle.creation.proofs.Refusals.{creatable-parts}
-use Rattle.creation.proofs.Makes.{made-ours}
-use Rattle.command_set.specs.declared.Commands.{Commands}
-use Rattle.command_set.specs.Commands.{commanded}
-use Rattle.command_set.proofs.Refusals.{obeyable-parts}
-use Rattle.command_set.proofs.Orders.{obeyed-ours}
-use Rattle.command_set.proofs.Answers.{commanded-passed, commanded-done}
-use Rattle.block.specs.declared.Signals.{Signals}
-use Rattle.playing.specs.Plays.{Played, Outcome, acceptedWith}
-use Rattle.block.specs.Blocks.{block}
-use Rattle.block.proofs.Blocks.{block-lowest}
+use Rattle.sound_lanes.specs.Lanes.{Lanes, rows}
+use Rattle.sound_state.specs.declared.StaticSound.{StaticSound}
+use Rattle.sound_state.specs.Voices.{span, offset}
+use Rattle.sound_state.specs.WellFormed.{ours}
+use Rattle.sound_state.proofs.Formed.{setup-parts, span-inside, ours-parts}
+use Rattle.sound_creation.specs.declared.Settings.{Settings}
+use Rattle.sound_creation.specs.Creation.{refusedNew, made, blankSound, created}
+use Rattle.sound_creation.proofs.Refusals.{creatable-parts}
+use Rattle.sound_creation.proofs.Makes.{made-ours}
+use Rattle.sound_commands.specs.declared.Commands.{Commands}
+use Rattle.sound_commands.specs.Commands.{commanded}
+use Rattle.sound_commands.proofs.Refusals.{obeyable-parts}
+use Rattle.sound_commands.proofs.Orders.{obeyed-ours}
+use Rattle.sound_commands.proofs.Answers.{commanded-passed, commanded-done}
+use Rattle.sound_block.specs.declared.Signals.{Signals}
+use Rattle.sound_slow_path.specs.Plays.{Played, Outcome, acceptedWith}
+use Rattle.sound_block.specs.Blocks.{block}
+use Rattle.sound_block.proofs.Blocks.{block-lowest}
 use Rattle.static_sound.specs.Entries.{refusedBlock, refusedWith, holds, processed, room, mixed, processedInto}
 use Rattle.static_sound.proofs.Refusals.{accepted-parts}
 use Rattle.static_sound.proofs.Entries.{block-ours, processed-passed, processed-done, into-passed, into-done}

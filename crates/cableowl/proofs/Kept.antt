@@ -8,24 +8,24 @@ use lib.ListN.{length}
 use lib.Ieee.{Float}
 use borrow.Author.Tests.{ne-eqb}
 use Rattle.numbers.specs.Words.{positiveZero}
-use Rattle.lanes.specs.Lanes.{Lanes}
-use Rattle.voice.specs.declared.StaticSound.{StaticSound}
-use Rattle.voice.specs.WellFormed.{ours}
-use Rattle.creation.specs.Creation.{blankSound}
-use Rattle.creation.proofs.Answers.{created-passed, created-done, created-refused}
-use Rattle.command_set.specs.declared.Commanded.{Commanded}
-use Rattle.command_set.proofs.Answers.{commanded-refused}
-use Rattle.playing.specs.Plays.{Outcome}
+use Rattle.sound_lanes.specs.Lanes.{Lanes}
+use Rattle.sound_state.specs.declared.StaticSound.{StaticSound}
+use Rattle.sound_state.specs.WellFormed.{ours}
+use Rattle.sound_creation.specs.Creation.{blankSound}
+use Rattle.sound_creation.proofs.Answers.{created-passed, created-done, created-refused}
+use Rattle.sound_commands.specs.declared.Commanded.{Commanded}
+use Rattle.sound_commands.proofs.Answers.{commanded-refused}
+use Rattle.sound_slow_path.specs.Plays.{Outcome}
 use Rattle.static_sound.proofs.Entries.{processed-refused, into-refused}
-use Rattle.records.specs.declared.CableowlState.{CableowlState}
-use Rattle.inputs.specs.declared.CableowlSettings.{CableowlSettings}
-use Rattle.inputs.specs.declared.CableowlCommands.{CableowlCommands}
-use Rattle.inputs.specs.declared.CableowlSignals.{CableowlSignals}
-use Rattle.records.specs.Records.{lawful, decoded, encoded}
-use Rattle.inputs.specs.Inputs.{settingsOf, commandsOf, signalsOf}
+use Rattle.c_state.specs.declared.CableowlState.{CableowlState}
+use Rattle.c_inputs.specs.declared.CableowlSettings.{CableowlSettings}
+use Rattle.c_inputs.specs.declared.CableowlCommands.{CableowlCommands}
+use Rattle.c_inputs.specs.declared.CableowlSignals.{CableowlSignals}
+use Rattle.c_state.specs.Records.{lawful, decoded, encoded}
+use Rattle.c_inputs.specs.Inputs.{settingsOf, commandsOf, signalsOf}
 use Rattle.cableowl.specs.Entries.{after, createdC, commandedC, OutcomeC, processedC, processedIntoC}
 use Rattle.cableowl.proofs.Few.{created-ours, commanded-ours, processed-ours, into-ours}
-use Rattle.records.proofs.Inverse.{lawful-encoded, decoded-encoded}
+use Rattle.c_state.proofs.Inverse.{lawful-encoded, decoded-encoded}
 
 -- a record that the next call takes over this sound
 abbrev pub Good : List Float → CableowlState → Type 0

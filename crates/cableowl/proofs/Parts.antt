@@ -13,15 +13,15 @@ use Rattle.playback_position.specs.declared.FrameRange.{FrameRange}
 use Rattle.playback_position.specs.declared.FrameRange.the-variants.{Absent, Frames}
 use Rattle.playback_position.specs.Positions.{within}
 use Rattle.playback_position.proofs.Ranges.{ranged-parts}
-use Rattle.voice.specs.declared.Setup.{Setup}
-use Rattle.voice.specs.declared.StaticSound.{StaticSound}
-use Rattle.voice.specs.Voices.{span, offset}
-use Rattle.voice.specs.WellFormed.{ours}
-use Rattle.voice.proofs.Formed.{Fixed, setup-parts, span-inside, ours-parts}
+use Rattle.sound_state.specs.declared.Setup.{Setup}
+use Rattle.sound_state.specs.declared.StaticSound.{StaticSound}
+use Rattle.sound_state.specs.Voices.{span, offset}
+use Rattle.sound_state.specs.WellFormed.{ours}
+use Rattle.sound_state.proofs.Formed.{Fixed, setup-parts, span-inside, ours-parts}
 use Rattle.static_sound.specs.Entries.{sliced, stretchOf, stretchAt}
-use Rattle.records.specs.declared.CableowlState.{CableowlState}
+use Rattle.c_state.specs.declared.CableowlState.{CableowlState}
 use Rattle.cableowl.specs.declared.CableowlPart.{CableowlPart}
-use Rattle.records.specs.Records.{decoded}
+use Rattle.c_state.specs.Records.{decoded}
 use Rattle.cableowl.specs.Entries.{partC}
 use Rattle.cableowl.proofs.Few.{part-few}
 

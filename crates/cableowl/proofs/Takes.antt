@@ -8,16 +8,16 @@ use lib.ListN.{length}
 use lib.Ieee.{Float}
 use borrow.Author.Tests.{eqb-false}
 use Rattle.numbers.specs.Words.{positiveZero}
-use Rattle.voice.specs.declared.StaticSound.{StaticSound}
-use Rattle.voice.specs.WellFormed.{ours}
-use Rattle.command_set.specs.declared.Commanded.{Commanded}
-use Rattle.command_set.specs.Commands.{commanded}
+use Rattle.sound_state.specs.declared.StaticSound.{StaticSound}
+use Rattle.sound_state.specs.WellFormed.{ours}
+use Rattle.sound_commands.specs.declared.Commanded.{Commanded}
+use Rattle.sound_commands.specs.Commands.{commanded}
 use Rattle.loop_table.specs.declared.LoopTable.{LoopTable}
 use Rattle.loop_table.specs.Tables.{found}
 use Rattle.take_loop.specs.Taking.{loopCommand, taken}
-use Rattle.records.specs.declared.CableowlState.{CableowlState}
+use Rattle.c_state.specs.declared.CableowlState.{CableowlState}
 use Rattle.cableowl.specs.declared.CableowlCommanded.{CableowlCommanded}
-use Rattle.records.specs.Records.{decoded}
+use Rattle.c_state.specs.Records.{decoded}
 use Rattle.cableowl.specs.Entries.{after}
 use Rattle.cableowl.specs.Loops.{takenC}
 use Rattle.cableowl.proofs.Few.{countOf, ours-few, commanded-ours}

@@ -5,15 +5,15 @@ use mathlib.Core.Bool.{false}
 use mathlib.Core.List.{List}
 use lib.ListN.{length}
 use lib.Ieee.{Float}
-use Rattle.lanes.specs.Lanes.{Lanes}
-use Rattle.voice.specs.WellFormed.{ours}
-use Rattle.creation.proofs.Makes.{blank-not}
-use Rattle.command_set.specs.Commands.{refusedSet, commanded}
+use Rattle.sound_lanes.specs.Lanes.{Lanes}
+use Rattle.sound_state.specs.WellFormed.{ours}
+use Rattle.sound_creation.proofs.Makes.{blank-not}
+use Rattle.sound_commands.specs.Commands.{refusedSet, commanded}
 use Rattle.static_sound.specs.Entries.{refusedBlock, processed, processedInto, stretchOf, stretchAt}
-use Rattle.records.specs.declared.CableowlState.{CableowlState}
-use Rattle.inputs.specs.declared.CableowlCommands.{CableowlCommands}
-use Rattle.inputs.specs.declared.CableowlSignals.{CableowlSignals}
-use Rattle.records.specs.Records.{lawful, decoded}
+use Rattle.c_state.specs.declared.CableowlState.{CableowlState}
+use Rattle.c_inputs.specs.declared.CableowlCommands.{CableowlCommands}
+use Rattle.c_inputs.specs.declared.CableowlSignals.{CableowlSignals}
+use Rattle.c_state.specs.Records.{lawful, decoded}
 use Rattle.cableowl.specs.Entries.{commandedC, processedC, processedIntoC, partC}
 
 -- no sound has such a record

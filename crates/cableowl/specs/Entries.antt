@@ -5,24 +5,24 @@ use mathlib.Core.List.{List}
 use lib.Dec.{eqb}
 use lib.ListN.{length}
 use lib.Ieee.{Float}
-use Rattle.lanes.specs.Lanes.{Lanes}
-use Rattle.held.specs.declared.Held.{Held}
-use Rattle.held.specs.Held.{once}
-use Rattle.voice.specs.declared.StaticSound.{StaticSound}
-use Rattle.creation.specs.Creation.{created}
-use Rattle.command_set.specs.Commands.{commanded}
-use Rattle.playing.specs.declared.Processed.{Processed}
+use Rattle.sound_lanes.specs.Lanes.{Lanes}
+use Rattle.sound_held.specs.declared.Held.{Held}
+use Rattle.sound_held.specs.Held.{once}
+use Rattle.sound_state.specs.declared.StaticSound.{StaticSound}
+use Rattle.sound_creation.specs.Creation.{created}
+use Rattle.sound_commands.specs.Commands.{commanded}
+use Rattle.sound_slow_path.specs.declared.Processed.{Processed}
 use Rattle.static_sound.specs.Entries.{processed, processedInto, stretchOf, stretchAt}
-use Rattle.records.specs.declared.CableowlState.{CableowlState}
-use Rattle.inputs.specs.declared.CableowlSettings.{CableowlSettings}
-use Rattle.inputs.specs.declared.CableowlCommands.{CableowlCommands}
-use Rattle.inputs.specs.declared.CableowlSignals.{CableowlSignals}
+use Rattle.c_state.specs.declared.CableowlState.{CableowlState}
+use Rattle.c_inputs.specs.declared.CableowlSettings.{CableowlSettings}
+use Rattle.c_inputs.specs.declared.CableowlCommands.{CableowlCommands}
+use Rattle.c_inputs.specs.declared.CableowlSignals.{CableowlSignals}
 use Rattle.cableowl.specs.declared.CableowlCreated.{CableowlCreated}
 use Rattle.cableowl.specs.declared.CableowlCommanded.{CableowlCommanded}
 use Rattle.cableowl.specs.declared.CableowlProcessed.{CableowlProcessed}
 use Rattle.cableowl.specs.declared.CableowlPart.{CableowlPart}
-use Rattle.records.specs.Records.{decoded, encoded}
-use Rattle.inputs.specs.Inputs.{settingsOf, commandsOf, signalsOf}
+use Rattle.c_state.specs.Records.{decoded, encoded}
+use Rattle.c_inputs.specs.Inputs.{settingsOf, commandsOf, signalsOf}
 
 -- the state that comes back: after a refusal the given one
 unfoldable pub after : ℕ → StaticSound → CableowlState → CableowlState

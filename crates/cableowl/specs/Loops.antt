@@ -13,9 +13,9 @@ use Rattle.loop_copies.specs.declared.LoopCopy.{LoopCopy}
 use Rattle.loop_copies.specs.declared.CopyChanged.{CopyChanged}
 use Rattle.loop_copies.specs.Copies.{copyWritten, copyCleared}
 use Rattle.take_loop.specs.Taking.{taken}
-use Rattle.records.specs.declared.CableowlState.{CableowlState}
+use Rattle.c_state.specs.declared.CableowlState.{CableowlState}
 use Rattle.cableowl.specs.declared.CableowlCommanded.{CableowlCommanded}
-use Rattle.records.specs.Records.{decoded}
+use Rattle.c_state.specs.Records.{decoded}
 use Rattle.cableowl.specs.Entries.{after}
 
 abbrev pub hallOf : ℕ → Hall

@@ -6,13 +6,13 @@ use lib.Dec.{eqb}
 use lib.ListN.{getD}
 use lib.Ieee.{Float, nan, binary64, ofBits}
 use Rattle.numbers.specs.Words.{positiveZero}
-use Rattle.settings.specs.declared.SavedSettings.{SavedSettings}
-use Rattle.settings.specs.declared.Loaded.{Loaded}
-use Rattle.settings.specs.Records.{finiteBits}
+use Rattle.saved_settings.specs.declared.SavedSettings.{SavedSettings}
+use Rattle.saved_settings.specs.declared.Loaded.{Loaded}
+use Rattle.saved_settings.specs.Records.{finiteBits}
 use Rattle.semitones.specs.Ratios.{raisedBy}
-use Rattle.inputs.specs.declared.CableowlPlace.{CableowlPlace}
-use Rattle.inputs.specs.declared.CableowlRegion.{CableowlRegion}
-use Rattle.inputs.specs.declared.CableowlSettings.{CableowlSettings}
+use Rattle.c_inputs.specs.declared.CableowlPlace.{CableowlPlace}
+use Rattle.c_inputs.specs.declared.CableowlRegion.{CableowlRegion}
+use Rattle.c_inputs.specs.declared.CableowlSettings.{CableowlSettings}
 
 abbrev pub savedIn : List ℕ → SavedSettings
 savedIn ws =

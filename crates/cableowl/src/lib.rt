@@ -2,7 +2,7 @@
 // nothing is refused, by the number of what it stands for.
 ghost use mathlib.Core.Path.{_≡_};
 ghost use Prim.Native.Nat.{_≤_};
-ghost use Rattle.lanes.specs.Lanes.{five};
+ghost use Rattle.sound_lanes.specs.Lanes.{five};
 ghost use Rattle.cableowl.specs.Entries.{after, createdC, commandedC, answered, processedC, processedIntoC, partC};
 
 mod copies;
@@ -12,18 +12,21 @@ mod once;
 mod saved;
 mod traces;
 
+use c_inputs::CableowlCommands;
+use c_inputs::CableowlSettings;
+use c_inputs::CableowlSignals;
+use c_inputs::commands_of;
+use c_inputs::settings_of;
+use c_inputs::signals_of;
+use c_state::CableowlState;
+use c_state::decode;
+use c_state::encode;
 pub use copies::cableowl_clear_copy;
 pub use copies::cableowl_loop_copy;
 pub use copies::cableowl_merge_copies;
 pub use copies::cableowl_write_copy;
 pub use fades::cableowl_amplitude;
 pub use fades::cableowl_fade_ramp;
-use inputs::CableowlCommands;
-use inputs::CableowlSettings;
-use inputs::CableowlSignals;
-use inputs::commands_of;
-use inputs::settings_of;
-use inputs::signals_of;
 pub use loops::cableowl_clear_loop;
 pub use loops::cableowl_loop_table;
 pub use loops::cableowl_read_loop;
@@ -31,17 +34,14 @@ pub use loops::cableowl_take_loop;
 pub use loops::cableowl_write_loop;
 pub use once::cableowl_process_held;
 pub use once::cableowl_process_held_into;
-use playing::Processed;
-use records::CableowlState;
-use records::decode;
-use records::encode;
 pub use saved::cableowl_load_settings;
 pub use saved::cableowl_settings_of;
 pub use saved::cableowl_store_settings;
+use sound_slow_path::Processed;
+use sound_state::StaticSound;
 pub use traces::cableowl_read_record;
 pub use traces::cableowl_salvage;
 pub use traces::cableowl_write_record;
-use voice::StaticSound;
 
 #[repr(C)]
 pub struct CableowlCreated {
@@ -108,7 +108,7 @@ pub extern "C" fn cableowl_version() -> u32
 pub extern "C" fn cableowl_new(settings: CableowlSettings, sound: &[f32]) -> CableowlCreated
     ensures { λ r. ⌜ r ≡ createdC (now (sound .entry)) settings ⌝ }
 {
-    let created = creation::new(settings_of(settings), sound);
+    let created = sound_creation::new(settings_of(settings), sound);
     let voice = created.sound;
     CableowlCreated {
         state: encode(voice),
@@ -124,7 +124,11 @@ pub extern "C" fn cableowl_on_start_processing(
 ) -> CableowlCommanded
     ensures { λ r. ⌜ r ≡ commandedC (now (sound .entry)) state commands ⌝ }
 {
-    let commanded = command_set::on_start_processing(decode(state), sound, commands_of(commands));
+    let commanded = sound_commands::on_start_processing(
+        decode(state),
+        sound,
+        commands_of(commands),
+    );
     let voice = commanded.sound;
     CableowlCommanded {
         state: state_after(commanded.refusal, voice, state),

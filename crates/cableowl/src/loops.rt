@@ -4,12 +4,12 @@ ghost use Rattle.loop_table.specs.Tables.{emptyTable, found};
 ghost use Rattle.cableowl.specs.Loops.{hallOf, writtenC, clearedC, takenC};
 use crate::CableowlCommanded;
 use crate::state_after;
+use c_state::CableowlState;
+use c_state::decode;
 use loop_table::Hall;
 use loop_table::LoopChanged;
 use loop_table::LoopFound;
 use loop_table::LoopTable;
-use records::CableowlState;
-use records::decode;
 
 pub(crate) fn hall_of(n: u32) -> Hall
     ensures { λ r. ⌜ r ≡ hallOf n ⌝ }

@@ -3,11 +3,11 @@ ghost use mathlib.Core.Path.{_≡_};
 ghost use Rattle.cableowl.specs.Entries.{processedHeldC, processedHeldIntoC};
 use crate::CableowlProcessed;
 use crate::answer;
-use held::Held;
-use inputs::CableowlSignals;
-use inputs::signals_of;
-use records::CableowlState;
-use records::decode;
+use c_inputs::CableowlSignals;
+use c_inputs::signals_of;
+use c_state::CableowlState;
+use c_state::decode;
+use sound_held::Held;
 
 // As many frames as the output has room for.
 #[no_mangle]

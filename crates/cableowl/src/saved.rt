@@ -1,14 +1,14 @@
-// The C ABI of saved settings: crates settings and semitones over eight words, start, has_loop, loop_start, loop_end, reverse, the
+// The C ABI of saved settings: crates saved_settings and semitones over eight words, start, has_loop, loop_start, loop_end, reverse, the
 // rate's bits, pitch, version.
 ghost use mathlib.Core.Path.{_≡_};
 ghost use lib.ListN.{length};
-ghost use Rattle.settings.specs.Records.{storeRefusal, stored, loaded};
+ghost use Rattle.saved_settings.specs.Records.{storeRefusal, stored, loaded};
 ghost use Rattle.cableowl.specs.Saved.{savedIn, versionIn, wordsOf, rateOf, tagOf, frameAt, settingsFrom};
-use inputs::CableowlPlace;
-use inputs::CableowlRegion;
-use inputs::CableowlSettings;
-use settings::Loaded;
-use settings::SavedSettings;
+use c_inputs::CableowlPlace;
+use c_inputs::CableowlRegion;
+use c_inputs::CableowlSettings;
+use saved_settings::Loaded;
+use saved_settings::SavedSettings;
 
 fn saved_in(words: &[u64; 8]) -> SavedSettings
     ensures { λ r. ⌜ r ≡ savedIn (now (words .entry)) ⌝ }
@@ -45,7 +45,7 @@ pub extern "C" fn cableowl_store_settings(saved: &[u64; 8], buffer: &mut [u8]) -
     ensures { λ r. ⌜ (r ≡ storeRefusal (versionIn (now (saved .entry))) (savedIn (now (saved .entry))) (length (now (buffer .entry)))) × (now (buffer .exit) ≡ stored (versionIn (now (saved .entry))) (savedIn (now (saved .entry))) (now (buffer .entry))) ⌝ }
 {
     let version = saved[7];
-    settings::store(version, saved_in(saved), buffer)
+    saved_settings::store(version, saved_in(saved), buffer)
 }
 
 // Reader 1 knows version 1 alone, any other version 2 too.
@@ -53,7 +53,7 @@ pub extern "C" fn cableowl_store_settings(saved: &[u64; 8], buffer: &mut [u8]) -
 pub extern "C" fn cableowl_load_settings(reader: u32, bytes: &[u8], saved: &mut [u64; 8]) -> u32
     ensures { λ r. ⌜ (r ≡ loaded reader (now (bytes .entry)) .refusal) × (now (saved .exit) ≡ wordsOf (loaded reader (now (bytes .entry)))) ⌝ }
 {
-    let l = settings::load(reader as u64, bytes);
+    let l = saved_settings::load(reader as u64, bytes);
     let words = words_of(l);
     *saved = words;
     l.refusal

@@ -1,19 +1,19 @@
-// The C ABI of traces: crates trace and salvage, a record as its kind and its numbers.
+// The C ABI of traces: crates trace_records and trace_salvage, a record as its kind and its numbers.
 ghost use mathlib.Core.Path.{_≡_};
 ghost use lib.ListN.{take};
-ghost use Rattle.trace.specs.Tables.{fields};
-ghost use Rattle.trace.specs.Records.{recordAt};
-ghost use Rattle.trace.specs.Writes.{sentOf, writeRecord};
-ghost use Rattle.salvage.specs.Salvage.{savedOf, salvageOf};
-use salvage::Saved;
-use trace::Record;
-use trace::Sent;
+ghost use Rattle.trace_records.specs.Tables.{fields};
+ghost use Rattle.trace_records.specs.Records.{recordAt};
+ghost use Rattle.trace_records.specs.Writes.{sentOf, writeRecord};
+ghost use Rattle.trace_salvage.specs.Salvage.{savedOf, salvageOf};
+use trace_records::Record;
+use trace_records::Sent;
+use trace_salvage::Saved;
 
 #[no_mangle]
 pub extern "C" fn cableowl_read_record(bytes: &[u8], at: u64) -> Record
     ensures { λ r. ⌜ r ≡ recordAt (now (bytes .entry)) at ⌝ }
 {
-    trace::read(bytes, at as usize)
+    trace_records::read(bytes, at as usize)
 }
 
 #[no_mangle]
@@ -25,12 +25,12 @@ pub extern "C" fn cableowl_write_record(
 ) -> Sent
     ensures { λ r. ⌜ sentOf r (now (buffer .exit)) ≡ writeRecord (now (buffer .entry)) at kind (take (fields kind) (now (values .entry))) ⌝ }
 {
-    trace::write(buffer, at as usize, kind, *values)
+    trace_records::write(buffer, at as usize, kind, *values)
 }
 
 #[no_mangle]
 pub extern "C" fn cableowl_salvage(bytes: &[u8], out: &mut [u8]) -> Saved
     ensures { λ r. ⌜ savedOf r (now (out .exit)) ≡ salvageOf (now (bytes .entry)) (now (out .entry)) ⌝ }
 {
-    salvage::salvage(bytes, out)
+    trace_salvage::salvage(bytes, out)
 }

@@ -1,11 +1,11 @@
 // A trace from standard input, played again: one line a block on standard output (docs/TRACE.md). Each record's run and line
-// are `turns::advance`'s; what stands here is reading and writing. Input of any length: a window moves over it that holds a whole
+// are `trace_replay::advance`'s; what stands here is reading and writing. Input of any length: a window moves over it that holds a whole
 // record or the input's end.
 ghost use mathlib.Core.Path.{_≡_};
 ghost use Prim.Native.Nat.{_-_, _≤_};
 ghost use lib.ListN.{length};
 ghost use Rattle.replay.specs.Windows.{Held};
-use turns::Run;
+use trace_replay::Run;
 
 // The window on the input: its bytes lie from `at` to `end` of a buffer whose first byte has the place `base` in the trace.
 // `ended` says that the input has no more.
@@ -30,8 +30,8 @@ fn refill(bytes: &mut [u8], spare: &mut [u8], w: Window) -> Window
     let at = w.at;
     let end = w.end;
     let n = end - at;
-    layout::copy(bytes, at, end, spare, 0);
-    layout::copy(spare, 0, n, bytes, 0);
+    byte_layout::copy(bytes, at, end, spare, 0);
+    byte_layout::copy(spare, 0, n, bytes, 0);
     let got = io::read_full(0, &mut bytes[n..]);
     let end = n + got;
     Window {
@@ -52,7 +52,7 @@ fn play_one(p: Play, bytes: &[u8], sound: &mut [f32], line: &mut [u8]) -> Play
     let at = window.at;
     let end = window.end;
     let place = std::num::wrapping_add_u64(window.base, at as u64);
-    let turned = turns::advance(run, &bytes[..end], at, place, sound, line);
+    let turned = trace_replay::advance(run, &bytes[..end], at, place, sound, line);
     let n = turned.written;
     io::write_all(1, &line[..n]);
     let run = turned.run;
@@ -92,7 +92,7 @@ fn replay(bytes: &mut [u8], spare: &mut [u8], sound: &mut [f32], line: &mut [u8]
         ended: false,
     };
     let mut p = Play {
-        run: turns::begin(),
+        run: trace_replay::begin(),
         window,
         done: false,
     };

@@ -12,15 +12,15 @@ use lib.Ieee.Fits.{and-r}
 use borrow.Author.Tests.{ne-eqb, not-true, not-false}
 use Rattle.numbers.specs.Words.{finite, positiveZero}
 use lib.Ieee.{lt}
-use Rattle.lanes.specs.Lanes.{Lanes, rows, sized, timeStep, judged}
-use Rattle.voice.specs.declared.StaticSound.{StaticSound}
-use Rattle.voice.specs.WellFormed.{ours}
-use Rattle.voice.proofs.Formed.{ours-parts}
-use Rattle.block.specs.declared.Signals.{Signals}
-use Rattle.playing.specs.Plays.{Outcome, acceptedWith, acceptedAs}
-use Rattle.block.specs.Blocks.{block}
-use Rattle.playing.specs.Turns.{Playable}
-use Rattle.playing.specs.declared.Processed.{Processed}
+use Rattle.sound_lanes.specs.Lanes.{Lanes, rows, sized, timeStep, judged}
+use Rattle.sound_state.specs.declared.StaticSound.{StaticSound}
+use Rattle.sound_state.specs.WellFormed.{ours}
+use Rattle.sound_state.proofs.Formed.{ours-parts}
+use Rattle.sound_block.specs.declared.Signals.{Signals}
+use Rattle.sound_slow_path.specs.Plays.{Outcome, acceptedWith, acceptedAs}
+use Rattle.sound_block.specs.Blocks.{block}
+use Rattle.sound_slow_path.specs.Turns.{Playable}
+use Rattle.sound_slow_path.specs.declared.Processed.{Processed}
 use Rattle.static_sound.specs.Entries.{refusedBlock, refusedWith, holds, room, mixed, processed, processedInto}
 use Rattle.static_sound.proofs.Refusals.{accepted-parts}
 

@@ -8,19 +8,19 @@ use lib.Dec.{T}
 use lib.ListN.{length}
 use lib.Ieee.{Float, lt}
 use lib.Ieee.Fits.{and-r}
-use Rattle.voice.proofs.Refusals.{none-refused, some-refused, accepted}
+use Rattle.sound_state.proofs.Refusals.{none-refused, some-refused, accepted}
 use Rattle.numbers.specs.Words.{positiveZero, finite}
-use Rattle.lanes.specs.Lanes.{Lanes, rows, timeStep}
-use Rattle.voice.specs.declared.Setup.{Setup}
-use Rattle.voice.specs.declared.StaticSound.{StaticSound}
-use Rattle.voice.specs.WellFormed.{ours}
-use Rattle.voice.proofs.Formed.{ours-parts, ours-of}
-use Rattle.block.specs.declared.Signals.{Signals}
-use Rattle.block.specs.Blocks.{block}
-use Rattle.playing.specs.Plays.{Outcome, acceptedWith}
+use Rattle.sound_lanes.specs.Lanes.{Lanes, rows, timeStep}
+use Rattle.sound_state.specs.declared.Setup.{Setup}
+use Rattle.sound_state.specs.declared.StaticSound.{StaticSound}
+use Rattle.sound_state.specs.WellFormed.{ours}
+use Rattle.sound_state.proofs.Formed.{ours-parts, ours-of}
+use Rattle.sound_block.specs.declared.Signals.{Signals}
+use Rattle.sound_block.specs.Blocks.{block}
+use Rattle.sound_slow_path.specs.Plays.{Outcome, acceptedWith}
 use Rattle.static_sound.specs.Entries.{refusedBlock, refusedWith, holds, processed, room, mixed, processedInto}
-use Rattle.block.proofs.Blocks.{block-setup}
-use Rattle.block.proofs.Keeps.{block-formed}
+use Rattle.sound_block.proofs.Blocks.{block-setup}
+use Rattle.sound_block.proofs.Keeps.{block-formed}
 use Rattle.static_sound.proofs.Refusals.{Accepted}
 
 -- ---- an accepted block

@@ -9,16 +9,16 @@ use lib.ListN.{length, take, drop, replicate, length-replicate}
 use lib.Ieee.{Float}
 use borrow.Author.Tests.{le-leb, lt-leb, eq-eqb}
 use Rattle.numbers.specs.Lists.{all}
-use Rattle.lanes.specs.Lanes.{Lane, rows, sized, laned, near, judged}
-use Rattle.held.specs.declared.Held.{Held}
-use Rattle.held.specs.Held.{once}
-use Rattle.held.proofs.Once.{lane, rows-once}
-use Rattle.voice.specs.declared.StaticSound.{StaticSound}
-use Rattle.block.specs.declared.Signals.{Signals}
-use Rattle.playing.specs.declared.Processed.{Processed}
-use Rattle.playing.specs.Plays.{Outcome, acceptedAs}
-use Rattle.playing.specs.Turns.{Playable}
-use Rattle.block.specs.Blocks.{block}
+use Rattle.sound_lanes.specs.Lanes.{Lane, rows, sized, laned, near, judged}
+use Rattle.sound_held.specs.declared.Held.{Held}
+use Rattle.sound_held.specs.Held.{once}
+use Rattle.sound_held.proofs.Once.{lane, rows-once}
+use Rattle.sound_state.specs.declared.StaticSound.{StaticSound}
+use Rattle.sound_block.specs.declared.Signals.{Signals}
+use Rattle.sound_slow_path.specs.declared.Processed.{Processed}
+use Rattle.sound_slow_path.specs.Plays.{Outcome, acceptedAs}
+use Rattle.sound_slow_path.specs.Turns.{Playable}
+use Rattle.sound_block.specs.Blocks.{block}
 use Rattle.static_sound.specs.Entries.{refusedBlock, refusedWith, room, processedHeld, processedHeldInto}
 use Rattle.static_sound.proofs.Calls.{refused-is, processed-is, playable-out, refused-into, processed-into, playable-part, inside}
 

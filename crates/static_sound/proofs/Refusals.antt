@@ -7,11 +7,11 @@ use lib.Ieee.{Float}
 use lib.Ieee.Fits.{and-i, and-l, and-r}
 use Rattle.numbers.specs.Lists.{all}
 use Rattle.playback_position.specs.Positions.{placed}
-use Rattle.lanes.specs.Lanes.{Lanes, rows, sized, timeStep, laned, near}
-use Rattle.voice.specs.declared.StaticSound.{StaticSound}
-use Rattle.voice.specs.WellFormed.{ours}
+use Rattle.sound_lanes.specs.Lanes.{Lanes, rows, sized, timeStep, laned, near}
+use Rattle.sound_state.specs.declared.StaticSound.{StaticSound}
+use Rattle.sound_state.specs.WellFormed.{ours}
 use Rattle.static_sound.specs.Entries.{refusedBlock}
-use Rattle.voice.proofs.Refusals.{passed, passing}
+use Rattle.sound_state.proofs.Refusals.{passed, passing}
 
 pub record Accepted (len : ℕ) (v : StaticSound) (dt : Float) (b : Lanes) (room : Bool) : Type 0 where
   pub ours : T (ours len v)

@@ -7,17 +7,17 @@ use lib.ListN.{length, take, drop}
 use lib.Ieee.{Float}
 use Rattle.playback_position.specs.declared.FrameRange.{FrameRange}
 use Rattle.playback_position.specs.declared.FrameRange.the-variants as range
-use Rattle.lanes.specs.Lanes.{Lanes, rows, sized, timeStep, laned, near}
+use Rattle.sound_lanes.specs.Lanes.{Lanes, rows, sized, timeStep, laned, near}
 use Rattle.numbers.specs.Lists.{all}
-use Rattle.voice.specs.declared.StaticSound.{StaticSound}
-use Rattle.voice.specs.Voices.{offset}
-use Rattle.voice.specs.WellFormed.{ours}
-use Rattle.held.specs.declared.Held.{Held}
-use Rattle.held.specs.Held.{once}
-use Rattle.block.specs.declared.Signals.{Signals}
-use Rattle.voice.specs.Refusals.{unless}
-use Rattle.playing.specs.Plays.{Outcome, acceptedWith}
-use Rattle.block.specs.Blocks.{block}
+use Rattle.sound_state.specs.declared.StaticSound.{StaticSound}
+use Rattle.sound_state.specs.Voices.{offset}
+use Rattle.sound_state.specs.WellFormed.{ours}
+use Rattle.sound_held.specs.declared.Held.{Held}
+use Rattle.sound_held.specs.Held.{once}
+use Rattle.sound_block.specs.declared.Signals.{Signals}
+use Rattle.sound_state.specs.Refusals.{unless}
+use Rattle.sound_slow_path.specs.Plays.{Outcome, acceptedWith}
+use Rattle.sound_block.specs.Blocks.{block}
 
 -- the number of a refused block, 0 where it is accepted; `placed` says whether the output holds it
 unfoldable pub refusedBlock : ℕ → StaticSound → Float → Lanes → Bool → ℕ

@@ -2,23 +2,23 @@
 ghost use mathlib.Core.Path.{_≡_};
 ghost use Prim.Native.Nat.{_*_};
 ghost use lib.Dec.{eqb};
-ghost use Rattle.lanes.specs.Lanes.{five};
+ghost use Rattle.sound_lanes.specs.Lanes.{five};
 ghost use Rattle.static_sound.specs.Entries.{refusedBlock, processed};
 
 mod mix;
 mod once;
 mod stretches;
 
-use block::Signals;
-use block::Told;
-use block::block;
 pub use mix::process_into;
 pub use once::process_held;
 pub use once::process_held_into;
-use playing::Processed;
-use playing::Timed;
+use sound_block::Signals;
+use sound_block::Told;
+use sound_block::block;
+use sound_slow_path::Processed;
+use sound_slow_path::Timed;
+use sound_state::StaticSound;
 pub use stretches::stretch;
-use voice::StaticSound;
 
 // Whether an output of so many samples is that of so many frames.
 fn holds(samples: usize, frames: usize) -> bool
@@ -44,16 +44,16 @@ fn refusal_of(
     if !voice.is_well_formed(samples) {
         return 1;
     }
-    if !lanes::are_sized(fade, volume, left, right, rate) {
+    if !sound_lanes::are_sized(fade, volume, left, right, rate) {
         return 9;
     }
     if !placed {
         return 9;
     }
-    if !lanes::is_time_step(timed.dt) {
+    if !sound_lanes::is_time_step(timed.dt) {
         return 10;
     }
-    lanes::judge(
+    sound_lanes::judge(
         voice.setup.sample_rate,
         timed.dt,
         fade,

@@ -3,15 +3,15 @@ ghost use mathlib.Core.Path.{_≡_};
 ghost use Prim.Native.Nat.{_+_, _/_, _%_};
 ghost use mathlib.Core.Bool.{_&&_};
 ghost use lib.Dec.{leb, eqb};
-ghost use Rattle.lanes.specs.Lanes.{five};
+ghost use Rattle.sound_lanes.specs.Lanes.{five};
 ghost use Rattle.static_sound.specs.Entries.{processedInto};
 use crate::refusal_of;
-use block::Signals;
-use block::Told;
-use block::block;
-use playing::Processed;
-use playing::Timed;
-use voice::StaticSound;
+use sound_block::Signals;
+use sound_block::Told;
+use sound_block::block;
+use sound_slow_path::Processed;
+use sound_slow_path::Timed;
+use sound_state::StaticSound;
 
 // Whether a mix of so many samples has whole frames, and so many of them from the frame given on.
 pub(crate) fn has_room(from: usize, frames: usize, samples: usize) -> bool

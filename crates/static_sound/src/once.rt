@@ -1,16 +1,16 @@
 // A block whose five numbers are given once, into an output of its own or into the middle of a longer mix.
 ghost use mathlib.Core.Path.{_≡_};
-ghost use Rattle.held.specs.Held.{once};
+ghost use Rattle.sound_held.specs.Held.{once};
 ghost use Rattle.static_sound.specs.Entries.{refusedBlock, processedHeld, processedHeldInto};
 use crate::holds;
 use crate::mix::has_room;
-use block::Signals;
-use block::Told;
-use block::block_held;
-use held::Held;
-use playing::Processed;
-use playing::Timed;
-use voice::StaticSound;
+use sound_block::Signals;
+use sound_block::Told;
+use sound_block::block_held;
+use sound_held::Held;
+use sound_slow_path::Processed;
+use sound_slow_path::Timed;
+use sound_state::StaticSound;
 
 // The lowest number that applies to a block of so many frames, 0 for none. Where there are frames, the numbers are judged as one frame's.
 fn refusal_held(timed: Timed, samples: usize, held: Held, frames: usize, placed: bool) -> u32
@@ -26,7 +26,7 @@ fn refusal_held(timed: Timed, samples: usize, held: Held, frames: usize, placed:
     if !placed {
         return 9;
     }
-    if !lanes::is_time_step(timed.dt) {
+    if !sound_lanes::is_time_step(timed.dt) {
         return 10;
     }
     if frames == 0 {
@@ -37,7 +37,7 @@ fn refusal_held(timed: Timed, samples: usize, held: Held, frames: usize, placed:
     let left = [held.left];
     let right = [held.right];
     let rate = [held.rate];
-    lanes::judge(
+    sound_lanes::judge(
         voice.setup.sample_rate,
         timed.dt,
         &fade,

@@ -4,7 +4,7 @@ ghost use lib.ListN.{length};
 ghost use denote.Ref.{ptr};
 ghost use Rattle.static_sound.specs.Entries.{stretchOf, stretchAt, sampleAt};
 use playback_position::FrameRange;
-use voice::StaticSound;
+use sound_state::StaticSound;
 
 // The sound's own part, as it is lent and where it lies: that of the slice, or all of it; refused, the empty part at their start.
 pub fn stretch(voice: StaticSound, sound: &[f32]) -> &[f32]

@@ -7,13 +7,13 @@ use lib.Ieee.{Float}
 use Rattle.numbers.specs.Words.{positiveZero}
 use Rattle.playback_position.specs.declared.PlaybackPosition.the-variants.{Samples}
 use Rattle.playback_position.specs.declared.EndPosition.the-variants.{Custom}
-use Rattle.voice.specs.declared.StaticSound.{StaticSound}
-use Rattle.command_set.specs.declared.Amount.the-variants as amount
-use Rattle.command_set.specs.declared.LoopCommand.the-variants as loop
-use Rattle.command_set.specs.declared.ResumeCommand.the-variants as resume
-use Rattle.command_set.specs.declared.Commands.{Commands}
-use Rattle.command_set.specs.declared.Commanded.{Commanded}
-use Rattle.command_set.specs.Commands.{commanded}
+use Rattle.sound_state.specs.declared.StaticSound.{StaticSound}
+use Rattle.sound_commands.specs.declared.Amount.the-variants as amount
+use Rattle.sound_commands.specs.declared.LoopCommand.the-variants as loop
+use Rattle.sound_commands.specs.declared.ResumeCommand.the-variants as resume
+use Rattle.sound_commands.specs.declared.Commands.{Commands}
+use Rattle.sound_commands.specs.declared.Commanded.{Commanded}
+use Rattle.sound_commands.specs.Commands.{commanded}
 use Rattle.loop_table.specs.declared.LoopSlot.{LoopSlot}
 use Rattle.loop_table.specs.declared.LoopTable.{LoopTable}
 use Rattle.loop_table.specs.declared.LoopFound.{LoopFound}

@@ -1,17 +1,17 @@
 // A voice takes a loop from the table of two halls: the slot is read, and its loop set by a command set.
 ghost use mathlib.Core.Path.{_≡_};
 ghost use Rattle.take_loop.specs.Taking.{loopCommand, taken};
-use command_set::Amount;
-use command_set::Commanded;
-use command_set::Commands;
-use command_set::LoopCommand;
-use command_set::ResumeCommand;
 use loop_table::LoopSlot;
 use loop_table::LoopTable;
 use playback_position::EndPosition;
 use playback_position::PlaybackPosition;
 use playback_position::Region;
-use voice::StaticSound;
+use sound_commands::Amount;
+use sound_commands::Commanded;
+use sound_commands::Commands;
+use sound_commands::LoopCommand;
+use sound_commands::ResumeCommand;
+use sound_state::StaticSound;
 
 // The command set that sets a slot's loop, and nothing else.
 fn loop_command(held: LoopSlot) -> Commands
@@ -43,5 +43,5 @@ pub fn take(table: LoopTable, slot: usize, voice: StaticSound, sound: &[f32]) ->
             position: 0.0,
         };
     }
-    command_set::on_start_processing(voice, sound, loop_command(held))
+    sound_commands::on_start_processing(voice, sound, loop_command(held))
 }

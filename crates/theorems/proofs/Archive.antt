@@ -9,19 +9,19 @@ use Rattle.playback_state_manager.specs.declared.StartAnswer.the-variants.{Wait
 use Rattle.start_time.specs.declared.StartSignal.{StartSignal}
 use Rattle.start_time.specs.declared.StartSignal.the-variants.{Answer, Tick}
 use Rattle.start_time.specs.Ticks.{again}
-use Rattle.lanes.specs.Lanes.{firstLanes, restLanes}
-use Rattle.voice.specs.declared.StaticSound.{StaticSound}
-use Rattle.playing.specs.declared.Processed.{Processed}
-use Rattle.block.specs.declared.Signals.{Signals}
-use Rattle.block.specs.Blocks.{quiet}
-use Rattle.playing.specs.Plays.{Outcome}
+use Rattle.sound_lanes.specs.Lanes.{firstLanes, restLanes}
+use Rattle.sound_state.specs.declared.StaticSound.{StaticSound}
+use Rattle.sound_slow_path.specs.declared.Processed.{Processed}
+use Rattle.sound_block.specs.declared.Signals.{Signals}
+use Rattle.sound_block.specs.Blocks.{quiet}
+use Rattle.sound_slow_path.specs.Plays.{Outcome}
 use Rattle.static_sound.specs.Entries.{processed, processedInto}
-use Rattle.records.specs.declared.CableowlState.{CableowlState}
-use Rattle.records.specs.Records.{decoded, encoded}
-use Rattle.inputs.specs.declared.CableowlSignals.{CableowlSignals}
-use Rattle.inputs.specs.Inputs.{answerOf, startOf, signalsOf}
+use Rattle.c_state.specs.declared.CableowlState.{CableowlState}
+use Rattle.c_state.specs.Records.{decoded, encoded}
+use Rattle.c_inputs.specs.declared.CableowlSignals.{CableowlSignals}
+use Rattle.c_inputs.specs.Inputs.{answerOf, startOf, signalsOf}
 use Rattle.cableowl.specs.Entries.{after, answered, OutcomeC, processedC, processedIntoC}
-use Rattle.records.proofs.Inverse.{decoded-encoded}
+use Rattle.c_state.proofs.Inverse.{decoded-encoded}
 use Rattle.theorems.specs.Alike.{bare, awake, Parts}
 use Rattle.theorems.specs.Cut.{CutInTwo}
 use Rattle.theorems.specs.Mix.{CutInMix}

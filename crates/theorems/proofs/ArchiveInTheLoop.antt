@@ -6,17 +6,17 @@ use mathlib.Core.List.{List, [], _∷_, map}
 use lib.Dec.{T, eqb}
 use borrow.Author.Tests.{eqb-true, eqb-false}
 use Rattle.transport.specs.WellFormed.{Inside}
-use Rattle.voice.specs.declared.StaticSound.{StaticSound}
-use Rattle.command_set.specs.Commands.{commanded}
-use Rattle.command_set.specs.declared.Commanded.{Commanded}
-use Rattle.command_set.proofs.Answers.{commanded-refused}
-use Rattle.playing.specs.Plays.{Outcome}
+use Rattle.sound_state.specs.declared.StaticSound.{StaticSound}
+use Rattle.sound_commands.specs.Commands.{commanded}
+use Rattle.sound_commands.specs.declared.Commanded.{Commanded}
+use Rattle.sound_commands.proofs.Answers.{commanded-refused}
+use Rattle.sound_slow_path.specs.Plays.{Outcome}
 use Rattle.static_sound.specs.Entries.{processed, processedInto}
 use Rattle.static_sound.proofs.Entries.{processed-refused, into-refused}
 use Rattle.take_loop.specs.Taking.{taken}
-use Rattle.records.specs.declared.CableowlState.{CableowlState}
-use Rattle.records.specs.Records.{decoded, encoded}
-use Rattle.inputs.specs.Inputs.{commandsOf, signalsOf}
+use Rattle.c_state.specs.declared.CableowlState.{CableowlState}
+use Rattle.c_state.specs.Records.{decoded, encoded}
+use Rattle.c_inputs.specs.Inputs.{commandsOf, signalsOf}
 use Rattle.cableowl.specs.Entries.{after, commandedC, processedC, processedIntoC}
 use Rattle.cableowl.specs.Loops.{takenC}
 use Rattle.theorems.specs.InTheLoop as below

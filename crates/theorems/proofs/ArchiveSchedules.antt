@@ -8,18 +8,18 @@ use lib.ListN.{take, drop}
 use lib.Ieee.{Float}
 use lib.Ieee.Fits.{and-i, and-l, and-r}
 use Rattle.numbers.specs.Lists.{all}
-use Rattle.lanes.specs.Lanes.{Lanes, firstLanes, restLanes}
-use Rattle.voice.specs.declared.StaticSound.{StaticSound}
-use Rattle.block.specs.declared.Signals.{Signals}
-use Rattle.block.specs.Blocks.{quiet}
-use Rattle.playing.specs.Plays.{lower, Outcome}
+use Rattle.sound_lanes.specs.Lanes.{Lanes, firstLanes, restLanes}
+use Rattle.sound_state.specs.declared.StaticSound.{StaticSound}
+use Rattle.sound_block.specs.declared.Signals.{Signals}
+use Rattle.sound_block.specs.Blocks.{quiet}
+use Rattle.sound_slow_path.specs.Plays.{lower, Outcome}
 use Rattle.static_sound.specs.Entries.{processed, processedInto}
-use Rattle.records.specs.declared.CableowlState.{CableowlState}
-use Rattle.inputs.specs.declared.CableowlSignals.{CableowlSignals}
-use Rattle.records.specs.Records.{decoded, encoded}
-use Rattle.inputs.specs.Inputs.{signalsOf}
+use Rattle.c_state.specs.declared.CableowlState.{CableowlState}
+use Rattle.c_inputs.specs.declared.CableowlSignals.{CableowlSignals}
+use Rattle.c_state.specs.Records.{decoded, encoded}
+use Rattle.c_inputs.specs.Inputs.{signalsOf}
 use Rattle.cableowl.specs.Entries.{after, processedC, processedIntoC}
-use Rattle.records.proofs.Inverse.{decoded-encoded}
+use Rattle.c_state.proofs.Inverse.{decoded-encoded}
 use Rattle.theorems.specs.Alike.{bare, awake}
 use Rattle.theorems.specs.Schedules.{Run, alone, followed, onto, playedBy, mixedBy, Agree}
 use Rattle.theorems.specs.Archive.{quietC}

@@ -14,17 +14,17 @@ use Rattle.numbers.proofs.Lists.{all-front, all-rest}
 use Rattle.playback_state_manager.specs.declared.PlaybackState.{PlaybackState}
 use Rattle.playback_state_manager.specs.declared.PlaybackState.the-variants.{Stopped}
 use Rattle.playback_state_manager.specs.States.{advancing, number}
-use Rattle.lanes.specs.Lanes.{Lane, laned, near}
-use Rattle.voice.specs.declared.StaticSound.{StaticSound}
-use Rattle.voice.specs.WellFormed.{Formed}
-use Rattle.block.specs.declared.Signals.{Signals}
-use Rattle.playing.specs.Plays.{Played, lower, plays}
-use Rattle.playing.proofs.Lowest.{four-lower}
-use Rattle.block.specs.Blocks.{silent, begun, live, block, quiet}
-use Rattle.playing.proofs.Plays.{plays-append, plays-started, plays-setup}
-use Rattle.block.proofs.Blocks.{zeros-append, block-live, block-silent, Taken, begun-taken, begun-quiet}
-use Rattle.block.proofs.Keeps.{begun-formed}
-use Rattle.playing.proofs.Keeps.{plays-formed}
+use Rattle.sound_lanes.specs.Lanes.{Lane, laned, near}
+use Rattle.sound_state.specs.declared.StaticSound.{StaticSound}
+use Rattle.sound_state.specs.WellFormed.{Formed}
+use Rattle.sound_block.specs.declared.Signals.{Signals}
+use Rattle.sound_slow_path.specs.Plays.{Played, lower, plays}
+use Rattle.sound_slow_path.proofs.Lowest.{four-lower}
+use Rattle.sound_block.specs.Blocks.{silent, begun, live, block, quiet}
+use Rattle.sound_slow_path.proofs.Plays.{plays-append, plays-started, plays-setup}
+use Rattle.sound_block.proofs.Blocks.{zeros-append, block-live, block-silent, Taken, begun-taken, begun-quiet}
+use Rattle.sound_block.proofs.Keeps.{begun-formed}
+use Rattle.sound_slow_path.proofs.Keeps.{plays-formed}
 use Rattle.theorems.specs.Alike.{bare, awake}
 use Rattle.theorems.specs.LawfulEnd.{EndsOnly}
 use Rattle.theorems.proofs.Ends.{plays-ends, plays-idle}

@@ -13,19 +13,19 @@ use lib.Ieee.Fits.{and-i, and-l, and-r}
 use Rattle.numbers.specs.Words.{positiveZero, one, whole, advance}
 use Rattle.numbers.specs.Lists.{all}
 use Rattle.numbers.proofs.Fractions.{advance-finite-clear, sum-steps}
-use Rattle.lanes.specs.Lanes.{Lane, Lanes, rows, near, firstLanes, restLanes}
-use Rattle.lanes.proofs.Rows.{beside-length}
-use Rattle.voice.specs.declared.Setup.{Setup}
-use Rattle.voice.specs.declared.StaticSound.{StaticSound}
-use Rattle.voice.specs.WellFormed.{Formed}
-use Rattle.voice.proofs.Formed.{ours-parts}
-use Rattle.block.specs.declared.Signals.{Signals}
-use Rattle.playing.specs.Plays.{total, turned, plays, Outcome, acceptedWith}
-use Rattle.block.specs.Blocks.{begun, live, block, quiet}
+use Rattle.sound_lanes.specs.Lanes.{Lane, Lanes, rows, near, firstLanes, restLanes}
+use Rattle.sound_lanes.proofs.Rows.{beside-length}
+use Rattle.sound_state.specs.declared.Setup.{Setup}
+use Rattle.sound_state.specs.declared.StaticSound.{StaticSound}
+use Rattle.sound_state.specs.WellFormed.{Formed}
+use Rattle.sound_state.proofs.Formed.{ours-parts}
+use Rattle.sound_block.specs.declared.Signals.{Signals}
+use Rattle.sound_slow_path.specs.Plays.{total, turned, plays, Outcome, acceptedWith}
+use Rattle.sound_block.specs.Blocks.{begun, live, block, quiet}
 use Rattle.static_sound.specs.Entries.{holds, room, mixed, processed}
-use Rattle.block.proofs.Blocks.{block-live, block-silent, block-setup}
-use Rattle.block.proofs.Keeps.{begun-formed}
-use Rattle.playing.proofs.Keeps.{turned-formed}
+use Rattle.sound_block.proofs.Blocks.{block-live, block-silent, block-setup}
+use Rattle.sound_block.proofs.Keeps.{begun-formed}
+use Rattle.sound_slow_path.proofs.Keeps.{turned-formed}
 use Rattle.static_sound.proofs.Refusals.{Accepted, accepted-parts}
 use Rattle.static_sound.proofs.Entries.{time-step-above, processed-passed, processed-done, into-passed, into-done}
 use Rattle.theorems.specs.Sums.{sum}

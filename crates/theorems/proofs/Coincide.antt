@@ -2,11 +2,11 @@
 use mathlib.Core.Path.{_≡_, refl, sym, ap, _∙_}
 use Prim.Native.Nat.{ℕ}
 use mathlib.Core.List.{List}
-use Rattle.playing.specs.Plays.{Outcome}
-use Rattle.trace.specs.declared.writes.Sent.{Sent}
-use Rattle.trace.specs.Writes.{Written, sentOf}
-use Rattle.salvage.specs.declared.Saved.{Saved}
-use Rattle.salvage.specs.Salvage.{Salvaged, savedOf}
+use Rattle.sound_slow_path.specs.Plays.{Outcome}
+use Rattle.trace_records.specs.declared.writes.Sent.{Sent}
+use Rattle.trace_records.specs.Writes.{Written, sentOf}
+use Rattle.trace_salvage.specs.declared.Saved.{Saved}
+use Rattle.trace_salvage.specs.Salvage.{Salvaged, savedOf}
 use Rattle.cableowl.specs.Entries.{OutcomeC}
 use Rattle.theorems.specs.Coincide.{Coincide}
 
@@ -71,41 +71,41 @@ coincide =
       playback-state-manager-playbackstate-mark-as-stopped = λ k a x y s t p q. same p q;
       playback-state-manager-playbackstate-update = λ k a x y s t p q. same p q;
       start-time-startsignal-answer = λ k a x y s t p q. same p q;
-      lanes-are-sized = λ k a x y s t p q. same p q;
-      lanes-is-time-step = λ k a x y s t p q. same p q;
-      lanes-judge = λ k a x y s t p q. same p q;
-      voice-setup-num-frames = λ k a x y s t p q. same p q;
-      voice-setup-start = λ k a x y s t p q. same p q;
-      voice-staticsound-course = λ k a x y s t p q. same p q;
-      voice-staticsound-is-well-formed = λ k a x y s t p q. same p q;
-      moving-moving-push-frame-to-resampler = λ k a x y s t p q. same p q;
-      moving-moving-update-position = λ k a x y s t p q. same p q;
-      moving-moving-update-positions = λ k a x y s t p q. same p q;
-      trail-track-of = λ k a x y s t p q. same p q;
-      trail-after = λ k a x y s t p q. same (p .0) (q .0);
-      trail-after-steps = λ k a x y s t p q. same (p .0) (q .0);
-      trail-has-room-after = λ k a x y s t p q. same p q;
-      trail-before = λ k a x y s t p q. same (p .0) (q .0);
-      trail-before-steps = λ k a x y s t p q. same (p .0) (q .0);
-      trail-has-room-before = λ k a x y s t p q. same p q;
-      trail-wraps-after = λ k a x y s t p q. same p q;
-      trail-frame-in = λ k a x y s t p q. same p q;
-      trail-frame-at = λ k a x y s t p q. same p q;
-      trail-trail-at = λ k a x y s t p q. same p q;
-      trail-is-trail = λ k a x y s t p q. same (p .0) (q .0);
-      creation-blank = λ k a x y s t p q. same p q;
-      creation-new = λ k a x y s t p q. same p q;
-      command-set-on-start-processing = λ k a x y s t p q. same p q;
-      playing-play = λ k a x y s t p q. parts (same p q);
-      along-advance-of = λ k a x y s t p q. same p q;
-      along-stepped-by = λ k a x y s t p q. same (p .is) (q .is);
-      along-moved = λ k a x y s t p q. same (p .is) (q .is);
-      along-store = λ k a x y s t p q. (refl, same p q);
-      gains-by-frame = λ k a x y s t p q. (refl, same p q);
-      riding-play = λ k a x y s t p q. parts (same p q);
-      held-play = λ k a x y s t p q. parts (same p q);
-      block-block-held = λ k a x y s t p q. parts (same p q);
-      block-block = λ k a x y s t p q. parts (same p q);
+      sound-lanes-are-sized = λ k a x y s t p q. same p q;
+      sound-lanes-is-time-step = λ k a x y s t p q. same p q;
+      sound-lanes-judge = λ k a x y s t p q. same p q;
+      sound-state-setup-num-frames = λ k a x y s t p q. same p q;
+      sound-state-setup-start = λ k a x y s t p q. same p q;
+      sound-state-staticsound-course = λ k a x y s t p q. same p q;
+      sound-state-staticsound-is-well-formed = λ k a x y s t p q. same p q;
+      sound-update-moving-push-frame-to-resampler = λ k a x y s t p q. same p q;
+      sound-update-moving-update-position = λ k a x y s t p q. same p q;
+      sound-update-moving-update-positions = λ k a x y s t p q. same p q;
+      sound-track-track-of = λ k a x y s t p q. same p q;
+      sound-track-after = λ k a x y s t p q. same (p .0) (q .0);
+      sound-track-after-steps = λ k a x y s t p q. same (p .0) (q .0);
+      sound-track-has-room-after = λ k a x y s t p q. same p q;
+      sound-track-before = λ k a x y s t p q. same (p .0) (q .0);
+      sound-track-before-steps = λ k a x y s t p q. same (p .0) (q .0);
+      sound-track-has-room-before = λ k a x y s t p q. same p q;
+      sound-track-wraps-after = λ k a x y s t p q. same p q;
+      sound-track-frame-in = λ k a x y s t p q. same p q;
+      sound-track-frame-at = λ k a x y s t p q. same p q;
+      sound-track-trail-at = λ k a x y s t p q. same p q;
+      sound-track-is-trail = λ k a x y s t p q. same (p .0) (q .0);
+      sound-creation-blank = λ k a x y s t p q. same p q;
+      sound-creation-new = λ k a x y s t p q. same p q;
+      sound-commands-on-start-processing = λ k a x y s t p q. same p q;
+      sound-slow-path-play = λ k a x y s t p q. parts (same p q);
+      sound-fast-reading-advance-of = λ k a x y s t p q. same p q;
+      sound-fast-reading-stepped-by = λ k a x y s t p q. same (p .is) (q .is);
+      sound-fast-reading-moved = λ k a x y s t p q. same (p .is) (q .is);
+      sound-fast-reading-store = λ k a x y s t p q. (refl, same p q);
+      sound-gains-by-frame = λ k a x y s t p q. (refl, same p q);
+      sound-fast-path-play = λ k a x y s t p q. parts (same p q);
+      sound-held-play = λ k a x y s t p q. parts (same p q);
+      sound-block-block-held = λ k a x y s t p q. parts (same p q);
+      sound-block-block = λ k a x y s t p q. parts (same p q);
       static-sound-process = λ k a x y s t p q. parts (same p q);
       static-sound-process-into = λ k a x y s t p q. parts (same p q);
       static-sound-process-held = λ k a x y s t p q. parts (same p q);
@@ -124,22 +124,22 @@ coincide =
       decibels-as-amplitude = λ k a x y s t p q. both p q;
       decibels-fade-ramp = λ k a x y s t p q. both p q;
       semitones-raised = λ k a x y s t p q. same p q;
-      layout-begin = λ k a x y s t p q. same p q;
-      layout-read-rows = λ k a x y s t p q. same (p .0) (q .0);
-      layout-put-rows = λ k a x y s t p q. (same (p .1) (q .1), same (p .0) (q .0));
-      layout-rows-fit = λ k a x y s t p q. same p q;
-      layout-rows-length = λ k a x y s t p q. same p q;
-      layout-copy = λ k a x y s t p q. (refl, same p q);
-      settings-load = λ k a x y s t p q. same p q;
-      settings-store = λ k a x y s t p q. both p q;
-      trace-read = λ k a x y s t p q. same p q;
-      trace-write = λ k a x y s t p q. sent (same p q);
-      salvage-salvage = λ k a x y s t p q. saved (same p q);
-      records-decode = λ k a x y s t p q. same p q;
-      records-encode = λ k a x y s t p q. same p q;
-      inputs-settings-of = λ k a x y s t p q. same p q;
-      inputs-commands-of = λ k a x y s t p q. same p q;
-      inputs-signals-of = λ k a x y s t p q. same p q;
+      byte-layout-begin = λ k a x y s t p q. same p q;
+      byte-layout-read-rows = λ k a x y s t p q. same (p .0) (q .0);
+      byte-layout-put-rows = λ k a x y s t p q. (same (p .1) (q .1), same (p .0) (q .0));
+      byte-layout-rows-fit = λ k a x y s t p q. same p q;
+      byte-layout-rows-length = λ k a x y s t p q. same p q;
+      byte-layout-copy = λ k a x y s t p q. (refl, same p q);
+      saved-settings-load = λ k a x y s t p q. same p q;
+      saved-settings-store = λ k a x y s t p q. both p q;
+      trace-records-read = λ k a x y s t p q. same p q;
+      trace-records-write = λ k a x y s t p q. sent (same p q);
+      trace-salvage-salvage = λ k a x y s t p q. saved (same p q);
+      c-state-decode = λ k a x y s t p q. same p q;
+      c-state-encode = λ k a x y s t p q. same p q;
+      c-inputs-settings-of = λ k a x y s t p q. same p q;
+      c-inputs-commands-of = λ k a x y s t p q. same p q;
+      c-inputs-signals-of = λ k a x y s t p q. same p q;
       cableowl-cableowl-version = λ k a x y s t p q. same p q;
       cableowl-cableowl-new = λ k a x y s t p q. same p q;
       cableowl-cableowl-on-start-processing = λ k a x y s t p q. same p q;

@@ -11,16 +11,16 @@ use lib.Ieee.{Float}
 use lib.Ieee.Fits.{eq→eqb}
 use Rattle.numbers.specs.Lists.{all}
 use Rattle.numbers.proofs.Lists.{all-front, all-rest}
-use Rattle.lanes.specs.Lanes.{Lane, Lanes, rows, timeStep, laned, near, firstLanes, restLanes}
-use Rattle.lanes.proofs.Rows.{rows-cut, first-sized, rest-sized}
-use Rattle.voice.specs.declared.Setup.{Setup}
-use Rattle.voice.specs.declared.StaticSound.{StaticSound}
-use Rattle.voice.specs.WellFormed.{ours}
-use Rattle.voice.proofs.Formed.{ours-parts}
-use Rattle.block.specs.declared.Signals.{Signals}
-use Rattle.block.specs.Blocks.{block, quiet}
+use Rattle.sound_lanes.specs.Lanes.{Lane, Lanes, rows, timeStep, laned, near, firstLanes, restLanes}
+use Rattle.sound_lanes.proofs.Rows.{rows-cut, first-sized, rest-sized}
+use Rattle.sound_state.specs.declared.Setup.{Setup}
+use Rattle.sound_state.specs.declared.StaticSound.{StaticSound}
+use Rattle.sound_state.specs.WellFormed.{ours}
+use Rattle.sound_state.proofs.Formed.{ours-parts}
+use Rattle.sound_block.specs.declared.Signals.{Signals}
+use Rattle.sound_block.specs.Blocks.{block, quiet}
 use Rattle.static_sound.specs.Entries.{refusedBlock, holds}
-use Rattle.block.proofs.Blocks.{block-setup}
+use Rattle.sound_block.proofs.Blocks.{block-setup}
 use Rattle.static_sound.proofs.Refusals.{Accepted, accepted-parts, accepted-of}
 use Rattle.static_sound.proofs.Entries.{time-step-above, block-ours, processed-passed, processed-done}
 use Rattle.theorems.specs.Cut.{CutBlocks}

@@ -26,18 +26,18 @@ use Rattle.resampler.specs.declared.RecentFrame.{RecentFrame}
 use Rattle.resampler.specs.declared.Resampler.{Resampler}
 use Rattle.resampler.specs.Windows.{push, given-count, isEmpty, zeroFrame, Windowed}
 use Rattle.resampler.proofs.Silence.{zero-frame-frame, empty-zero-frame, reading-positive-zero}
-use Rattle.lanes.specs.Lanes.{Lane, laned, near}
-use Rattle.voice.specs.declared.Setup.{Setup}
-use Rattle.moving.specs.declared.Moving.{Moving}
-use Rattle.moving.specs.declared.Wraps.{Wraps}
-use Rattle.moving.specs.declared.Course.{Course}
-use Rattle.voice.specs.declared.StaticSound.{StaticSound}
-use Rattle.voice.specs.Voices.{courseOf}
-use Rattle.moving.specs.Updates.{sounding, pushed, stepped, raised, counted, updated, updates}
-use Rattle.voice.specs.WellFormed.{Formed}
-use Rattle.playing.specs.Plays.{Played, total, turned, frameHeard, plays}
-use Rattle.block.specs.Blocks.{zeros}
-use Rattle.playing.proofs.Keeps.{turned-formed}
+use Rattle.sound_lanes.specs.Lanes.{Lane, laned, near}
+use Rattle.sound_state.specs.declared.Setup.{Setup}
+use Rattle.sound_update.specs.declared.Moving.{Moving}
+use Rattle.sound_update.specs.declared.Wraps.{Wraps}
+use Rattle.sound_update.specs.declared.Course.{Course}
+use Rattle.sound_state.specs.declared.StaticSound.{StaticSound}
+use Rattle.sound_state.specs.Voices.{courseOf}
+use Rattle.sound_update.specs.Updates.{sounding, pushed, stepped, raised, counted, updated, updates}
+use Rattle.sound_state.specs.WellFormed.{Formed}
+use Rattle.sound_slow_path.specs.Plays.{Played, total, turned, frameHeard, plays}
+use Rattle.sound_block.specs.Blocks.{zeros}
+use Rattle.sound_slow_path.proofs.Keeps.{turned-formed}
 use Rattle.theorems.specs.Alike.{unnumbered, bare}
 use Rattle.theorems.specs.LawfulEnd.{Ended, EndsOnly}
 

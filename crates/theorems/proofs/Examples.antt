@@ -6,8 +6,8 @@ use Rattle.frame.specs.Frames.{cubic, interpolated}
 use Rattle.playback_position.specs.Positions.{placed, ended, stretched, lawfulRegion}
 use Rattle.transport.specs.Moves.{forward, backward, seek}
 use Rattle.resampler.specs.Windows.{reading}
-use Rattle.creation.specs.Creation.{refusedNew, made, created}
-use Rattle.command_set.specs.Commands.{targetTo}
+use Rattle.sound_creation.specs.Creation.{refusedNew, made, created}
+use Rattle.sound_commands.specs.Commands.{targetTo}
 use Rattle.theorems.specs.Examples.{table, ExamplesHold}
 
 pub examples-hold : ExamplesHold

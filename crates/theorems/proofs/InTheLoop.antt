@@ -26,34 +26,34 @@ use Rattle.transport.specs.WellFormed.{Inside}
 use Rattle.transport.proofs.Wraps.{wrapped-lt}
 use Rattle.transport.proofs.WellFormed.{forward-inside, backward-inside}
 use Rattle.resampler.specs.Windows.{isEmpty}
-use Rattle.lanes.specs.Lanes.{Lane, rows}
-use Rattle.voice.specs.declared.Setup.{Setup}
-use Rattle.moving.specs.declared.Moving.{Moving}
-use Rattle.moving.specs.declared.Course.{Course}
-use Rattle.voice.specs.declared.StaticSound.{StaticSound}
-use Rattle.voice.specs.Voices.{span, courseOf}
-use Rattle.moving.specs.Updates.{pushed, stepped, updated, updates}
-use Rattle.voice.proofs.Formed.{formed-parts}
-use Rattle.command_set.specs.declared.Amount.{Amount}
-use Rattle.command_set.specs.declared.Amount.the-variants as amount
-use Rattle.command_set.specs.declared.LoopCommand.{LoopCommand}
-use Rattle.command_set.specs.declared.LoopCommand.the-variants as loop
-use Rattle.command_set.specs.declared.ResumeCommand.{ResumeCommand}
-use Rattle.command_set.specs.declared.ResumeCommand.the-variants as resume
-use Rattle.command_set.specs.declared.Commands.{Commands}
-use Rattle.command_set.specs.declared.Commanded.{Commanded}
-use Rattle.command_set.specs.Commands.{targetBy, targetTo, looped, woken, ordered, told, jumped, refilled, sought, soughtBy, soughtTo, obeyed, commanded}
-use Rattle.command_set.proofs.Orders.{by-setup, obeyed-setup}
-use Rattle.command_set.proofs.Answers.{commanded-passed, commanded-done, commanded-refused}
+use Rattle.sound_lanes.specs.Lanes.{Lane, rows}
+use Rattle.sound_state.specs.declared.Setup.{Setup}
+use Rattle.sound_update.specs.declared.Moving.{Moving}
+use Rattle.sound_update.specs.declared.Course.{Course}
+use Rattle.sound_state.specs.declared.StaticSound.{StaticSound}
+use Rattle.sound_state.specs.Voices.{span, courseOf}
+use Rattle.sound_update.specs.Updates.{pushed, stepped, updated, updates}
+use Rattle.sound_state.proofs.Formed.{formed-parts}
+use Rattle.sound_commands.specs.declared.Amount.{Amount}
+use Rattle.sound_commands.specs.declared.Amount.the-variants as amount
+use Rattle.sound_commands.specs.declared.LoopCommand.{LoopCommand}
+use Rattle.sound_commands.specs.declared.LoopCommand.the-variants as loop
+use Rattle.sound_commands.specs.declared.ResumeCommand.{ResumeCommand}
+use Rattle.sound_commands.specs.declared.ResumeCommand.the-variants as resume
+use Rattle.sound_commands.specs.declared.Commands.{Commands}
+use Rattle.sound_commands.specs.declared.Commanded.{Commanded}
+use Rattle.sound_commands.specs.Commands.{targetBy, targetTo, looped, woken, ordered, told, jumped, refilled, sought, soughtBy, soughtTo, obeyed, commanded}
+use Rattle.sound_commands.proofs.Orders.{by-setup, obeyed-setup}
+use Rattle.sound_commands.proofs.Answers.{commanded-passed, commanded-done, commanded-refused}
 use Rattle.loop_table.specs.declared.LoopTable.{LoopTable}
 use Rattle.loop_table.specs.declared.LoopFound.{LoopFound}
 use Rattle.loop_table.specs.Tables.{found}
 use Rattle.take_loop.specs.Taking.{loopCommand, taken}
-use Rattle.block.specs.declared.Signals.{Signals}
-use Rattle.playing.specs.Plays.{total, turned, plays}
-use Rattle.block.specs.Blocks.{begun, live, silent, block, givenUp}
+use Rattle.sound_block.specs.declared.Signals.{Signals}
+use Rattle.sound_slow_path.specs.Plays.{total, turned, plays}
+use Rattle.sound_block.specs.Blocks.{begun, live, silent, block, givenUp}
 use Rattle.static_sound.specs.Entries.{processed, processedInto}
-use Rattle.block.proofs.Blocks.{block-setup}
+use Rattle.sound_block.proofs.Blocks.{block-setup}
 use Rattle.static_sound.proofs.Entries.{processed-passed, processed-done, processed-refused, into-passed, into-done, into-refused}
 use Rattle.theorems.specs.InTheLoop.{Call, Block, Mix, Command, Take, Stretch, after, accepted, afterAll, someAccepted, changesLoop, reloops, isNever, stops, ending, InTheLoop}
 

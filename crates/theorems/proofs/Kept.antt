@@ -2,16 +2,16 @@
 use mathlib.Core.Path.{refl, sym, subst}
 use lib.Dec.{T}
 use lib.ListN.{length}
-use Rattle.voice.specs.declared.StaticSound.{StaticSound}
-use Rattle.voice.specs.WellFormed.{ours}
+use Rattle.sound_state.specs.declared.StaticSound.{StaticSound}
+use Rattle.sound_state.specs.WellFormed.{ours}
 use Rattle.static_sound.specs.Entries.{holds, room}
 use Rattle.static_sound.proofs.Refusals.{accepted-parts}
-use Rattle.creation.proofs.Refusals.{creatable-parts}
-use Rattle.command_set.proofs.Refusals.{obeyable-parts}
-use Rattle.creation.proofs.Makes.{made-ours, blank-not}
-use Rattle.command_set.proofs.Orders.{obeyed-ours}
-use Rattle.creation.proofs.Answers.{created-passed, created-done, created-refused}
-use Rattle.command_set.proofs.Answers.{commanded-passed, commanded-done, commanded-refused}
+use Rattle.sound_creation.proofs.Refusals.{creatable-parts}
+use Rattle.sound_commands.proofs.Refusals.{obeyable-parts}
+use Rattle.sound_creation.proofs.Makes.{made-ours, blank-not}
+use Rattle.sound_commands.proofs.Orders.{obeyed-ours}
+use Rattle.sound_creation.proofs.Answers.{created-passed, created-done, created-refused}
+use Rattle.sound_commands.proofs.Answers.{commanded-passed, commanded-done, commanded-refused}
 use Rattle.static_sound.proofs.Entries.{block-ours, processed-passed, processed-done, processed-refused, into-passed, into-done, into-refused}
 use Rattle.theorems.specs.Kept.{CreationKeeps, BlankIsNot, CommandsKeep, BlocksKeep, MixesKeep}
 

@@ -8,19 +8,19 @@ use lib.ListN.{length, take, drop, take-append-drop}
 use lib.Seq.{length-take-le, drop-at}
 use Rattle.numbers.specs.Lists.{all}
 use Rattle.numbers.proofs.Lists.{all-front, all-rest}
-use Rattle.lanes.specs.Lanes.{Lane, rows, laned, near}
-use Rattle.lanes.proofs.Rows.{beside-length}
-use Rattle.voice.specs.declared.Setup.{Setup}
-use Rattle.voice.specs.declared.StaticSound.{StaticSound}
-use Rattle.voice.specs.WellFormed.{Formed}
-use Rattle.voice.proofs.Formed.{ours-parts}
-use Rattle.playing.specs.Plays.{Played, plays, Outcome}
-use Rattle.block.specs.Blocks.{begun, zeros}
+use Rattle.sound_lanes.specs.Lanes.{Lane, rows, laned, near}
+use Rattle.sound_lanes.proofs.Rows.{beside-length}
+use Rattle.sound_state.specs.declared.Setup.{Setup}
+use Rattle.sound_state.specs.declared.StaticSound.{StaticSound}
+use Rattle.sound_state.specs.WellFormed.{Formed}
+use Rattle.sound_state.proofs.Formed.{ours-parts}
+use Rattle.sound_slow_path.specs.Plays.{Played, plays, Outcome}
+use Rattle.sound_block.specs.Blocks.{begun, zeros}
 use Rattle.static_sound.specs.Entries.{holds, processed}
-use Rattle.playing.proofs.Plays.{plays-append, plays-length, plays-setup}
-use Rattle.block.proofs.Blocks.{block-live}
-use Rattle.block.proofs.Keeps.{begun-formed}
-use Rattle.playing.proofs.Keeps.{plays-formed}
+use Rattle.sound_slow_path.proofs.Plays.{plays-append, plays-length, plays-setup}
+use Rattle.sound_block.proofs.Blocks.{block-live}
+use Rattle.sound_block.proofs.Keeps.{begun-formed}
+use Rattle.sound_slow_path.proofs.Keeps.{plays-formed}
 use Rattle.static_sound.proofs.Refusals.{Accepted, accepted-parts}
 use Rattle.static_sound.proofs.Entries.{time-step-above, processed-passed, processed-done}
 use Rattle.theorems.specs.LawfulEnd.{Ended, EndsOnly, UpdateEnds, BlockEnds}

@@ -8,12 +8,12 @@ use lib.ListN.{length, take, drop, length-append, length-drop}
 use lib.Seq.{length-take-le, take-at, drop-append-add, drop-drop}
 use lib.Ieee.{Float}
 use lib.Ieee.Fits.{and-i, and-l, and-r, eq→eqb}
-use Rattle.lanes.specs.Lanes.{Lanes, rows, firstLanes, restLanes}
-use Rattle.lanes.proofs.Rows.{beside-length}
-use Rattle.voice.specs.declared.StaticSound.{StaticSound}
-use Rattle.block.specs.Blocks.{block, quiet}
+use Rattle.sound_lanes.specs.Lanes.{Lanes, rows, firstLanes, restLanes}
+use Rattle.sound_lanes.proofs.Rows.{beside-length}
+use Rattle.sound_state.specs.declared.StaticSound.{StaticSound}
+use Rattle.sound_block.specs.Blocks.{block, quiet}
 use Rattle.static_sound.specs.Entries.{refusedBlock, room, mixed}
-use Rattle.block.proofs.Blocks.{block-length}
+use Rattle.sound_block.proofs.Blocks.{block-length}
 use Rattle.static_sound.proofs.Refusals.{Accepted, accepted-parts, accepted-of}
 use Rattle.static_sound.proofs.Entries.{into-passed, into-done}
 use Rattle.theorems.specs.Mix.{CutMixes}

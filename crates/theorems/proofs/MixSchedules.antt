@@ -11,11 +11,11 @@ use lib.Ieee.{Float}
 use lib.Ieee.Fits.{and-i, and-l, and-r, eq→eqb}
 use Rattle.numbers.specs.Words.{positiveZero}
 use Rattle.numbers.specs.Lists.{all}
-use Rattle.lanes.specs.Lanes.{Lanes, firstLanes, restLanes}
-use Rattle.voice.specs.declared.StaticSound.{StaticSound}
-use Rattle.block.specs.declared.Signals.{Signals}
-use Rattle.block.specs.Blocks.{quiet}
-use Rattle.playing.specs.Plays.{lower, Outcome}
+use Rattle.sound_lanes.specs.Lanes.{Lanes, firstLanes, restLanes}
+use Rattle.sound_state.specs.declared.StaticSound.{StaticSound}
+use Rattle.sound_block.specs.declared.Signals.{Signals}
+use Rattle.sound_block.specs.Blocks.{quiet}
+use Rattle.sound_slow_path.specs.Plays.{lower, Outcome}
 use Rattle.static_sound.specs.Entries.{holds, room, mixed, processed, processedInto}
 use Rattle.static_sound.proofs.Refusals.{accepted-parts, accepted-of}
 use Rattle.static_sound.proofs.Entries.{processed-passed, into-done}

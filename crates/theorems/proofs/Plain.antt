@@ -10,14 +10,14 @@ use lib.ListN.{length, take, drop, length-drop, length-append, take-append-drop}
 use lib.Seq.{length-take-le, take-at, drop-at}
 use lib.Ieee.{Float}
 use lib.Ieee.Fits.{eq→eqb}
-use Rattle.lanes.specs.Lanes.{Lanes, rows}
-use Rattle.lanes.proofs.Rows.{beside-length}
-use Rattle.voice.specs.declared.StaticSound.{StaticSound}
-use Rattle.block.specs.declared.Signals.{Signals}
-use Rattle.playing.specs.Plays.{Played, plays, Outcome, acceptedWith}
-use Rattle.block.specs.Blocks.{block, begun, live, zeros}
+use Rattle.sound_lanes.specs.Lanes.{Lanes, rows}
+use Rattle.sound_lanes.proofs.Rows.{beside-length}
+use Rattle.sound_state.specs.declared.StaticSound.{StaticSound}
+use Rattle.sound_block.specs.declared.Signals.{Signals}
+use Rattle.sound_slow_path.specs.Plays.{Played, plays, Outcome, acceptedWith}
+use Rattle.sound_block.specs.Blocks.{block, begun, live, zeros}
 use Rattle.static_sound.specs.Entries.{refusedBlock, holds, room, mixed, processed, processedInto}
-use Rattle.block.proofs.Blocks.{block-length}
+use Rattle.sound_block.proofs.Blocks.{block-length}
 use Rattle.static_sound.proofs.Refusals.{Accepted, accepted-parts, accepted-of}
 use Rattle.static_sound.proofs.Entries.{processed-done, into-passed, into-done}
 use Rattle.theorems.specs.LawfulEnd.{Ended, MixEnds}

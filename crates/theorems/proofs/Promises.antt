@@ -3,9 +3,9 @@ use Rattle.transport.proofs.Rust.{forward-is-rust, backward-is-rust, seek-is-ru
 use Rattle.transport.proofs.WellFormed.{seek-starts-nothing}
 use Rattle.playback_state_manager.proofs.Stays.{pausing-stopped, resuming-stopped, stopping-stopped, settled-stopped}
 use Rattle.cableowl.proofs.Kept.{created-kept, created-blank, commanded-kept, commanded-given, processed-kept, processed-given, into-kept, into-given}
-use Rattle.records.proofs.Inverse.{decoded-encoded, encoded-decoded}
+use Rattle.c_state.proofs.Inverse.{decoded-encoded, encoded-decoded}
 use Rattle.cableowl.proofs.Unknown.{commanded-1, processed-1, into-1, part-1}
-use Rattle.inputs.proofs.Unknown.{place-unknown, end-unknown, start-unknown, ending-unknown, optional-unknown, loop-unknown, rate-unknown, seek-unknown}
+use Rattle.c_inputs.proofs.Unknown.{place-unknown, end-unknown, start-unknown, ending-unknown, optional-unknown, loop-unknown, rate-unknown, seek-unknown}
 use Rattle.cableowl.proofs.Parts.{stretch-part}
 use Rattle.theorems.specs.ArchiveKept.{ArchiveKeeps, TagsRefused}
 use Rattle.theorems.specs.Promises.{Promises}

@@ -19,24 +19,24 @@ use Rattle.resampler.specs.declared.Resampler.{Resampler}
 use Rattle.resampler.specs.declared.MaybeFrame.the-variants.{Absent, Present}
 use Rattle.resampler.specs.Windows.{blank, push, reading}
 use Rattle.playback_state_manager.specs.States.{advancing}
-use Rattle.lanes.specs.Lanes.{Lane, Lanes, rows}
-use Rattle.moving.specs.declared.Moving.{Moving}
-use Rattle.moving.specs.declared.Course.{Course}
-use Rattle.moving.specs.Updates.{sounding, pushed, stepped, updated, updates}
-use Rattle.voice.specs.declared.StaticSound.{StaticSound}
-use Rattle.voice.specs.Voices.{offset, courseOf, moved}
-use Rattle.creation.specs.Creation.{setupOf, opened, transportOf, made}
-use Rattle.creation.proofs.Answers.{created-passed, created-done}
-use Rattle.command_set.specs.declared.Amount.{Amount}
-use Rattle.command_set.specs.declared.Amount.the-variants as amount
-use Rattle.command_set.specs.declared.Commands.{Commands}
-use Rattle.command_set.specs.declared.Commanded.{Commanded}
-use Rattle.command_set.specs.Commands.{refusedSet, told, jumped, refilled, sought, soughtBy, soughtTo, obeyed, reported, commanded}
-use Rattle.block.specs.declared.Signals.{Signals}
-use Rattle.block.specs.Blocks.{begun, live, silent, block}
-use Rattle.block.proofs.Blocks.{block-live, block-silent}
-use Rattle.playing.specs.Plays.{Played, lower, total, turned, plays, acceptedWith}
-use Rattle.playing.proofs.Lowest.{lower-first, lower-second, lowest}
+use Rattle.sound_lanes.specs.Lanes.{Lane, Lanes, rows}
+use Rattle.sound_update.specs.declared.Moving.{Moving}
+use Rattle.sound_update.specs.declared.Course.{Course}
+use Rattle.sound_update.specs.Updates.{sounding, pushed, stepped, updated, updates}
+use Rattle.sound_state.specs.declared.StaticSound.{StaticSound}
+use Rattle.sound_state.specs.Voices.{offset, courseOf, moved}
+use Rattle.sound_creation.specs.Creation.{setupOf, opened, transportOf, made}
+use Rattle.sound_creation.proofs.Answers.{created-passed, created-done}
+use Rattle.sound_commands.specs.declared.Amount.{Amount}
+use Rattle.sound_commands.specs.declared.Amount.the-variants as amount
+use Rattle.sound_commands.specs.declared.Commands.{Commands}
+use Rattle.sound_commands.specs.declared.Commanded.{Commanded}
+use Rattle.sound_commands.specs.Commands.{refusedSet, told, jumped, refilled, sought, soughtBy, soughtTo, obeyed, reported, commanded}
+use Rattle.sound_block.specs.declared.Signals.{Signals}
+use Rattle.sound_block.specs.Blocks.{begun, live, silent, block}
+use Rattle.sound_block.proofs.Blocks.{block-live, block-silent}
+use Rattle.sound_slow_path.specs.Plays.{Played, lower, total, turned, plays, acceptedWith}
+use Rattle.sound_slow_path.proofs.Lowest.{lower-first, lower-second, lowest}
 use Rattle.static_sound.specs.Entries.{refusedBlock, refusedWith, holds, room, mixed, processed, processedInto}
 use Rattle.static_sound.proofs.Entries.{processed-passed, processed-done, into-passed, into-done}
 use Rattle.theorems.specs.Reports.{nones, Fed, FedVoice, CreationFeeds, CommandsFeed, BlocksFeed, MixesFeed, atRead, newest, Sounding, Tail, Tells, BlocksTell, MixesTell, SilenceTells}

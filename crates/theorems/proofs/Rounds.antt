@@ -20,16 +20,16 @@ use Rattle.transport.specs.WellFormed.{Inside}
 use Rattle.transport.proofs.Wraps.{under-inside, under-end, back-inside, back-start}
 use Rattle.transport.proofs.Steps.{forward-going, backward-looped, wraps-on, wraps-back}
 use Rattle.transport.proofs.WellFormed.{forward-inside, backward-inside}
-use Rattle.lanes.specs.Lanes.{Lanes}
-use Rattle.moving.specs.declared.Moving.{Moving}
-use Rattle.moving.specs.declared.Course.{Course}
-use Rattle.moving.specs.Updates.{raised, stepped, counted, updated, updates}
-use Rattle.voice.specs.declared.StaticSound.{StaticSound}
-use Rattle.voice.specs.Voices.{span, courseOf}
-use Rattle.voice.specs.WellFormed.{ours}
-use Rattle.voice.proofs.Formed.{ours-parts}
-use Rattle.block.specs.declared.Signals.{Signals}
-use Rattle.block.specs.Blocks.{begun}
+use Rattle.sound_lanes.specs.Lanes.{Lanes}
+use Rattle.sound_update.specs.declared.Moving.{Moving}
+use Rattle.sound_update.specs.declared.Course.{Course}
+use Rattle.sound_update.specs.Updates.{raised, stepped, counted, updated, updates}
+use Rattle.sound_state.specs.declared.StaticSound.{StaticSound}
+use Rattle.sound_state.specs.Voices.{span, courseOf}
+use Rattle.sound_state.specs.WellFormed.{ours}
+use Rattle.sound_state.proofs.Formed.{ours-parts}
+use Rattle.sound_block.specs.declared.Signals.{Signals}
+use Rattle.sound_block.specs.Blocks.{begun}
 use Rattle.static_sound.specs.Entries.{holds, room}
 use Rattle.static_sound.proofs.Refusals.{accepted-parts}
 use Rattle.static_sound.proofs.Entries.{processed-passed, into-passed}

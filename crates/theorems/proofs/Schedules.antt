@@ -11,16 +11,16 @@ use lib.Ieee.{Float}
 use lib.Ieee.Fits.{and-l, and-r}
 use Rattle.numbers.specs.Lists.{all}
 use Rattle.numbers.proofs.Lists.{all-append}
-use Rattle.lanes.specs.Lanes.{Lane, Lanes, rows, laned, near, firstLanes, restLanes}
-use Rattle.lanes.proofs.Rows.{beside-take, beside-length, rows-cut}
-use Rattle.voice.specs.declared.Setup.{Setup}
-use Rattle.voice.specs.declared.StaticSound.{StaticSound}
-use Rattle.voice.proofs.Formed.{ours-parts}
-use Rattle.block.specs.declared.Signals.{Signals}
-use Rattle.playing.specs.Plays.{Played, lower, Outcome, acceptedWith}
-use Rattle.block.specs.Blocks.{block, quiet}
+use Rattle.sound_lanes.specs.Lanes.{Lane, Lanes, rows, laned, near, firstLanes, restLanes}
+use Rattle.sound_lanes.proofs.Rows.{beside-take, beside-length, rows-cut}
+use Rattle.sound_state.specs.declared.Setup.{Setup}
+use Rattle.sound_state.specs.declared.StaticSound.{StaticSound}
+use Rattle.sound_state.proofs.Formed.{ours-parts}
+use Rattle.sound_block.specs.declared.Signals.{Signals}
+use Rattle.sound_slow_path.specs.Plays.{Played, lower, Outcome, acceptedWith}
+use Rattle.sound_block.specs.Blocks.{block, quiet}
 use Rattle.static_sound.specs.Entries.{holds, processed}
-use Rattle.block.proofs.Blocks.{block-setup}
+use Rattle.sound_block.proofs.Blocks.{block-setup}
 use Rattle.static_sound.proofs.Refusals.{Accepted, accepted-parts}
 use Rattle.static_sound.proofs.Entries.{time-step-above, processed-passed, processed-done}
 use Rattle.theorems.specs.Sums.{sum}

@@ -14,12 +14,12 @@ use Rattle.start_time.specs.declared.StartSignal.{StartSignal}
 use Rattle.start_time.specs.declared.StartSignal.the-variants.{Tick}
 use Rattle.start_time.specs.Ticks.{turn, half, reached, answering}
 use Rattle.start_time.proofs.Ticks.{reached-moved}
-use Rattle.lanes.specs.Lanes.{Lane, rows}
-use Rattle.voice.specs.declared.StaticSound.{StaticSound}
-use Rattle.playing.specs.Plays.{plays}
-use Rattle.playing.proofs.Plays.{plays-started}
-use Rattle.block.specs.declared.Signals.{Signals}
-use Rattle.block.specs.Blocks.{silent, come, begun, live, block}
+use Rattle.sound_lanes.specs.Lanes.{Lane, rows}
+use Rattle.sound_state.specs.declared.StaticSound.{StaticSound}
+use Rattle.sound_slow_path.specs.Plays.{plays}
+use Rattle.sound_slow_path.proofs.Plays.{plays-started}
+use Rattle.sound_block.specs.declared.Signals.{Signals}
+use Rattle.sound_block.specs.Blocks.{silent, come, begun, live, block}
 use Rattle.static_sound.proofs.Entries.{processed-passed, processed-done, into-passed, into-done}
 use Rattle.theorems.specs.StartTicks.{howMany, HalfReached, MovedTogether, TickStarts, MixTickStarts}
 

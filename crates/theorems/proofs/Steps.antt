@@ -8,20 +8,20 @@ use mathlib.Core.List.{List, [], _∷_}
 use lib.ListN.{length}
 use lib.Ieee.{Float}
 use Rattle.numbers.specs.Words.{whole}
-use Rattle.lanes.specs.Lanes.{Lane, rows, near}
-use Rattle.lanes.proofs.Rows.{beside-length}
-use Rattle.moving.specs.declared.Moving.{Moving}
-use Rattle.moving.specs.declared.Course.{Course}
-use Rattle.voice.specs.declared.StaticSound.{StaticSound}
-use Rattle.voice.specs.Voices.{courseOf}
-use Rattle.moving.specs.Updates.{updates, updated}
-use Rattle.voice.proofs.Formed.{ours-parts}
-use Rattle.playing.specs.Plays.{total, turned, plays, acceptedWith}
-use Rattle.block.specs.Blocks.{begun, live, block}
+use Rattle.sound_lanes.specs.Lanes.{Lane, rows, near}
+use Rattle.sound_lanes.proofs.Rows.{beside-length}
+use Rattle.sound_update.specs.declared.Moving.{Moving}
+use Rattle.sound_update.specs.declared.Course.{Course}
+use Rattle.sound_state.specs.declared.StaticSound.{StaticSound}
+use Rattle.sound_state.specs.Voices.{courseOf}
+use Rattle.sound_update.specs.Updates.{updates, updated}
+use Rattle.sound_state.proofs.Formed.{ours-parts}
+use Rattle.sound_slow_path.specs.Plays.{total, turned, plays, acceptedWith}
+use Rattle.sound_block.specs.Blocks.{begun, live, block}
 use Rattle.static_sound.specs.Entries.{holds}
-use Rattle.block.proofs.Blocks.{block-live, block-silent}
-use Rattle.block.proofs.Keeps.{begun-formed}
-use Rattle.playing.proofs.Keeps.{plays-steps}
+use Rattle.sound_block.proofs.Blocks.{block-live, block-silent}
+use Rattle.sound_block.proofs.Keeps.{begun-formed}
+use Rattle.sound_slow_path.proofs.Keeps.{plays-steps}
 use Rattle.static_sound.proofs.Refusals.{Accepted, accepted-parts}
 use Rattle.static_sound.proofs.Entries.{time-step-above, processed-passed, processed-done}
 use Rattle.theorems.specs.Sums.{sum}

@@ -11,12 +11,12 @@ use lib.Seq.{length-take-le}
 use lib.Ieee.{Float}
 use lib.Ieee.Fits.{and-l, and-r, eq→eqb}
 use Rattle.numbers.specs.Lists.{all}
-use Rattle.lanes.specs.Lanes.{Lanes, rows, laned, near, firstLanes, restLanes}
-use Rattle.lanes.proofs.Rows.{sized-of}
-use Rattle.voice.specs.declared.StaticSound.{StaticSound}
-use Rattle.block.specs.declared.Signals.{Signals}
-use Rattle.block.specs.Blocks.{block, quiet}
-use Rattle.playing.specs.Plays.{acceptedWith}
+use Rattle.sound_lanes.specs.Lanes.{Lanes, rows, laned, near, firstLanes, restLanes}
+use Rattle.sound_lanes.proofs.Rows.{sized-of}
+use Rattle.sound_state.specs.declared.StaticSound.{StaticSound}
+use Rattle.sound_block.specs.declared.Signals.{Signals}
+use Rattle.sound_block.specs.Blocks.{block, quiet}
+use Rattle.sound_slow_path.specs.Plays.{acceptedWith}
 use Rattle.static_sound.specs.Entries.{holds, processed}
 use Rattle.static_sound.proofs.Refusals.{Accepted, accepted-of}
 use Rattle.static_sound.proofs.Entries.{block-ours, processed-done}

@@ -14,18 +14,18 @@ use Rattle.transport.specs.Moves.{forward, backward, seek}
 use Rattle.transport.specs.WellFormed.{Inside}
 use Rattle.resampler.specs.Windows.{push, reading}
 use Rattle.frame.specs.Frames.{cubic, interpolated}
-use Rattle.moving.specs.Updates.{pushed, stepped, updated, updates}
-use Rattle.voice.specs.declared.StaticSound.{StaticSound}
-use Rattle.voice.specs.Voices.{span, courseOf}
-use Rattle.lanes.specs.Lanes.{rows, firstLanes}
-use Rattle.voice.specs.WellFormed.{ours, wellFormed}
-use Rattle.creation.specs.Creation.{refusedNew, made, created}
-use Rattle.command_set.specs.Commands.{refusedSet, commanded, targetBy, targetTo, obeyed, told}
-use Rattle.playing.specs.Plays.{frameHeard, lower, plays, total, turned}
-use Rattle.block.specs.Blocks.{begun, live, block, zeros}
+use Rattle.sound_update.specs.Updates.{pushed, stepped, updated, updates}
+use Rattle.sound_state.specs.declared.StaticSound.{StaticSound}
+use Rattle.sound_state.specs.Voices.{span, courseOf}
+use Rattle.sound_lanes.specs.Lanes.{rows, firstLanes}
+use Rattle.sound_state.specs.WellFormed.{ours, wellFormed}
+use Rattle.sound_creation.specs.Creation.{refusedNew, made, created}
+use Rattle.sound_commands.specs.Commands.{refusedSet, commanded, targetBy, targetTo, obeyed, told}
+use Rattle.sound_slow_path.specs.Plays.{frameHeard, lower, plays, total, turned}
+use Rattle.sound_block.specs.Blocks.{begun, live, block, zeros}
 use Rattle.static_sound.specs.Entries.{refusedBlock, processed, processedInto}
-use Rattle.records.specs.Records.{lawful, stateOf, decoded, encoded}
-use Rattle.records.proofs.Inverse.{decoded-encoded}
+use Rattle.c_state.specs.Records.{lawful, stateOf, decoded, encoded}
+use Rattle.c_state.proofs.Inverse.{decoded-encoded}
 use Rattle.cableowl.specs.Entries.{after, processedC, processedIntoC}
 use Rattle.theorems.specs.Accepted.{AcceptedBlock, AcceptedMix}
 use Rattle.theorems.specs.Alike.{Awake}

@@ -9,9 +9,9 @@ use Rattle.numbers.specs.Words.{positiveZero}
 use Rattle.resampler.specs.declared.RecentFrame.{RecentFrame}
 use Rattle.resampler.specs.declared.Resampler.{Resampler}
 use Rattle.playback_state_manager.specs.States.{number}
-use Rattle.voice.specs.declared.StaticSound.{StaticSound}
-use Rattle.playing.specs.declared.Processed.{Processed}
-use Rattle.playing.specs.Plays.{lower}
+use Rattle.sound_state.specs.declared.StaticSound.{StaticSound}
+use Rattle.sound_slow_path.specs.declared.Processed.{Processed}
+use Rattle.sound_slow_path.specs.Plays.{lower}
 
 -- the entry without its number
 abbrev pub unnumbered : RecentFrame → RecentFrame

@@ -7,12 +7,12 @@ use mathlib.Core.Bool.{cond}
 use lib.Dec.{eqb}
 use lib.ListN.{length, take, drop}
 use lib.Ieee.{Float}
-use Rattle.lanes.specs.Lanes.{Lanes, firstLanes, restLanes}
-use Rattle.playing.specs.Plays.{lower}
-use Rattle.records.specs.declared.CableowlState.{CableowlState}
-use Rattle.inputs.specs.declared.CableowlSignals.{CableowlSignals}
+use Rattle.sound_lanes.specs.Lanes.{Lanes, firstLanes, restLanes}
+use Rattle.sound_slow_path.specs.Plays.{lower}
+use Rattle.c_state.specs.declared.CableowlState.{CableowlState}
+use Rattle.c_inputs.specs.declared.CableowlSignals.{CableowlSignals}
 use Rattle.cableowl.specs.declared.CableowlProcessed.{CableowlProcessed}
-use Rattle.records.specs.Records.{decoded}
+use Rattle.c_state.specs.Records.{decoded}
 use Rattle.cableowl.specs.Entries.{OutcomeC, processedC, processedIntoC}
 use Rattle.theorems.specs.Alike.{bare, Awake}
 

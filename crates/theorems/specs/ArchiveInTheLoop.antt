@@ -9,14 +9,14 @@ use lib.Ieee.{Float}
 use Rattle.playback_state_manager.specs.declared.PlaybackState.the-variants.{Stopped}
 use Rattle.start_time.specs.Ticks.{answering}
 use Rattle.transport.specs.WellFormed.{Inside}
-use Rattle.lanes.specs.Lanes.{Lanes}
-use Rattle.voice.specs.WellFormed.{wellFormed}
+use Rattle.sound_lanes.specs.Lanes.{Lanes}
+use Rattle.sound_state.specs.WellFormed.{wellFormed}
 use Rattle.loop_table.specs.declared.LoopTable.{LoopTable}
-use Rattle.records.specs.declared.CableowlState.{CableowlState}
-use Rattle.inputs.specs.declared.CableowlCommands.{CableowlCommands}
-use Rattle.inputs.specs.declared.CableowlSignals.{CableowlSignals}
-use Rattle.records.specs.Records.{decoded}
-use Rattle.inputs.specs.Inputs.{commandsOf, signalsOf}
+use Rattle.c_state.specs.declared.CableowlState.{CableowlState}
+use Rattle.c_inputs.specs.declared.CableowlCommands.{CableowlCommands}
+use Rattle.c_inputs.specs.declared.CableowlSignals.{CableowlSignals}
+use Rattle.c_state.specs.Records.{decoded}
+use Rattle.c_inputs.specs.Inputs.{commandsOf, signalsOf}
 use Rattle.cableowl.specs.Entries.{commandedC, processedC, processedIntoC}
 use Rattle.cableowl.specs.Loops.{takenC}
 use Rattle.theorems.specs.InTheLoop.{changesLoop, isNever, ending}

@@ -10,21 +10,21 @@ use lib.ListN.{length, take, drop}
 use lib.Ieee.{Float}
 use Rattle.numbers.specs.Words.{positiveZero}
 use Rattle.playback_position.specs.Positions.{placeable, endable, lawfulRegion}
-use Rattle.lanes.specs.Lanes.{Lanes}
-use Rattle.voice.specs.declared.StaticSound.{StaticSound}
-use Rattle.voice.specs.WellFormed.{ours}
-use Rattle.creation.specs.Creation.{blankSound, allowed}
-use Rattle.command_set.specs.Commands.{loopable, rateable, seekable}
+use Rattle.sound_lanes.specs.Lanes.{Lanes}
+use Rattle.sound_state.specs.declared.StaticSound.{StaticSound}
+use Rattle.sound_state.specs.WellFormed.{ours}
+use Rattle.sound_creation.specs.Creation.{blankSound, allowed}
+use Rattle.sound_commands.specs.Commands.{loopable, rateable, seekable}
 use Rattle.static_sound.specs.Entries.{stretchOf}
-use Rattle.records.specs.declared.CableowlState.{CableowlState}
-use Rattle.inputs.specs.declared.CableowlSettings.{CableowlSettings}
-use Rattle.inputs.specs.declared.CableowlCommands.{CableowlCommands}
-use Rattle.inputs.specs.declared.CableowlSignals.{CableowlSignals}
-use Rattle.inputs.specs.declared.CableowlPlace.{CableowlPlace}
-use Rattle.inputs.specs.declared.CableowlRegion.{CableowlRegion}
+use Rattle.c_state.specs.declared.CableowlState.{CableowlState}
+use Rattle.c_inputs.specs.declared.CableowlSettings.{CableowlSettings}
+use Rattle.c_inputs.specs.declared.CableowlCommands.{CableowlCommands}
+use Rattle.c_inputs.specs.declared.CableowlSignals.{CableowlSignals}
+use Rattle.c_inputs.specs.declared.CableowlPlace.{CableowlPlace}
+use Rattle.c_inputs.specs.declared.CableowlRegion.{CableowlRegion}
 use Rattle.cableowl.specs.declared.CableowlPart.{CableowlPart}
-use Rattle.records.specs.Records.{lawful, decoded, encoded}
-use Rattle.inputs.specs.Inputs.{placeOf, endOf, regionIf, optionalOf, loopOf, amountOf}
+use Rattle.c_state.specs.Records.{lawful, decoded, encoded}
+use Rattle.c_inputs.specs.Inputs.{placeOf, endOf, regionIf, optionalOf, loopOf, amountOf}
 use Rattle.cableowl.specs.Entries.{OutcomeC, createdC, commandedC, processedC, processedIntoC, partC}
 use Rattle.theorems.specs.Kept.{Either}
 

@@ -7,11 +7,11 @@ use lib.Dec.{T, eqb}
 use lib.ListN.{length, take, drop}
 use lib.Ieee.{Float}
 use Rattle.numbers.specs.Lists.{all}
-use Rattle.lanes.specs.Lanes.{Lanes, firstLanes, restLanes}
-use Rattle.playing.specs.Plays.{lower}
-use Rattle.records.specs.declared.CableowlState.{CableowlState}
-use Rattle.inputs.specs.declared.CableowlSignals.{CableowlSignals}
-use Rattle.records.specs.Records.{decoded}
+use Rattle.sound_lanes.specs.Lanes.{Lanes, firstLanes, restLanes}
+use Rattle.sound_slow_path.specs.Plays.{lower}
+use Rattle.c_state.specs.declared.CableowlState.{CableowlState}
+use Rattle.c_inputs.specs.declared.CableowlSignals.{CableowlSignals}
+use Rattle.c_state.specs.Records.{decoded}
 use Rattle.cableowl.specs.Entries.{OutcomeC, processedC, processedIntoC}
 use Rattle.theorems.specs.Sums.{sum}
 use Rattle.theorems.specs.Alike.{bare, awake}

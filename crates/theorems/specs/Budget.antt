@@ -11,11 +11,11 @@ use lib.ListN.{length}
 use lib.Ieee.{Float, fin, binary64, add, le, ofInt}
 use Rattle.numbers.specs.Words.{one, whole, advance}
 use Rattle.numbers.specs.Lists.{all}
-use Rattle.lanes.specs.Lanes.{Lane, Lanes, rows}
-use Rattle.voice.specs.declared.StaticSound.{StaticSound}
-use Rattle.block.specs.declared.Signals.{Signals}
-use Rattle.playing.specs.declared.Processed.{Processed}
-use Rattle.block.specs.Blocks.{begun, live}
+use Rattle.sound_lanes.specs.Lanes.{Lane, Lanes, rows}
+use Rattle.sound_state.specs.declared.StaticSound.{StaticSound}
+use Rattle.sound_block.specs.declared.Signals.{Signals}
+use Rattle.sound_slow_path.specs.declared.Processed.{Processed}
+use Rattle.sound_block.specs.Blocks.{begun, live}
 use Rattle.static_sound.specs.Entries.{processed, processedInto}
 use Rattle.theorems.specs.Sums.{sum}
 use Rattle.theorems.specs.Accepted.{AcceptedBlock, AcceptedMix, Silent}

@@ -1,11 +1,11 @@
 -- Whether a promise says enough (docs/RULES.md): any two outcomes that one contract allows for one input coincide. A line for each public function,
 -- over its contract itself: `Post` is all that the function ensures, of what it is given, what it answers and what the lent buffers hold at its end.
--- The functions that replay a trace are above this crate: crates/evenings/specs/Coincide.antt has their lines.
+-- The functions that replay a trace are above this crate: crates/theorems_replay/specs/Coincide.antt has their lines.
 use mathlib.Core.Path.{_≡_}
 use mathlib.Core.List.{List}
 use denote.Ref.{RefT, now, ptr}
 use lib.Ieee.{Float}
-use Rattle.layout.specs.Reads.{view}
+use Rattle.byte_layout.specs.Reads.{view}
 use Rattle.numbers.proofs as numbers
 use Rattle.frame.proofs as frame
 use Rattle.playback_position.proofs as playback_position
@@ -13,30 +13,30 @@ use Rattle.transport.proofs as transport
 use Rattle.resampler.proofs as resampler
 use Rattle.playback_state_manager.proofs as playback_state_manager
 use Rattle.start_time.proofs as start_time
-use Rattle.lanes.proofs as lanes
-use Rattle.moving.proofs as moving
-use Rattle.trail.proofs as trail
-use Rattle.voice.proofs as voice
-use Rattle.creation.proofs as creation
-use Rattle.command_set.proofs as command_set
-use Rattle.playing.proofs as playing
-use Rattle.along.proofs as along
-use Rattle.gains.proofs as gains
-use Rattle.riding.proofs as riding
-use Rattle.held.proofs as held
-use Rattle.block.proofs as block
+use Rattle.sound_lanes.proofs as sound_lanes
+use Rattle.sound_update.proofs as sound_update
+use Rattle.sound_track.proofs as sound_track
+use Rattle.sound_state.proofs as sound_state
+use Rattle.sound_creation.proofs as sound_creation
+use Rattle.sound_commands.proofs as sound_commands
+use Rattle.sound_slow_path.proofs as sound_slow_path
+use Rattle.sound_fast_reading.proofs as sound_fast_reading
+use Rattle.sound_gains.proofs as sound_gains
+use Rattle.sound_fast_path.proofs as sound_fast_path
+use Rattle.sound_held.proofs as sound_held
+use Rattle.sound_block.proofs as sound_block
 use Rattle.static_sound.proofs as static_sound
 use Rattle.loop_copies.proofs as loop_copies
 use Rattle.loop_table.proofs as loop_table
 use Rattle.take_loop.proofs as take_loop
 use Rattle.decibels.proofs as decibels
 use Rattle.semitones.proofs as semitones
-use Rattle.layout.proofs as layout
-use Rattle.settings.proofs as settings
-use Rattle.trace.proofs as trace
-use Rattle.salvage.proofs as salvage
-use Rattle.records.proofs as records
-use Rattle.inputs.proofs as inputs
+use Rattle.byte_layout.proofs as byte_layout
+use Rattle.saved_settings.proofs as saved_settings
+use Rattle.trace_records.proofs as trace_records
+use Rattle.trace_salvage.proofs as trace_salvage
+use Rattle.c_state.proofs as c_state
+use Rattle.c_inputs.proofs as c_inputs
 use Rattle.cableowl.proofs as cableowl
 
 -- what a contract allows: for lifetimes k and all that is given, of an answer and of what was lent, at the end
@@ -106,48 +106,48 @@ pub record Coincide : Type 0 where
   pub playback-state-manager-playbackstate-update : Decides playback_state_manager.PlaybackState.update.Reads.Post
   -- start_time
   pub start-time-startsignal-answer : Decides start_time.StartSignal.answer.Reads.Post
-  -- lanes
-  pub lanes-are-sized : Decides lanes.are_sized.Reads.Post
-  pub lanes-is-time-step : Decides lanes.is_time_step.Reads.Post
-  pub lanes-judge : Decides lanes.judge.Reads.Post
-  -- voice
-  pub voice-setup-num-frames : Decides voice.Setup.num_frames.Reads.Post
-  pub voice-setup-start : Decides voice.Setup.start.Reads.Post
-  pub voice-staticsound-course : Decides voice.StaticSound.course.Reads.Post
-  pub voice-staticsound-is-well-formed : Decides voice.StaticSound.is_well_formed.Reads.Post
-  -- moving
-  pub moving-moving-push-frame-to-resampler : Decides moving.Moving.push_frame_to_resampler.Reads.Post
-  pub moving-moving-update-position : Decides moving.Moving.update_position.Reads.Post
-  pub moving-moving-update-positions : Decides moving.Moving.update_positions.Reads.Post
-  -- trail
-  pub trail-track-of : Decides trail.track_of.Reads.Post
-  pub trail-after : Decides trail.after.Reads.Post
-  pub trail-after-steps : Decides trail.after_steps.Reads.Post
-  pub trail-has-room-after : Decides trail.has_room_after.Reads.Post
-  pub trail-before : Decides trail.before.Reads.Post
-  pub trail-before-steps : Decides trail.before_steps.Reads.Post
-  pub trail-has-room-before : Decides trail.has_room_before.Reads.Post
-  pub trail-wraps-after : Decides trail.wraps_after.Reads.Post
-  pub trail-frame-in : Decides trail.frame_in.Reads.Post
-  pub trail-frame-at : Decides trail.frame_at.Reads.Post
-  pub trail-trail-at : Decides trail.trail_at.Reads.Post
-  pub trail-is-trail : Decides trail.is_trail.Reads.Post
-  -- creation
-  pub creation-blank : Decides creation.blank.Reads.Post
-  pub creation-new : Decides creation.new.Reads.Post
-  -- command_set
-  pub command-set-on-start-processing : Decides command_set.on_start_processing.Reads.Post
-  -- playing, riding, held and block
-  pub playing-play : DecidesWith (λ k r s. s .1 .1 .1 .1 .1 .1 .1 .0 .now) playing.play.Reads.Post
-  pub along-advance-of : Decides along.advance_of.Reads.Post
-  pub along-stepped-by : Decides along.stepped_by.Reads.Post
-  pub along-moved : Decides along.moved.Reads.Post
-  pub along-store : DecidesWith (λ k r s. s .0 .now) along.store.Reads.Post
-  pub gains-by-frame : DecidesWith (λ k r s. s .1 .1 .1 .1 .1 .0 .now) gains.by_frame.Reads.Post
-  pub riding-play : DecidesWith (λ k r s. s .1 .1 .1 .1 .1 .1 .1 .0 .now) riding.play.Reads.Post
-  pub held-play : DecidesWith (λ k r s. s .1 .1 .1 .0 .now) held.play.Reads.Post
-  pub block-block-held : DecidesWith (λ k r s. s .1 .1 .1 .0 .now) block.block_held.Reads.Post
-  pub block-block : DecidesWith (λ k r s. s .1 .1 .1 .1 .1 .1 .1 .0 .now) block.block.Reads.Post
+  -- sound_lanes
+  pub sound-lanes-are-sized : Decides sound_lanes.are_sized.Reads.Post
+  pub sound-lanes-is-time-step : Decides sound_lanes.is_time_step.Reads.Post
+  pub sound-lanes-judge : Decides sound_lanes.judge.Reads.Post
+  -- sound_state
+  pub sound-state-setup-num-frames : Decides sound_state.Setup.num_frames.Reads.Post
+  pub sound-state-setup-start : Decides sound_state.Setup.start.Reads.Post
+  pub sound-state-staticsound-course : Decides sound_state.StaticSound.course.Reads.Post
+  pub sound-state-staticsound-is-well-formed : Decides sound_state.StaticSound.is_well_formed.Reads.Post
+  -- sound_update
+  pub sound-update-moving-push-frame-to-resampler : Decides sound_update.Moving.push_frame_to_resampler.Reads.Post
+  pub sound-update-moving-update-position : Decides sound_update.Moving.update_position.Reads.Post
+  pub sound-update-moving-update-positions : Decides sound_update.Moving.update_positions.Reads.Post
+  -- sound_track
+  pub sound-track-track-of : Decides sound_track.track_of.Reads.Post
+  pub sound-track-after : Decides sound_track.after.Reads.Post
+  pub sound-track-after-steps : Decides sound_track.after_steps.Reads.Post
+  pub sound-track-has-room-after : Decides sound_track.has_room_after.Reads.Post
+  pub sound-track-before : Decides sound_track.before.Reads.Post
+  pub sound-track-before-steps : Decides sound_track.before_steps.Reads.Post
+  pub sound-track-has-room-before : Decides sound_track.has_room_before.Reads.Post
+  pub sound-track-wraps-after : Decides sound_track.wraps_after.Reads.Post
+  pub sound-track-frame-in : Decides sound_track.frame_in.Reads.Post
+  pub sound-track-frame-at : Decides sound_track.frame_at.Reads.Post
+  pub sound-track-trail-at : Decides sound_track.trail_at.Reads.Post
+  pub sound-track-is-trail : Decides sound_track.is_trail.Reads.Post
+  -- sound_creation
+  pub sound-creation-blank : Decides sound_creation.blank.Reads.Post
+  pub sound-creation-new : Decides sound_creation.new.Reads.Post
+  -- sound_commands
+  pub sound-commands-on-start-processing : Decides sound_commands.on_start_processing.Reads.Post
+  -- sound_slow_path, sound_fast_path, sound_held and sound_block
+  pub sound-slow-path-play : DecidesWith (λ k r s. s .1 .1 .1 .1 .1 .1 .1 .0 .now) sound_slow_path.play.Reads.Post
+  pub sound-fast-reading-advance-of : Decides sound_fast_reading.advance_of.Reads.Post
+  pub sound-fast-reading-stepped-by : Decides sound_fast_reading.stepped_by.Reads.Post
+  pub sound-fast-reading-moved : Decides sound_fast_reading.moved.Reads.Post
+  pub sound-fast-reading-store : DecidesWith (λ k r s. s .0 .now) sound_fast_reading.store.Reads.Post
+  pub sound-gains-by-frame : DecidesWith (λ k r s. s .1 .1 .1 .1 .1 .0 .now) sound_gains.by_frame.Reads.Post
+  pub sound-fast-path-play : DecidesWith (λ k r s. s .1 .1 .1 .1 .1 .1 .1 .0 .now) sound_fast_path.play.Reads.Post
+  pub sound-held-play : DecidesWith (λ k r s. s .1 .1 .1 .0 .now) sound_held.play.Reads.Post
+  pub sound-block-block-held : DecidesWith (λ k r s. s .1 .1 .1 .0 .now) sound_block.block_held.Reads.Post
+  pub sound-block-block : DecidesWith (λ k r s. s .1 .1 .1 .1 .1 .1 .1 .0 .now) sound_block.block.Reads.Post
   -- static_sound
   pub static-sound-process : DecidesWith (λ k r s. s .1 .1 .1 .1 .1 .1 .1 .1 .1 .0 .now) static_sound.process.Reads.Post
   pub static-sound-process-into : DecidesWith (λ k r s. s .1 .1 .1 .1 .1 .1 .1 .1 .1 .0 .now) static_sound.process_into.Reads.Post
@@ -169,26 +169,26 @@ pub record Coincide : Type 0 where
   pub decibels-as-amplitude : DecidesWith (λ k r s. s .1 .0 .now) decibels.as_amplitude.Reads.Post
   pub decibels-fade-ramp : DecidesWith (λ k r s. s .1 .1 .1 .0 .now) decibels.fade_ramp.Reads.Post
   pub semitones-raised : Decides semitones.raised.Reads.Post
-  -- layout
-  pub layout-begin : Decides layout.begin.Reads.Post
-  pub layout-read-rows : DecidesAs (λ k a r. view (now (a .0)) (a .1 .1 .1 .0) r) layout.read_rows.Reads.Post
-  pub layout-put-rows : DecidesWith (λ k r s. s .0 .now) layout.put_rows.Reads.Post
-  pub layout-rows-fit : Decides layout.rows_fit.Reads.Post
-  pub layout-rows-length : Decides layout.rows_length.Reads.Post
-  pub layout-copy : DecidesWith (λ k r s. s .1 .1 .1 .0 .now) layout.copy.Reads.Post
-  -- settings
-  pub settings-load : Decides settings.load.Reads.Post
-  pub settings-store : DecidesWith (λ k r s. s .1 .1 .0 .now) settings.store.Reads.Post
-  -- trace and salvage
-  pub trace-read : Decides trace.read.Reads.Post
-  pub trace-write : DecidesWith (λ k r s. s .0 .now) trace.write.Reads.Post
-  pub salvage-salvage : DecidesWith (λ k r s. s .1 .0 .now) salvage.salvage.Reads.Post
-  -- records and inputs
-  pub records-decode : Decides records.decode.Reads.Post
-  pub records-encode : Decides records.encode.Reads.Post
-  pub inputs-settings-of : Decides inputs.settings_of.Reads.Post
-  pub inputs-commands-of : Decides inputs.commands_of.Reads.Post
-  pub inputs-signals-of : Decides inputs.signals_of.Reads.Post
+  -- byte_layout
+  pub byte-layout-begin : Decides byte_layout.begin.Reads.Post
+  pub byte-layout-read-rows : DecidesAs (λ k a r. view (now (a .0)) (a .1 .1 .1 .0) r) byte_layout.read_rows.Reads.Post
+  pub byte-layout-put-rows : DecidesWith (λ k r s. s .0 .now) byte_layout.put_rows.Reads.Post
+  pub byte-layout-rows-fit : Decides byte_layout.rows_fit.Reads.Post
+  pub byte-layout-rows-length : Decides byte_layout.rows_length.Reads.Post
+  pub byte-layout-copy : DecidesWith (λ k r s. s .1 .1 .1 .0 .now) byte_layout.copy.Reads.Post
+  -- saved_settings
+  pub saved-settings-load : Decides saved_settings.load.Reads.Post
+  pub saved-settings-store : DecidesWith (λ k r s. s .1 .1 .0 .now) saved_settings.store.Reads.Post
+  -- trace_records and trace_salvage
+  pub trace-records-read : Decides trace_records.read.Reads.Post
+  pub trace-records-write : DecidesWith (λ k r s. s .0 .now) trace_records.write.Reads.Post
+  pub trace-salvage-salvage : DecidesWith (λ k r s. s .1 .0 .now) trace_salvage.salvage.Reads.Post
+  -- c_state and c_inputs
+  pub c-state-decode : Decides c_state.decode.Reads.Post
+  pub c-state-encode : Decides c_state.encode.Reads.Post
+  pub c-inputs-settings-of : Decides c_inputs.settings_of.Reads.Post
+  pub c-inputs-commands-of : Decides c_inputs.commands_of.Reads.Post
+  pub c-inputs-signals-of : Decides c_inputs.signals_of.Reads.Post
   -- cableowl
   pub cableowl-cableowl-version : Decides cableowl.cableowl_version.Reads.Post
   pub cableowl-cableowl-new : Decides cableowl.cableowl_new.Reads.Post

@@ -18,11 +18,11 @@ use Rattle.transport.specs.Moves.{forward, backward, seek}
 use Rattle.resampler.specs.declared.RecentFrame.{RecentFrame}
 use Rattle.resampler.specs.declared.Resampler.{Resampler}
 use Rattle.resampler.specs.Windows.{reading}
-use Rattle.creation.specs.declared.OptionalRegion.the-variants as optional
-use Rattle.creation.specs.declared.Settings.{Settings}
-use Rattle.creation.specs.declared.Created.{Created}
-use Rattle.creation.specs.Creation.{created}
-use Rattle.command_set.specs.Commands.{targetTo}
+use Rattle.sound_creation.specs.declared.OptionalRegion.the-variants as optional
+use Rattle.sound_creation.specs.declared.Settings.{Settings}
+use Rattle.sound_creation.specs.declared.Created.{Created}
+use Rattle.sound_creation.specs.Creation.{created}
+use Rattle.sound_commands.specs.Commands.{targetTo}
 
 -- what a row shows: where a transport is and whether it plays on; a frame number; a creation's refusal, window numbers and position; a frame heard
 pub data Shown : Type 0 where

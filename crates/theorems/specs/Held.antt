@@ -5,11 +5,11 @@ use Prim.Native.Nat.{ℕ, _+_, _-_, _*_, _/_}
 use mathlib.Core.List.{List}
 use lib.ListN.{length, take, drop}
 use lib.Ieee.{Float}
-use Rattle.held.specs.declared.Held.{Held}
-use Rattle.held.specs.Held.{once}
-use Rattle.voice.specs.declared.StaticSound.{StaticSound}
-use Rattle.block.specs.declared.Signals.{Signals}
-use Rattle.block.specs.Blocks.{quiet}
+use Rattle.sound_held.specs.declared.Held.{Held}
+use Rattle.sound_held.specs.Held.{once}
+use Rattle.sound_state.specs.declared.StaticSound.{StaticSound}
+use Rattle.sound_block.specs.declared.Signals.{Signals}
+use Rattle.sound_block.specs.Blocks.{quiet}
 use Rattle.static_sound.specs.Entries.{processedHeld, processedHeldInto}
 use Rattle.theorems.specs.Accepted.{AcceptedBlock, AcceptedMix}
 use Rattle.theorems.specs.Cut.{CutInTwo, MayCut}

@@ -15,16 +15,16 @@ use Rattle.playback_state_manager.specs.declared.StartAnswer.{StartAnswer}
 use Rattle.playback_state_manager.specs.declared.StartAnswer.the-variants as answer
 use Rattle.start_time.specs.Ticks.{answering}
 use Rattle.transport.specs.WellFormed.{Inside}
-use Rattle.lanes.specs.Lanes.{Lanes}
-use Rattle.voice.specs.declared.StaticSound.{StaticSound}
-use Rattle.voice.specs.WellFormed.{wellFormed}
-use Rattle.command_set.specs.declared.LoopCommand.{LoopCommand}
-use Rattle.command_set.specs.declared.LoopCommand.the-variants as loop
-use Rattle.command_set.specs.declared.Commands.{Commands}
-use Rattle.command_set.specs.Commands.{commanded}
+use Rattle.sound_lanes.specs.Lanes.{Lanes}
+use Rattle.sound_state.specs.declared.StaticSound.{StaticSound}
+use Rattle.sound_state.specs.WellFormed.{wellFormed}
+use Rattle.sound_commands.specs.declared.LoopCommand.{LoopCommand}
+use Rattle.sound_commands.specs.declared.LoopCommand.the-variants as loop
+use Rattle.sound_commands.specs.declared.Commands.{Commands}
+use Rattle.sound_commands.specs.Commands.{commanded}
 use Rattle.loop_table.specs.declared.LoopTable.{LoopTable}
 use Rattle.take_loop.specs.Taking.{taken}
-use Rattle.block.specs.declared.Signals.{Signals}
+use Rattle.sound_block.specs.declared.Signals.{Signals}
 use Rattle.static_sound.specs.Entries.{processed, processedInto}
 
 -- ---- calls

@@ -8,15 +8,15 @@ use lib.Dec.{T}
 use lib.ListN.{length}
 use lib.Ieee.{Float}
 use Rattle.numbers.specs.Words.{positiveZero}
-use Rattle.lanes.specs.Lanes.{Lanes}
-use Rattle.voice.specs.declared.StaticSound.{StaticSound}
-use Rattle.voice.specs.WellFormed.{wellFormed, ours}
-use Rattle.creation.specs.declared.Settings.{Settings}
-use Rattle.command_set.specs.declared.Commands.{Commands}
-use Rattle.block.specs.declared.Signals.{Signals}
-use Rattle.creation.specs.Creation.{created, blankSound}
-use Rattle.command_set.specs.Commands.{commanded}
-use Rattle.playing.specs.Plays.{Outcome}
+use Rattle.sound_lanes.specs.Lanes.{Lanes}
+use Rattle.sound_state.specs.declared.StaticSound.{StaticSound}
+use Rattle.sound_state.specs.WellFormed.{wellFormed, ours}
+use Rattle.sound_creation.specs.declared.Settings.{Settings}
+use Rattle.sound_commands.specs.declared.Commands.{Commands}
+use Rattle.sound_block.specs.declared.Signals.{Signals}
+use Rattle.sound_creation.specs.Creation.{created, blankSound}
+use Rattle.sound_commands.specs.Commands.{commanded}
+use Rattle.sound_slow_path.specs.Plays.{Outcome}
 use Rattle.static_sound.specs.Entries.{processed, processedInto}
 
 -- accepted, and refused

@@ -9,14 +9,14 @@ use lib.ListN.{length, take, drop}
 use lib.Ieee.{Float}
 use Rattle.playback_state_manager.specs.declared.PlaybackState.{PlaybackState}
 use Rattle.playback_state_manager.specs.declared.PlaybackState.the-variants.{Stopped}
-use Rattle.lanes.specs.Lanes.{Lanes, rows}
-use Rattle.moving.specs.declared.Moving.{Moving}
-use Rattle.moving.specs.declared.Course.{Course}
-use Rattle.voice.specs.declared.StaticSound.{StaticSound}
-use Rattle.moving.specs.Updates.{updated}
-use Rattle.block.specs.declared.Signals.{Signals}
-use Rattle.block.specs.Blocks.{begun, live, zeros}
-use Rattle.playing.specs.Plays.{plays}
+use Rattle.sound_lanes.specs.Lanes.{Lanes, rows}
+use Rattle.sound_update.specs.declared.Moving.{Moving}
+use Rattle.sound_update.specs.declared.Course.{Course}
+use Rattle.sound_state.specs.declared.StaticSound.{StaticSound}
+use Rattle.sound_update.specs.Updates.{updated}
+use Rattle.sound_block.specs.declared.Signals.{Signals}
+use Rattle.sound_block.specs.Blocks.{begun, live, zeros}
+use Rattle.sound_slow_path.specs.Plays.{plays}
 use Rattle.static_sound.specs.Entries.{processed, processedInto}
 use Rattle.theorems.specs.Accepted.{AcceptedBlock, AcceptedMix}
 

@@ -5,11 +5,11 @@ use mathlib.Core.Path.{_≡_}
 use mathlib.Core.List.{List}
 use lib.ListN.{length}
 use lib.Ieee.{Float}
-use Rattle.lanes.specs.Lanes.{Lanes, firstLanes, restLanes}
-use Rattle.voice.specs.declared.StaticSound.{StaticSound}
-use Rattle.block.specs.declared.Signals.{Signals}
-use Rattle.block.specs.Blocks.{quiet}
-use Rattle.playing.specs.Plays.{Outcome}
+use Rattle.sound_lanes.specs.Lanes.{Lanes, firstLanes, restLanes}
+use Rattle.sound_state.specs.declared.StaticSound.{StaticSound}
+use Rattle.sound_block.specs.declared.Signals.{Signals}
+use Rattle.sound_block.specs.Blocks.{quiet}
+use Rattle.sound_slow_path.specs.Plays.{Outcome}
 use Rattle.static_sound.specs.Entries.{processedInto}
 use Rattle.theorems.specs.Accepted.{AcceptedMix}
 use Rattle.theorems.specs.Alike.{Parts}

@@ -13,17 +13,17 @@ use Rattle.resampler.specs.declared.RecentFrame.{RecentFrame}
 use Rattle.resampler.specs.declared.Resampler.{Resampler}
 use Rattle.resampler.specs.declared.MaybeFrame.the-variants.{Absent, Present}
 use Rattle.resampler.specs.Windows.{blank, push}
-use Rattle.lanes.specs.Lanes.{Lane, Lanes, rows}
-use Rattle.moving.specs.declared.Moving.{Moving}
-use Rattle.voice.specs.declared.StaticSound.{StaticSound}
-use Rattle.voice.specs.Voices.{offset}
-use Rattle.creation.specs.declared.Settings.{Settings}
-use Rattle.creation.specs.Creation.{created}
-use Rattle.command_set.specs.declared.Commands.{Commands}
-use Rattle.command_set.specs.Commands.{commanded}
-use Rattle.block.specs.declared.Signals.{Signals}
-use Rattle.block.specs.Blocks.{begun, live}
-use Rattle.playing.specs.Plays.{plays}
+use Rattle.sound_lanes.specs.Lanes.{Lane, Lanes, rows}
+use Rattle.sound_update.specs.declared.Moving.{Moving}
+use Rattle.sound_state.specs.declared.StaticSound.{StaticSound}
+use Rattle.sound_state.specs.Voices.{offset}
+use Rattle.sound_creation.specs.declared.Settings.{Settings}
+use Rattle.sound_creation.specs.Creation.{created}
+use Rattle.sound_commands.specs.declared.Commands.{Commands}
+use Rattle.sound_commands.specs.Commands.{commanded}
+use Rattle.sound_block.specs.declared.Signals.{Signals}
+use Rattle.sound_block.specs.Blocks.{begun, live}
+use Rattle.sound_slow_path.specs.Plays.{plays}
 use Rattle.static_sound.specs.Entries.{processed, processedInto}
 use Rattle.theorems.specs.Accepted.{AcceptedBlock, AcceptedMix, Silent}
 

@@ -7,13 +7,13 @@ use mathlib.Core.Bool.{Bool, true, false}
 use mathlib.Core.List.{List}
 use lib.Ieee.{Float}
 use Rattle.transport.specs.WellFormed.{Inside}
-use Rattle.lanes.specs.Lanes.{Lanes}
-use Rattle.moving.specs.declared.Moving.{Moving}
-use Rattle.moving.specs.declared.Course.{Course}
-use Rattle.moving.specs.Updates.{updates}
-use Rattle.voice.specs.declared.StaticSound.{StaticSound}
-use Rattle.voice.specs.Voices.{courseOf}
-use Rattle.block.specs.declared.Signals.{Signals}
+use Rattle.sound_lanes.specs.Lanes.{Lanes}
+use Rattle.sound_update.specs.declared.Moving.{Moving}
+use Rattle.sound_update.specs.declared.Course.{Course}
+use Rattle.sound_update.specs.Updates.{updates}
+use Rattle.sound_state.specs.declared.StaticSound.{StaticSound}
+use Rattle.sound_state.specs.Voices.{courseOf}
+use Rattle.sound_block.specs.declared.Signals.{Signals}
 use Rattle.static_sound.specs.Entries.{processed, processedInto}
 use Rattle.theorems.specs.Accepted.{AcceptedBlock, AcceptedMix}
 

@@ -10,12 +10,12 @@ use lib.Dec.{T, leb, eqb}
 use lib.ListN.{length, take, drop}
 use lib.Ieee.{Float}
 use Rattle.numbers.specs.Lists.{all}
-use Rattle.lanes.specs.Lanes.{Lanes, rows, timeStep, laned, near, firstLanes, restLanes}
-use Rattle.voice.specs.declared.StaticSound.{StaticSound}
-use Rattle.voice.specs.WellFormed.{ours}
-use Rattle.block.specs.declared.Signals.{Signals}
-use Rattle.block.specs.Blocks.{quiet}
-use Rattle.playing.specs.Plays.{lower, Outcome}
+use Rattle.sound_lanes.specs.Lanes.{Lanes, rows, timeStep, laned, near, firstLanes, restLanes}
+use Rattle.sound_state.specs.declared.StaticSound.{StaticSound}
+use Rattle.sound_state.specs.WellFormed.{ours}
+use Rattle.sound_block.specs.declared.Signals.{Signals}
+use Rattle.sound_block.specs.Blocks.{quiet}
+use Rattle.sound_slow_path.specs.Plays.{lower, Outcome}
 use Rattle.static_sound.specs.Entries.{room, processed, processedInto}
 use Rattle.theorems.specs.Sums.{sum}
 use Rattle.theorems.specs.Alike.{bare, awake}

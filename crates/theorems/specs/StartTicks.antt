@@ -6,13 +6,13 @@ use mathlib.Core.Path.{_≡_}
 use mathlib.Core.Bool.{Bool, _||_, cond}
 use mathlib.Core.List.{List}
 use lib.Ieee.{Float}
-use Rattle.lanes.specs.Lanes.{Lanes}
-use Rattle.voice.specs.declared.StaticSound.{StaticSound}
+use Rattle.sound_lanes.specs.Lanes.{Lanes}
+use Rattle.sound_state.specs.declared.StaticSound.{StaticSound}
 use Rattle.start_time.specs.declared.StartSignal.the-variants.{Tick}
 use Rattle.start_time.specs.Ticks.{turn, half, reached}
-use Rattle.block.specs.declared.Signals.{Signals}
+use Rattle.sound_block.specs.declared.Signals.{Signals}
 use Rattle.static_sound.specs.Entries.{processed, processedInto}
-use Rattle.playing.specs.declared.Processed.{Processed}
+use Rattle.sound_slow_path.specs.declared.Processed.{Processed}
 use Rattle.theorems.specs.Accepted.{AcceptedBlock, AcceptedMix}
 
 -- how many numbers below n pass a test

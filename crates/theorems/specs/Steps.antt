@@ -7,13 +7,13 @@ use mathlib.Core.List.{List, [], _∷_}
 use lib.ListN.{length}
 use lib.Ieee.{Float}
 use Rattle.numbers.specs.Words.{whole}
-use Rattle.lanes.specs.Lanes.{Lane, Lanes, rows}
-use Rattle.voice.specs.declared.StaticSound.{StaticSound}
-use Rattle.voice.specs.Voices.{courseOf}
-use Rattle.moving.specs.Updates.{updates}
-use Rattle.block.specs.declared.Signals.{Signals}
-use Rattle.playing.specs.Plays.{total, turned, Outcome}
-use Rattle.block.specs.Blocks.{begun, live}
+use Rattle.sound_lanes.specs.Lanes.{Lane, Lanes, rows}
+use Rattle.sound_state.specs.declared.StaticSound.{StaticSound}
+use Rattle.sound_state.specs.Voices.{courseOf}
+use Rattle.sound_update.specs.Updates.{updates}
+use Rattle.sound_block.specs.declared.Signals.{Signals}
+use Rattle.sound_slow_path.specs.Plays.{total, turned, Outcome}
+use Rattle.sound_block.specs.Blocks.{begun, live}
 use Rattle.static_sound.specs.Entries.{processed, processedInto}
 use Rattle.theorems.specs.Sums.{sum}
 use Rattle.theorems.specs.Accepted.{AcceptedBlock, AcceptedMix}

@@ -10,27 +10,27 @@ use Rattle.numbers.specs.Words.{positiveZero, one}
 use Rattle.frame.specs.declared.Frame.{Frame}
 use Rattle.playback_state_manager.specs.declared.StartAnswer.the-variants.{Waiting}
 use Rattle.start_time.specs.declared.StartSignal.the-variants.{Answer, Tick}
-use Rattle.lanes.specs.Lanes.{Lanes, five, rows, firstLanes}
-use Rattle.voice.specs.declared.StaticSound.{StaticSound}
-use Rattle.voice.specs.Voices.{courseOf}
+use Rattle.sound_lanes.specs.Lanes.{Lanes, five, rows, firstLanes}
+use Rattle.sound_state.specs.declared.StaticSound.{StaticSound}
+use Rattle.sound_state.specs.Voices.{courseOf}
 use Rattle.playback_position.specs.declared.PlaybackPosition.the-variants.{Samples}
-use Rattle.moving.specs.Updates.{updates}
-use Rattle.creation.specs.declared.OptionalRegion.the-variants as optional
-use Rattle.creation.specs.Creation.{created}
+use Rattle.sound_update.specs.Updates.{updates}
+use Rattle.sound_creation.specs.declared.OptionalRegion.the-variants as optional
+use Rattle.sound_creation.specs.Creation.{created}
 use Rattle.static_sound.specs.Entries.{processed, processedInto}
 use Rattle.cableowl.specs.Entries.{processedC, processedIntoC}
-use Rattle.command_set.specs.declared.Amount.the-variants.{Absent}
-use Rattle.command_set.specs.declared.LoopCommand.the-variants as loop
-use Rattle.command_set.specs.declared.ResumeCommand.the-variants as resume
-use Rattle.command_set.specs.declared.Commands.{Commands}
-use Rattle.block.specs.declared.Signals.{Signals}
-use Rattle.records.specs.declared.CableowlState.{CableowlState}
-use Rattle.records.specs.Records.{decoded, encoded}
-use Rattle.inputs.specs.declared.CableowlPlace.{CableowlPlace}
-use Rattle.inputs.specs.declared.CableowlCommands.{CableowlCommands}
-use Rattle.inputs.specs.declared.CableowlSignals.{CableowlSignals}
-use Rattle.held.specs.declared.Held.{Held}
-use Rattle.held.specs.Held.{once}
+use Rattle.sound_commands.specs.declared.Amount.the-variants.{Absent}
+use Rattle.sound_commands.specs.declared.LoopCommand.the-variants as loop
+use Rattle.sound_commands.specs.declared.ResumeCommand.the-variants as resume
+use Rattle.sound_commands.specs.declared.Commands.{Commands}
+use Rattle.sound_block.specs.declared.Signals.{Signals}
+use Rattle.c_state.specs.declared.CableowlState.{CableowlState}
+use Rattle.c_state.specs.Records.{decoded, encoded}
+use Rattle.c_inputs.specs.declared.CableowlPlace.{CableowlPlace}
+use Rattle.c_inputs.specs.declared.CableowlCommands.{CableowlCommands}
+use Rattle.c_inputs.specs.declared.CableowlSignals.{CableowlSignals}
+use Rattle.sound_held.specs.declared.Held.{Held}
+use Rattle.sound_held.specs.Held.{once}
 use Rattle.theorems.specs.Accepted.{AcceptedBlock, AcceptedMix, Silent}
 use Rattle.theorems.specs.Alike.{Awake}
 use Rattle.theorems.specs.Cut.{MayCut}

@@ -204,14 +204,14 @@ fn run_c(name: &str, more: &str) {
 #[test]
 fn four_declarations_are_one() {
     let sources = [
-        "records/src/lib",
-        "inputs/src/lib",
+        "c_state/src/lib",
+        "c_inputs/src/lib",
         "cableowl/src/lib",
         "loop_table/src/lib",
         "loop_copies/src/lib",
-        "trace/src/lib",
-        "trace/src/writes",
-        "salvage/src/lib",
+        "trace_records/src/lib",
+        "trace_records/src/writes",
+        "trace_salvage/src/lib",
     ];
     let sources = sources.map(|name| read(&format!("../../crates/{name}.rt")));
     // A place in bytes has 64 bits on every processor that the archive is made for.

@@ -1,6 +1,6 @@
 //! The compiled leaves, over the oracle's own types, so that a test compares one call with another.
 //!
-//! The archive is that of `crates/exports`, which `build.rs` has `rt` prove and write. What a leaf
+//! The archive is that of `crates/test_exports`, which `build.rs` has `rt` prove and write. What a leaf
 //! asks for the export tests first; outside, its answer is all zeros.
 #![deny(unsafe_code)]
 #![warn(missing_docs)]

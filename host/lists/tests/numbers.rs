@@ -4,7 +4,7 @@ use std::{collections::BTreeSet, fs};
 
 const COMMITTED: &str = concat!(
     env!("CARGO_MANIFEST_DIR"),
-    "/../../crates/numbers_list/stdin"
+    "/../../crates/test_numbers_list/stdin"
 );
 
 #[test]

@@ -5,7 +5,7 @@ use std::{
     fs,
 };
 
-const PROGRAM: &str = concat!(env!("CARGO_MANIFEST_DIR"), "/../../crates/sound_list");
+const PROGRAM: &str = concat!(env!("CARGO_MANIFEST_DIR"), "/../../crates/test_sound_list");
 
 #[test]
 fn committed_list_is_the_generated_one() {

@@ -235,7 +235,10 @@ impl Function {
                 return before.ends_with('.') || before.ends_with(&format!("{}::", parts[1]));
             }
             let alone = !before.ends_with(|c: char| c.is_alphanumeric() || "_.:".contains(c));
-            before.ends_with(&format!("{}::", parts[0])) || (by_name && alone)
+            before
+                .strip_suffix(&format!("{}::", parts[0]))
+                .is_some_and(|b| !b.ends_with(|c: char| c.is_alphanumeric() || c == '_'))
+                || (by_name && alone)
         })
     }
 }

@@ -185,7 +185,8 @@ fn a_rust_side_that_does_not_build_is_a_failure() {
 
 #[test]
 fn a_failing_proof_or_edit_is_seen_in_the_last_line() {
-    let rt = Some("echo 'rt: FAILED: lanes voice'; echo '180 passed, 2 failed'; exit 1");
+    let rt =
+        Some("echo 'rt: FAILED: sound_lanes sound_state'; echo '180 passed, 2 failed'; exit 1");
     ends(
         "proof",
         &Tools {

@@ -53,14 +53,14 @@ fn the_crates_that_are_linked_have_theirs() {
             .join(name)
             .join("src")
     };
-    for (name, count) in [("cableowl", 19), ("exports", 20)] {
+    for (name, count) in [("cableowl", 19), ("test_exports", 20)] {
         let below = [
-            "records",
-            "inputs",
+            "c_state",
+            "c_inputs",
             "loop_table",
             "loop_copies",
-            "trace",
-            "salvage",
+            "trace_records",
+            "trace_salvage",
         ]
         .map(src);
         let exports = convention::exports(&src(name), &below).unwrap();

@@ -1,6 +1,6 @@
 -- `cableowl_process` meets its contract: the block between records of numbers.
 use denote.Ref.{now}
-use Rattle.lanes.specs.Lanes.{Lanes, five}
+use Rattle.sound_lanes.specs.Lanes.{Lanes, five}
 use Rattle.cableowl.proofs.Answers.{block-few, block-is}
 use borrow.Author.Needs.{needs}
 use Rattle.cableowl.proofs.cableowl_process.Statement.{statement}

@@ -1,6 +1,6 @@
 -- `cableowl_process_into` meets its contract: the block between records of numbers.
 use denote.Ref.{now}
-use Rattle.lanes.specs.Lanes.{Lanes, five}
+use Rattle.sound_lanes.specs.Lanes.{Lanes, five}
 use Rattle.cableowl.proofs.Answers.{mix-few, mix-is}
 use borrow.Author.Needs.{needs}
 use Rattle.cableowl.proofs.cableowl_process_into.Statement.{statement}

@@ -3,7 +3,7 @@ use mathlib.Core.Path.{_≡_, refl, sym, ap, _∙_}
 use native.Mathlib.Omega.{arith}
 use borrow.Author.Needs.{needs}
 use denote.Ref.{now}
-use Rattle.turns.proofs.Parts.{part-long}
+use Rattle.trace_replay.proofs.Parts.{part-long}
 use Rattle.replay.proofs.Places.{within, inside}
 use Rattle.replay.proofs.play_one.Statement.{statement}
 use Rattle.replay.proofs.play_one.Tie as tie
@@ -11,7 +11,7 @@ use Rattle.replay.proofs.play_one.Reads as reads
 use Rattle.replay.proofs.play_one.Lts as lts
 use Rattle.io.proofs.write_all.Reads as write-all-reads
 use Rattle.std.proofs.num.wrapping_add_u64.Reads as wrapping-add-u64-reads
-use Rattle.turns.proofs.advance.Reads as advance-reads
+use Rattle.trace_replay.proofs.advance.Reads as advance-reads
 
 wrapping-add-u64-requires : tie.Need-wrapping-add-u64-requires
 wrapping-add-u64-requires c κs = search needs

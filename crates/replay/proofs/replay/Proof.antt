@@ -11,7 +11,7 @@ use Rattle.replay.proofs.replay.Tie as tie
 use Rattle.replay.proofs.replay.Reads as reads
 use Rattle.replay.proofs.replay.Lts as lts
 use Rattle.replay.proofs.advance.Reads as advance-reads
-use Rattle.turns.proofs.begin.Reads as begin-reads
+use Rattle.trace_replay.proofs.begin.Reads as begin-reads
 
 abbrev Inv-loop : tie.InvT-loop
 Inv-loop bytes₀ spare₀ sound₀ line₀ p₀ left₀ bytes spare sound line p left = Held (p .window) bytes × (1024 ≤ length spare) × (128 ≤ length sound) × (p .run .samples ≤ length sound) × (139 ≤ length line) × (length bytes ≡ length bytes₀) × (length spare ≡ length spare₀) × (length sound ≡ length sound₀) × (length line ≡ length line₀)

@@ -3,7 +3,7 @@ use mathlib.Core.Path.{_≡_, sym, ap, _∙_}
 use denote.Ref.{now}
 use Prim.Native.Nat.{ℕ}
 use lib.ListN.{length}
-use Rattle.lanes.specs.Lanes.{Lanes, five}
+use Rattle.sound_lanes.specs.Lanes.{Lanes, five}
 use Rattle.static_sound.specs.Entries.{refusedBlock, holds}
 use Rattle.static_sound.proofs.Calls.{refused-is, processed-is, playable-out}
 use borrow.Author.Needs.{needs}
@@ -12,7 +12,7 @@ use Rattle.static_sound.proofs.process.Tie as tie
 use Rattle.static_sound.proofs.process.Reads as reads
 use Rattle.static_sound.proofs.process.Lts as lts
 use Rattle.static_sound.proofs.holds.Reads as holds-reads
-use Rattle.block.proofs.block.Reads as block-reads
+use Rattle.sound_block.proofs.block.Reads as block-reads
 use Rattle.static_sound.proofs.refusal_of.Reads as refusal-of-reads
 
 abbrev start : tie.After-refusal-of → tie.Start

@@ -3,8 +3,8 @@ use mathlib.Core.Path.{_≡_, sym, _∙_, subst}
 use lib.Dec.{T}
 use mathlib.Core.Bool.{true}
 use denote.Ref.{now}
-use Rattle.lanes.specs.Lanes.{five, sized, timeStep}
-use Rattle.voice.specs.WellFormed.{ours}
+use Rattle.sound_lanes.specs.Lanes.{five, sized, timeStep}
+use Rattle.sound_state.specs.WellFormed.{ours}
 use Rattle.static_sound.proofs.Calls.{number-1, number-9, number-9-place, number-10, number-judged, fails, passes}
 use borrow.Author.Tests.{not-true, not-false}
 use borrow.Author.Needs.{needs}
@@ -12,10 +12,10 @@ use Rattle.static_sound.proofs.refusal_of.Statement.{statement}
 use Rattle.static_sound.proofs.refusal_of.Tie as tie
 use Rattle.static_sound.proofs.refusal_of.Reads as reads
 use Rattle.static_sound.proofs.refusal_of.Lts as lts
-use Rattle.lanes.proofs.are_sized.Reads as are-sized-reads
-use Rattle.lanes.proofs.is_time_step.Reads as is-time-step-reads
-use Rattle.lanes.proofs.judge.Reads as judge-reads
-use Rattle.voice.proofs.StaticSound.is_well_formed.Reads as is-well-formed-reads
+use Rattle.sound_lanes.proofs.are_sized.Reads as are-sized-reads
+use Rattle.sound_lanes.proofs.is_time_step.Reads as is-time-step-reads
+use Rattle.sound_lanes.proofs.judge.Reads as judge-reads
+use Rattle.sound_state.proofs.StaticSound.is_well_formed.Reads as is-well-formed-reads
 
 -- ---- what each place has passed
 

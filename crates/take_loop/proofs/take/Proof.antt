@@ -6,10 +6,10 @@ use lib.Ieee.{Float, ofBits}
 use borrow.Author.Needs.{needs}
 use borrow.Author.Tests.{eq-eqb, ne-eqb}
 use Rattle.numbers.specs.Words.{positiveZero}
-use Rattle.voice.specs.declared.StaticSound.{StaticSound}
-use Rattle.command_set.specs.declared.Commands.{Commands}
-use Rattle.command_set.specs.declared.Commanded.{Commanded}
-use Rattle.command_set.specs.Commands.{commanded}
+use Rattle.sound_state.specs.declared.StaticSound.{StaticSound}
+use Rattle.sound_commands.specs.declared.Commands.{Commands}
+use Rattle.sound_commands.specs.declared.Commanded.{Commanded}
+use Rattle.sound_commands.specs.Commands.{commanded}
 use Rattle.loop_table.specs.declared.LoopTable.{LoopTable}
 use Rattle.loop_table.specs.declared.LoopFound.{LoopFound}
 use Rattle.loop_table.specs.Tables.{found}

@@ -2,8 +2,8 @@
 use denote.Ref.{now}
 use Prim.Native.Nat.{_/_}
 use lib.ListN.{length}
-use Rattle.lanes.specs.Lanes.{Lanes}
-use Rattle.held.specs.Held.{once}
+use Rattle.sound_lanes.specs.Lanes.{Lanes}
+use Rattle.sound_held.specs.Held.{once}
 use Rattle.cableowl.proofs.Answers.{block-few, block-is}
 use borrow.Author.Needs.{needs}
 use Rattle.cableowl.proofs.once.cableowl_process_held.Statement.{statement}

@@ -1,7 +1,7 @@
 -- `cableowl_process_held_into` meets its contract: the block between records of numbers.
 use denote.Ref.{now}
-use Rattle.lanes.specs.Lanes.{Lanes}
-use Rattle.held.specs.Held.{once}
+use Rattle.sound_lanes.specs.Lanes.{Lanes}
+use Rattle.sound_held.specs.Held.{once}
 use Rattle.cableowl.proofs.Answers.{mix-few, mix-is}
 use borrow.Author.Needs.{needs}
 use Rattle.cableowl.proofs.once.cableowl_process_held_into.Statement.{statement}

@@ -1,7 +1,7 @@
 -- `cableowl::cableowl_load_settings` meets its contract: what is loaded, as words. Assumes nothing.
 use mathlib.Core.Path.{ap, _∙_}
 use borrow.Author.Needs.{needs}
-use Rattle.settings.specs.declared.Loaded.{Loaded}
+use Rattle.saved_settings.specs.declared.Loaded.{Loaded}
 use Rattle.cableowl.specs.Saved.{wordsOf}
 use Rattle.cableowl.proofs.saved.cableowl_load_settings.Statement.{statement}
 use Rattle.cableowl.proofs.saved.cableowl_load_settings.Tie as tie

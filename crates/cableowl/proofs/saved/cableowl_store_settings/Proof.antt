@@ -2,8 +2,8 @@
 use mathlib.Core.Path.{_≡_, refl, sym, ap, _∙_}
 use lib.ListN.{length}
 use denote.Ref.{now}
-use Rattle.settings.specs.declared.SavedSettings.{SavedSettings}
-use Rattle.settings.specs.Records.{storeRefusal, stored}
+use Rattle.saved_settings.specs.declared.SavedSettings.{SavedSettings}
+use Rattle.saved_settings.specs.Records.{storeRefusal, stored}
 use Rattle.cableowl.specs.Saved.{versionIn}
 use borrow.Author.Needs.{needs}
 use Rattle.cableowl.proofs.saved.cableowl_store_settings.Statement.{statement}
@@ -11,7 +11,7 @@ use Rattle.cableowl.proofs.saved.cableowl_store_settings.Tie as tie
 use Rattle.cableowl.proofs.saved.cableowl_store_settings.Reads as reads
 use Rattle.cableowl.proofs.saved.cableowl_store_settings.Lts as lts
 use Rattle.cableowl.proofs.saved.saved_in.Reads as saved-in-reads
-use Rattle.settings.proofs.store.Reads as store-reads
+use Rattle.saved_settings.proofs.store.Reads as store-reads
 
 element-copy-out-version : tie.Need-element-copy-out-version
 element-copy-out-version c = search needs

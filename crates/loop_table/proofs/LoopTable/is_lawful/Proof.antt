@@ -6,7 +6,7 @@ use native.Mathlib.Omega.{arith}
 use lib.ListN.{length, take, length-map}
 use borrow.Author.Needs.{needs}
 use Rattle.numbers.specs.Lists.{all}
-use Rattle.lanes.proofs.Gathered.{all-turn, all-end}
+use Rattle.sound_lanes.proofs.Gathered.{all-turn, all-end}
 use Rattle.loop_table.specs.Tables.{empty, lawfulSlot, lawfulTable}
 use Rattle.loop_table.proofs.LoopTable.is_lawful.Statement.{statement}
 use Rattle.loop_table.proofs.LoopTable.is_lawful.Tie as tie

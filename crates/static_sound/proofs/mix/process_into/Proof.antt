@@ -4,7 +4,7 @@ use native.Mathlib.Omega.{arith}
 use denote.Ref.{now}
 use Prim.Native.Nat.{ℕ, _+_, _*_, _≤_}
 use lib.ListN.{length}
-use Rattle.lanes.specs.Lanes.{Lanes, five}
+use Rattle.sound_lanes.specs.Lanes.{Lanes, five}
 use Rattle.static_sound.specs.Entries.{refusedBlock, room}
 use Rattle.static_sound.proofs.Calls.{refused-into, processed-into, playable-part, inside}
 use borrow.Author.Needs.{needs}
@@ -13,7 +13,7 @@ use Rattle.static_sound.proofs.mix.process_into.Tie as tie
 use Rattle.static_sound.proofs.mix.process_into.Reads as reads
 use Rattle.static_sound.proofs.mix.process_into.Lts as lts
 use Rattle.static_sound.proofs.mix.has_room.Reads as has-room-reads
-use Rattle.block.proofs.block.Reads as block-reads
+use Rattle.sound_block.proofs.block.Reads as block-reads
 use Rattle.static_sound.proofs.refusal_of.Reads as refusal-of-reads
 
 abbrev start : tie.After-refusal-of → tie.Start

@@ -4,7 +4,7 @@ use denote.Ref.{now}
 use Prim.Native.Nat.{_*_, _/_}
 use lib.Dec.{eqb}
 use lib.ListN.{length}
-use Rattle.held.specs.Held.{once}
+use Rattle.sound_held.specs.Held.{once}
 use Rattle.static_sound.specs.Entries.{refusedBlock}
 use Rattle.static_sound.proofs.Held.{refused-held, held-is, playable-held}
 use borrow.Author.Needs.{needs}
@@ -13,7 +13,7 @@ use Rattle.static_sound.proofs.once.process_held.Tie as tie
 use Rattle.static_sound.proofs.once.process_held.Reads as reads
 use Rattle.static_sound.proofs.once.process_held.Lts as lts
 use Rattle.static_sound.proofs.holds.Reads as holds-reads
-use Rattle.block.proofs.block_held.Reads as block-held-reads
+use Rattle.sound_block.proofs.block_held.Reads as block-held-reads
 use Rattle.static_sound.proofs.once.refusal_held.Reads as refusal-held-reads
 
 abbrev start : tie.After-refusal-held → tie.Start

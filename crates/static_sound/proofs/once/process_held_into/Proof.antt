@@ -4,7 +4,7 @@ use native.Mathlib.Omega.{arith}
 use denote.Ref.{now}
 use Prim.Native.Nat.{_+_, _*_, _≤_}
 use lib.ListN.{length}
-use Rattle.held.specs.Held.{once}
+use Rattle.sound_held.specs.Held.{once}
 use Rattle.static_sound.specs.Entries.{refusedBlock, room}
 use Rattle.static_sound.proofs.Held.{refused-held-into, held-inside, playable-held-part, held-into}
 use borrow.Author.Needs.{needs}
@@ -12,7 +12,7 @@ use Rattle.static_sound.proofs.once.process_held_into.Statement.{statem
 use Rattle.static_sound.proofs.once.process_held_into.Tie as tie
 use Rattle.static_sound.proofs.once.process_held_into.Reads as reads
 use Rattle.static_sound.proofs.once.process_held_into.Lts as lts
-use Rattle.block.proofs.block_held.Reads as block-held-reads
+use Rattle.sound_block.proofs.block_held.Reads as block-held-reads
 use Rattle.static_sound.proofs.mix.has_room.Reads as has-room-reads
 use Rattle.static_sound.proofs.once.refusal_held.Reads as refusal-held-reads
 

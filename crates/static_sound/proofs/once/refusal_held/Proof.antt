@@ -3,9 +3,9 @@ use mathlib.Core.Path.{_≡_, sym, _∙_, subst}
 use lib.Dec.{T}
 use mathlib.Core.Bool.{true}
 use Prim.Native.Nat.{ℕ}
-use Rattle.lanes.specs.Lanes.{sized, timeStep}
-use Rattle.held.specs.Held.{once}
-use Rattle.voice.specs.WellFormed.{ours}
+use Rattle.sound_lanes.specs.Lanes.{sized, timeStep}
+use Rattle.sound_held.specs.Held.{once}
+use Rattle.sound_state.specs.WellFormed.{ours}
 use Rattle.static_sound.proofs.Calls.{number-1, number-9, number-9-place, number-10, number-judged, fails, passes}
 use Rattle.static_sound.proofs.Held.{sized-few, sized-many, judged-some, judged-none}
 use borrow.Author.Tests.{not-true, not-false}
@@ -14,9 +14,9 @@ use Rattle.static_sound.proofs.once.refusal_held.Statement.{statement}
 use Rattle.static_sound.proofs.once.refusal_held.Tie as tie
 use Rattle.static_sound.proofs.once.refusal_held.Reads as reads
 use Rattle.static_sound.proofs.once.refusal_held.Lts as lts
-use Rattle.lanes.proofs.is_time_step.Reads as is-time-step-reads
-use Rattle.lanes.proofs.judge.Reads as judge-reads
-use Rattle.voice.proofs.StaticSound.is_well_formed.Reads as is-well-formed-reads
+use Rattle.sound_lanes.proofs.is_time_step.Reads as is-time-step-reads
+use Rattle.sound_lanes.proofs.judge.Reads as judge-reads
+use Rattle.sound_state.proofs.StaticSound.is_well_formed.Reads as is-well-formed-reads
 
 -- ---- what each place has passed
 

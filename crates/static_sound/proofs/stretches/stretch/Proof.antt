@@ -10,8 +10,8 @@ use lib.ListN.{length}
 use Rattle.playback_position.specs.Positions.{within}
 use Rattle.playback_position.specs.declared.FrameRange.{FrameRange}
 use Rattle.playback_position.proofs.Ranges.{Ranged, ranged-parts}
-use Rattle.voice.specs.WellFormed.{ours}
-use Rattle.voice.proofs.Formed.{Fixed, setup-parts, ours-parts}
+use Rattle.sound_state.specs.WellFormed.{ours}
+use Rattle.sound_state.proofs.Formed.{Fixed, setup-parts, ours-parts}
 use Rattle.static_sound.specs.Entries.{stretchOf, stretchAt}
 use Rattle.static_sound.proofs.Calls.{fails, passes}
 use borrow.Author.Needs.{needs}
@@ -19,7 +19,7 @@ use Rattle.static_sound.proofs.stretches.stretch.Statement.{statement}
 use Rattle.static_sound.proofs.stretches.stretch.Tie as tie
 use Rattle.static_sound.proofs.stretches.stretch.Reads as reads
 use Rattle.static_sound.proofs.stretches.stretch.Lts as lts
-use Rattle.voice.proofs.StaticSound.is_well_formed.Reads as is-well-formed-reads
+use Rattle.sound_state.proofs.StaticSound.is_well_formed.Reads as is-well-formed-reads
 
 -- no sample further
 at-start : (p : ℕ × ℕ) → p ≡ (p .0, 0 + p .1)

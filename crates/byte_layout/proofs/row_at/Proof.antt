@@ -1,0 +1,90 @@
+-- `byte_layout::row_at`: six reads of the table.
+use mathlib.Core.Path.{refl}
+use Rattle.byte_layout.specs.Rows.{rowAt}
+use borrow.Author.Needs.{needs}
+use Rattle.byte_layout.proofs.row_at.Statement.{statement}
+use Rattle.byte_layout.proofs.row_at.Tie as tie
+use Rattle.byte_layout.proofs.row_at.Reads as reads
+use Rattle.byte_layout.proofs.row_at.Lts as lts
+
+mul-a : tie.Need-mul-a
+mul-a c = search needs
+
+mul-t4 : tie.Need-mul-t4
+mul-t4 c = search needs
+
+shared-slice-read-t6 : tie.Need-shared-slice-read-t6
+shared-slice-read-t6 c = search needs
+
+add-t8 : tie.Need-add-t8
+add-t8 c = search needs
+
+mul-t9 : tie.Need-mul-t9
+mul-t9 c = search needs
+
+shared-slice-read-t11 : tie.Need-shared-slice-read-t11
+shared-slice-read-t11 c = search needs
+
+add-t13 : tie.Need-add-t13
+add-t13 c = search needs
+
+mul-t14 : tie.Need-mul-t14
+mul-t14 c = search needs
+
+shared-slice-read-t16 : tie.Need-shared-slice-read-t16
+shared-slice-read-t16 c = search needs
+
+add-t17 : tie.Need-add-t17
+add-t17 c = search needs
+
+mul-t18 : tie.Need-mul-t18
+mul-t18 c = search needs
+
+shared-slice-read-t20 : tie.Need-shared-slice-read-t20
+shared-slice-read-t20 c = search needs
+
+add-t21 : tie.Need-add-t21
+add-t21 c = search needs
+
+mul-t22 : tie.Need-mul-t22
+mul-t22 c = search needs
+
+shared-slice-read-t24 : tie.Need-shared-slice-read-t24
+shared-slice-read-t24 c = search needs
+
+add-t25 : tie.Need-add-t25
+add-t25 c = search needs
+
+mul-t26 : tie.Need-mul-t26
+mul-t26 c = search needs
+
+shared-slice-read-t28 : tie.Need-shared-slice-read-t28
+shared-slice-read-t28 c = search needs
+
+returns : tie.Need-returns
+unfolding rowAt
+returns c = refl
+
+pub row-at-spec : {M : Type 1} → statement M
+row-at-spec =
+    tie.close
+    (tie.spec
+    mul-a
+    mul-t4
+    shared-slice-read-t6
+    add-t8
+    mul-t9
+    shared-slice-read-t11
+    add-t13
+    mul-t14
+    shared-slice-read-t16
+    add-t17
+    mul-t18
+    shared-slice-read-t20
+    add-t21
+    mul-t22
+    shared-slice-read-t24
+    add-t25
+    mul-t26
+    shared-slice-read-t28
+    returns)

@@ -1,0 +1,17 @@
+-- `c_inputs::end_of` meets its contract: the end of audio, or a place.
+use borrow.Author.Tests.{ne-eqb}
+use borrow.Author.Needs.{needs}
+use Rattle.c_inputs.proofs.end_of.Statement.{statement}
+use Rattle.c_inputs.proofs.end_of.Tie as tie
+
+returns : tie.Need-returns
+returns c = rw (c .if1 .taken)
+
+place-of-requires : tie.Need-place-of-requires
+place-of-requires c κs = search needs
+
+returns-2 : tie.Need-returns-2
+returns-2 c = simp (ne-eqb _ _ (c .before .if1 .left), c .place-of .ensures)
+
+pub end-of-spec : {M : Type 1} → statement M
+end-of-spec = tie.close (tie.spec returns place-of-requires returns-2)

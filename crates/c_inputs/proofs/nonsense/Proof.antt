@@ -1,0 +1,12 @@
+-- `c_inputs::nonsense` meets its contract: zero by zero is no number.
+use mathlib.Core.Path.{refl}
+use lib.Ieee.{ofBits, div}
+use Rattle.c_inputs.proofs.nonsense.Statement.{statement}
+use Rattle.c_inputs.proofs.nonsense.Tie as tie
+
+returns : tie.Need-returns
+unfolding ofBits div
+returns c = refl
+
+pub nonsense-spec : {M : Type 1} → statement M
+nonsense-spec = tie.close (tie.spec returns)

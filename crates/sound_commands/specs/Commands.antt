@@ -1,0 +1,146 @@
+-- A command set (docs/RULES.md, "Creation, commands, block"), refusals 1 and 6 to 8.
+use Prim.Native.Nat.{ℕ}
+use mathlib.Core.Bool.{Bool, true, false, _&&_, cond}
+use mathlib.Core.List.{List}
+use lib.Dec.{eqb}
+use lib.IntN.{pos}
+use lib.ListN.{length}
+use lib.Ieee.{Float, fin, binary64, add, mul, div, lt, ofInt}
+use Rattle.numbers.specs.Words.{positiveZero, finite}
+use Rattle.numbers.specs.Frames.{cutOff}
+use Rattle.playback_position.specs.declared.FrameRange.{FrameRange}
+use Rattle.playback_position.specs.declared.FrameRange.the-variants as range
+use Rattle.playback_position.specs.Positions.{stretched, lawfulRegion}
+use Rattle.playback_state_manager.specs.declared.PlaybackState.{PlaybackState}
+use Rattle.playback_state_manager.specs.States.{advancing, pausing, resuming, stopping}
+use Rattle.transport.specs.Moves.{seek}
+use Rattle.resampler.specs.Windows.{heardNumber}
+use Rattle.sound_state.specs.declared.StaticSound.{StaticSound}
+use Rattle.sound_update.specs.declared.Moving.{Moving}
+use Rattle.sound_update.specs.declared.Course.{Course}
+use Rattle.sound_state.specs.Voices.{span, courseOf, moved}
+use Rattle.sound_update.specs.Updates.{pushed}
+use Rattle.sound_state.specs.WellFormed.{ours}
+use Rattle.sound_commands.specs.declared.Amount.{Amount}
+use Rattle.sound_commands.specs.declared.Amount.the-variants as amount
+use Rattle.sound_commands.specs.declared.LoopCommand.{LoopCommand}
+use Rattle.sound_commands.specs.declared.LoopCommand.the-variants as loop
+use Rattle.sound_commands.specs.declared.ResumeCommand.{ResumeCommand}
+use Rattle.sound_commands.specs.declared.ResumeCommand.the-variants as resume
+use Rattle.sound_commands.specs.declared.Commands.{Commands}
+use Rattle.sound_commands.specs.declared.Commanded.{Commanded}
+use Rattle.sound_state.specs.Refusals.{unless}
+
+-- ---- what is refused
+
+-- 6: the loop given is lawful over N
+abbrev pub loopable : StaticSound → LoopCommand → Bool
+loopable v loop.Keep = true
+loopable v loop.Clear = true
+loopable v (loop.Set r) = lawfulRegion (v .setup .«sample_rate») (span (v .setup)) r
+
+-- 7: the rate given is finite
+abbrev pub rateable : Amount → Bool
+rateable amount.Absent = true
+rateable (amount.Given x) = finite x
+
+-- where a seek by x goes, in frames: position by rate, and x, times rate
+unfoldable pub targetBy : StaticSound → Float → Float
+targetBy v x =
+    mul binary64
+    (add binary64 (div binary64 (ofInt binary64 (pos (v .moving .transport .position))) (ofInt binary64 (pos (v .setup .«sample_rate»)))) x)
+    (ofInt binary64 (pos (v .setup .«sample_rate»)))
+
+-- where a seek to x goes, in frames
+unfoldable pub targetTo : StaticSound → Float → Float
+targetTo v x = mul binary64 x (ofInt binary64 (pos (v .setup .«sample_rate»)))
+
+-- 8: finite, and the product below 2 ^ 32
+abbrev pub seekable : (Float → Float) → Amount → Bool
+seekable f amount.Absent = true
+seekable f (amount.Given x) = finite x && lt (f x) (fin false 1 (pos 32))
+
+-- the number of a refused command set, 0 where it is accepted; both seeks are judged on the given state
+unfoldable pub refusedSet : ℕ → StaticSound → Commands → ℕ
+unfolding targetBy targetTo
+refusedSet len v c =
+    unless (ours len v) 1
+    (unless (loopable v (c .«loop_region»)) 6
+    (unless (rateable (c .«playback_rate»)) 7
+    (unless (seekable (targetBy v) (c .«seek_by») && seekable (targetTo v) (c .«seek_to»)) 8 0)))
+
+-- ---- what is done, in the order rate, loop, pause, resume, stop, «seek_by», «seek_to»
+
+abbrev pub orElse : Amount → Float → Float
+orElse amount.Absent x = x
+orElse (amount.Given y) x = y
+
+abbrev pub looped : StaticSound → LoopCommand → FrameRange
+looped v loop.Keep = v .moving .transport .«loop_region»
+looped v loop.Clear = range.Absent
+looped v (loop.Set r) = stretched (v .setup .«sample_rate») (span (v .setup)) r
+
+abbrev pub woken : ResumeCommand → PlaybackState → PlaybackState
+woken resume.Keep s = s
+woken resume.Now s = resuming false s
+woken resume.Waiting s = resuming true s
+
+-- pause, resume, stop
+abbrev pub ordered : Commands → PlaybackState → PlaybackState
+ordered c s =
+    let p = cond (c .pause) (pausing s) s in
+    let r = woken (c .resume) p in
+    cond (c .stop) (stopping r) r
+
+-- the voice before its seeks
+unfoldable pub told : Commands → StaticSound → StaticSound
+told c v =
+    record {
+      setup = v .setup;
+      «playback_rate» = orElse (c .«playback_rate») (v .«playback_rate»);
+      started = v .started;
+      «fractional_position» = v .«fractional_position»;
+      moving = record {
+        state = ordered c (v .moving .state);
+        transport = record { position = v .moving .transport .position; «loop_region» = looped v (c .«loop_region»); playing = v .moving .transport .playing };
+        resampler = v .moving .resampler;
+        wraps = v .moving .wraps;
+      };
+    }
+
+-- the moving parts once the transport has sought frame q
+abbrev pub jumped : StaticSound → ℕ → Moving
+jumped v q = record { state = v .moving .state; transport = seek (span (v .setup)) (v .moving .transport) q; resampler = v .moving .resampler; wraps = v .moving .wraps }
+
+-- the same with one frame pushed, without the Stopped check
+abbrev pub refilled : List Float → Course → Moving → Moving
+refilled snd c m = record { state = m .state; transport = m .transport; resampler = pushed snd c m; wraps = m .wraps }
+
+-- a seek to frame q, which pushes one frame afterwards if the state advances
+unfoldable pub sought : List Float → StaticSound → ℕ → StaticSound
+unfolding seek pushed
+sought snd v q =
+    moved v (v .«fractional_position») (cond (advancing (v .moving .state)) (refilled snd (courseOf v) (jumped v q)) (jumped v q))
+
+abbrev pub soughtBy : List Float → StaticSound → Amount → StaticSound
+soughtBy snd v amount.Absent = v
+soughtBy snd v (amount.Given x) = sought snd v (cutOff (targetBy v x))
+
+abbrev pub soughtTo : List Float → StaticSound → Amount → StaticSound
+soughtTo snd v amount.Absent = v
+soughtTo snd v (amount.Given x) = sought snd v (cutOff (targetTo v x))
+
+-- an accepted command set
+unfoldable pub obeyed : List Float → Commands → StaticSound → StaticSound
+unfolding told sought targetBy targetTo cutOff
+obeyed snd c v = soughtTo snd (soughtBy snd (told c v) (c .«seek_by»)) (c .«seek_to»)
+
+-- the reported position: entry 1's number divided by the sample rate
+unfoldable pub reported : StaticSound → Float
+reported v = div binary64 (ofInt binary64 (pos (heardNumber (v .moving .resampler)))) (ofInt binary64 (pos (v .setup .«sample_rate»)))
+
+-- a command set, accepted and refused; the position is read before the commands
+unfoldable pub commanded : List Float → StaticSound → Commands → Commanded
+commanded snd v c =
+    let k = refusedSet (length snd) v c in
+    cond (eqb k 0) (record { refusal = 0; sound = obeyed snd c v; position = reported v }) (record { refusal = k; sound = v; position = positiveZero })

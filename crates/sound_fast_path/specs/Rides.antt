@@ -1,0 +1,33 @@
+-- A block along a track: where a ride begins, what moves after it, and the block after it.
+use Prim.Native.Nat.{ℕ, _*_}
+use mathlib.Core.Path.{_≡_}
+use mathlib.Core.List.{List, _++_}
+use lib.ListN.{take, drop}
+use lib.Ieee.{Float}
+use Rattle.sound_lanes.specs.Lanes.{Lanes, rows}
+use Rattle.sound_update.specs.declared.Moving.{Moving}
+use Rattle.sound_state.specs.declared.StaticSound.{StaticSound}
+use Rattle.sound_state.specs.Voices.{courseOf}
+use Rattle.sound_track.specs.declared.Track.{Track}
+use Rattle.sound_track.specs.Tracks.{trackOf, counts}
+use Rattle.sound_track.specs.Trails.{Lies, trailOf}
+use Rattle.sound_fast_reading.specs.declared.Way.{Way}
+use Rattle.sound_fast_reading.specs.declared.Ridden.{Ridden}
+use Rattle.sound_slow_path.specs.Plays.{plays, Outcome, acceptedWith}
+
+-- where a ride over a way begins
+abbrev pub begun : Way → Ridden
+begun w = record { at = w .at; «fractional_position» = w .«fractional_position»; steps = 0; next = 0 }
+
+-- the track is that of the voice, and lies in the sound
+pub record Tracked (snd : List Float) (v : StaticSound) (k : Track) : Type 0 where
+  pub is : k ≡ trackOf (v .moving .transport .«loop_region») (courseOf v)
+  pub lies : Lies snd k
+
+-- what moves in the voice v once n steps have brought its trail to q
+abbrev pub riddenTo : List Float → Track → StaticSound → ℕ → ℕ → Moving
+riddenTo snd k v n q = trailOf snd k (v .moving) (counts n k (v .moving .transport .position) (v .moving .wraps)) q
+
+-- the lanes from frame i on, played by the voice v into the rest of the output
+abbrev pub playedFrom : List Float → Float → Lanes → ℕ → StaticSound → List Float → Outcome
+playedFrom snd dt b i v out = let p = plays snd dt (drop i (rows b)) v in acceptedWith p (take (2 * i) out ++ p .samples)

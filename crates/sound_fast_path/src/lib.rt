@@ -1,0 +1,215 @@
+// A started, advancing block where the window is the transport's trail: the four frames are read in the sound (crates straight
+// and round), and then every reading is multiplied by its gains (crate sound_gains).
+// Where the window is no trail, and where a ride ends, the block goes on frame by frame (crate sound_slow_path).
+ghost use mathlib.Core.Path.{_≡_};
+ghost use Prim.Native.Nat.{_≤_};
+ghost use lib.ListN.{length};
+ghost use Rattle.sound_lanes.specs.Lanes.{five, rows};
+ghost use Rattle.sound_fast_reading.specs.Moves.{Slow, Steady};
+ghost use Rattle.sound_fast_reading.specs.Rides.{Rideable, Rode};
+ghost use Rattle.sound_slow_path.specs.Plays.{plays, acceptedAs};
+ghost use Rattle.sound_slow_path.specs.Turns.{Playable};
+ghost use Rattle.sound_fast_path.specs.Rides.{begun, playedFrom};
+use sound_fast_reading::Ridden;
+use sound_fast_reading::Way;
+use sound_slow_path::Processed;
+use sound_slow_path::Timed;
+use sound_state::StaticSound;
+
+// A voice, the seconds that each frame of its block takes, and the first frame that is left.
+pub struct Rest {
+    pub voice: StaticSound,
+    pub dt: f64,
+    pub next: usize,
+}
+
+// Straight, and then round the loop.
+fn stretch(way: Way, from: Ridden, sound: &[f32], rate: &[f64], out: &mut [f32]) -> Ridden
+    requires { ⌜ Rideable (now sound) way (now rate) ⌝ }
+    requires { ⌜ Rode (now sound) way (now rate) from (now out) ⌝ }
+    ensures { λ r. ⌜ Rode (now (sound .entry)) way (now (rate .entry)) r (now (out .exit)) ⌝ }
+{
+    if way.track.backwards {
+        let fours = sound_fast_straight::straight_back(way, from, sound, rate, out);
+        let ones = sound_fast_straight::ones_back(way, fours, sound, rate, out);
+        return sound_fast_wrapping::round_back(way, ones, sound, rate, out);
+    }
+    let fours = sound_fast_straight::straight_on(way, from, sound, rate, out);
+    let ones = sound_fast_straight::ones_on(way, fours, sound, rate, out);
+    sound_fast_wrapping::round_on(way, ones, sound, rate, out)
+}
+
+// The same where every frame makes one advance.
+fn stretch_held(
+    way: Way,
+    from: Ridden,
+    sound: &[f32],
+    advance: f64,
+    rate: &[f64],
+    out: &mut [f32],
+) -> Ridden
+    requires { ⌜ Rideable (now sound) way (now rate) ⌝ }
+    requires { ⌜ Rode (now sound) way (now rate) from (now out) ⌝ }
+    requires { ⌜ Slow advance ⌝ }
+    requires { ⌜ Steady (way .«sample_rate») (way .dt) advance (now rate) ⌝ }
+    ensures { λ r. ⌜ Rode (now (sound .entry)) way (now (rate .entry)) r (now (out .exit)) ⌝ }
+{
+    if way.track.backwards {
+        let fours = sound_fast_straight::held_back(way, from, sound, advance, rate, out);
+        let ones = sound_fast_straight::ones_back(way, fours, sound, rate, out);
+        return sound_fast_wrapping::round_back(way, ones, sound, rate, out);
+    }
+    let fours = sound_fast_straight::held_on(way, from, sound, advance, rate, out);
+    let ones = sound_fast_straight::ones_on(way, fours, sound, rate, out);
+    sound_fast_wrapping::round_on(way, ones, sound, rate, out)
+}
+
+// As far as the track goes, rates that differ.
+fn ride_varied(way: Way, sound: &[f32], rate: &[f64], out: &mut [f32]) -> Ridden
+    requires { ⌜ Rideable (now sound) way (now rate) ⌝ }
+    requires { ⌜ Rode (now sound) way (now rate) (begun way) (now out) ⌝ }
+    ensures { λ r. ⌜ Rode (now (sound .entry)) way (now (rate .entry)) r (now (out .exit)) ⌝ }
+{
+    let mut r = Ridden {
+        at: way.at,
+        fractional_position: way.fractional_position,
+        steps: 0,
+        next: 0,
+    };
+    let mut more = true;
+    while more {
+        let s = stretch(way, r, sound, rate, out);
+        more = (r.next < s.next) & (s.next < rate.len());
+        r = s;
+    }
+    r
+}
+// As far as the track goes, one advance for every frame.
+fn ride_held(way: Way, sound: &[f32], advance: f64, rate: &[f64], out: &mut [f32]) -> Ridden
+    requires { ⌜ Rideable (now sound) way (now rate) ⌝ }
+    requires { ⌜ Rode (now sound) way (now rate) (begun way) (now out) ⌝ }
+    requires { ⌜ Slow advance ⌝ }
+    requires { ⌜ Steady (way .«sample_rate») (way .dt) advance (now rate) ⌝ }
+    ensures { λ r. ⌜ Rode (now (sound .entry)) way (now (rate .entry)) r (now (out .exit)) ⌝ }
+{
+    let mut r = Ridden {
+        at: way.at,
+        fractional_position: way.fractional_position,
+        steps: 0,
+        next: 0,
+    };
+    let mut more = true;
+    while more {
+        let s = stretch_held(way, r, sound, advance, rate, out);
+        more = (r.next < s.next) & (s.next < rate.len());
+        r = s;
+    }
+    r
+}
+// From a trail on, as far as the track goes: where the rates are all the same their advance is worked out once.
+fn ride(way: Way, sound: &[f32], rate: &[f64], out: &mut [f32]) -> Ridden
+    requires { ⌜ Rideable (now sound) way (now rate) ⌝ }
+    requires { ⌜ Rode (now sound) way (now rate) (begun way) (now out) ⌝ }
+    ensures { λ r. ⌜ Rode (now (sound .entry)) way (now (rate .entry)) r (now (out .exit)) ⌝ }
+{
+    if sound_fast_reading::is_steady(rate) {
+        let advance = sound_fast_reading::advance_of(way.sample_rate, way.dt, rate[0]);
+        return ride_held(way, sound, advance, rate, out);
+    }
+    ride_varied(way, sound, rate, out)
+}
+
+// Frame by frame from the first frame that is left on.
+fn play_from(
+    rest: Rest,
+    sound: &[f32],
+    fade: &[f32],
+    volume: &[f32],
+    left: &[f32],
+    right: &[f32],
+    rate: &[f64],
+    out: &mut [f32],
+) -> Processed
+    requires { ⌜ Playable (now sound) (rest .voice) (rest .dt) (five (now fade) (now volume) (now left) (now right) (now rate)) (length (now out)) ⌝ }
+    requires { ⌜ rest .next ≤ length (now rate) ⌝ }
+    ensures { λ r. ⌜ record { answer = r; samples = now (out .exit) } ≡ playedFrom (now (sound .entry)) (rest .dt) (five (now (fade .entry)) (now (volume .entry)) (now (left .entry)) (now (right .entry)) (now (rate .entry))) (rest .next) (rest .voice) (now (out .entry)) ⌝ }
+{
+    let voice = rest.voice;
+    let i = rest.next;
+    let k = 2 * i;
+    sound_slow_path::play(
+        Timed { voice, dt: rest.dt },
+        sound,
+        &fade[i..],
+        &volume[i..],
+        &left[i..],
+        &right[i..],
+        &rate[i..],
+        &mut out[k..],
+    )
+}
+
+// A started, advancing block: along the track where the window is its trail, and the rest frame by frame.
+pub fn play(
+    timed: Timed,
+    sound: &[f32],
+    fade: &[f32],
+    volume: &[f32],
+    left: &[f32],
+    right: &[f32],
+    rate: &[f64],
+    out: &mut [f32],
+) -> Processed
+    requires { ⌜ Playable (now sound) (timed .voice) (timed .dt) (five (now fade) (now volume) (now left) (now right) (now rate)) (length (now out)) ⌝ }
+    ensures { λ r. ⌜ record { answer = r; samples = now (out .exit) } ≡ acceptedAs (plays (now (sound .entry)) (timed .dt) (rows (five (now (fade .entry)) (now (volume .entry)) (now (left .entry)) (now (right .entry)) (now (rate .entry)))) (timed .voice)) ⌝ }
+{
+    let voice = timed.voice;
+    let dt = timed.dt;
+    let course = voice.course();
+    let moving = voice.moving;
+    let transport = moving.transport;
+    let loop_region = transport.loop_region;
+    let track = sound_track::track_of(loop_region, course);
+    if !sound_track::is_trail(moving, sound, track) {
+        return sound_slow_path::play(timed, sound, fade, volume, left, right, rate, out);
+    }
+    let window = moving.resampler;
+    let first = window.frames[0];
+    let way = Way {
+        track,
+        at: first.frame_index,
+        fractional_position: voice.fractional_position,
+        dt,
+        sample_rate: voice.setup.sample_rate,
+    };
+    let ridden = ride(way, sound, rate, out);
+    sound_gains::by_frame(fade, volume, left, right, ridden.next, out);
+    let wraps = sound_track::wraps_after(track, transport.position, ridden.steps, moving.wraps);
+    let passed = StaticSound {
+        fractional_position: ridden.fractional_position,
+        moving: sound_track::trail_at(moving, sound, track, ridden.at, wraps),
+        ..voice
+    };
+    if ridden.next == rate.len() {
+        return Processed {
+            refusal: 0,
+            sound: passed,
+            steps: ridden.steps,
+            lowest_count: 4,
+        };
+    }
+    let rest = Rest {
+        voice: passed,
+        dt,
+        next: ridden.next,
+    };
+    let played = play_from(rest, sound, fade, volume, left, right, rate, out);
+    let after = played.sound;
+    let steps = ridden.steps + played.steps;
+    Processed {
+        refusal: 0,
+        sound: after,
+        steps,
+        lowest_count: played.lowest_count,
+    }
+}

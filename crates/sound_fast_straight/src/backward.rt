@@ -1,0 +1,167 @@
+// Straight back.
+ghost use mathlib.Core.Path.{_≡_};
+ghost use mathlib.Core.Bool.{true};
+ghost use Prim.Native.Nat.{_+_, _*_, _<_};
+ghost use lib.Dec.{T};
+ghost use lib.ListN.{length};
+ghost use Rattle.numbers.specs.Words.{proper};
+ghost use Rattle.sound_fast_reading.specs.Moves.{Slow, Steady};
+ghost use Rattle.sound_fast_reading.specs.Rides.{Rideable, Rode};
+ghost use Rattle.sound_fast_straight.specs.Readings.{readFrom};
+use crate::four_held;
+use crate::four_moves;
+use frame::Frame;
+use frame::interpolate_frame;
+use sound_fast_reading::Ridden;
+use sound_fast_reading::Way;
+
+// The reading of the four frames from p + 3 down.
+fn read_back(sound: &[f32], p: usize, fractional_position: f64) -> Frame
+    requires { ⌜ 2 * p + 7 < length (now sound) ⌝ }
+    requires { ⌜ T (proper «fractional_position») ⌝ }
+    ensures { λ r. ⌜ r ≡ readFrom (now (sound .entry)) (p + 3) (p + 2) (p + 1) p «fractional_position» ⌝ }
+{
+    interpolate_frame(
+        sound_track::frame_in(sound, p + 3),
+        sound_track::frame_in(sound, p + 2),
+        sound_track::frame_in(sound, p + 1),
+        sound_track::frame_in(sound, p),
+        numbers::narrow(fractional_position),
+    )
+}
+
+// Four frames a turn; p is the lowest place of the window's four.
+pub fn straight_back(way: Way, from: Ridden, sound: &[f32], rate: &[f64], out: &mut [f32]) -> Ridden
+    requires { ⌜ Rideable (now sound) way (now rate) ⌝ }
+    requires { ⌜ Rode (now sound) way (now rate) from (now out) ⌝ }
+    requires { ⌜ way .track .backwards ≡ true ⌝ }
+    ensures { λ r. ⌜ Rode (now (sound .entry)) way (now (rate .entry)) r (now (out .exit)) ⌝ }
+{
+    if from.at < way.track.low + 4 {
+        return from;
+    }
+    let start = way.track.start;
+    let end = start + way.track.low;
+    let first = start + from.at - 3;
+    let mut p = first;
+    let mut fractional_position = from.fractional_position;
+    let mut i = from.next;
+    while i + 3 < rate.len() {
+        let m = four_moves(way.sample_rate, way.dt, fractional_position, rate, i);
+        let n1 = m.first.steps;
+        let n2 = n1 + m.second.steps;
+        let n3 = n2 + m.third.steps;
+        let n4 = n3 + m.fourth.steps;
+        if p <= end + n4 {
+            return Ridden {
+                at: p + 3 - start,
+                fractional_position,
+                steps: from.steps + (first - p),
+                next: i,
+            };
+        }
+        let w = read_back(sound, p, fractional_position);
+        let x = read_back(sound, p - n1, m.first.rest);
+        let y = read_back(sound, p - n2, m.second.rest);
+        let z = read_back(sound, p - n3, m.third.rest);
+        sound_fast_reading::store(out, 2 * i, w);
+        sound_fast_reading::store(out, 2 * i + 2, x);
+        sound_fast_reading::store(out, 2 * i + 4, y);
+        sound_fast_reading::store(out, 2 * i + 6, z);
+        p -= n4;
+        fractional_position = m.fourth.rest;
+        i += 4;
+    }
+    Ridden {
+        at: p + 3 - start,
+        fractional_position,
+        steps: from.steps + (first - p),
+        next: i,
+    }
+}
+
+// The same where every frame makes one advance.
+pub fn held_back(
+    way: Way,
+    from: Ridden,
+    sound: &[f32],
+    advance: f64,
+    rate: &[f64],
+    out: &mut [f32],
+) -> Ridden
+    requires { ⌜ Rideable (now sound) way (now rate) ⌝ }
+    requires { ⌜ Rode (now sound) way (now rate) from (now out) ⌝ }
+    requires { ⌜ way .track .backwards ≡ true ⌝ }
+    requires { ⌜ Slow advance ⌝ }
+    requires { ⌜ Steady (way .«sample_rate») (way .dt) advance (now rate) ⌝ }
+    ensures { λ r. ⌜ Rode (now (sound .entry)) way (now (rate .entry)) r (now (out .exit)) ⌝ }
+{
+    if from.at < way.track.low + 4 {
+        return from;
+    }
+    let start = way.track.start;
+    let limit = start + way.track.low;
+    let first = start + from.at - 3;
+    let mut p = first;
+    let mut fractional_position = from.fractional_position;
+    let mut i = from.next;
+    while i + 3 < rate.len() {
+        let m = four_held(fractional_position, advance);
+        let n1 = m.first.steps;
+        let n2 = n1 + m.second.steps;
+        let n3 = n2 + m.third.steps;
+        let n4 = n3 + m.fourth.steps;
+        if p <= limit + n4 {
+            return Ridden {
+                at: p + 3 - way.track.start,
+                fractional_position,
+                steps: from.steps + (first - p),
+                next: i,
+            };
+        }
+        let w = read_back(sound, p, fractional_position);
+        let x = read_back(sound, p - n1, m.first.rest);
+        let y = read_back(sound, p - n2, m.second.rest);
+        let z = read_back(sound, p - n3, m.third.rest);
+        sound_fast_reading::store(out, 2 * i, w);
+        sound_fast_reading::store(out, 2 * i + 2, x);
+        sound_fast_reading::store(out, 2 * i + 4, y);
+        sound_fast_reading::store(out, 2 * i + 6, z);
+        p -= n4;
+        fractional_position = m.fourth.rest;
+        i += 4;
+    }
+    Ridden {
+        at: p + 3 - way.track.start,
+        fractional_position,
+        steps: from.steps + (first - p),
+        next: i,
+    }
+}
+
+// One frame a turn.
+pub fn ones_back(way: Way, from: Ridden, sound: &[f32], rate: &[f64], out: &mut [f32]) -> Ridden
+    requires { ⌜ Rideable (now sound) way (now rate) ⌝ }
+    requires { ⌜ Rode (now sound) way (now rate) from (now out) ⌝ }
+    requires { ⌜ way .track .backwards ≡ true ⌝ }
+    ensures { λ r. ⌜ Rode (now (sound .entry)) way (now (rate .entry)) r (now (out .exit)) ⌝ }
+{
+    let start = way.track.start;
+    let mut r = from;
+    while r.next < rate.len() {
+        let i = r.next;
+        let m = sound_fast_reading::moved(way.sample_rate, way.dt, r.fractional_position, rate[i]);
+        if r.at < way.track.low + m.steps + 4 {
+            return r;
+        }
+        let x = read_back(sound, start + r.at - 3, r.fractional_position);
+        sound_fast_reading::store(out, 2 * i, x);
+        r = Ridden {
+            at: r.at - m.steps,
+            fractional_position: m.rest,
+            steps: r.steps + m.steps,
+            next: i + 1,
+        };
+    }
+    r
+}

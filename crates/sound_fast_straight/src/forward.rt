@@ -1,0 +1,167 @@
+// Straight on.
+ghost use mathlib.Core.Path.{_≡_};
+ghost use mathlib.Core.Bool.{false};
+ghost use Prim.Native.Nat.{_+_, _*_, _<_};
+ghost use lib.Dec.{T};
+ghost use lib.ListN.{length};
+ghost use Rattle.numbers.specs.Words.{proper};
+ghost use Rattle.sound_fast_reading.specs.Moves.{Slow, Steady};
+ghost use Rattle.sound_fast_reading.specs.Rides.{Rideable, Rode};
+ghost use Rattle.sound_fast_straight.specs.Readings.{readFrom};
+use crate::four_held;
+use crate::four_moves;
+use frame::Frame;
+use frame::interpolate_frame;
+use sound_fast_reading::Ridden;
+use sound_fast_reading::Way;
+
+// The reading of the four frames from p on.
+fn read_on(sound: &[f32], p: usize, fractional_position: f64) -> Frame
+    requires { ⌜ 2 * p + 7 < length (now sound) ⌝ }
+    requires { ⌜ T (proper «fractional_position») ⌝ }
+    ensures { λ r. ⌜ r ≡ readFrom (now (sound .entry)) p (p + 1) (p + 2) (p + 3) «fractional_position» ⌝ }
+{
+    interpolate_frame(
+        sound_track::frame_in(sound, p),
+        sound_track::frame_in(sound, p + 1),
+        sound_track::frame_in(sound, p + 2),
+        sound_track::frame_in(sound, p + 3),
+        numbers::narrow(fractional_position),
+    )
+}
+
+// Four frames a turn.
+pub fn straight_on(way: Way, from: Ridden, sound: &[f32], rate: &[f64], out: &mut [f32]) -> Ridden
+    requires { ⌜ Rideable (now sound) way (now rate) ⌝ }
+    requires { ⌜ Rode (now sound) way (now rate) from (now out) ⌝ }
+    requires { ⌜ way .track .backwards ≡ false ⌝ }
+    ensures { λ r. ⌜ Rode (now (sound .entry)) way (now (rate .entry)) r (now (out .exit)) ⌝ }
+{
+    if way.track.high <= from.at + 4 {
+        return from;
+    }
+    let start = way.track.start;
+    let end = start + way.track.high - 4;
+    let first = start + from.at;
+    let mut p = first;
+    let mut fractional_position = from.fractional_position;
+    let mut i = from.next;
+    while i + 3 < rate.len() {
+        let m = four_moves(way.sample_rate, way.dt, fractional_position, rate, i);
+        let p1 = p + m.first.steps;
+        let p2 = p1 + m.second.steps;
+        let p3 = p2 + m.third.steps;
+        let p4 = p3 + m.fourth.steps;
+        if end <= p4 {
+            return Ridden {
+                at: p - start,
+                fractional_position,
+                steps: from.steps + (p - first),
+                next: i,
+            };
+        }
+        let w = read_on(sound, p, fractional_position);
+        let x = read_on(sound, p1, m.first.rest);
+        let y = read_on(sound, p2, m.second.rest);
+        let z = read_on(sound, p3, m.third.rest);
+        sound_fast_reading::store(out, 2 * i, w);
+        sound_fast_reading::store(out, 2 * i + 2, x);
+        sound_fast_reading::store(out, 2 * i + 4, y);
+        sound_fast_reading::store(out, 2 * i + 6, z);
+        p = p4;
+        fractional_position = m.fourth.rest;
+        i += 4;
+    }
+    Ridden {
+        at: p - start,
+        fractional_position,
+        steps: from.steps + (p - first),
+        next: i,
+    }
+}
+
+// The same where every frame makes one advance.
+pub fn held_on(
+    way: Way,
+    from: Ridden,
+    sound: &[f32],
+    advance: f64,
+    rate: &[f64],
+    out: &mut [f32],
+) -> Ridden
+    requires { ⌜ Rideable (now sound) way (now rate) ⌝ }
+    requires { ⌜ Rode (now sound) way (now rate) from (now out) ⌝ }
+    requires { ⌜ way .track .backwards ≡ false ⌝ }
+    requires { ⌜ Slow advance ⌝ }
+    requires { ⌜ Steady (way .«sample_rate») (way .dt) advance (now rate) ⌝ }
+    ensures { λ r. ⌜ Rode (now (sound .entry)) way (now (rate .entry)) r (now (out .exit)) ⌝ }
+{
+    if way.track.high <= from.at + 4 {
+        return from;
+    }
+    let start = way.track.start;
+    let limit = start + way.track.high - 4;
+    let first = start + from.at;
+    let mut p = first;
+    let mut fractional_position = from.fractional_position;
+    let mut i = from.next;
+    while i + 3 < rate.len() {
+        let m = four_held(fractional_position, advance);
+        let p1 = p + m.first.steps;
+        let p2 = p1 + m.second.steps;
+        let p3 = p2 + m.third.steps;
+        let p4 = p3 + m.fourth.steps;
+        if limit <= p4 {
+            return Ridden {
+                at: p - way.track.start,
+                fractional_position,
+                steps: from.steps + (p - first),
+                next: i,
+            };
+        }
+        let w = read_on(sound, p, fractional_position);
+        let x = read_on(sound, p1, m.first.rest);
+        let y = read_on(sound, p2, m.second.rest);
+        let z = read_on(sound, p3, m.third.rest);
+        sound_fast_reading::store(out, 2 * i, w);
+        sound_fast_reading::store(out, 2 * i + 2, x);
+        sound_fast_reading::store(out, 2 * i + 4, y);
+        sound_fast_reading::store(out, 2 * i + 6, z);
+        p = p4;
+        fractional_position = m.fourth.rest;
+        i += 4;
+    }
+    Ridden {
+        at: p - way.track.start,
+        fractional_position,
+        steps: from.steps + (p - first),
+        next: i,
+    }
+}
+
+// One frame a turn.
+pub fn ones_on(way: Way, from: Ridden, sound: &[f32], rate: &[f64], out: &mut [f32]) -> Ridden
+    requires { ⌜ Rideable (now sound) way (now rate) ⌝ }
+    requires { ⌜ Rode (now sound) way (now rate) from (now out) ⌝ }
+    requires { ⌜ way .track .backwards ≡ false ⌝ }
+    ensures { λ r. ⌜ Rode (now (sound .entry)) way (now (rate .entry)) r (now (out .exit)) ⌝ }
+{
+    let start = way.track.start;
+    let mut r = from;
+    while r.next < rate.len() {
+        let i = r.next;
+        let m = sound_fast_reading::moved(way.sample_rate, way.dt, r.fractional_position, rate[i]);
+        if way.track.high <= r.at + m.steps + 4 {
+            return r;
+        }
+        let x = read_on(sound, start + r.at, r.fractional_position);
+        sound_fast_reading::store(out, 2 * i, x);
+        r = Ridden {
+            at: r.at + m.steps,
+            fractional_position: m.rest,
+            steps: r.steps + m.steps,
+            next: i + 1,
+        };
+    }
+    r
+}

@@ -1,0 +1,81 @@
+// A ride along the stretch of a track that does not wrap: the places are consecutive, so no step chooses one. Four frames a turn, and
+// then one by one, as long as the window's four frames and the steps stay short of the track's end.
+ghost use mathlib.Core.Path.{_≡_};
+ghost use Prim.Native.Nat.{_+_, _<_};
+ghost use lib.Dec.{T};
+ghost use lib.ListN.{length, getD};
+ghost use lib.Ieee.{nan, lt};
+ghost use Rattle.numbers.specs.Words.{positiveZero, proper, advance};
+ghost use Rattle.numbers.specs.Lists.{all};
+ghost use Rattle.sound_lanes.specs.Lanes.{slow};
+ghost use Rattle.sound_fast_reading.specs.Moves.{Slow, Move};
+
+mod backward;
+mod forward;
+
+pub use backward::held_back;
+pub use backward::ones_back;
+pub use backward::straight_back;
+pub use forward::held_on;
+pub use forward::ones_on;
+pub use forward::straight_on;
+use numbers::Stepped;
+
+// The steps of four frames.
+pub struct Moves {
+    pub first: Stepped,
+    pub second: Stepped,
+    pub third: Stepped,
+    pub fourth: Stepped,
+}
+
+// The steps of frames i to i + 3.
+pub fn four_moves(
+    sample_rate: u32,
+    dt: f64,
+    fractional_position: f64,
+    rate: &[f64],
+    i: usize,
+) -> Moves
+    requires { ⌜ T (proper «fractional_position») ⌝ }
+    requires { ⌜ T (lt positiveZero dt) ⌝ }
+    requires { ⌜ T (all (slow «sample_rate» dt) (now rate)) ⌝ }
+    requires { ⌜ i + 3 < length (now rate) ⌝ }
+    requires { ⌜ length (now rate) < 8192 ⌝ }
+    ensures { λ r. ⌜ Move «fractional_position» (advance «sample_rate» (getD (now (rate .entry)) i nan) dt) (r .first) ⌝ }
+    ensures { λ r. ⌜ Move (r .first .rest) (advance «sample_rate» (getD (now (rate .entry)) (i + 1) nan) dt) (r .second) ⌝ }
+    ensures { λ r. ⌜ Move (r .second .rest) (advance «sample_rate» (getD (now (rate .entry)) (i + 2) nan) dt) (r .third) ⌝ }
+    ensures { λ r. ⌜ Move (r .third .rest) (advance «sample_rate» (getD (now (rate .entry)) (i + 3) nan) dt) (r .fourth) ⌝ }
+{
+    let first = sound_fast_reading::moved(sample_rate, dt, fractional_position, rate[i]);
+    let second = sound_fast_reading::moved(sample_rate, dt, first.rest, rate[i + 1]);
+    let third = sound_fast_reading::moved(sample_rate, dt, second.rest, rate[i + 2]);
+    let fourth = sound_fast_reading::moved(sample_rate, dt, third.rest, rate[i + 3]);
+    Moves {
+        first,
+        second,
+        third,
+        fourth,
+    }
+}
+
+// The steps of four frames that make one advance.
+pub fn four_held(fractional_position: f64, advance: f64) -> Moves
+    requires { ⌜ T (proper «fractional_position») ⌝ }
+    requires { ⌜ Slow advance ⌝ }
+    ensures { λ r. ⌜ Move «fractional_position» advance (r .first) ⌝ }
+    ensures { λ r. ⌜ Move (r .first .rest) advance (r .second) ⌝ }
+    ensures { λ r. ⌜ Move (r .second .rest) advance (r .third) ⌝ }
+    ensures { λ r. ⌜ Move (r .third .rest) advance (r .fourth) ⌝ }
+{
+    let first = sound_fast_reading::stepped_by(fractional_position, advance);
+    let second = sound_fast_reading::stepped_by(first.rest, advance);
+    let third = sound_fast_reading::stepped_by(second.rest, advance);
+    let fourth = sound_fast_reading::stepped_by(third.rest, advance);
+    Moves {
+        first,
+        second,
+        third,
+        fourth,
+    }
+}

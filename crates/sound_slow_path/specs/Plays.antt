@@ -1,0 +1,81 @@
+-- A started, advancing block, frame after frame (docs/RULES.md, "Creation, commands, block").
+use Prim.Native.Nat.{ℕ, _+_}
+use mathlib.Core.Bool.{cond}
+use mathlib.Core.List.{List, [], _∷_}
+use lib.Dec.{leb}
+use lib.Ieee.{Float, binary32, binary64, add, mul}
+use Rattle.numbers.specs.Words.{narrowed, whole, part, advance}
+use Rattle.frame.specs.declared.Frame.{Frame}
+use Rattle.resampler.specs.declared.Reading.{Reading}
+use Rattle.resampler.specs.Windows.{reading}
+use Rattle.sound_lanes.specs.Lanes.{Lane}
+use Rattle.sound_state.specs.declared.StaticSound.{StaticSound}
+use Rattle.sound_state.specs.Voices.{courseOf, moved}
+use Rattle.sound_slow_path.specs.declared.Processed.{Processed}
+use Rattle.sound_update.specs.Updates.{updates}
+
+-- ---- one frame
+
+-- the sum whose whole part is the steps
+unfoldable pub total : Float → StaticSound → Lane → Float
+unfolding advance
+total dt v l = add binary64 (v .«fractional_position») (advance (v .setup .«sample_rate») (l .rate) dt)
+
+-- the voice after one frame: as many updates as the sum's whole part, and the rest of the sum
+unfoldable pub turned : List Float → Float → StaticSound → Lane → StaticSound
+unfolding total updates whole part
+turned snd dt v l =
+    let x = total dt v l in
+    moved v (part x) (updates (whole x) snd (courseOf v) (v .moving))
+
+-- a reading times fade, times volume, times the channel's gain
+abbrev pub heard : Lane → Float → Float → Float
+heard l x gain = mul binary32 (mul binary32 (mul binary32 x (l .fade)) (l .volume)) gain
+
+-- the window is read before the voice moves
+abbrev pub readBy : StaticSound → Reading
+readBy v = reading (v .moving .resampler) (narrowed (v .«fractional_position»))
+
+-- the frame written
+unfoldable pub frameHeard : StaticSound → Lane → Frame
+frameHeard v l =
+    let x = readBy v .frame in
+    record { left = heard l (x .left) (l .left); right = heard l (x .right) (l .right) }
+
+-- ---- a block
+
+-- what a block gives: the voice after it, the samples it wrote, the steps it made, the lowest count it read
+pub record Played : Type 0 where
+  pub voice : StaticSound
+  pub samples : List Float
+  pub steps : ℕ
+  pub «lowest_count» : ℕ
+
+-- the lower of two counts
+unfoldable pub lower : ℕ → ℕ → ℕ
+lower a b = cond (leb a b) a b
+
+-- one frame, its steps and the count that was read, and what follows it
+abbrev pub then : Frame → ℕ → ℕ → Played → Played
+then f n t p =
+    record { voice = p .voice; samples = f .left ∷ f .right ∷ p .samples; steps = n + p .steps; «lowest_count» = lower t (p .«lowest_count») }
+
+-- a started, advancing block; of no frames, the count is 4
+unfoldable pub plays : List Float → Float → List Lane → StaticSound → Played
+unfolding turned frameHeard total whole reading
+plays snd dt [] v = record { voice = v; samples = []; steps = 0; «lowest_count» = 4 }
+plays snd dt (l ∷ ls) v = then (frameHeard v l) (whole (total dt v l)) (readBy v .count) (plays snd dt ls (turned snd dt v l))
+
+-- ---- what a call gives
+
+-- what a call gives: its answer, and every sample of the lent buffer
+pub record Outcome : Type 0 where
+  pub answer : Processed
+  pub samples : List Float
+
+abbrev pub acceptedWith : Played → List Float → Outcome
+acceptedWith p out = record { answer = record { refusal = 0; sound = p .voice; steps = p .steps; «lowest_count» = p .«lowest_count» }; samples = out }
+
+-- an accepted block's outcome: its own samples are the output
+abbrev pub acceptedAs : Played → Outcome
+acceptedAs p = acceptedWith p (p .samples)

@@ -1,0 +1,60 @@
+-- One frame of a block over what moves, as the block's loop has it; and what the loop asks.
+use Prim.Native.Nat.{ℕ, _*_}
+use mathlib.Core.Path.{_≡_}
+use mathlib.Core.List.{List}
+use lib.Dec.{T}
+use lib.ListN.{length, getD}
+use lib.Ieee.{Float, nan, binary32, binary64, add, mul, lt}
+use Rattle.numbers.specs.Words.{positiveZero, proper, narrowed, whole, part, advance}
+use Rattle.numbers.specs.Lists.{all}
+use Rattle.frame.specs.declared.Frame.{Frame}
+use Rattle.frame.specs.Frames.{interpolated}
+use Rattle.resampler.specs.declared.Reading.{Reading}
+use Rattle.resampler.specs.declared.Resampler.{Resampler}
+use Rattle.resampler.specs.Windows.{nth, reading}
+use Rattle.sound_lanes.specs.Lanes.{Lanes, rows, sized, near, slow}
+use Rattle.sound_update.specs.declared.Course.{Course}
+use Rattle.sound_update.specs.declared.Moving.{Moving}
+use Rattle.sound_state.specs.declared.StaticSound.{StaticSound}
+use Rattle.sound_update.specs.Updates.{updates, Able}
+use Rattle.sound_state.specs.WellFormed.{Formed}
+use Rattle.sound_slow_path.specs.declared.Turned.{Turned}
+
+-- the frame written: the reading of four frames times fade, times volume, times each channel's gain
+unfoldable pub frameAt : Frame → Frame → Frame → Frame → Float → Float → Float → Float → Float → Frame
+frameAt a b c d f fade volume left right =
+    let x = interpolated a b c d (narrowed f) in
+    record {
+      left = mul binary32 (mul binary32 (mul binary32 (x .left) fade) volume) left;
+      right = mul binary32 (mul binary32 (mul binary32 (x .right) fade) volume) right;
+    }
+
+-- frame i of the lanes heard: the window read at a fraction, with the count that the read returns
+abbrev pub heardAt : Resampler → Float → List Float → List Float → List Float → List Float → ℕ → Reading
+heardAt w f fade volume left right i =
+    record {
+      frame = frameAt (nth w 0) (nth w 1) (nth w 2) (nth w 3) f (getD fade i nan) (getD volume i nan) (getD left i nan) (getD right i nan);
+      count = (reading w (narrowed f)) .count;
+    }
+
+-- what one frame leaves of the moving parts and the fraction
+unfoldable pub turnOf : List Float → Course → ℕ → Float → Float → Moving → Float → Turned
+turnOf snd c hz rate dt m f =
+    let x = add binary64 f (advance hz rate dt) in
+    record { moving = updates (whole x) snd c m; «fractional_position» = part x; steps = whole x }
+
+-- what a frame asks
+pub record Turning (snd : List Float) (c : Course) (hz : ℕ) (rate dt : Float) (m : Moving) (f : Float) : Type 0 where
+  pub able : Able snd c m
+  pub below : T (proper f)
+  pub timeStep : T (lt positiveZero dt)
+  pub slow : T (slow hz dt rate)
+
+-- what a block asks that is neither refused nor judged again; m is the output's length
+pub record Playable (snd : List Float) (v : StaticSound) (dt : Float) (b : Lanes) (m : ℕ) : Type 0 where
+  pub formed : Formed v
+  pub lent : length snd ≡ 2 * v .setup .«num_frames»
+  pub sized : T (sized b)
+  pub long : m ≡ 2 * length (b .rate)
+  pub timeStep : T (lt positiveZero dt)
+  pub near : T (all (near (v .setup .«sample_rate») dt) (rows b))

@@ -1,0 +1,151 @@
+// A started, advancing block: frame after frame, the window is read and the voice moves (the loop of kira's StaticSound::process).
+ghost use mathlib.Core.Path.{_≡_};
+ghost use Prim.Native.Nat.{_<_};
+ghost use lib.Dec.{T};
+ghost use lib.ListN.{length};
+ghost use Rattle.numbers.specs.Words.{proper};
+ghost use Rattle.sound_lanes.specs.Lanes.{five, rows};
+ghost use Rattle.sound_slow_path.specs.Plays.{lower, plays, acceptedAs};
+ghost use Rattle.sound_slow_path.specs.Turns.{heardAt, turnOf, Turning, Playable};
+use frame::Frame;
+use resampler::Reading;
+use resampler::Resampler;
+use sound_state::StaticSound;
+use sound_update::Course;
+use sound_update::Moving;
+
+// A voice, and the seconds that each frame of its block takes.
+pub struct Timed {
+    pub voice: StaticSound,
+    pub dt: f64,
+}
+
+// What a block answers: its refusal, 0 for none, the voice after it, the steps made, and the lowest count that it read.
+pub struct Processed {
+    pub refusal: u32,
+    pub sound: StaticSound,
+    pub steps: usize,
+    pub lowest_count: usize,
+}
+
+// What one frame leaves: the moving parts, the fraction, and the steps made.
+pub struct Turned {
+    pub moving: Moving,
+    pub fractional_position: f64,
+    pub steps: usize,
+}
+
+// The lower of two counts.
+fn lower(a: usize, b: usize) -> usize
+    ensures { λ r. ⌜ r ≡ lower a b ⌝ }
+{
+    if a <= b { a } else { b }
+}
+
+// The window's reading, with the count that it was read at: its frame times fade, times volume, times each channel's gain, all of frame i.
+fn frame_heard(
+    window: Resampler,
+    fractional_position: f64,
+    fade: &[f32],
+    volume: &[f32],
+    left: &[f32],
+    right: &[f32],
+    i: usize,
+) -> Reading
+    requires { ⌜ T (proper «fractional_position») ⌝ }
+    requires { ⌜ i < length (now fade) ⌝ }
+    requires { ⌜ i < length (now volume) ⌝ }
+    requires { ⌜ i < length (now left) ⌝ }
+    requires { ⌜ i < length (now right) ⌝ }
+    ensures { λ r. ⌜ r ≡ heardAt window «fractional_position» (now (fade .entry)) (now (volume .entry)) (now (left .entry)) (now (right .entry)) i ⌝ }
+{
+    let read = window.get(numbers::narrow(fractional_position));
+    let out = read.frame;
+    let fade = fade[i];
+    let volume = volume[i];
+    let left = left[i];
+    let right = right[i];
+    let frame = Frame {
+        left: out.left * fade * volume * left,
+        right: out.right * fade * volume * right,
+    };
+    Reading {
+        frame,
+        count: read.count,
+    }
+}
+
+// One frame's steps.
+fn turn(
+    moving: Moving,
+    fractional_position: f64,
+    course: Course,
+    sample_rate: u32,
+    rate: f64,
+    dt: f64,
+    sound: &[f32],
+) -> Turned
+    requires { ⌜ Turning (now sound) course «sample_rate» rate dt moving «fractional_position» ⌝ }
+    ensures { λ r. ⌜ r ≡ turnOf (now (sound .entry)) course «sample_rate» rate dt moving «fractional_position» ⌝ }
+{
+    let advance = (sample_rate as f64) * numbers::magnitude(rate) * dt;
+    let sum = numbers::advance_by(fractional_position, advance);
+    Turned {
+        moving: moving.update_positions(course, sound, sum.steps),
+        fractional_position: sum.rest,
+        steps: sum.steps,
+    }
+}
+
+// A started, advancing block.
+pub fn play(
+    timed: Timed,
+    sound: &[f32],
+    fade: &[f32],
+    volume: &[f32],
+    left: &[f32],
+    right: &[f32],
+    rate: &[f64],
+    out: &mut [f32],
+) -> Processed
+    requires { ⌜ Playable (now sound) (timed .voice) (timed .dt) (five (now fade) (now volume) (now left) (now right) (now rate)) (length (now out)) ⌝ }
+    ensures { λ r. ⌜ record { answer = r; samples = now (out .exit) } ≡ acceptedAs (plays (now (sound .entry)) (timed .dt) (rows (five (now (fade .entry)) (now (volume .entry)) (now (left .entry)) (now (right .entry)) (now (rate .entry)))) (timed .voice)) ⌝ }
+{
+    let voice = timed.voice;
+    let course = voice.course();
+    let mut moving = voice.moving;
+    let mut fractional_position = voice.fractional_position;
+    let mut steps: usize = 0;
+    let mut lowest_count: usize = 4;
+    let mut i: usize = 0;
+    while i < rate.len() {
+        let window = moving.resampler;
+        let read = frame_heard(window, fractional_position, fade, volume, left, right, i);
+        out[2 * i] = read.frame.left;
+        out[2 * i + 1] = read.frame.right;
+        lowest_count = lower(lowest_count, read.count);
+        let next = turn(
+            moving,
+            fractional_position,
+            course,
+            voice.setup.sample_rate,
+            rate[i],
+            timed.dt,
+            sound,
+        );
+        moving = next.moving;
+        fractional_position = next.fractional_position;
+        steps += next.steps;
+        i += 1;
+    }
+    Processed {
+        refusal: 0,
+        sound: StaticSound {
+            fractional_position,
+            moving,
+            ..voice
+        },
+        steps,
+        lowest_count,
+    }
+}

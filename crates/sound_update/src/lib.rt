@@ -1,0 +1,199 @@
+// What moves in a voice, and one update of it: the frame at the position is pushed, and the transport steps (kira's StaticSound::update_position).
+ghost use mathlib.Core.Path.{_≡_};
+ghost use mathlib.Core.Bool.{true};
+ghost use Prim.Native.Nat.{_+_, _*_, _<_};
+ghost use lib.ListN.{length};
+ghost use Rattle.frame.specs.Frames.{frameOf};
+ghost use Rattle.transport.specs.WellFormed.{FormedTransport};
+ghost use Rattle.sound_update.specs.Updates.{sounding, pushed, stepped, raised, counted, updated, updates, movingOf, Able};
+
+mod window;
+
+use frame::Frame;
+use playback_position::FrameRange;
+use playback_state_manager::PlaybackState;
+use resampler::MaybeFrame;
+use resampler::Resampler;
+use transport::Transport;
+use window::frames_of;
+use window::numbers_of;
+use window::window_of;
+
+// How often the loop was wrapped: forward steps that took the wrap, and backward ones.
+pub struct Wraps {
+    pub forward: u32,
+    pub backward: u32,
+}
+
+// What an update changes.
+pub struct Moving {
+    pub state: PlaybackState,
+    pub transport: Transport,
+    pub resampler: Resampler,
+    pub wraps: Wraps,
+}
+
+// What an update reads and leaves as it is.
+pub struct Course {
+    pub start: usize,
+    pub num_frames: usize,
+    pub backwards: bool,
+}
+
+// Frame i of interleaved samples.
+fn frame_at_index(sound: &[f32], i: usize) -> Frame
+    requires { ⌜ 2 * i + 1 < length (now sound) ⌝ }
+    ensures { λ r. ⌜ r ≡ frameOf (now (sound .entry)) i ⌝ }
+{
+    Frame {
+        left: sound[2 * i],
+        right: sound[2 * i + 1],
+    }
+}
+
+fn frame_to_push(sound: &[f32], playing: bool, i: usize) -> MaybeFrame
+    requires { ⌜ (playing ≡ true → 2 * i + 1 < length (now sound)) ⌝ }
+    ensures { λ r. ⌜ r ≡ sounding (now (sound .entry)) playing i ⌝ }
+{
+    if playing {
+        MaybeFrame::Present(frame_at_index(sound, i))
+    } else {
+        MaybeFrame::Absent
+    }
+}
+
+fn step(transport: Transport, course: Course) -> Transport
+    requires { ⌜ FormedTransport (course .«num_frames») transport ⌝ }
+    ensures { λ r. ⌜ r ≡ stepped course transport ⌝ }
+{
+    if course.backwards {
+        transport.decrement_position()
+    } else {
+        transport.increment_position(course.num_frames)
+    }
+}
+
+// One more; a count stands still at its limit.
+fn raise(count: u32) -> u32
+    ensures { λ r. ⌜ r ≡ raised true count ⌝ }
+{
+    if count < 4294967295 { count + 1 } else { count }
+}
+
+// The counts after the next step.
+fn count(transport: Transport, course: Course, wraps: Wraps) -> Wraps
+    requires { ⌜ FormedTransport (course .«num_frames») transport ⌝ }
+    ensures { λ r. ⌜ r ≡ counted course transport wraps ⌝ }
+{
+    if transport.wraps(course.backwards) {
+        if course.backwards {
+            return Wraps {
+                forward: wraps.forward,
+                backward: raise(wraps.backward),
+            };
+        }
+        return Wraps {
+            forward: raise(wraps.forward),
+            backward: wraps.backward,
+        };
+    }
+    wraps
+}
+
+impl Moving {
+    // Pushes the frame at the position; none when the transport is not playing.
+    pub fn push_frame_to_resampler(self, course: Course, sound: &[f32]) -> Resampler
+        requires { ⌜ Able (now sound) course self ⌝ }
+        ensures { λ r. ⌜ r ≡ pushed (now (sound .entry)) course self ⌝ }
+    {
+        let transport = self.transport;
+        let resampler = self.resampler;
+        let frame = frame_to_push(sound, transport.playing, course.start + transport.position);
+        resampler.push_frame(frame, transport.position)
+    }
+
+    // Pushes the frame at the position and steps; where nothing plays and nothing is left to hear, the voice has stopped.
+    pub fn update_position(self, course: Course, sound: &[f32]) -> Moving
+        requires { ⌜ Able (now sound) course self ⌝ }
+        ensures { λ r. ⌜ r ≡ updated (now (sound .entry)) course self ⌝ }
+    {
+        let state = self.state;
+        let transport = self.transport;
+        let before = self.wraps;
+        let resampler = self.push_frame_to_resampler(course, sound);
+        let wraps = count(transport, course, before);
+        let transport = step(transport, course);
+        if !transport.playing & resampler.empty() {
+            return Moving {
+                state: PlaybackState::Stopped,
+                transport,
+                resampler,
+                wraps,
+            };
+        }
+        Moving {
+            state,
+            transport,
+            resampler,
+            wraps,
+        }
+    }
+
+    // As many updates as there are steps. What moves goes round the loop in parts: neither padding nor the loop's own frames
+    // are copied, and no frame number lies beside the samples that are computed with.
+    pub fn update_positions(self, course: Course, sound: &[f32], steps: usize) -> Moving
+        requires { ⌜ Able (now sound) course self ⌝ }
+        ensures { λ r. ⌜ r ≡ updates steps (now (sound .entry)) course self ⌝ }
+    {
+        let first = self.transport;
+        let loop_region = first.loop_region;
+        let window = self.resampler;
+        let mut state = self.state;
+        let mut position = first.position;
+        let mut playing = first.playing;
+        let mut wraps = self.wraps;
+        let mut frames = frames_of(window);
+        let mut numbers = numbers_of(window);
+        let mut left = steps;
+        while left > 0 {
+            let window = window_of(frames, numbers);
+            let moving = moving_of(loop_region, state, position, playing, wraps, window);
+            let next = moving.update_position(course, sound);
+            let after = next.transport;
+            let pushed = next.resampler;
+            state = next.state;
+            position = after.position;
+            playing = after.playing;
+            wraps = next.wraps;
+            frames = frames_of(pushed);
+            numbers = numbers_of(pushed);
+            left -= 1;
+        }
+        let window = window_of(frames, numbers);
+        moving_of(loop_region, state, position, playing, wraps, window)
+    }
+}
+
+// What moves, from its parts: the loop, the state, the place, the counts, and the window.
+fn moving_of(
+    loop_region: FrameRange,
+    state: PlaybackState,
+    position: usize,
+    playing: bool,
+    wraps: Wraps,
+    resampler: Resampler,
+) -> Moving
+    ensures { λ r. ⌜ r ≡ movingOf «loop_region» state position playing wraps resampler ⌝ }
+{
+    let transport = Transport {
+        position,
+        loop_region,
+        playing,
+    };
+    Moving {
+        state,
+        transport,
+        resampler,
+        wraps,
+    }
+}

@@ -1,0 +1,128 @@
+// A fixed list of scenarios from standard input, each call of the sound held to what kira's own text answered, and how many
+// differ. The list is a number a line; docs/LISTS.md has its layout.
+mod calls;
+mod input;
+mod states;
+
+use sound_state::StaticSound;
+
+// No list has more records.
+const MOST: u64 = 1_000_000;
+
+// What goes on from record to record: the voice, how much of the sound is lent, and the counts.
+struct Replay {
+    voice: StaticSound,
+    lent: usize,
+    scenarios: u64,
+    calls: u64,
+    differ: u64,
+}
+
+// One more, as far as any list goes.
+fn more(count: u64) -> u64 {
+    if count < MOST { count + 1 } else { count }
+}
+
+impl Replay {
+    // A call has answered; what it left goes on.
+    fn answered(self, voice: StaticSound, same: bool) -> Replay {
+        let calls = more(self.calls);
+        if same {
+            Replay {
+                voice,
+                calls,
+                ..self
+            }
+        } else {
+            Replay {
+                voice,
+                calls,
+                differ: more(self.differ),
+                ..self
+            }
+        }
+    }
+
+    fn call(self, kind: u64, sound: &[f32]) -> Replay {
+        let voice = self.voice;
+        if kind == 4 {
+            let made = calls::create(sound);
+            return self.answered(made.voice, made.same);
+        }
+        if kind == 5 {
+            let made = calls::command(voice, sound);
+            return self.answered(made.voice, made.same);
+        }
+        if (kind == 6) | (kind == 7) {
+            let made = calls::block(voice, sound, kind == 7);
+            return self.answered(made.voice, made.same);
+        }
+        if kind == 8 {
+            return self.answered(voice, calls::stretch(voice, sound));
+        }
+        self.answered(voice, false)
+    }
+
+    // What is set and not called: a scenario's sound, the state, how much of the sound is lent.
+    fn set(self, kind: u64, sound: &mut [f32]) -> Replay {
+        if kind == 1 {
+            let lent = input::singles(sound);
+            return Replay {
+                lent,
+                scenarios: more(self.scenarios),
+                ..self
+            };
+        }
+        if kind == 2 {
+            let voice = states::next();
+            return Replay { voice, ..self };
+        }
+        let lent = input::index();
+        Replay { lent, ..self }
+    }
+
+    // One record.
+    fn take(self, kind: u64, sound: &mut [f32]) -> Replay {
+        if kind < 4 {
+            return self.set(kind, sound);
+        }
+        let lent = input::least(self.lent, sound.len());
+        self.call(kind, &sound[..lent])
+    }
+}
+
+fn begin() -> Replay {
+    let voice = calls::blank();
+    Replay {
+        voice,
+        lent: 0,
+        scenarios: 0,
+        calls: 0,
+        differ: 0,
+    }
+}
+
+fn replay_all() -> Replay {
+    let mut sound = [0.0f32; 32];
+    let mut replay = begin();
+    let mut left = MOST;
+    while left > 0 {
+        let kind = input::next();
+        if kind == 0 {
+            return replay;
+        }
+        replay = replay.take(kind, &mut sound);
+        left -= 1;
+    }
+    replay
+}
+
+fn main() {
+    let r = replay_all();
+    io::print_decimal(1, r.scenarios);
+    io::write_all(1, b" scenarios, ");
+    io::print_decimal(1, r.calls);
+    io::write_all(1, b" calls, ");
+    io::print_decimal(1, r.differ);
+    io::write_all(1, b" differ\n");
+}

@@ -1,6 +1,0 @@
-// An empty function whose contract collects all theorems on two boxes, so that the checker must prove them.
-ghost use Rattle.theorems_boxes.specs.Promises.{Promises};
-
-pub fn promised()
-    ensures { λ r. ⌜ Promises ⌝ }
-{}

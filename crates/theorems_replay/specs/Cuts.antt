@@ -1,0 +1,46 @@
+-- A traced block cut into two records, the first with the block's signals, the second with none: where the block is accepted both are, the last state and the
+-- last position are printed as they were, and the steps add up, unless the voice had stopped by the cut: then nothing more is stepped in the second record.
+use Prim.Native.Nat.{ℕ, _+_, _≤_}
+use mathlib.Core.Path.{_≡_}
+use mathlib.Core.Bool.{not}
+use mathlib.Core.List.{List, _∷_}
+use lib.Dec.{T, eqb}
+use lib.ListN.{replicate}
+use Rattle.trace_inputs.specs.Inputs.{blockOf}
+use Rattle.trace_lines.specs.Lines.{blockLine}
+use Rattle.trace_replay.specs.Runs.{Course, Turn, more, answered, after}
+
+-- the numbers of a block: frames; fade, volume, left, right; rate; time step; finished, start, resume
+abbrev pub blockNumbers : ℕ → ℕ → ℕ → ℕ → ℕ → ℕ → ℕ → ℕ → ℕ → ℕ → List ℕ
+blockNumbers n a v l r p t f s u = n ∷ a ∷ v ∷ l ∷ r ∷ p ∷ t ∷ f ∷ s ∷ u ∷ replicate 70 0
+
+-- a state that is not Stopped, 6
+abbrev pub Going : ℕ → Type 0
+Going state = T (not (eqb state 6))
+
+-- the three lines
+pub record Lines (i k m : ℕ) (uncut first rest : List ℕ) : Type 0 where
+  pub all : ℕ
+  pub early : ℕ
+  pub late : ℕ
+  pub state : ℕ
+  pub position : ℕ
+  pub state-between : ℕ
+  pub position-between : ℕ
+  pub of-all : uncut ≡ blockLine (more i) (k + m) all state position
+  pub of-first : first ≡ blockLine (more i) k early state-between position-between
+  pub of-rest : rest ≡ blockLine (more (more i)) m late state position
+  pub sum : Going state-between → all ≡ early + late
+
+-- what is asked: a block that is accepted, of as many frames as a record may have
+pub record MayCutRecord (c : Course) (k m a v l r p t f s u : ℕ) : Type 0 where
+  pub few : k + m ≤ 1024
+  pub accepted : answered (c .sound) (c .voice) (blockOf (blockNumbers (k + m) a v l r p t f s u)) .refusal ≡ 0
+
+abbrev pub CutRecords : Type 0
+CutRecords =
+    (c : Course) (k m a v l r p t f s u : ℕ) → MayCutRecord c k m a v l r p t f s u
+    → let uncut = after c 3 (blockNumbers (k + m) a v l r p t f s u) in
+    let first = after c 3 (blockNumbers k a v l r p t f s u) in
+    let rest = after (first .course) 3 (blockNumbers m a v l r p t 0 0 0) in
+    Lines (c .blocks) k m (uncut .line) (first .line) (rest .line)

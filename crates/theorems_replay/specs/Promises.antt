@@ -1,0 +1,15 @@
+-- All that is promised of a whole evening played again.
+use Rattle.theorems_replay.specs.Streams.{Streams}
+use Rattle.theorems_replay.specs.Cuts.{CutRecords}
+use Rattle.theorems_replay.specs.Example.{ThreeFrames}
+use Rattle.theorems_replay.specs.Coincide.{Coincide}
+use Rattle.theorems_replay.specs.Witnesses.{Witnesses}
+
+pub record Promises : Type 0 where
+  pub streams : Streams
+  pub cut-records : CutRecords
+  pub three-frames : ThreeFrames
+  -- each contract of a replay says enough: any two outcomes that it allows coincide
+  pub coincide : Coincide
+  -- an input for each that meets what it asks
+  pub witnesses : Witnesses

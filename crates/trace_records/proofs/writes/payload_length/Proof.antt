@@ -1,0 +1,70 @@
+-- `trace_records::writes::payload_length`: by the kind.
+use mathlib.Core.Path.{_≡_, refl, sym, ap, _∙_}
+use Prim.Native.Nat.{ℕ, _+_, _-_, _*_, _≤_, _<_}
+use native.Mathlib.Omega.{arith}
+use mathlib.Core.List.{List, []}
+use borrow.Author.Needs.{needs}
+use denote.Ref.{now}
+use lib.ListN.{length, take}
+use lib.Seq.{sets}
+use Rattle.byte_layout.specs.declared.Row.{Row}
+use Rattle.byte_layout.specs.Numbers.{bytes}
+use Rattle.byte_layout.specs.Rows.{rowAt, rows, stands}
+use Rattle.byte_layout.specs.Writes.{field, payload, fine}
+use Rattle.trace_records.specs.Tables.{headTable, creationTable, frameTable, commandTable, blockTable, headRows, body, fields}
+use Rattle.trace_records.proofs.Ways.{not-true, not-false, creation-sound, command-sound, block-sound}
+use Rattle.trace_records.proofs.Rounds.{head-length}
+use Rattle.trace_records.proofs.Sends.{of-creation, of-commands, of-block, no-kind, unfit, few, no-room, written}
+use borrow.Author.Needs.{needs}
+use Rattle.trace_records.proofs.writes.payload_length.Statement.{statement}
+use Rattle.trace_records.proofs.writes.payload_length.Tie as tie
+use Rattle.trace_records.proofs.writes.payload_length.Reads as reads
+use Rattle.trace_records.proofs.writes.payload_length.Lts as lts
+use Rattle.byte_layout.proofs.rows_length.Reads as rows-length-reads
+
+slice-aggregate-rows-length : tie.Need-slice-aggregate-rows-length
+slice-aggregate-rows-length c = search needs
+
+rows-length-requires : tie.Need-rows-length-requires
+unfolding creationTable frameTable
+rows-length-requires c κs = (search needs, search needs, creation-sound)
+
+returns : tie.Need-returns
+unfolding creationTable frameTable
+returns c = c .rows-length .ensures ∙ of-creation (λ (rs : List Row) (m : ℕ). length (payload rs [] (take m (c .before .before .before .args .values)))) (c .before .before .before .args .kind) (c .before .before .if1 .taken)
+
+slice-aggregate-rows-length-2 : tie.Need-slice-aggregate-rows-length-2
+slice-aggregate-rows-length-2 c = search needs
+
+rows-length-requires-2 : tie.Need-rows-length-requires-2
+unfolding commandTable
+rows-length-requires-2 c κs = (search needs, search needs, command-sound)
+
+returns-2 : tie.Need-returns-2
+unfolding commandTable
+returns-2 c = c .rows-length2 .ensures ∙ of-commands (λ (rs : List Row) (m : ℕ). length (payload rs [] (take m (c .before .before .before .before .args .values)))) (c .before .before .before .before .args .kind) (c .before .before .before .if1 .left) (c .before .before .if2 .taken)
+
+slice-aggregate-rows-length-3 : tie.Need-slice-aggregate-rows-length-3
+slice-aggregate-rows-length-3 c = search needs
+
+rows-length-requires-3 : tie.Need-rows-length-requires-3
+unfolding blockTable
+rows-length-requires-3 c κs = (search needs, search needs, block-sound)
+
+returns-3 : tie.Need-returns-3
+unfolding blockTable
+returns-3 c = c .rows-length3 .ensures ∙ of-block (λ (rs : List Row) (m : ℕ). length (payload rs [] (take m (c .before .before .before .before .args .values)))) (c .before .before .before .before .args .kind) (c .before .before .before .if1 .left) (c .before .before .if2 .left)
+
+pub payload-length-spec : {M : Type 1} → statement M
+payload-length-spec =
+    tie.close
+    (tie.spec
+    slice-aggregate-rows-length
+    rows-length-requires
+    returns
+    slice-aggregate-rows-length-2
+    rows-length-requires-2
+    returns-2
+    slice-aggregate-rows-length-3
+    rows-length-requires-3
+    returns-3)

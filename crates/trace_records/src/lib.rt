@@ -1,0 +1,144 @@
+// A trace's records, read and written: docs/TRACE.md has their layout.
+ghost use mathlib.Core.Path.{_≡_};
+ghost use Prim.Native.Nat.{_-_, _≤_};
+ghost use mathlib.Core.List.{[]};
+ghost use lib.ListN.{length, drop, replicate};
+ghost use Rattle.byte_layout.specs.Reads.{good, steps, view};
+ghost use Rattle.trace_records.specs.Tables.{headRows, body, fields};
+ghost use Rattle.trace_records.specs.Promises.{Promises};
+ghost use Rattle.trace_records.specs.Records.{possible, shortest, longest, refused, valued, recordAt};
+
+mod tables;
+mod writes;
+
+use byte_layout::Parsed;
+use tables::BLOCK;
+use tables::COMMANDS;
+use tables::CREATION;
+use tables::HEAD;
+pub use writes::Sent;
+pub use writes::write;
+
+// A record by value: its kind, its numbers in the layout's order and then zeros, and the place after it. Where a record is
+// refused, the number; then every other number is 0 and the place is the record's own.
+#[repr(C)]
+pub struct Record {
+    pub refusal: u64,
+    pub kind: u64,
+    pub next: usize,
+    pub values: [u64; 80],
+}
+
+fn refuse(refusal: u64, at: usize) -> Record
+    ensures { λ r. ⌜ r ≡ record { refusal = refusal; kind = 0; next = at; values = replicate 80 0 } ⌝ }
+{
+    Record {
+        refusal,
+        kind: 0,
+        next: at,
+        values: [0; 80],
+    }
+}
+
+fn shortest_of(kind: u64) -> u64
+    ensures { λ n. ⌜ n ≡ shortest kind ⌝ }
+{
+    if kind == 1 {
+        return 26;
+    }
+    if kind == 2 {
+        return 7;
+    }
+    37
+}
+
+fn longest_of(kind: u64) -> u64
+    ensures { λ n. ⌜ n ≡ longest kind ⌝ }
+{
+    if kind == 1 {
+        return 570;
+    }
+    if kind == 2 {
+        return 47;
+    }
+    37
+}
+
+// Whether a payload of the kind can have n bytes.
+fn is_possible(kind: u64, n: u64) -> bool
+    ensures { λ b. ⌜ b ≡ possible kind n ⌝ }
+{
+    let least = shortest_of(kind);
+    let most = longest_of(kind);
+    if n < least {
+        return false;
+    }
+    if most < n {
+        return false;
+    }
+    (n - least) % 8 == 0
+}
+
+// Reads the fields of a kind's payload of n bytes.
+fn read_body(s: &[u8], at: usize, kind: u64, n: usize) -> Parsed
+    requires { ⌜ at ≤ length (now s) ⌝ }
+    ensures { λ q. ⌜ (view (now (s .entry)) (fields kind) q ≡ steps (body kind) (good n [] (drop at (now (s .entry))))) × (q .at ≤ length (now (s .entry))) × (drop (fields kind) (q .values) ≡ replicate (80 - fields kind) 0) ⌝ }
+{
+    let p = byte_layout::begin(at, n);
+    if kind == 1 {
+        let table = CREATION;
+        return byte_layout::read_rows(s, p, &table, 77);
+    }
+    if kind == 2 {
+        let table = COMMANDS;
+        return byte_layout::read_rows(s, p, &table, 12);
+    }
+    let table = BLOCK;
+    byte_layout::read_rows(s, p, &table, 10)
+}
+
+// The head's kind and length, once they are judged.
+fn read_head(s: &[u8], at: usize) -> Parsed
+    requires { ⌜ at ≤ length (now s) ⌝ }
+    ensures { λ q. ⌜ (view (now (s .entry)) 4 q ≡ steps headRows (good 5 [] (drop at (now (s .entry))))) × (q .at ≤ length (now (s .entry))) ⌝ }
+{
+    let table = HEAD;
+    byte_layout::read_rows(s, byte_layout::begin(at, 5), &table, 4)
+}
+
+// The record at a place of the bytes: any bytes, any place.
+pub fn read(s: &[u8], at: usize) -> Record
+    ensures { λ r. ⌜ r ≡ recordAt (now (s .entry)) at ⌝ }
+{
+    if s.len() < at {
+        return refuse(18, at);
+    }
+    let head = read_head(s, at);
+    if 0 < head.refused {
+        return refuse(head.refused, at);
+    }
+    let kind = head.values[2];
+    let n = head.values[3];
+    if !is_possible(kind, n) {
+        return refuse(17, at);
+    }
+    let body = read_body(s, head.at, kind, n as usize);
+    if 0 < body.refused {
+        return refuse(body.refused, at);
+    }
+    if 0 < body.left {
+        return refuse(17, at);
+    }
+    let values = body.values;
+    Record {
+        refusal: 0,
+        kind,
+        next: body.at,
+        values,
+    }
+}
+
+// What is promised beyond the contracts.
+pub fn promised()
+    ensures { λ r. ⌜ Promises ⌝ }
+{}

@@ -1,0 +1,111 @@
+-- A trace played again: docs/TRACE.md, "What is printed". The whole run is a function of the bytes.
+use Prim.Native.Nat.{ℕ, zero, suc, _+_, _-_, _*_}
+use mathlib.Core.Bool.{Bool, true, false, cond}
+use mathlib.Core.List.{List, [], _∷_, _++_}
+use lib.Dec.{eqb, ltb}
+use lib.ListN.{take, replicate}
+use lib.Ieee.{Float}
+use Rattle.numbers.specs.Words.{positiveZero}
+use Rattle.playback_state_manager.specs.States.{number}
+use Rattle.sound_lanes.specs.Lanes.{Lanes, five}
+use Rattle.sound_state.specs.declared.StaticSound.{StaticSound}
+use Rattle.sound_creation.specs.Creation.{blankSound, created}
+use Rattle.sound_commands.specs.Commands.{commanded}
+use Rattle.sound_slow_path.specs.declared.Processed.{Processed}
+use Rattle.static_sound.specs.Entries.{processed}
+use Rattle.trace_inputs.specs.declared.Block.{Block}
+use Rattle.trace_inputs.specs.Inputs.{settingsOf, samplesOf, commandsOf, blockOf}
+use Rattle.trace_lines.specs.Lines.{blockLine, refusedBlockLine, refusedLine}
+use Rattle.trace_records.specs.declared.Record.{Record}
+use Rattle.trace_records.specs.Records.{recordAt}
+use Rattle.trace_replay.specs.declared.Run.{Run}
+use Rattle.trace_replay.specs.declared.Advanced.{Advanced}
+
+-- the run so far: the voice, its sound, the blocks counted
+pub record Course : Type 0 where
+  pub voice : StaticSound
+  pub sound : List Float
+  pub blocks : ℕ
+
+-- before any record
+abbrev pub blank : Course
+blank = record { voice = blankSound; sound = []; blocks = 0 }
+
+-- what the code holds, and the lent sound's samples
+abbrev pub courseOf : Run → List Float → Course
+courseOf r snd = record { voice = r .voice; sound = take (r .samples) snd; blocks = r .blocks }
+
+-- one block more, as far as 64 bits count
+abbrev pub more : ℕ → ℕ
+more n = cond (ltb n 18446744073709551615) (n + 1) n
+
+-- a block's lanes: every frame is the same
+abbrev pub lanesOf : Block → Lanes
+lanesOf b = five (replicate (b .frames) (b .fade)) (replicate (b .frames) (b .volume)) (replicate (b .frames) (b .left)) (replicate (b .frames) (b .right)) (replicate (b .frames) (b .rate))
+
+-- the player's answer to a block
+unfoldable pub answered : List Float → StaticSound → Block → Processed
+answered snd v b = processed snd v (b .«time_step») (lanesOf b) (b .signals) (replicate (2 * b .frames) positiveZero) .answer
+
+-- the line of a block, from its number, its frames and the player's answer
+unfoldable pub lineOf : ℕ → ℕ → Processed → List ℕ
+lineOf k n p = cond (eqb (p .refusal) 0) (blockLine k n (p .steps) (number (p .sound .moving .state)) (p .sound .moving .transport .position)) (refusedBlockLine k (p .refusal))
+
+-- a record's end: the run after it, and its line
+pub record Turn : Type 0 where
+  pub course : Course
+  pub line : List ℕ
+
+-- a creation, accepted or refused: a refused one leaves the blank voice
+abbrev pub afterCreation : Course → List ℕ → Turn
+afterCreation c vs = record { course = record { voice = created (samplesOf vs) (settingsOf vs) .sound; sound = samplesOf vs; blocks = c .blocks }; line = [] }
+
+-- a command set, accepted or refused
+abbrev pub afterCommands : Course → List ℕ → Turn
+afterCommands c vs = record { course = record { voice = commanded (c .sound) (c .voice) (commandsOf vs) .sound; sound = c .sound; blocks = c .blocks }; line = [] }
+
+-- a block, accepted or refused, is counted
+abbrev pub afterBlock : Course → List ℕ → Turn
+afterBlock c vs =
+    let p = answered (c .sound) (c .voice) (blockOf vs) in
+    record { course = record { voice = p .sound; sound = c .sound; blocks = more (c .blocks) }; line = lineOf (more (c .blocks)) (blockOf vs .frames) p }
+
+-- one record, by its kind
+unfoldable pub after : Course → ℕ → List ℕ → Turn
+after c k vs = cond (eqb k 1) (afterCreation c vs) (cond (eqb k 2) (afterCommands c vs) (afterBlock c vs))
+
+-- what the record that bytes begin with makes of the run, at the offset `at`: the run after it, its line, its bytes, and whether the run is over
+pub record Step : Type 0 where
+  pub course : Course
+  pub line : List ℕ
+  pub size : ℕ
+  pub over : Bool
+
+-- a record that was read there: its own turn; a refused one ends the run
+unfoldable pub judged : Course → ℕ → Record → Step
+judged c at r =
+    let t = after c (r .kind) (r .values) in
+    cond (eqb (r .refusal) 0)
+    (record { course = t .course; line = t .line; size = r .next; over = false })
+    (record { course = c; line = refusedLine (r .refusal) at; size = 0; over = true })
+
+-- at the end the run is over, and nothing is printed
+unfoldable pub stepOf : Course → ℕ → List ℕ → Step
+stepOf c at [] = record { course = c; line = []; size = 0; over = true }
+stepOf c at (b ∷ bs) = judged c at (recordAt (b ∷ bs) 0)
+
+-- what the code answers of a record that it read at `at`, with the lent sound and the line
+abbrev pub advancedOf : Advanced → ℕ → List Float → List ℕ → Step
+advancedOf r at snd line = record { course = courseOf (r .run) snd; line = take (r .written) line; size = r .next - at; over = r .over }
+
+-- all that is printed, from the offset `at` on, k bytes of the record in hand still to pass: each record's line, until the run is over
+unfoldable pub printed : Course → ℕ → ℕ → List ℕ → List ℕ
+printed c at k [] = []
+printed c at (suc k) (b ∷ bs) = printed c (suc at) k bs
+printed c at zero (b ∷ bs) =
+    let s = stepOf c at (b ∷ bs) in
+    s .line ++ cond (s .over) [] (printed (s .course) (suc at) (s .size - 1) bs)
+
+-- the whole run
+abbrev pub replayed : List ℕ → List ℕ
+replayed bs = printed blank 0 0 bs

@@ -1,0 +1,79 @@
+-- Salvage of a broken trace. `size` gives the bytes of the complete record that a list begins with, 0 if there is none; k bytes
+-- of a record are still to be copied.
+use Prim.Native.Nat.{ℕ, zero, suc, _+_, _-_, _≤_, _<_}
+use mathlib.Core.Bool.{Bool, true, false, cond}
+use mathlib.Core.List.{List, [], _∷_, _++_}
+use mathlib.Core.Path.{_≡_}
+use lib.Dec.{eqb, ltb}
+use lib.ListN.{length, drop}
+use lib.Seq.{sets}
+use Rattle.trace_records.specs.Records.{Found, refused, found, readRecord}
+use Rattle.trace_salvage.specs.declared.Saved.{Saved}
+use Rattle.trace_salvage.specs.declared.Turn.{Turn}
+
+-- the bytes kept
+unfoldable pub kept : (List ℕ → ℕ) → List ℕ → ℕ → List ℕ
+kept size [] k = []
+kept size (b ∷ bs) (suc k) = b ∷ kept size bs k
+kept size (b ∷ bs) zero = cond (eqb (size (b ∷ bs)) 0) (kept size bs 0) (b ∷ kept size bs (size (b ∷ bs) - 1))
+
+-- how many are skipped
+unfoldable pub skipped : (List ℕ → ℕ) → List ℕ → ℕ → ℕ
+skipped size [] k = 0
+skipped size (b ∷ bs) (suc k) = skipped size bs k
+skipped size (b ∷ bs) zero = cond (eqb (size (b ∷ bs)) 0) (suc (skipped size bs 0)) (skipped size bs (size (b ∷ bs) - 1))
+
+-- how many records are kept
+unfoldable pub records : (List ℕ → ℕ) → List ℕ → ℕ → ℕ
+records size [] k = 0
+records size (b ∷ bs) (suc k) = records size bs k
+records size (b ∷ bs) zero = cond (eqb (size (b ∷ bs)) 0) (records size bs 0) (suc (records size bs (size (b ∷ bs) - 1)))
+
+-- the place of the first byte skipped, the end if none is; the list begins at the place `at`
+unfoldable pub first : (List ℕ → ℕ) → ℕ → List ℕ → ℕ → ℕ
+first size at [] k = at
+first size at (b ∷ bs) (suc k) = first size (suc at) bs k
+first size at (b ∷ bs) zero = cond (eqb (size (b ∷ bs)) 0) at (first size (suc at) bs (size (b ∷ bs) - 1))
+
+unfoldable pub sizeIn : ℕ → Found → ℕ
+sizeIn n (refused k) = 0
+sizeIn n (found k ws rest) = n - length rest
+
+-- of a trace: what the reader accepts
+unfoldable pub sizeOf : List ℕ → ℕ
+sizeOf bs = sizeIn (length bs) (readRecord bs)
+
+-- what salvage leaves: its number, records kept, bytes skipped, the first skipped place, the output
+pub record Salvaged : Type 0 where
+  pub number : ℕ
+  pub count : ℕ
+  pub skip : ℕ
+  pub place : ℕ
+  pub output : List ℕ
+
+abbrev pub savedOf : Saved → List ℕ → Salvaged
+savedOf r out = record { number = r .refusal; count = r .records; skip = r .skipped; place = r .first; output = out }
+
+-- 25 an output shorter than the input, all numbers 0; else the kept bytes, and the rest of the output unchanged
+unfoldable pub salvageOf : List ℕ → List ℕ → Salvaged
+salvageOf s out =
+    cond (ltb (length out) (length s))
+    (record { number = 25; count = 0; skip = 0; place = 0; output = out })
+    (record { number = 0; count = records sizeOf s 0; skip = skipped sizeOf s 0; place = first sizeOf 0 s 0; output = sets out 0 (kept sizeOf s 0) })
+
+-- the first place, once something was skipped
+abbrev pub placed : Turn → List ℕ → ℕ
+placed t s = cond (eqb (t .skip) 0) (first sizeOf (t .at) (drop (t .at) s) 0) (t .first)
+
+-- one turn: what is left to do goes down, and what it all comes to stays
+pub record Turned (s out new : List ℕ) (t r : Turn) : Type 0 where
+  pub inside : r .at ≤ length s
+  pub on : t .at < r .at
+  pub room : r .w ≤ r .at
+  pub few : r .skip ≤ r .at
+  pub some : r .records ≤ r .at
+  pub long : length new ≡ length out
+  pub same : sets new (r .w) (kept sizeOf (drop (r .at) s) 0) ≡ sets out (t .w) (kept sizeOf (drop (t .at) s) 0)
+  pub count : r .skip + skipped sizeOf (drop (r .at) s) 0 ≡ t .skip + skipped sizeOf (drop (t .at) s) 0
+  pub whole : r .records + records sizeOf (drop (r .at) s) 0 ≡ t .records + records sizeOf (drop (t .at) s) 0
+  pub place : placed r s ≡ placed t s

@@ -1,0 +1,121 @@
+// Salvage of a broken trace: complete records are copied, any other byte is skipped, one at a time.
+ghost use mathlib.Core.Path.{_≡_};
+ghost use Prim.Native.Nat.{_≤_, _<_};
+ghost use mathlib.Core.Bool.{cond};
+ghost use lib.Dec.{eqb};
+ghost use lib.ListN.{length, drop};
+ghost use Rattle.trace_salvage.specs.Promises.{Promises};
+ghost use Rattle.trace_salvage.specs.Salvage.{sizeOf, savedOf, salvageOf, Turned};
+
+// A salvage in progress: the place in the input and in the output, the bytes skipped, the records kept, and the place of the
+// first byte skipped.
+pub struct Turn {
+    pub at: usize,
+    pub w: usize,
+    pub skip: usize,
+    pub records: usize,
+    pub first: usize,
+}
+
+// What salvage answers: 0 or a refusal, the records kept, the bytes skipped, the place of the first of them.
+#[repr(C)]
+pub struct Saved {
+    pub refusal: u64,
+    pub records: usize,
+    pub skipped: usize,
+    pub first: usize,
+}
+
+// The bytes of the complete record at a place, or 0. A record begins with A5: the reader is not asked at any other byte.
+fn record_size(s: &[u8], at: usize) -> usize
+    ensures { λ n. ⌜ n ≡ sizeOf (drop at (now (s .entry))) ⌝ }
+{
+    if s.len() <= at {
+        return 0;
+    }
+    if s[at] != 0xa5 {
+        return 0;
+    }
+    let r = trace_records::read(s, at);
+    if r.refusal != 0 {
+        return 0;
+    }
+    let next = r.next;
+    if next < at {
+        return 0;
+    }
+    next - at
+}
+
+// The place of the first byte skipped, when one is skipped at a place.
+fn first_of(t: Turn) -> usize
+    ensures { λ n. ⌜ n ≡ cond (eqb (t .skip) 0) (t .at) (t .first) ⌝ }
+{
+    if t.skip == 0 {
+        return t.at;
+    }
+    t.first
+}
+
+// Copies the record at the place, or skips a byte.
+fn step(s: &[u8], out: &mut [u8], t: Turn) -> Turn
+    requires { ⌜ (t .at < length (now s)) × (t .w ≤ t .at) × (t .skip ≤ t .at) × (t .records ≤ t .at) × (length (now s) ≤ length (now out)) ⌝ }
+    ensures { λ r. ⌜ Turned (now (s .entry)) (now (out .entry)) (now (out .exit)) t r ⌝ }
+{
+    let at = t.at;
+    let w = t.w;
+    let n = record_size(s, at);
+    if 0 < n {
+        let to = at + n;
+        byte_layout::copy(s, at, to, out, w);
+        return Turn {
+            at: to,
+            w: w + n,
+            skip: t.skip,
+            records: t.records + 1,
+            first: t.first,
+        };
+    }
+    Turn {
+        at: at + 1,
+        w,
+        skip: t.skip + 1,
+        records: t.records,
+        first: first_of(t),
+    }
+}
+
+// Copies the complete records of s to the start of out.
+pub fn salvage(s: &[u8], out: &mut [u8]) -> Saved
+    ensures { λ r. ⌜ savedOf r (now (out .exit)) ≡ salvageOf (now (s .entry)) (now (out .entry)) ⌝ }
+{
+    if out.len() < s.len() {
+        return Saved {
+            refusal: 25,
+            records: 0,
+            skipped: 0,
+            first: 0,
+        };
+    }
+    let mut t = Turn {
+        at: 0,
+        w: 0,
+        skip: 0,
+        records: 0,
+        first: 0,
+    };
+    while t.at < s.len() {
+        t = step(s, out, t);
+    }
+    Saved {
+        refusal: 0,
+        records: t.records,
+        skipped: t.skip,
+        first: first_of(t),
+    }
+}
+
+// What is promised beyond the contract.
+pub fn promised()
+    ensures { λ r. ⌜ Promises ⌝ }
+{}
