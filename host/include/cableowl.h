@@ -294,7 +294,7 @@ typedef struct CableowlCopyChanged {
     uint32_t refusal;
 } CableowlCopyChanged;
 
-/* What a tutor saves of a sound: docs/SETTINGS.md. Eight words. */
+/* What a tutor saves of a sound: docs/formats/SETTINGS.md. Eight words. */
 typedef struct CableowlSavedSettings {
     uint64_t start;      /* frames, below 2^32 */
     uint64_t has_loop;   /* 0 none, and then both of its numbers 0; 1 given */
@@ -306,10 +306,10 @@ typedef struct CableowlSavedSettings {
     uint64_t version; /* 1 or 2 */
 } CableowlSavedSettings;
 
-/* CableowlRecord's kind: docs/TRACE.md. */
+/* CableowlRecord's kind: docs/formats/TRACE.md. */
 enum { CABLEOWL_KIND_CREATION = 1, CABLEOWL_KIND_COMMANDS = 2, CABLEOWL_KIND_BLOCK = 3 };
 
-/* A record of a trace. Its numbers stand in the order of docs/TRACE.md, floats by their bits, one place for each field, also
+/* A record of a trace. Its numbers stand in the order of docs/formats/TRACE.md, floats by their bits, one place for each field, also
  * for one that is absent, which is 0: a creation has 77 (13, then the 64 frames of the sound, the left sample in the low half), a
  * command set 12, a block 10. What comes after them is 0. */
 typedef struct CableowlRecord {
@@ -418,7 +418,7 @@ uint32_t cableowl_load_settings(uint32_t reader, const uint8_t *bytes, size_t by
  * version is not read. */
 CableowlSettings cableowl_settings_of(const CableowlSavedSettings *saved, uint32_t sample_rate);
 
-/* Reads the record at a place of a trace: docs/TRACE.md. At the trace's end, and beyond it, there is none: 18. A record has at most
+/* Reads the record at a place of a trace: docs/formats/TRACE.md. At the trace's end, and beyond it, there is none: 18. A record has at most
  * 575 bytes, so the next 575 of a longer trace, or all that is left, are enough. */
 CableowlRecord cableowl_read_record(const uint8_t *bytes, size_t bytes_len, uint64_t at);
 

@@ -1,4 +1,4 @@
--- docs/RULES.md, "What the host supplies" (a sound's frames) and "The window of four" (the cubic).
+-- docs/assurance/RULES.md, "What the host supplies" (a sound's frames) and "The window of four" (the cubic).
 use Prim.Native.Nat.{ℕ, _+_, _*_}
 use mathlib.Core.Bool.{false}
 use mathlib.Core.List.{List}

@@ -1,4 +1,4 @@
--- Seconds to frames, once they are multiplied: docs/RULES.md, Seconds to frames. `fin s m e` is m * 2 ^ e, which is m * up e / down e.
+-- Seconds to frames, once they are multiplied: docs/assurance/RULES.md, Seconds to frames. `fin s m e` is m * 2 ^ e, which is m * up e / down e.
 use Prim.Native.Nat.{ℕ, _+_, _*_, _/_, min}
 use mathlib.Core.Bool.{cond}
 use lib.Ieee.{Float, nan, inf, fin, up, down}

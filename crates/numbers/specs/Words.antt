@@ -1,4 +1,4 @@
--- Words for floats by their values: docs/RULES.md, Numbers and their refusals, The window of four, and Creation, commands, block.
+-- Words for floats by their values: docs/assurance/RULES.md, Numbers and their refusals, The window of four, and Creation, commands, block.
 -- `fin s m e` is m * 2 ^ e, its sign bit s; that is m * up e / down e.
 use Prim.Native.Nat.{ℕ, zero, suc, _*_, _/_}
 use mathlib.Core.Bool.{Bool, true, false, not, _&&_}

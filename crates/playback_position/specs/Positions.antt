@@ -1,4 +1,4 @@
--- docs/RULES.md, "Seconds to frames" and refusals 4 to 6: places in seconds or samples as frame numbers, and which regions are lawful.
+-- docs/assurance/RULES.md, "Seconds to frames" and refusals 4 to 6: places in seconds or samples as frame numbers, and which regions are lawful.
 use Prim.Native.Nat.{ℕ}
 use mathlib.Core.Bool.{Bool, true, _&&_}
 use lib.Dec.{leb, ltb}

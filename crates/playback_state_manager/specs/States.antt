@@ -1,4 +1,4 @@
--- docs/RULES.md, "States": the numbers of the seven, what pause, resume and stop make of them, and the change a block makes.
+-- docs/assurance/RULES.md, "States": the numbers of the seven, what pause, resume and stop make of them, and the change a block makes.
 use Prim.Native.Nat.{ℕ}
 use mathlib.Core.Bool.{Bool, true, false, cond}
 use Rattle.playback_state_manager.specs.declared.PlaybackState.{PlaybackState}

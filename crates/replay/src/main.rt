@@ -1,4 +1,4 @@
-// A trace from standard input, played again: one line a block on standard output (docs/TRACE.md). Each record's run and line
+// A trace from standard input, played again: one line a block on standard output (docs/formats/TRACE.md). Each record's run and line
 // are `trace_replay::advance`'s; what stands here is reading and writing. Input of any length: a window moves over it that holds a whole
 // record or the input's end.
 ghost use mathlib.Core.Path.{_≡_};

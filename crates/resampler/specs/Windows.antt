@@ -1,4 +1,4 @@
--- docs/RULES.md, "The window of four", and what "Well formed" says of the window.
+-- docs/assurance/RULES.md, "The window of four", and what "Well formed" says of the window.
 use Prim.Native.Nat.{ℕ, _-_, _≤_}
 use mathlib.Core.Path.{_≡_}
 use mathlib.Core.Bool.{Bool, _&&_}

@@ -1,4 +1,4 @@
--- Saved settings as a record of bytes: docs/SETTINGS.md, request #113.
+-- Saved settings as a record of bytes: docs/formats/SETTINGS.md, request #113.
 use Prim.Native.Nat.{ℕ, _+_, _%_, _^_}
 use mathlib.Core.Bool.{Bool, true, false, _&&_, _||_, cond}
 use mathlib.Core.List.{List, [], _∷_}

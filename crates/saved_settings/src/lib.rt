@@ -1,4 +1,4 @@
-// Saved settings, stored and loaded: docs/SETTINGS.md has their layout.
+// Saved settings, stored and loaded: docs/formats/SETTINGS.md has their layout.
 ghost use mathlib.Core.Path.{_≡_};
 ghost use Prim.Native.Nat.{_≤_};
 ghost use mathlib.Core.List.{[]};

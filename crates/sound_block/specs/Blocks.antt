@@ -1,4 +1,4 @@
--- An accepted block: the voice takes its signals, then sounds or rests (docs/RULES.md, "Creation, commands, block").
+-- An accepted block: the voice takes its signals, then sounds or rests (docs/assurance/RULES.md, "Creation, commands, block").
 use mathlib.Core.Bool.{Bool, true, false, _&&_, cond}
 use mathlib.Core.List.{List, [], _∷_}
 use lib.Ieee.{Float}

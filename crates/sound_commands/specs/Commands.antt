@@ -1,4 +1,4 @@
--- A command set (docs/RULES.md, "Creation, commands, block"), refusals 1 and 6 to 8.
+-- A command set (docs/assurance/RULES.md, "Creation, commands, block"), refusals 1 and 6 to 8.
 use Prim.Native.Nat.{ℕ}
 use mathlib.Core.Bool.{Bool, true, false, _&&_, cond}
 use mathlib.Core.List.{List}

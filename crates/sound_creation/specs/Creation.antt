@@ -1,4 +1,4 @@
--- Creation (docs/RULES.md, "Creation, commands, block"), refusals 2 to 7.
+-- Creation (docs/assurance/RULES.md, "Creation, commands, block"), refusals 2 to 7.
 use Prim.Native.Nat.{ℕ, _-_, _*_, _/_, _%_}
 use mathlib.Core.Bool.{Bool, true, false, not, _&&_, cond}
 use mathlib.Core.List.{List}

@@ -1,4 +1,4 @@
--- Lanes given once: the lanes of n frames that each have the same five numbers (docs/RULES.md, "What the host supplies").
+-- Lanes given once: the lanes of n frames that each have the same five numbers (docs/assurance/RULES.md, "What the host supplies").
 use Prim.Native.Nat.{ℕ}
 use lib.ListN.{replicate}
 use Rattle.sound_lanes.specs.Lanes.{Lanes, five}

@@ -1,4 +1,4 @@
--- The five lanes of a block, and refusals 9 to 12 (docs/RULES.md, "What the host supplies", "Numbers and their refusals").
+-- The five lanes of a block, and refusals 9 to 12 (docs/assurance/RULES.md, "What the host supplies", "Numbers and their refusals").
 use Prim.Native.Nat.{ℕ}
 use mathlib.Core.Bool.{Bool, false, _&&_, cond}
 use mathlib.Core.List.{List, [], _∷_}

@@ -1,4 +1,4 @@
--- A started, advancing block, frame after frame (docs/RULES.md, "Creation, commands, block").
+-- A started, advancing block, frame after frame (docs/assurance/RULES.md, "Creation, commands, block").
 use Prim.Native.Nat.{ℕ, _+_}
 use mathlib.Core.Bool.{cond}
 use mathlib.Core.List.{List, [], _∷_}

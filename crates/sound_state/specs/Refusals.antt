@@ -1,4 +1,4 @@
--- Tests in a row (docs/RULES.md, "Numbers and their refusals"): the lowest number wins.
+-- Tests in a row (docs/assurance/RULES.md, "Numbers and their refusals"): the lowest number wins.
 use Prim.Native.Nat.{ℕ}
 use mathlib.Core.Bool.{Bool, cond}
 

@@ -1,4 +1,4 @@
--- When a voice is well formed (docs/RULES.md, "Numbers and their refusals"): as a test, and as named facts.
+-- When a voice is well formed (docs/assurance/RULES.md, "Numbers and their refusals"): as a test, and as named facts.
 use Prim.Native.Nat.{ℕ, _*_}
 use mathlib.Core.Bool.{Bool, _&&_}
 use lib.Dec.{T, leb, ltb, eqb}

@@ -1,4 +1,4 @@
--- One update of what moves (docs/RULES.md, "Creation, commands, block"), and what it asks.
+-- One update of what moves (docs/assurance/RULES.md, "Creation, commands, block"), and what it asks.
 use Prim.Native.Nat.{ℕ, zero, suc, _+_, _*_, _≤_}
 use mathlib.Core.Bool.{Bool, not, _&&_, cond}
 use mathlib.Core.List.{List}

@@ -1,4 +1,4 @@
--- The block's entries, accepted and refused together: block, block into a mix, stretch (docs/RULES.md, refusals 1 and 9 to 12).
+-- The block's entries, accepted and refused together: block, block into a mix, stretch (docs/assurance/RULES.md, refusals 1 and 9 to 12).
 use Prim.Native.Nat.{ℕ, _+_, _-_, _*_, _/_, _%_}
 use mathlib.Core.Bool.{Bool, _&&_, cond}
 use mathlib.Core.List.{List, [], _++_}

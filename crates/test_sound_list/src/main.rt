@@ -1,5 +1,5 @@
 // A fixed list of scenarios from standard input, each call of the sound held to what kira's own text answered, and how many
-// differ. The list is a number a line; docs/LISTS.md has its layout.
+// differ. The list is a number a line; docs/formats/LISTS.md has its layout.
 mod calls;
 mod input;
 mod states;

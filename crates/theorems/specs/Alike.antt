@@ -1,5 +1,5 @@
 -- How the two parts of a cut block are compared with the whole one: in every case, and where the voice has not stopped by the cut.
--- A voice that has stopped goes on in the rest of an uncut block, where nothing changes but its fraction and its window's frame numbers (docs/RULES.md, "Creation, commands, block").
+-- A voice that has stopped goes on in the rest of an uncut block, where nothing changes but its fraction and its window's frame numbers (docs/assurance/RULES.md, "Creation, commands, block").
 use Prim.Native.Nat.{_+_}
 use mathlib.Core.Path.{_≡_}
 use mathlib.Core.Bool.{Bool, not}

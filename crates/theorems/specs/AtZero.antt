@@ -1,4 +1,4 @@
--- docs/RULES.md, "The window of four": for f = 0 and samples of magnitude at most 8 the value equals b, the sign of a zero aside.
+-- docs/assurance/RULES.md, "The window of four": for f = 0 and samples of magnitude at most 8 the value equals b, the sign of a zero aside.
 use mathlib.Core.Path.{_≡_}
 use mathlib.Core.Bool.{true, false}
 use lib.IntN.{pos}

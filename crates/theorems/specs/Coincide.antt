@@ -1,4 +1,4 @@
--- Whether a promise says enough (docs/RULES.md): any two outcomes that one contract allows for one input coincide. A line for each public function,
+-- Whether a promise says enough (docs/assurance/RULES.md): any two outcomes that one contract allows for one input coincide. A line for each public function,
 -- over its contract itself: `Post` is all that the function ensures, of what it is given, what it answers and what the lent buffers hold at its end.
 -- The functions that replay a trace are above this crate: crates/theorems_replay/specs/Coincide.antt has their lines.
 use mathlib.Core.Path.{_≡_}

@@ -1,4 +1,4 @@
--- docs/RULES.md, "Marked examples": all that are marked [P], one table and one statement. N = 10 and loop (3, 6) unless said.
+-- docs/assurance/RULES.md, "Marked examples": all that are marked [P], one table and one statement. N = 10 and loop (3, 6) unless said.
 use Prim.Native.Nat.{ℕ}
 use mathlib.Core.Path.{_≡_}
 use mathlib.Core.Bool.{Bool, true, false}

@@ -1,4 +1,4 @@
--- What a record tells the player, from its numbers in the order of docs/TRACE.md.
+-- What a record tells the player, from its numbers in the order of docs/formats/TRACE.md.
 use Prim.Native.Nat.{ℕ, suc, _+_, _-_, _*_, _/_, _%_}
 use mathlib.Core.Bool.{Bool, cond, not}
 use mathlib.Core.List.{List, [], _∷_}

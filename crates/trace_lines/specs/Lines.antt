@@ -1,4 +1,4 @@
--- The lines that a replayed trace prints, as ASCII: docs/TRACE.md, "What is printed".
+-- The lines that a replayed trace prints, as ASCII: docs/formats/TRACE.md, "What is printed".
 use Prim.Native.Nat.{ℕ, zero, suc, _+_, _/_, _%_}
 use mathlib.Core.Bool.{cond}
 use mathlib.Core.List.{List, [], _∷_, _++_}

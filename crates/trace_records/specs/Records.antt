@@ -1,4 +1,4 @@
--- A record read: docs/TRACE.md, "How a record is judged". Then the record as a value.
+-- A record read: docs/formats/TRACE.md, "How a record is judged". Then the record as a value.
 use Prim.Native.Nat.{ℕ, _+_, _-_, _*_, _%_}
 use mathlib.Core.Bool.{Bool, true, false, _&&_, cond}
 use mathlib.Core.List.{List, [], _∷_, _++_}

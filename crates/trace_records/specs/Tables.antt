@@ -1,4 +1,4 @@
--- The layouts of docs/TRACE.md: six numbers a row, width, guard, low, least, most, refusal. A row stands if the number of
+-- The layouts of docs/formats/TRACE.md: six numbers a row, width, guard, low, least, most, refusal. A row stands if the number of
 -- its guard, an earlier row, is at least `low`.
 use Prim.Native.Nat.{ℕ, zero, suc}
 use mathlib.Core.Bool.{cond}

@@ -1,4 +1,4 @@
-// A trace's records, read and written: docs/TRACE.md has their layout.
+// A trace's records, read and written: docs/formats/TRACE.md has their layout.
 ghost use mathlib.Core.Path.{_≡_};
 ghost use Prim.Native.Nat.{_-_, _≤_};
 ghost use mathlib.Core.List.{[]};

@@ -1,4 +1,4 @@
--- A trace played again: docs/TRACE.md, "What is printed". The whole run is a function of the bytes.
+-- A trace played again: docs/formats/TRACE.md, "What is printed". The whole run is a function of the bytes.
 use Prim.Native.Nat.{ℕ, zero, suc, _+_, _-_, _*_}
 use mathlib.Core.Bool.{Bool, true, false, cond}
 use mathlib.Core.List.{List, [], _∷_, _++_}

@@ -1,4 +1,4 @@
--- docs/RULES.md, "The transport": its first place and its three moves, by remainders. Loop (s, e), end exclusive, L = e - s.
+-- docs/assurance/RULES.md, "The transport": its first place and its three moves, by remainders. Loop (s, e), end exclusive, L = e - s.
 use Prim.Native.Nat.{ℕ, suc, _+_, _-_, _%_}
 use mathlib.Core.Bool.{Bool, true, false, not, _&&_, cond}
 use lib.Dec.{leb, ltb, eqb}

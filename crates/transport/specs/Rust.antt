@@ -1,4 +1,4 @@
--- docs/RULES.md, "What must change shape": kira's `while` wraps, as they stand in transport.rs, for comparison with the remainders.
+-- docs/assurance/RULES.md, "What must change shape": kira's `while` wraps, as they stand in transport.rs, for comparison with the remainders.
 -- A `while` takes at most k turns here. As many as the place (down) or the bound (up) are enough, since a loop is not empty.
 use Prim.Native.Nat.{ℕ, zero, suc, _+_, _-_}
 use mathlib.Core.Bool.{false, cond}

@@ -1,4 +1,4 @@
--- docs/RULES.md, "Numbers and their refusals", what is well formed of a transport over n frames: as a test, and as a record of facts.
+-- docs/assurance/RULES.md, "Numbers and their refusals", what is well formed of a transport over n frames: as a test, and as a record of facts.
 use Prim.Native.Nat.{ℕ, _≤_, _<_}
 use mathlib.Core.Path.{_≡_}
 use mathlib.Core.Bool.{Bool, true, not, _&&_, _||_}

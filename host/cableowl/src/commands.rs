@@ -1,4 +1,4 @@
-//! A command set: docs/RULES.md, "Creation, commands, block".
+//! A command set: docs/assurance/RULES.md, "Creation, commands, block".
 
 use crate::{Region, ffi};
 

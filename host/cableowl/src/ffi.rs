@@ -461,7 +461,7 @@ pub fn settings_of(saved: &SavedSettings, sample_rate: u32) -> Settings {
     unsafe { cableowl_settings_of(saved, sample_rate) }
 }
 
-/// A record of a trace: its kind and its numbers in the order of docs/TRACE.md.
+/// A record of a trace: its kind and its numbers in the order of docs/formats/TRACE.md.
 #[repr(C)]
 #[derive(Debug, Clone, Copy, PartialEq, Eq)]
 pub struct Record {

@@ -1,4 +1,4 @@
-//! The lanes of a block: docs/RULES.md, "What the host supplies".
+//! The lanes of a block: docs/assurance/RULES.md, "What the host supplies".
 
 use crate::{MAX_BLOCK_FRAMES, Refusal, Signals, ffi, trace::Block};
 

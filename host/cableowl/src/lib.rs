@@ -66,7 +66,7 @@
 //!
 //! What a host does with a voice can be recorded, and played again from its bytes: [`trace`].
 //!
-//! docs/RULES.md states the exact rules; the definitions of the crates below
+//! docs/assurance/RULES.md states the exact rules; the definitions of the crates below
 //! `crates/` say them, and the proofs hold the compiled code to them.
 #![deny(missing_docs)]
 #![deny(unsafe_code)]

@@ -1,4 +1,4 @@
-//! Places in a sound: docs/RULES.md, "Seconds to frames".
+//! Places in a sound: docs/assurance/RULES.md, "Seconds to frames".
 
 use std::ops::{Range, RangeFrom, RangeFull, RangeTo};
 

@@ -1,4 +1,4 @@
-//! The seven states, and what a block is told: docs/RULES.md, "States".
+//! The seven states, and what a block is told: docs/assurance/RULES.md, "States".
 
 use crate::ffi;
 

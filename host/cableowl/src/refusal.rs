@@ -1,4 +1,4 @@
-//! The refusals: docs/RULES.md, "Numbers and their refusals".
+//! The refusals: docs/assurance/RULES.md, "Numbers and their refusals".
 
 use std::{error::Error, fmt, hint::black_box};
 

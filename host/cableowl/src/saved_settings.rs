@@ -1,4 +1,4 @@
-//! Settings saved as bytes: docs/SETTINGS.md has their layout.
+//! Settings saved as bytes: docs/formats/SETTINGS.md has their layout.
 
 use crate::{Frames, Refusal, Region, Settings, ffi, float_mode};
 

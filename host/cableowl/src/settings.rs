@@ -1,4 +1,4 @@
-//! How a voice is created: docs/RULES.md, "Creation, commands, block".
+//! How a voice is created: docs/assurance/RULES.md, "Creation, commands, block".
 
 use crate::{PlaybackPosition, Region, ffi};
 

@@ -1,4 +1,4 @@
-//! A voice's whole state, to save and to give back: docs/RULES.md, "Well formed".
+//! A voice's whole state, to save and to give back: docs/assurance/RULES.md, "Well formed".
 
 use crate::{PlaybackState, ffi};
 

@@ -1,4 +1,4 @@
-//! The voice: docs/RULES.md, "Creation, commands, block".
+//! The voice: docs/assurance/RULES.md, "Creation, commands, block".
 
 use crate::{
     BlockLanes, Commands, LoopTable, PlaybackState, Refusal, Settings, Signals, State, Wraps, ffi,
@@ -31,7 +31,7 @@ pub struct Processed {
 /// How the frames of a block were spent: each is played, paused or silent.
 ///
 /// A [`Player`](crate::Player) counts by the frame, so the sums do not depend on how time is cut. A
-/// bare voice that runs off its sound goes on to its block's end (docs/RULES.md, "Creation, commands,
+/// bare voice that runs off its sound goes on to its block's end (docs/assurance/RULES.md, "Creation, commands,
 /// block"), and all frames of that block count as played.
 #[derive(Debug, Clone, Copy, PartialEq, Eq, Hash, Default)]
 pub struct Usage {
@@ -193,7 +193,7 @@ impl StaticSound {
     /// Plays a block into `out`, two samples a frame. `dt` is the seconds of one output frame.
     ///
     /// Subnormal samples are played as they are, whatever the thread's float mode, and are slow on
-    /// some processors (docs/BENCHMARK.md): clear them when a sound is loaded, if it has any.
+    /// some processors (docs/performance/BENCHMARK.md): clear them when a sound is loaded, if it has any.
     ///
     /// ```
     /// use cableowl::{Lanes, PlaybackState, Settings, Signals, StaticSound};

@@ -6,7 +6,7 @@ use crate::{Processed, Refusal, StaticSound};
 
 /// Plays a block of so many frames by `play`, or as many of them as there are until the voice runs off
 /// its sound: **it ends with the frame in which the voice stops**, since what a voice does after that
-/// depends on where its block ends (docs/RULES.md, "Creation, commands, block"). Returns the frames
+/// depends on where its block ends (docs/assurance/RULES.md, "Creation, commands, block"). Returns the frames
 /// played and their counts.
 ///
 /// `play` plays a part of the block. Where the voice stops, parts are played more than once; they

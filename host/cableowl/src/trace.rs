@@ -1,4 +1,4 @@
-//! Traces: what a host did with one voice, as bytes (docs/TRACE.md has their layout).
+//! Traces: what a host did with one voice, as bytes (docs/formats/TRACE.md has their layout).
 //!
 //! A box records as it plays ([`Recorder`]), support plays the trace again ([`Replay`], [`replay`])
 //! and reads the lines that the box would have logged ([`Line`]), and a file with holes is mended

@@ -1,4 +1,4 @@
-//! What people run: the command `cableowl`, over the library (docs/TOOLS.md has a page for each of
+//! What people run: the command `cableowl`, over the library (docs/guide/TOOLS.md has a page for each of
 //! them).
 #![forbid(unsafe_code)]
 #![warn(missing_docs)]

@@ -1,4 +1,4 @@
-//! A log, line by line: what a box said of one voice, one line a block or callback (docs/TOOLS.md has
+//! A log, line by line: what a box said of one voice, one line a block or callback (docs/guide/TOOLS.md has
 //! the three forms). Any bytes are taken; what is no log is told in one sentence with its line.
 
 use std::{fmt, io::Read};

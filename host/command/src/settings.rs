@@ -135,7 +135,7 @@ impl Place {
         frames.parse().ok().filter(|_| bare).map(Self::Frames)
     }
 
-    /// Its frame, by docs/RULES.md, "Seconds to frames", if a record can hold it.
+    /// Its frame, by docs/assurance/RULES.md, "Seconds to frames", if a record can hold it.
     fn frame(self, rate: u32) -> Result<u32> {
         match self {
             Self::Frames(frame) => Ok(frame),
@@ -223,7 +223,7 @@ pub fn save(save: &Save, to: &Path, out: &mut Out<'_>) -> Result<()> {
     out.put(format!("{:<20}{}\n", "written to", shown(to)))
 }
 
-/// The byte that a refusal is given for: docs/SETTINGS.md has the layout.
+/// The byte that a refusal is given for: docs/formats/SETTINGS.md has the layout.
 fn place(bytes: &[u8], refusal: Refusal) -> usize {
     let number = |from: usize| {
         let bytes = bytes

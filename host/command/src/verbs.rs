@@ -138,7 +138,7 @@ pub const PURPOSE: &str = "what happened at a listening box";
 
 /// What is said of the whole command.
 pub const ABOUT: &[&str] = &[
-    "A trace is an evening recorded by the box: everything that the host asked of one voice. A log is what the box, or replay, says of it: one line for each block. docs/TOOLS.md shows each verb at work.",
+    "A trace is an evening recorded by the box: everything that the host asked of one voice. A log is what the box, or replay, says of it: one line for each block. docs/guide/TOOLS.md shows each verb at work.",
     "A file named - is standard input. An option may be written --rate 44100 or --rate=44100, before or after the files; after -- every word is a file.",
 ];
 

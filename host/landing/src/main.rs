@@ -63,7 +63,7 @@ fn report(before: &str, after: &str) -> Result<String> {
     // The file of digests is younger than the first landings.
     if let (Some(before), Some(after)) = (old.0.get(FILE), new.0.get(FILE)) {
         let (change, moved) = changes(before, after);
-        text += &row("statements (docs/STATEMENTS.txt)", &change);
+        text += &row("statements (docs/assurance/STATEMENTS.txt)", &change);
         names += &named("statements", &change);
         for line in moved {
             names += &format!("  moved: {line}\n");

@@ -8,11 +8,11 @@ use sha256::{digest, hex};
 use crate::{Change, Items, Sources, change, contracts, definitions};
 
 /// The file that holds them.
-pub const FILE: &str = "docs/STATEMENTS.txt";
+pub const FILE: &str = "docs/assurance/STATEMENTS.txt";
 
 /// What the file begins with.
 const HEAD: &str = "\
-# The digest of each statement; `tools/statements` writes this file, and docs/CHANGING.md says when to run it.
+# The digest of each statement; `tools/statements` writes this file, and docs/guide/CHANGING.md says when to run it.
 # A line: name, kind, and the first 64 bits of the SHA-256 of its text without comments and layout.
 #   contract    a public function's signature, requires and ensures
 #   definition  of specs/; of a record its first line and the names of its fields

@@ -1,4 +1,4 @@
-//! docs/STATEMENTS.txt holds the digest of each statement as it stands, and a statement that changes is a line of it.
+//! docs/assurance/STATEMENTS.txt holds the digest of each statement as it stands, and a statement that changes is a line of it.
 
 use std::{collections::BTreeSet, fs, path::Path};
 

@@ -1,6 +1,6 @@
 // The list of scenarios: sounds, and on each some calls with the oracle's answers.
 //
-// A line is one number in lower-case hex. docs/LISTS.md has the layout; `scene` writes it.
+// A line is one number in lower-case hex. docs/formats/LISTS.md has the layout; `scene` writes it.
 
 mod any;
 mod known;

@@ -68,7 +68,7 @@ fn every_state_and_length_is_there() {
     assert_eq!(seen.frames, (1..=16).collect());
 }
 
-/// What a list has in it, found by its layout alone (docs/LISTS.md).
+/// What a list has in it, found by its layout alone (docs/formats/LISTS.md).
 #[derive(Default)]
 struct Seen {
     scenarios: usize,

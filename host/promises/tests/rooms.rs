@@ -1,5 +1,5 @@
 //! The maps are complete: `crates.txt` has a comment for each crate, README names every page, and
-//! docs/ARCHITECTURE.md names every folder of `host/`.
+//! docs/guide/ARCHITECTURE.md names every folder of `host/`.
 
 use std::fs;
 use std::path::{Path, PathBuf};
@@ -45,9 +45,11 @@ fn crates_txt_says_what_each_crate_is_for() {
 #[test]
 fn readme_names_every_page() {
     let readme = read("README.md");
-    let pages = names("docs", |path| {
-        path.extension().is_some_and(|e| e == "md" || e == "txt")
-    });
+    let is_page = |path: &Path| path.extension().is_some_and(|e| e == "md" || e == "txt");
+    let mut pages = names("docs", is_page);
+    for folder in names("docs", Path::is_dir) {
+        pages.extend(names(&format!("docs/{folder}"), is_page));
+    }
     let missing = pages
         .into_iter()
         .filter(|page| !readme.contains(page.as_str()));
@@ -56,11 +58,11 @@ fn readme_names_every_page() {
 
 #[test]
 fn architecture_names_every_folder_of_host() {
-    let page = read("docs/ARCHITECTURE.md");
+    let page = read("docs/guide/ARCHITECTURE.md");
     let folders = names("host", |path| path.join("Cargo.toml").is_file());
     let missing = folders
         .into_iter()
         .map(|folder| format!("`host/{folder}`"))
         .filter(|folder| !page.contains(folder.as_str()));
-    none_missing("docs/ARCHITECTURE.md", missing.collect());
+    none_missing("docs/guide/ARCHITECTURE.md", missing.collect());
 }

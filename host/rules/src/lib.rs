@@ -1,4 +1,4 @@
-//! The rules as docs/RULES.md has them (remainders, not `while`s), as a second opinion on kira's
+//! The rules as docs/assurance/RULES.md has them (remainders, not `while`s), as a second opinion on kira's
 //! text and on ours.
 //!
 //! [`Rules`] has one method a rule; [`Document`] takes all of them as they stand, and a wrong

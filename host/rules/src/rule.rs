@@ -1,4 +1,4 @@
-// Each rule of docs/RULES.md as one method, so that a wrong player can differ in exactly one.
+// Each rule of docs/assurance/RULES.md as one method, so that a wrong player can differ in exactly one.
 
 use oracle::{
     Answer, EndPosition, Entry, Frame, LIMIT, PlaybackPosition, PlaybackState, Region, Signals,

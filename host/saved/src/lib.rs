@@ -1,4 +1,4 @@
-//! docs/SETTINGS.md as Rust: what bytes load as, what words store as, and the rate that a pitch raises.
+//! docs/formats/SETTINGS.md as Rust: what bytes load as, what words store as, and the rate that a pitch raises.
 #![warn(missing_docs)]
 
 /// Saved settings as the C entries take them: eight words.

@@ -73,7 +73,7 @@ fn examples_of_the_page() {
             .map(|byte| u8::from_str_radix(byte, 16).unwrap())
             .collect()
     };
-    let page = include_str!("../../../docs/SETTINGS.md");
+    let page = include_str!("../../../docs/formats/SETTINGS.md");
     let records: Vec<&str> = page
         .lines()
         .filter(|line| line.starts_with("5E 71 0"))

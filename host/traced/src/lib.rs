@@ -1,4 +1,4 @@
-//! docs/TRACE.md as Rust, written down a second time, and traces of every kind to compare by.
+//! docs/formats/TRACE.md as Rust, written down a second time, and traces of every kind to compare by.
 #![warn(missing_docs)]
 
 pub mod entries;

@@ -1,4 +1,4 @@
-//! docs/TRACE.md: what is read, written and salvaged, field by field and byte by byte.
+//! docs/formats/TRACE.md: what is read, written and salvaged, field by field and byte by byte.
 
 use crate::{
     Values,

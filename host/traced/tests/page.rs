@@ -1,4 +1,4 @@
-//! The examples of docs/TRACE.md, read from the page: its records, its short inputs, what is printed, what salvage takes.
+//! The examples of docs/formats/TRACE.md, read from the page: its records, its short inputs, what is printed, what salvage takes.
 
 use cableowl::{
     Commands, Frames, PlaybackPosition, Region, Settings,
@@ -6,7 +6,7 @@ use cableowl::{
 };
 use traced::{entries, hex, page, runs};
 
-const PAGE: &str = include_str!("../../../docs/TRACE.md");
+const PAGE: &str = include_str!("../../../docs/formats/TRACE.md");
 
 /// The bytes of each block of code in a part of the page: the words of two hex digits at a line's start.
 fn codes_of(part: &str) -> Vec<Vec<u8>> {

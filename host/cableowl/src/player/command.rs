@@ -45,7 +45,7 @@ pub enum Command {
     StartAtTick(u32, Ticks),
 }
 
-/// Places are below this frame number: docs/RULES.md, "Seconds to frames".
+/// Places are below this frame number: docs/assurance/RULES.md, "Seconds to frames".
 const FRAME_LIMIT: f64 = 4_294_967_296.0;
 
 /// A loop in frames, or refusal 6 as the voice would give it.
@@ -88,7 +88,7 @@ pub fn judge_seek(sample_rate: u32, position: u64, seek: Seek) -> Result<u64, Re
     }
 }
 
-/// Where a seek from `position` to the frame `to` lands: docs/RULES.md, "The transport".
+/// Where a seek from `position` to the frame `to` lands: docs/assurance/RULES.md, "The transport".
 pub fn wrapped(position: u64, to: u64, loop_region: Option<(u64, u64)>) -> u64 {
     match loop_region {
         Some((start, end)) if to > position && to >= end => {

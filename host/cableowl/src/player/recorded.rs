@@ -22,7 +22,7 @@ pub trait Watch {
 impl Watch for () {}
 
 /// A [`Player`] over a sound of at most 64 frames that plays and is recorded in one go, into a lent
-/// buffer (docs/TRACE.md).
+/// buffer (docs/formats/TRACE.md).
 ///
 /// It plays as an unrecorded one does, bit for bit. A record holds constant lanes and at most 1,024
 /// frames, so the player cuts its blocks where a lane changes: a fade is a record for each of its

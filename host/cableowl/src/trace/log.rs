@@ -1,4 +1,4 @@
-//! A log of form 3: what a box says of a voice, one line a block or callback (docs/TOOLS.md).
+//! A log of form 3: what a box says of a voice, one line a block or callback (docs/guide/TOOLS.md).
 
 use std::fmt;
 

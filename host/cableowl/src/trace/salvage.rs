@@ -20,7 +20,7 @@ pub struct Salvaged {
 /// one at a time. The output past the kept bytes stays.
 ///
 /// A record is known by its bytes alone: a mark inside a damaged payload may be taken for a record
-/// (docs/TRACE.md has an example of each way).
+/// (docs/formats/TRACE.md has an example of each way).
 ///
 /// ```
 /// use cableowl::{Commands, Refusal, trace::{Record, salvage, write}};

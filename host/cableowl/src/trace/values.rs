@@ -1,4 +1,4 @@
-//! A record as its kind and numbers, in the order of docs/TRACE.md; absent ones are 0.
+//! A record as its kind and numbers, in the order of docs/formats/TRACE.md; absent ones are 0.
 
 use super::{Block, MAX_SOUND_FRAMES, Record, ShortSound};
 use crate::{

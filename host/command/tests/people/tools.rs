@@ -1,4 +1,4 @@
-//! docs/TOOLS.md: each example on it is run, and prints what it says.
+//! docs/guide/TOOLS.md: each example on it is run, and prints what it says.
 
 use std::fs;
 
@@ -12,7 +12,7 @@ use crate::{
     room::{Room, creation, trace},
 };
 
-const PAGE: &str = include_str!("../../../../docs/TOOLS.md");
+const PAGE: &str = include_str!("../../../../docs/guide/TOOLS.md");
 
 /// The box's frames a second.
 const RATE: usize = 48_000;

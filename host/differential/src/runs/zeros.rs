@@ -88,7 +88,7 @@ impl Asked<'_, '_> {
         self.ask(Ask::Block(state, block))
     }
 
-    /// The state after the call, by docs/RULES.md.
+    /// The state after the call, by docs/assurance/RULES.md.
     fn ask(&mut self, ask: Ask) -> State {
         let sound = self.sound.clone();
         let outcome = self.harness.ask(Kind::Zeros, &Call { ask, sound });
