@@ -266,7 +266,7 @@ impl Function {
 /// A row of docs/EXCEPTIONS.md that names callers.
 pub struct Asking {
     pub path: String,
-    /// whether it stands in the table of public functions, which says who answers for them
+    /// whether its row is in the table of public functions, which says who guarantees what they ask
     pub public: bool,
     pub callers: Vec<String>,
 }
@@ -279,7 +279,7 @@ pub fn callers_told(exceptions: &str) -> Vec<Asking> {
     for line in exceptions.lines() {
         if line.starts_with("| function |") {
             callers_follow = line.ends_with("| called by |");
-            public = line.contains("| who answers for it |");
+            public = line.contains("| who guarantees it |");
         }
         if !callers_follow || !line.starts_with("| `") {
             continue;
