@@ -224,7 +224,11 @@ fn four_declarations_are_one() {
     let is_named = |(name, _): &(String, Vec<Field>)| name != "SavedSettings";
     let named: Structs = in_c.into_iter().filter(is_named).collect();
     assert_eq!(named, ours, "cableowl.h");
-    assert_eq!(rust_structs(&read("../raw/src/structs.rs")), ours, "raw");
+    assert_eq!(
+        rust_structs(&read("../tests/raw/src/structs.rs")),
+        ours,
+        "raw"
+    );
     for (name, size) in [
         ("Entry", size_of::<ffi::Entry>()),
         ("State", size_of::<ffi::State>()),
