@@ -7,9 +7,7 @@ use mathlib.Core.Bool.{Bool, true, false, cond}
 use mathlib.Core.List.{List, [], _∷_, _++_, map}
 use lib.Dec.{eqb}
 use lib.ListN.{length, getD, take, drop, replicate}
-use lib.Ieee.{Float}
 use Rattle.numbers.specs.Words.{positiveZero}
-use Rattle.sound_state.specs.declared.StaticSound.{StaticSound}
 use Rattle.sound_creation.specs.declared.Created.{Created}
 use Rattle.sound_creation.specs.declared.Settings.{Settings}
 use Rattle.sound_creation.specs.Creation.{created}
@@ -19,8 +17,8 @@ use Rattle.trace_inputs.specs.Inputs.{atMost, settingsOf, stereo, samplesOf, co
 use Rattle.trace_lines.specs.Lines.{refusedLine}
 use Rattle.trace_records.specs.declared.Record.{Record}
 use Rattle.trace_records.specs.Records.{recordAt}
-use Rattle.trace_replay.specs.Runs.{Course, blank, more, lanesOf, answered, lineOf, Turn, afterCreation, afterCommands, afterBlock, after, Step, judged, stepOf, printed, replayed}
-use Rattle.theorems_sound_length.specs.Muted.{muted, mutedCreated, mutedCommanded, mutedProcessed}
+use Rattle.trace_replay.specs.Runs.{Course, blank, more, lanesOf, answered, lineOf, Turn, afterCreation, afterCommands, afterBlock, after, Step, judged, stepOf, printed}
+use Rattle.theorems_sound_length.specs.Muted.{muted, mutedCreated}
 use Rattle.theorems_sound_length.specs.Lengths.{OtherSound}
 use Rattle.theorems_sound_length.proofs.Calls.{creation-alike, commands-alike, blocks-alike}
 use Rattle.theorems_replay.specs.Lengths.{records, zeroAfter, mutedRecord, LinesAlike}

@@ -1,5 +1,5 @@
--- What is printed of a trace depends on a sound only through its frame count: two traces with the same records but for the samples of their creations
--- print the same lines. So a trace can be replayed and audited without the sound that was played.
+-- What is printed of a trace depends on a sound only through its frame count: two traces with the same records but for
+-- the samples of their creations print the same lines. So a trace can be replayed and audited without its sound.
 use Prim.Native.Nat.{ℕ, zero, suc, _-_}
 use mathlib.Core.Path.{_≡_}
 use mathlib.Core.Bool.{cond}
@@ -23,7 +23,7 @@ zeroAfter zero vs = map (λ (v : ℕ). 0) vs
 zeroAfter (suc n) [] = []
 zeroAfter (suc n) (v ∷ vs) = v ∷ zeroAfter n vs
 
--- the record without samples: a creation's first thirteen numbers are its settings and its frame count, the others its frames
+-- the record without samples: a creation's first thirteen numbers are settings and frame count, the others frames
 abbrev pub mutedRecord : Record → Record
 mutedRecord r =
     record {

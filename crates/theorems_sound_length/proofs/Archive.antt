@@ -5,7 +5,6 @@ use mathlib.Core.Bool.{Bool, true, false, cond}
 use mathlib.Core.List.{List, [], _∷_, map}
 use lib.Dec.{eqb}
 use lib.ListN.{length}
-use lib.Ieee.{Float}
 use Rattle.resampler.specs.declared.RecentFrame.{RecentFrame}
 use Rattle.sound_state.specs.declared.StaticSound.{StaticSound}
 use Rattle.sound_state.specs.Voices.{moved}
@@ -22,12 +21,12 @@ use Rattle.c_state.specs.Records.{recentOf, entryOf, lawful, stated, decoded, e
 use Rattle.c_inputs.specs.Inputs.{settingsOf, commandsOf, signalsOf}
 use Rattle.cableowl.specs.declared.CableowlCommanded.{CableowlCommanded}
 use Rattle.cableowl.specs.declared.CableowlProcessed.{CableowlProcessed}
-use Rattle.cableowl.specs.declared.CableowlPart.{CableowlPart}
 use Rattle.cableowl.specs.Entries.{after, answered, createdC, commandedC, processedC, processedIntoC, partC}
 use Rattle.cableowl.specs.Loops.{takenC}
 use Rattle.theorems.specs.ArchiveInTheLoop.{CallC, Block, Mix, Command, Take, Stretch, afterC, afterAllC}
-use Rattle.theorems_sound_length.specs.Muted.{onFirst, mutedEntry, muted, mutedCreated, mutedCommanded, mutedProcessed, silence}
-use Rattle.theorems_sound_length.specs.Archive.{mutedEntryC, mutedState, mutedCreatedC, mutedCommandedC, mutedProcessedC, CreationAlikeC, OfBlock, OfCommands, OfStretch, answerC, answersC, mutedCallC, RowsAlikeC}
+use Rattle.theorems_sound_length.specs.Muted.{onFirst, mutedEntry, muted, mutedCommanded, mutedProcessed, silence}
+use Rattle.theorems_sound_length.specs.Archive.{mutedEntryC, withWindow, mutedState, mutedCommandedC, mutedProcessedC, CreationAlikeC, OfBlock, OfCommands, OfStretch, answerC, answersC, mutedCallC, RowsAlikeC}
+use Rattle.theorems_sound_length.proofs.Windows.{entered}
 use Rattle.theorems_sound_length.proofs.Calls.{creation-alike, commands-alike, takes-alike, blocks-alike, mixes-alike}
 use Rattle.theorems_sound_length.proofs.Rows.{over-silence, block-over-silence, stretch-begins, stretch-long}
 
@@ -38,54 +37,18 @@ map-first h f g e zero xs = refl
 map-first h f g e (suc t) [] = refl
 map-first h f g e (suc t) (x ∷ xs) = ap₂ _∷_ (e x) (map-first h f g e t xs)
 
--- a voice with other entries in its window
-abbrev entered : StaticSound → List RecentFrame → StaticSound
-entered v rs =
-    moved v (v .«fractional_position»)
-    (record {
-      state = v .moving .state;
-      transport = v .moving .transport;
-      resampler = record { frames = rs; «time_until_empty» = v .moving .resampler .«time_until_empty» };
-      wraps = v .moving .wraps;
-    })
-
 decoded-muted : (c : CableowlState) → decoded (mutedState c) ≡ muted (decoded c)
 unfolding decoded lawful
 decoded-muted c = go (lawful c)
   where
     go : (b : Bool) → cond b (stated (mutedState c)) blankSound ≡ muted (cond b (stated c) blankSound)
-    go true = ap (entered (stated c)) (map-first recentOf mutedEntryC mutedEntry (λ (x : CableowlEntry). refl) (c .count) (c .window))
+    go true = ap (λ (rs : List RecentFrame). moved (stated c) (c .fraction) (entered (stated c .moving) rs)) (map-first recentOf mutedEntryC mutedEntry (λ (x : CableowlEntry). refl) (c .count) (c .window))
     go false = refl
-
--- a record with another window
-abbrev windowed : CableowlState → List CableowlEntry → CableowlState
-windowed c es =
-    record {
-      «sample_rate» = c .«sample_rate»;
-      state = c .state;
-      reverse = c .reverse;
-      started = c .started;
-      playing = c .playing;
-      «has_slice» = c .«has_slice»;
-      «has_loop» = c .«has_loop»;
-      count = c .count;
-      «num_frames» = c .«num_frames»;
-      «slice_start» = c .«slice_start»;
-      «slice_end» = c .«slice_end»;
-      position = c .position;
-      «loop_start» = c .«loop_start»;
-      «loop_end» = c .«loop_end»;
-      «playback_rate» = c .«playback_rate»;
-      fraction = c .fraction;
-      window = es;
-      «forward_wraps» = c .«forward_wraps»;
-      «backward_wraps» = c .«backward_wraps»;
-    }
 
 pub encoded-muted : (v : StaticSound) → mutedState (encoded v) ≡ encoded (muted v)
 unfolding encoded
 encoded-muted v =
-    ap (windowed (encoded v))
+    ap (withWindow (encoded v))
     (sym (map-first entryOf mutedEntry mutedEntryC (λ (x : RecentFrame). refl) (v .moving .resampler .«time_until_empty») (v .moving .resampler .frames)))
 
 after-muted : (k : ℕ) (v : StaticSound) (c : CableowlState) → mutedState (after k v c) ≡ after k (muted v) (mutedState c)

@@ -16,7 +16,6 @@ use Rattle.playback_state_manager.specs.States.{advancing}
 use Rattle.transport.specs.Moves.{seek}
 use Rattle.resampler.specs.declared.Resampler.{Resampler}
 use Rattle.sound_lanes.specs.Lanes.{Lane, Lanes, rows, sized, timeStep, laned, near}
-use Rattle.sound_update.specs.declared.Moving.{Moving}
 use Rattle.sound_state.specs.declared.StaticSound.{StaticSound}
 use Rattle.sound_state.specs.Voices.{span, courseOf, moved}
 use Rattle.sound_state.specs.Refusals.{unless}
@@ -38,9 +37,9 @@ use Rattle.sound_slow_path.specs.Plays.{Played, acceptedWith}
 use Rattle.static_sound.specs.Entries.{refusedBlock, refusedWith, holds, room, mixed, processed, processedInto}
 use Rattle.loop_table.specs.declared.LoopFound.{LoopFound}
 use Rattle.loop_table.specs.Tables.{found}
-use Rattle.take_loop.specs.Taking.{loopCommand, takenFrom, taken}
-use Rattle.theorems_sound_length.specs.Muted.{mutedWindow, muted, mutedCreated, mutedCommanded, mutedProcessed}
-use Rattle.theorems_sound_length.specs.Lengths.{OtherBlock, CreationAlike, CommandsAlike, TakesAlike, BlocksAlike, MixesAlike, HeldAlike, HeldMixesAlike}
+use Rattle.take_loop.specs.Taking.{loopCommand, taken}
+use Rattle.theorems_sound_length.specs.Muted.{mutedWindow, muted, mutedCommanded, mutedProcessed}
+use Rattle.theorems_sound_length.specs.Lengths.{CreationAlike, CommandsAlike, TakesAlike, BlocksAlike, MixesAlike, HeldAlike, HeldMixesAlike}
 use Rattle.theorems_sound_length.proofs.Windows.{muted-ours, muted-heard, muted-twice, pushed-muted, updates-muted}
 use Rattle.theorems_sound_length.proofs.Plays.{Rest, restOf, block-muted}
 

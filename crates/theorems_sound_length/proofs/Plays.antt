@@ -1,6 +1,6 @@
 -- A block over any sound against the same block of the muted voice over any other: the same steps, the same counts, and voices that are alike.
 -- By induction on the lanes. Assumes nothing.
-use mathlib.Core.Path.{_≡_, refl, sym, ap, _∙_}
+use mathlib.Core.Path.{_≡_, sym, ap, _∙_}
 use Prim.Native.Nat.{ℕ, _+_}
 use mathlib.Core.Bool.{Bool, true, false, cond}
 use mathlib.Core.List.{List, [], _∷_}
@@ -9,13 +9,12 @@ use Rattle.numbers.specs.Words.{whole, part}
 use Rattle.resampler.specs.Windows.{reading}
 use Rattle.sound_lanes.specs.Lanes.{Lane}
 use Rattle.sound_update.specs.declared.Moving.{Moving}
-use Rattle.sound_update.specs.Updates.{updates}
 use Rattle.sound_state.specs.declared.StaticSound.{StaticSound}
 use Rattle.sound_state.specs.Voices.{courseOf, moved}
 use Rattle.sound_block.specs.declared.Signals.{Signals}
 use Rattle.sound_block.specs.Blocks.{begun, live, silent, block}
 use Rattle.sound_slow_path.specs.Plays.{Played, total, turned, readBy, lower, plays}
-use Rattle.theorems_sound_length.specs.Muted.{mutedMoving, muted}
+use Rattle.theorems_sound_length.specs.Muted.{muted}
 use Rattle.theorems_sound_length.proofs.Windows.{muted-twice, updates-muted}
 
 -- what a block gives besides samples

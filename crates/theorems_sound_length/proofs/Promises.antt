@@ -1,5 +1,5 @@
 -- All theorems of two sounds of equal length, in one record. Assumes nothing.
-use mathlib.Core.Path.{_≡_, refl, sym, ap, _∙_}
+use mathlib.Core.Path.{refl, sym, ap, _∙_}
 use mathlib.Core.Bool.{false}
 use Rattle.sound_creation.specs.declared.Created.{Created}
 use Rattle.c_state.specs.Records.{encoded}

@@ -17,7 +17,7 @@ use Rattle.static_sound.specs.Entries.{sliced, stretchOf, stretchAt}
 use Rattle.theorems.specs.InTheLoop.{Call, Block, Mix, Command, Take, Stretch, after, afterAll}
 use Rattle.theorems_sound_length.specs.Muted.{muted, silence}
 use Rattle.theorems_sound_length.specs.Lengths.{SameLength, OtherSound, OtherBlock}
-use Rattle.theorems_sound_length.specs.Rows.{Answer, OfBlock, OfCommands, OfStretch, answer, answers, mutedCall, RowsAlike}
+use Rattle.theorems_sound_length.specs.Rows.{OfBlock, OfCommands, OfStretch, answer, answers, mutedCall, RowsAlike}
 use Rattle.theorems_sound_length.proofs.Windows.{muted-ours}
 use Rattle.theorems_sound_length.proofs.Calls.{commands-alike, takes-alike, blocks-alike, mixes-alike}
 

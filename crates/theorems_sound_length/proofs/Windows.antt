@@ -11,7 +11,6 @@ use lib.Ieee.{Float}
 use Rattle.numbers.specs.Lists.{all}
 use Rattle.resampler.specs.declared.RecentFrame.{RecentFrame}
 use Rattle.resampler.specs.declared.Resampler.{Resampler}
-use Rattle.resampler.specs.declared.MaybeFrame.{MaybeFrame}
 use Rattle.resampler.specs.declared.MaybeFrame.the-variants.{Absent, Present}
 use Rattle.resampler.specs.Windows.{blank, given-entry, push, zeroFrame, numbered, windowed, heardNumber}
 use Rattle.frame.specs.declared.Frame.{Frame}
@@ -73,7 +72,7 @@ pub muted-heard : (w : Resampler) → heardNumber (mutedWindow w) ≡ heardNumbe
 muted-heard w = ap (λ (r : RecentFrame). r .«frame_index») (muted-index (w .«time_until_empty») (w .frames) 1)
 
 -- what moves, with other entries in its window
-abbrev entered : Moving → List RecentFrame → Moving
+abbrev pub entered : Moving → List RecentFrame → Moving
 entered m rs = record { state = m .state; transport = m .transport; resampler = record { frames = rs; «time_until_empty» = m .resampler .«time_until_empty» }; wraps = m .wraps }
 
 moving-twice : (m : Moving) → mutedMoving (mutedMoving m) ≡ mutedMoving m

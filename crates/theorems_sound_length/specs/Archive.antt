@@ -1,5 +1,5 @@
--- The same of the archive's own entries, on records of numbers: a record that differs in nothing but samples, and a row of calls as
--- crates/theorems/specs/ArchiveInTheLoop.antt has them. Blocks whose numbers are given once are blocks over lanes that repeat them.
+-- The same of the archive's own entries, on records of numbers; rows of calls are those of
+-- crates/theorems/specs/ArchiveInTheLoop.antt. A block with five numbers is a block over lanes that repeat them.
 use mathlib.Core.Path.{_≡_}
 use mathlib.Core.List.{List, [], _∷_, map}
 use lib.Ieee.{Float}
@@ -22,8 +22,9 @@ use Rattle.theorems_sound_length.specs.Lengths.{SameLength}
 abbrev pub mutedEntryC : CableowlEntry → CableowlEntry
 mutedEntryC e = record { left = positiveZero; right = positiveZero; number = e .number }
 
-abbrev pub mutedState : CableowlState → CableowlState
-mutedState c =
+-- the record with other entries in its window
+abbrev pub withWindow : CableowlState → List CableowlEntry → CableowlState
+withWindow c es =
     record {
       «sample_rate» = c .«sample_rate»;
       state = c .state;
@@ -41,10 +42,13 @@ mutedState c =
       «loop_end» = c .«loop_end»;
       «playback_rate» = c .«playback_rate»;
       fraction = c .fraction;
-      window = onFirst mutedEntryC (c .count) (c .window);
+      window = es;
       «forward_wraps» = c .«forward_wraps»;
       «backward_wraps» = c .«backward_wraps»;
     }
+
+abbrev pub mutedState : CableowlState → CableowlState
+mutedState c = withWindow c (onFirst mutedEntryC (c .count) (c .window))
 
 abbrev pub AlikeButForSamplesC : CableowlState → CableowlState → Type 0
 AlikeButForSamplesC c d = mutedState c ≡ mutedState d
@@ -56,7 +60,13 @@ abbrev pub mutedCommandedC : CableowlCommanded → CableowlCommanded
 mutedCommandedC a = record { state = mutedState (a .state); position = a .position; refusal = a .refusal }
 
 abbrev pub mutedProcessedC : CableowlProcessed → CableowlProcessed
-mutedProcessedC a = record { state = mutedState (a .state); steps = a .steps; refusal = a .refusal; «lowest_count» = a .«lowest_count» }
+mutedProcessedC a =
+    record {
+      state = mutedState (a .state);
+      steps = a .steps;
+      refusal = a .refusal;
+      «lowest_count» = a .«lowest_count»;
+    }
 
 -- ---- creation
 

@@ -1,5 +1,5 @@
--- A sound's samples do not matter to anything but samples. Two sounds of equal length and the same calls give the same refusals, steps, lowest counts and positions,
--- and voices that differ in nothing but samples of the sound in their windows. So a trace can be replayed and audited without the sound that was played.
+-- Two sounds of equal length and the same calls give the same refusals, steps, lowest counts and positions, and voices
+-- that differ in nothing but samples in their windows. So a trace can be replayed and audited without its sound.
 use Prim.Native.Nat.{ℕ}
 use mathlib.Core.Path.{_≡_}
 use mathlib.Core.List.{List}
@@ -13,6 +13,7 @@ use Rattle.sound_commands.specs.declared.Commands.{Commands}
 use Rattle.sound_commands.specs.Commands.{commanded}
 use Rattle.sound_held.specs.declared.Held.{Held}
 use Rattle.sound_block.specs.declared.Signals.{Signals}
+use Rattle.sound_slow_path.specs.Plays.{Outcome}
 use Rattle.static_sound.specs.Entries.{processed, processedInto, processedHeld, processedHeldInto}
 use Rattle.loop_table.specs.declared.LoopTable.{LoopTable}
 use Rattle.take_loop.specs.Taking.{taken}
@@ -46,27 +47,33 @@ TakesAlike =
     (snd other : List Float) (v w : StaticSound) (t : LoopTable) (k : ℕ)
     → OtherSound snd other v w → mutedCommanded (taken snd t k v) ≡ mutedCommanded (taken other t k w)
 
+-- the answers of two blocks, without samples
+abbrev pub AnswersAlike : Outcome → Outcome → Type 0
+AnswersAlike o p = mutedProcessed (o .answer) ≡ mutedProcessed (p .answer)
+
 abbrev pub BlocksAlike : Type 0
 BlocksAlike =
     (snd other : List Float) (v w : StaticSound) (dt : Float) (b : Lanes) (g : Signals) (out into : List Float)
     → OtherBlock snd other v w out into
-    → mutedProcessed (processed snd v dt b g out .answer) ≡ mutedProcessed (processed other w dt b g into .answer)
+    → AnswersAlike (processed snd v dt b g out) (processed other w dt b g into)
 
 abbrev pub MixesAlike : Type 0
 MixesAlike =
-    (snd other : List Float) (v w : StaticSound) (dt : Float) (b : Lanes) (g : Signals) (mix into : List Float) (from : ℕ)
+    (snd other : List Float) (v w : StaticSound) (dt : Float) (b : Lanes) (g : Signals)
+    (mix into : List Float) (from : ℕ)
     → OtherBlock snd other v w mix into
-    → mutedProcessed (processedInto snd v dt b g mix from .answer) ≡ mutedProcessed (processedInto other w dt b g into from .answer)
+    → AnswersAlike (processedInto snd v dt b g mix from) (processedInto other w dt b g into from)
 
 -- blocks whose five numbers are given once
 abbrev pub HeldAlike : Type 0
 HeldAlike =
     (snd other : List Float) (v w : StaticSound) (dt : Float) (x : Held) (g : Signals) (out into : List Float)
     → OtherBlock snd other v w out into
-    → mutedProcessed (processedHeld snd v dt x g out .answer) ≡ mutedProcessed (processedHeld other w dt x g into .answer)
+    → AnswersAlike (processedHeld snd v dt x g out) (processedHeld other w dt x g into)
 
 abbrev pub HeldMixesAlike : Type 0
 HeldMixesAlike =
-    (snd other : List Float) (v w : StaticSound) (dt : Float) (x : Held) (g : Signals) (mix into : List Float) (from n : ℕ)
+    (snd other : List Float) (v w : StaticSound) (dt : Float) (x : Held) (g : Signals)
+    (mix into : List Float) (from n : ℕ)
     → OtherBlock snd other v w mix into
-    → mutedProcessed (processedHeldInto snd v dt x g mix from n .answer) ≡ mutedProcessed (processedHeldInto other w dt x g into from n .answer)
+    → AnswersAlike (processedHeldInto snd v dt x g mix from n) (processedHeldInto other w dt x g into from n)

@@ -1,6 +1,6 @@
 -- A voice, an answer or a call without samples: each sample that comes from a sound is replaced by +0.
--- Pushes without a frame put +0 frames into the window, whatever the sound, and a well formed voice has them from its count on.
--- So muting replaces only the entries before the count: what is left tells whether the voice is well formed.
+-- Pushes without a frame put +0 frames into the window, whatever the sound, and a well formed voice has them
+-- from its count on. So muting replaces only the entries before the count: the others show whether it is well formed.
 use Prim.Native.Nat.{ℕ, zero, suc}
 use mathlib.Core.Path.{_≡_}
 use mathlib.Core.List.{List, [], _∷_, map}
@@ -28,10 +28,20 @@ onFirst f (suc t) [] = []
 onFirst f (suc t) (x ∷ xs) = f x ∷ onFirst f t xs
 
 abbrev pub mutedWindow : Resampler → Resampler
-mutedWindow w = record { frames = onFirst mutedEntry (w .«time_until_empty») (w .frames); «time_until_empty» = w .«time_until_empty» }
+mutedWindow w =
+    record {
+      frames = onFirst mutedEntry (w .«time_until_empty») (w .frames);
+      «time_until_empty» = w .«time_until_empty»;
+    }
 
 abbrev pub mutedMoving : Moving → Moving
-mutedMoving m = record { state = m .state; transport = m .transport; resampler = mutedWindow (m .resampler); wraps = m .wraps }
+mutedMoving m =
+    record {
+      state = m .state;
+      transport = m .transport;
+      resampler = mutedWindow (m .resampler);
+      wraps = m .wraps;
+    }
 
 abbrev pub muted : StaticSound → StaticSound
 muted v =
@@ -56,7 +66,13 @@ abbrev pub mutedCommanded : Commanded → Commanded
 mutedCommanded a = record { refusal = a .refusal; sound = muted (a .sound); position = a .position }
 
 abbrev pub mutedProcessed : Processed → Processed
-mutedProcessed a = record { refusal = a .refusal; sound = muted (a .sound); steps = a .steps; «lowest_count» = a .«lowest_count» }
+mutedProcessed a =
+    record {
+      refusal = a .refusal;
+      sound = muted (a .sound);
+      steps = a .steps;
+      «lowest_count» = a .«lowest_count»;
+    }
 
 -- ---- samples that a caller passes
 

@@ -1,6 +1,7 @@
 -- All that is promised of two sounds of equal length: a field a theorem.
 -- The contract of `promised` is this record, so the prover refuses a field that is false or has no proof.
-use Rattle.theorems_sound_length.specs.Lengths.{CreationAlike, CommandsAlike, TakesAlike, BlocksAlike, MixesAlike, HeldAlike, HeldMixesAlike}
+use Rattle.theorems_sound_length.specs.Lengths.{CreationAlike, CommandsAlike, TakesAlike}
+use Rattle.theorems_sound_length.specs.Lengths.{BlocksAlike, MixesAlike, HeldAlike, HeldMixesAlike}
 use Rattle.theorems_sound_length.specs.Rows.{RowsAlike}
 use Rattle.theorems_sound_length.specs.Archive.{CreationAlikeC, RowsAlikeC}
 use Rattle.theorems_sound_length.specs.Witnesses.{Witnesses}

@@ -1,5 +1,6 @@
--- Rows of calls, each with a sound of its own, as crates/theorems/specs/InTheLoop.antt has them. Two rows that differ in nothing but samples, of the sounds and of what
--- was in the outputs, give the same answers without samples, one after the other, and voices that differ in nothing but samples.
+-- Rows of calls, each with a sound of its own, as in crates/theorems/specs/InTheLoop.antt. Two rows that differ in
+-- nothing but samples, of the sounds and of what was in the outputs, give the same answers without samples, one after
+-- the other, and voices that differ in nothing but samples.
 use Prim.Native.Nat.{ℕ}
 use mathlib.Core.Path.{_≡_}
 use mathlib.Core.List.{List, [], _∷_, map}

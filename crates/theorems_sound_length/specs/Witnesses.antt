@@ -1,4 +1,5 @@
--- For each theorem that asks something, an input that meets it: the examples' ten frames, all +0, and ten frames of NaN. The two voices differ in their windows.
+-- For each theorem that asks something, an input that meets it: the examples' ten frames of +0, and ten frames of NaN.
+-- The two voices differ in their windows.
 use mathlib.Core.Bool.{false}
 use mathlib.Core.List.{List, [], _∷_}
 use lib.ListN.{replicate}
@@ -27,7 +28,11 @@ abbrev pub calls : List Float → List Float → List Call
 calls snd into = Command snd stop ∷ Block snd one lanes waiting output ∷ Mix snd one lanes waiting into 1 ∷ []
 
 abbrev pub callsC : List Float → List Float → List CallC
-callsC snd into = archive.Command snd stopC ∷ archive.Block snd one lanes fadedC output ∷ archive.Mix snd one lanes fadedC into 1 ∷ []
+callsC snd into =
+    archive.Command snd stopC
+    ∷ archive.Block snd one lanes fadedC output
+    ∷ archive.Mix snd one lanes fadedC into 1
+    ∷ []
 
 pub record Witnesses : Type 0 where
   pub creation-alike : SameLength ten nans

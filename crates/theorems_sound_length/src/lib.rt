@@ -1,4 +1,4 @@
-// What is promised of two sounds of equal length, as one function's contract: the code is nothing, the proof is every theorem.
+// An empty function whose contract collects the theorems about two sounds of equal length.
 ghost use Rattle.theorems_sound_length.specs.Promises.{Promises};
 
 pub fn promised()
