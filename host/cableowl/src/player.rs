@@ -20,8 +20,9 @@ pub use shared::SharedPlayer;
 pub use tween::Tween;
 
 use self::{
-    playing::Place,
-    queue::{Press, Queue, Seek},
+    block::Place,
+    command::Seek,
+    queue::{Press, Queue},
     room::{Amplitudes, Room, amplitudes},
     tween::{Parameter, Ramp, frames},
 };

@@ -2,7 +2,6 @@
 
 use std::{hint::black_box, time::Duration};
 
-use super::queue::Seek;
 use crate::{EndPosition, Level, PlaybackPosition, Refusal, Region, State, Tween, float_mode};
 
 /// A counter of 32 bits that wraps, as the host reads it now, and how fast it counts.
@@ -43,6 +42,13 @@ pub enum Command {
     StartAfter(Duration),
     /// [`Player::start_at_tick`](crate::Player::start_at_tick).
     StartAtTick(u32, Ticks),
+}
+
+/// A seek, in seconds.
+#[derive(Debug, Clone, Copy, PartialEq)]
+pub enum Seek {
+    By(f64),
+    To(f64),
 }
 
 /// Places are below this frame number: docs/assurance/RULES.md, "Seconds to frames".

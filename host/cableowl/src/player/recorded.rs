@@ -1,25 +1,13 @@
 //! A player that is recorded as it plays: its constant stretches become the records of a trace.
 
-use super::{Command, Player, Tween, playing::Place};
+use super::{
+    Command, Player, Tween,
+    block::{Place, Watch},
+};
 use crate::{
     Commands, Processed, Refusal, Settings, StaticSound,
     trace::{Block, Line, Record, Recorded, ShortSound, write},
 };
-
-/// Who learns what a player's voice is told and given.
-pub trait Watch {
-    /// Whether a block must be one that a record can hold; then `played` is called.
-    const RECORDS: bool = false;
-
-    /// The voice was told these.
-    fn told(&mut self, _: Commands) {}
-
-    /// The voice, as it is now, played this block.
-    fn played(&mut self, _: Result<Block, Refusal>, _: &StaticSound, _: Processed) {}
-}
-
-/// Nobody.
-impl Watch for () {}
 
 /// A [`Player`] over a sound of at most 64 frames that plays and is recorded in one go, into a lent
 /// buffer (docs/formats/TRACE.md).
