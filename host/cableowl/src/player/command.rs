@@ -63,9 +63,9 @@ pub fn frames_of(state: &State, region: Region) -> Result<(u64, u64), Refusal> {
         PlaybackPosition::Samples(samples) => Some(samples as u64),
         PlaybackPosition::Seconds(seconds) if seconds.is_finite() => {
             let rate = f64::from(state.sample_rate);
-            let product = float_mode::plain(|| black_box(black_box(seconds) * rate));
             // Below 0 it is 0.
-            Some(product.min(FRAME_LIMIT).round() as u64)
+            let frame = |seconds: f64| (seconds * rate).min(FRAME_LIMIT).round() as u64;
+            Some(float_mode::plain(|| black_box(frame(black_box(seconds)))))
         }
         PlaybackPosition::Seconds(_) => None,
     };
