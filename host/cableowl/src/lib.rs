@@ -113,6 +113,11 @@ pub use static_sound::{Processed, StaticSound, Usage};
 #[doc = include_str!("../../../README.md")]
 pub struct Readme;
 
+/// The examples of docs/guide/PLAYER.md, tried with the others.
+#[cfg(doctest)]
+#[doc = include_str!("../../../docs/guide/PLAYER.md")]
+pub struct PlayerGuide;
+
 /// The most frames a block may have.
 pub const MAX_BLOCK_FRAMES: usize = 4_096;
 

@@ -6,6 +6,7 @@
 pub mod records;
 
 use std::fs;
+use std::iter;
 use std::path::Path;
 
 /// What every source of every crate below `crates/` has, crate by crate.
@@ -112,11 +113,16 @@ impl Told {
         }
     }
 
-    /// What a function's line among the laws says.
-    fn law(&self, path: &str) -> Option<&str> {
-        let start = format!("pub {} : ", law_of(path));
-        let mut lines = self.laws.lines().map(str::trim_start);
-        lines.find_map(|line| line.strip_prefix(start.as_str()))
+    /// What a function's law says, on one line. A law ends before the next field and before a comment.
+    fn law(&self, path: &str) -> Option<String> {
+        let start = format!("pub {} :", law_of(path));
+        let mut lines = self.laws.lines().map(str::trim);
+        let first = lines.find_map(|line| line.strip_prefix(start.as_str()))?;
+        let ends =
+            |line: &str| line.is_empty() || ["pub ", "--"].iter().any(|w| line.starts_with(w));
+        let more = lines.take_while(|line| !ends(line));
+        let law: Vec<_> = iter::once(first).chain(more).collect();
+        Some(law.join(" ").trim_start().to_string())
     }
 
     /// Whether the last table of docs/EXCEPTIONS.md has a row of this name.
@@ -260,7 +266,7 @@ impl Function {
 /// A row of docs/EXCEPTIONS.md that names callers.
 pub struct Asking {
     pub path: String,
-    /// whether it stands in the table of public functions, which says who answers for them
+    /// whether its row is in the table of public functions, which says who guarantees what they ask
     pub public: bool,
     pub callers: Vec<String>,
 }
@@ -273,7 +279,7 @@ pub fn callers_told(exceptions: &str) -> Vec<Asking> {
     for line in exceptions.lines() {
         if line.starts_with("| function |") {
             callers_follow = line.ends_with("| called by |");
-            public = line.contains("| who answers for it |");
+            public = line.contains("| who guarantees it |");
         }
         if !callers_follow || !line.starts_with("| `") {
             continue;
