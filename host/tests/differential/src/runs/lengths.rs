@@ -58,7 +58,9 @@ pub fn lengths(
         }
         // A state that is not well formed is given once: a voice is created next.
         states = a.state.zip(b.state).filter(|(state, _)| {
-            a.refusal != 1 && state.sample_rate > 0 && !(random.one_in(50) || is_over(random, state))
+            a.refusal != 1
+                && state.sample_rate > 0
+                && !(random.one_in(50) || is_over(random, state))
         });
         seen.other_samples += u64::from(states.is_some_and(|(a, b)| !is_identical(&a, &b)));
     }
@@ -73,7 +75,10 @@ fn is_over(random: &mut Random, state: &State) -> bool {
 /// A sound, and one of as many samples: any bits, or one sample throughout.
 fn two_sounds(random: &mut Random) -> [Arc<Sound>; 2] {
     let sound = any::short_sound(random);
-    let same = any::one_of(random, &[0.0, -0.0, f32::NAN, f32::INFINITY, f32::MAX, 1e-45]);
+    let same = any::one_of(
+        random,
+        &[0.0, -0.0, f32::NAN, f32::INFINITY, f32::MAX, 1e-45],
+    );
     let throughout = random.coin();
     let other = sound.samples().iter().map(|_| {
         let bits = f32::from_bits(random.word() as u32);
