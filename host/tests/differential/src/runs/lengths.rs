@@ -102,10 +102,7 @@ fn asks(random: &mut Random, sound: &Sound, states: Option<(State, State)>) -> [
         1 | 2 => {
             let mut commands = any::commands(random, &one);
             commands.stop &= random.one_in(4);
-            [
-                Ask::Command(one, commands.clone()),
-                Ask::Command(other, commands),
-            ]
+            [Ask::Command(one, commands), Ask::Command(other, commands)]
         }
         _ => {
             let n = any::length(random).min(64);
