@@ -195,12 +195,25 @@ pub mod entries {
             out: *mut u8,
             out_length: usize,
         ) -> CableowlSaved;
+        /// A replay before any record.
+        pub safe fn cableowl_replay() -> CableowlReplay;
+        /// The next record of a trace, played.
+        pub fn cableowl_replay_step(
+            replay: CableowlReplay,
+            bytes: *const u8,
+            bytes_length: usize,
+            ended: u32,
+            sound: *mut f32,
+            sound_length: usize,
+            out: *mut f32,
+            out_length: usize,
+        ) -> CableowlReplayed;
     }
 }
 
 pub use entries::{
     cableowl_clear_loop as clear_loop, cableowl_loop_table as loop_table,
-    cableowl_read_loop as read_loop, cableowl_write_loop as write_loop,
+    cableowl_read_loop as read_loop, cableowl_replay as replay, cableowl_write_loop as write_loop,
 };
 
 /// The version of the entries.
@@ -401,4 +414,28 @@ pub fn write_record(buffer: &mut [u8], at: u64, kind: u64, values: &[u64; 80]) -
 pub fn salvage(bytes: &[u8], out: &mut [u8]) -> CableowlSaved {
     // SAFETY: each pointer and length are those of a lent slice, the second lent for writing.
     unsafe { entries::cableowl_salvage(bytes.as_ptr(), bytes.len(), out.as_mut_ptr(), out.len()) }
+}
+
+/// The next record of a trace, played.
+#[must_use]
+pub fn replay_step(
+    replay: CableowlReplay,
+    bytes: &[u8],
+    ended: u32,
+    sound: &mut [f32],
+    out: &mut [f32],
+) -> CableowlReplayed {
+    // SAFETY: each pointer and length are those of a lent slice, the last two lent for writing.
+    unsafe {
+        entries::cableowl_replay_step(
+            replay,
+            bytes.as_ptr(),
+            bytes.len(),
+            ended,
+            sound.as_mut_ptr(),
+            sound.len(),
+            out.as_mut_ptr(),
+            out.len(),
+        )
+    }
 }
