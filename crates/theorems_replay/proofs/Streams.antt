@@ -30,11 +30,11 @@ run-on c at [] (suc k) h = none (omega arith)
 run-on c at (b ∷ bs) (suc k) h = let e : suc at + k ≡ at + suc k = omega arith in run-on c (suc at) bs k (omega arith) ∙ ap (λ (z : ℕ). printed c z 0 (drop k bs)) e
 
 -- a run that goes on has passed a record
-record Sized (s : Step) (n : ℕ) : Type 0 where
-  some : 1 ≤ s .size
-  few : s .size ≤ n
+pub record Sized (s : Step) (n : ℕ) : Type 0 where
+  pub some : 1 ≤ s .size
+  pub few : s .size ≤ n
 
-sized : (c : Course) (at : ℕ) (bs : List ℕ) → Small bs → judged c at (recordAt bs 0) .over ≡ false → Sized (judged c at (recordAt bs 0)) (length bs)
+pub sized : (c : Course) (at : ℕ) (bs : List ℕ) → Small bs → judged c at (recordAt bs 0) .over ≡ false → Sized (judged c at (recordAt bs 0)) (length bs)
 unfolding judged recordAt valued
 sized c at bs s o = go (readRecord bs) refl o
   where

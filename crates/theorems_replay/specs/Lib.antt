@@ -3,6 +3,7 @@ pub mod Streams
 pub mod Cuts
 pub mod Example
 pub mod Lengths
+pub mod Archive
 pub mod Coincide
 pub mod Witnesses
 pub mod Promises
