@@ -8,8 +8,12 @@ use lib.Dec.{eqb, leb}
 use lib.ListN.{length, take, drop, replicate, getD, length-replicate, length-append, length-drop}
 use lib.Seq.{sets, length-sets, length-take-le}
 use lib.Ieee.{Float}
-use borrow.Author.Tests.{eq-eqb, eqb-false, ne-eqb, le-leb}
+use borrow.Author.Tests.{eq-eqb, eqb-true, eqb-false, le-leb}
 use Rattle.numbers.specs.Words.{positiveZero}
+use Rattle.byte_layout.specs.Numbers.{num}
+use Rattle.byte_layout.specs.Rows as layout
+use Rattle.byte_layout.specs.Rows.{rowAt, stands}
+use Rattle.byte_layout.specs.Reads.{taken, step, steps}
 use Rattle.byte_layout.proofs.Numbers.{Small}
 use Rattle.sound_lanes.specs.Lanes.{Lanes, rows}
 use Rattle.sound_lanes.proofs.Rows.{beside-length}
@@ -31,7 +35,8 @@ use Rattle.trace_inputs.specs.Inputs.{settingsOf, stereo, samplesOf, commandsOf
 use Rattle.trace_inputs.proofs.Samples.{at-most-le}
 use Rattle.trace_lines.specs.Lines.{blockLine, refusedBlockLine, refusedLine}
 use Rattle.trace_records.specs.declared.Record.{Record}
-use Rattle.trace_records.specs.Records.{recordAt}
+use Rattle.trace_records.specs.Tables.{headTable, headRows}
+use Rattle.trace_records.specs.Records.{bodied, readRecord, valued, recordAt}
 use Rattle.trace_records.proofs.Windows.{window}
 use Rattle.trace_replay.specs.Runs as below
 use Rattle.trace_replay.specs.Runs.{Course, Turn, answered, lineOf, stepOf, printed}
@@ -46,7 +51,8 @@ use Rattle.cableowl.specs.Replays.{
   refusedStep, steppedC}
 use Rattle.cableowl.proofs.ReplaySteps.{prefix, few-frames}
 use Rattle.theorems_replay.specs.Archive.{
-  blockLineC, lineC, printedC, ArchiveReplays, ThreeFramesC, LinesAlikeC, StreamsC, Fit, CutStepsC}
+  blockLineC, lineC, printedC, ArchiveReplays, ThreeFramesC, LinesAlikeC, StreamsC, Fit, BlockAt, CutStepsC}
+use Rattle.theorems_replay.specs.Cuts.{blockNumbers, Lines}
 use Rattle.theorems_replay.proofs.Streams.{Sized, sized}
 use Rattle.theorems_replay.proofs.Cuts.{cut-records}
 use Rattle.theorems_replay.proofs.Example.{three-frames}
@@ -252,10 +258,10 @@ turn-goes r snd out f d = go (eqb (d .kind) 1) (eqb (d .kind) 2)
 
 -- ---- the whole trace
 
-goes-on : (r : CableowlReplay) (snd out : List Float) (b : ℕ) (bs : List ℕ) → Fit r snd out
-    → steppedC r (b ∷ bs) 1 snd out ≡ judged r 1 (recordAt (b ∷ bs) 0) snd out
+pub goes-on : (r : CableowlReplay) (snd out : List Float) (ended b : ℕ) (bs : List ℕ) → Fit r snd out
+    → steppedC r (b ∷ bs) ended snd out ≡ judged r ended (recordAt (b ∷ bs) 0) snd out
 unfolding steppedC begun refusedStep
-goes-on r snd out b bs f =
+goes-on r snd out ended b bs f =
     rw (eq-eqb (r .reader) 1 (f .reads), eq-eqb (r .given) 0 (f .alone), le-leb (r .samples) (length snd) (f .inside),
       le-leb 128 (length snd) (f .room), le-leb 2048 (length out) (f .output)) refl
 
@@ -331,12 +337,12 @@ replays [] s k at r snd out f o l = refl
 replays (b ∷ bs) s (suc k) at r snd out f o l =
     replays bs (small-rest b bs s) k (suc at) r snd out f (omega (arith, o)) (omega (arith, l))
 replays (b ∷ bs) s zero at r snd out f o l =
-    ap (onwardC bs) (goes-on r snd out b bs f)
+    ap (onwardC bs) (goes-on r snd out 1 b bs f)
     ∙ judged-replays r snd out f at bs (recordAt (b ∷ bs) 0) (replays bs (small-rest b bs s)) (omega (arith, o)) (omega (arith, l))
     (sized (courseC r snd) at (b ∷ bs) s)
 
 -- before any record
-blank-fit : (snd out : List Float) → 128 ≤ length snd → 2048 ≤ length out → Fit blankReplay snd out
+pub blank-fit : (snd out : List Float) → 128 ≤ length snd → 2048 ≤ length out → Fit blankReplay snd out
 blank-fit snd out h k = record { reads = refl; alone = refl; inside = omega arith; room = h; output = k }
 
 blank-means : (snd : List Float) → courseC blankReplay snd ≡ below.blank
@@ -399,3 +405,119 @@ passed b bs o h =
     ap (λ (l : List ℕ). lineC a ++ cond (eqb (a .what) 0) l [])
     (run-on (a .replay) (o .sound) (o .samples) (a .size - 1) bs
     ∙ ap (λ (n : ℕ). printedC (a .replay) (o .sound) (o .samples) 0 (drop n (b ∷ bs))) q)
+
+-- what is left of an answer other than 1: the record that a step is shown decides, and whether more bytes may come does not
+any-end : (r : CableowlReplay) (ended : ℕ) (d : Record) (snd out : List Float) → (judged r ended d snd out .answer .what ≡ 1 → ⊥)
+    → judged r ended d snd out ≡ judged r 1 d snd out
+unfolding judged
+any-end r ended d snd out = go (eqb (d .refusal) 0) (eqb (d .refusal) 18) (eqb ended 0)
+  where
+    by : Bool → Bool → Bool → StepC
+    by z w e =
+        cond z (turned r d snd out)
+        (record { answer = cond (w && e) (unplayed r 1 0) (unplayed r 3 (d .refusal)); sound = snd; samples = out })
+
+    go : (z w e : Bool) → (by z w e .answer .what ≡ 1 → ⊥) → by z w e ≡ by z w false
+    go true w e h = refl
+    go false true true h = none (h refl)
+    go false true false h = refl
+    go false false e h = refl
+
+-- a step that is shown a record: the call is refused, or the record is judged
+abbrev shown : CableowlReplay → Bool → ℕ → ℕ → List Float → List Float → Record → StepC
+shown r z k ended snd out d = cond z (judged r ended d snd out) (record { answer = unplayed r 4 k; sound = snd; samples = out })
+
+same-step : (r : CableowlReplay) (z : Bool) (k ended : ℕ) (snd out : List Float) (d : Record)
+    → (shown r z k ended snd out d .answer .what ≡ 1 → ⊥) → shown r z k ended snd out d ≡ shown r z k 1 snd out d
+same-step r true k ended snd out d h = any-end r ended d snd out h
+same-step r false k ended snd out d h = refl
+
+-- the line of the step, then the rest
+first-line : (r : CableowlReplay) (z : Bool) (k : ℕ) (snd out : List Float) (b : ℕ) (bs : List ℕ) → Small (b ∷ bs)
+    → let o = shown r z k 1 snd out (recordAt (b ∷ bs) 0) in onwardC bs o ≡ firstlyC (b ∷ bs) o
+unfolding judged
+first-line r false k snd out b bs s = refl
+first-line r true k snd out b bs s = go (eqb (d .refusal) 0) refl (eqb (d .refusal) 18)
+  where
+    d : Record
+    d = recordAt (b ∷ bs) 0
+
+    by : Bool → Bool → StepC
+    by z w =
+        cond z (turned r d snd out)
+        (record { answer = cond (w && false) (unplayed r 1 0) (unplayed r 3 (d .refusal)); sound = snd; samples = out })
+
+    go : (z : Bool) → eqb (d .refusal) 0 ≡ z → (w : Bool) → onwardC bs (by z w) ≡ firstlyC (b ∷ bs) (by z w)
+    go true e w =
+        passed b bs (turned r d snd out)
+        (omega (arith, turned-size r d snd out, some-bytes (b ∷ bs) s (eqb-true (d .refusal) 0 e)))
+    go false e true = refl
+    go false e false = refl
+
+pub streams-c : StreamsC
+unfolding steppedC begun printedC lineC
+streams-c r snd out ended zero bs x = none (let h = x .wide in omega arith)
+streams-c r snd out ended (suc w) [] x = go (eqb (refusedStep r (length snd) (length out)) 0) (eqb ended 0)
+  where
+    by : Bool → Bool → StepC
+    by z e =
+        cond z (record { answer = cond e (unplayed r 1 0) (unplayed r 2 0); sound = snd; samples = out })
+        (record { answer = unplayed r 4 (refusedStep r (length snd) (length out)); sound = snd; samples = out })
+
+    go : (z e : Bool) → [] ≡ firstlyC [] (by z e)
+    go true true = refl
+    go true false = refl
+    go false e = refl
+streams-c r snd out ended (suc w) (b ∷ bs) x =
+    let h = x .wide in
+    let k = refusedStep r (length snd) (length out) in
+    let z = eqb k 0 in
+    let q = window (b ∷ bs) 0 (suc w) (omega arith) in
+    let e = ap (shown r z k ended snd out) q in
+    first-line r z k snd out b bs (x .bytes)
+    ∙ ap (firstlyC (b ∷ bs)) (sym (e ∙ same-step r z k ended snd out (recordAt (b ∷ bs) 0)
+      (λ i. x .answers (ap (λ (o : StepC). o .answer .what) e ∙ i))))
+
+-- ---- a traced block cut in two
+
+-- no bytes begin with a block
+no-bytes : (vs : List ℕ) → BlockAt [] vs → ⊥
+unfolding recordAt valued readRecord bodied steps step taken stands num headRows layout.rows rowAt headTable
+no-bytes vs e = let z : _≡_ {A = ℕ} 18 0 = ap (λ (d : Record). d .refusal) e in omega (arith, z)
+
+abbrev blockRecord : List ℕ → Record
+blockRecord vs = record { refusal = 0; kind = 3; next = 42; values = vs }
+
+module _ (r : CableowlReplay) (snd out : List Float) (f : Fit r snd out) (ended : ℕ) where
+  step-is : (bs vs : List ℕ) → BlockAt bs vs → steppedC r bs ended snd out ≡ turned r (blockRecord vs) snd out
+  unfolding judged
+  step-is [] vs e = none (no-bytes vs e)
+  step-is (b ∷ bs) vs e = goes-on r snd out ended b bs f ∙ ap (λ (d : Record). judged r ended d snd out) e
+
+  step-goes : (bs vs : List ℕ) → BlockAt bs vs → Goes (steppedC r bs ended snd out) r 42 (below.after (courseC r snd) 3 vs)
+  step-goes bs vs e = rw (step-is bs vs e) (turn-goes r snd out f (blockRecord vs))
+
+  pub step-refusal : (bs vs : List ℕ) → BlockAt bs vs
+      → steppedC r bs ended snd out .answer .refusal ≡ answered (take (r .samples) snd) (decoded (r .voice)) (blockOf vs) .refusal
+  unfolding turned blockStep blockC
+  step-refusal bs vs e =
+      ap (λ (o : StepC). o .answer .refusal) (step-is bs vs e) ∙ ap (λ (p : Processed). p .refusal) (same r snd out f 42 vs)
+
+lines-as : (i k m : ℕ) (a b c x y z : List ℕ) → a ≡ x → b ≡ y → c ≡ z → Lines i k m x y z → Lines i k m a b c
+lines-as i k m a b c x y z e f g h = rw (e, f, g) h
+
+pub cut-steps-c : CutStepsC
+cut-steps-c q snd out ended xs ys zs k m a v l r p t f s u i =
+    let c = courseC q snd in
+    let one = blockNumbers k a v l r p t f s u in
+    let two = blockNumbers m a v l r p t 0 0 0 in
+    let o = steppedC q ys ended snd out in
+    let ga = step-goes q snd out (i .fit) ended xs (blockNumbers (k + m) a v l r p t f s u) (i .uncut) in
+    let g1 = step-goes q snd out (i .fit) ended ys one (i .first) in
+    let g2 = step-goes (o .answer .replay) (o .sound) (o .samples) (g1 .fit) ended zs two (i .rest) in
+    lines-as (q .blocks) k m _ _ _ _ _ _ (ga .line) (g1 .line)
+    (g2 .line ∙ ap (λ (d : Course). below.after d 3 two .line) (g1 .course))
+    (cut-records c k m a v l r p t f s u (record {
+      few = i .few;
+      accepted = sym (step-refusal q snd out (i .fit) ended xs _ (i .uncut)) ∙ i .accepted;
+    }))

@@ -1,25 +1,106 @@
 -- What is asked, at its inputs: by computing. Assumes nothing.
-use mathlib.Core.Path.{_≡_, refl}
+use mathlib.Core.Path.{_≡_, refl, ap, _∙_}
+use Prim.Native.Nat.{ℕ, _≤_}
 use native.Mathlib.Omega.{arith}
+use mathlib.Core.List.{List, _∷_}
+use lib.Dec.{T}
+use lib.ListN.{length, drop, length-replicate}
 use lib.Ieee.{mul, lt, le, eq, ofInt, ofBits, nanBits}
 use Rattle.float_bits.specs.Patterns.{floatOf}
-use Rattle.byte_layout.proofs.Numbers.{small-of}
+use Rattle.byte_layout.specs.Numbers.{num}
+use Rattle.byte_layout.specs.Rows.{rowAt, rows, stands, within}
+use Rattle.byte_layout.specs.Reads.{taken, step, steps}
+use Rattle.byte_layout.proofs.Numbers.{areSmall, small-of}
+use Rattle.trace_records.specs.declared.Record.{Record}
+use Rattle.trace_records.specs.Tables.{headTable, blockTable, headRows, blockRows}
+use Rattle.trace_records.specs.Records.{possible, bodied, readRecord, valued, recordAt}
+use Rattle.trace_records.specs.Records as records
 use Rattle.trace_inputs.specs.Inputs.{blockOf}
 use Rattle.numbers.specs.Frames.{rounded}
-use Rattle.numbers.specs.Words.{magnitude, advance}
+use Rattle.numbers.specs.Words.{magnitude, positiveZero, advance}
 use Rattle.playback_position.specs.Positions.{placed, ended, stretched, lawfulRegion}
+use Rattle.sound_state.specs.declared.StaticSound.{StaticSound}
 use Rattle.sound_state.specs.WellFormed.{ours, wellFormed}
 use Rattle.sound_creation.specs.Creation.{refusedNew, made, created}
 use Rattle.static_sound.specs.Entries.{refusedBlock, processed}
 use Rattle.trace_replay.specs.Runs.{answered}
+use Rattle.theorems.specs.Examples.{ten}
+use Rattle.theorems.specs.Witnesses.{voice}
+use Rattle.c_state.proofs.Inverse.{decoded-encoded}
+use Rattle.cableowl.specs.Replays.{StepC, blankReplay, creationC, turned, judged, steppedC}
 use Rattle.theorems_replay.specs.Cuts.{MayCutRecord, blockNumbers}
 use Rattle.theorems_replay.specs.Example.{threeFrames}
-use Rattle.theorems_replay.specs.Witnesses.{evening, Witnesses}
+use Rattle.theorems_replay.specs.Witnesses.{threeNans, evening, lentSound, lentOutput, going, plainBlock, Witnesses}
+use Rattle.theorems_replay.specs.Archive.{Lent, Fit, BlockAt}
+use Rattle.theorems_replay.proofs.Archive.{goes-on, blank-fit, step-refusal}
+use Rattle.theorems_replay.proofs.Example.{creation-read}
 use Rattle.theorems_replay.proofs.OtherSamples.{same-but-for-samples}
+
+-- two frames and one at full volume, rate 1 and 1 Hz, without signals
+abbrev plainNumbers : ℕ → List ℕ
+plainNumbers n = blockNumbers n 1065353216 1065353216 1065353216 1065353216 4607182418800017408 4607182418800017408 0 0 0
+
+room : 128 ≤ length lentSound
+room = omega (arith, length-replicate 128 positiveZero)
+
+space : 2048 ≤ length lentOutput
+space = omega (arith, length-replicate 2048 positiveZero)
 
 accepted : answered (evening .sound) (evening .voice) (blockOf (blockNumbers 2 1065353216 1065353216 1065353216 1065353216 4607182418800017408 4607182418800017408 0 0 0)) .refusal ≡ 0
 unfolding answered processed refusedBlock ours wellFormed created made refusedNew placed ended stretched lawfulRegion rounded magnitude advance blockOf floatOf mul lt le eq ofInt ofBits nanBits
 accepted = refl
 
+-- ---- of the archive's step
+
+lent : (bs : List ℕ) → T (areSmall bs) → length bs ≡ 97 → Lent lentSound lentOutput bs
+lent bs s l = record { sound = room; output = space; bytes = small-of bs s; short = omega (arith, l) }
+
+creation-shown : steppedC blankReplay threeFrames 0 lentSound lentOutput .answer .what ≡ 0
+unfolding judged turned creationC
+creation-shown =
+    ap (λ (o : StepC). o .answer .what)
+    (goes-on blankReplay lentSound lentOutput 0 165 (drop 1 threeFrames) (blank-fit lentSound lentOutput room space)
+    ∙ ap (λ (d : Record). judged blankReplay 0 d lentSound lentOutput) creation-read)
+
+two-read : BlockAt (plainBlock 2) (plainNumbers 2)
+unfolding recordAt valued readRecord bodied records.ended possible steps step taken stands within num headRows blockRows rows rowAt headTable blockTable
+two-read = refl
+
+one-read : BlockAt (plainBlock 1) (plainNumbers 1)
+unfolding recordAt valued readRecord bodied records.ended possible steps step taken stands within num headRows blockRows rows rowAt headTable blockTable
+one-read = refl
+
+going-fit : Fit going lentSound lentOutput
+going-fit = record { reads = refl; alone = refl; inside = omega (arith, room); room = room; output = space }
+
+going-accepted : steppedC going (plainBlock 2) 0 lentSound lentOutput .answer .refusal ≡ 0
+going-accepted =
+    step-refusal going lentSound lentOutput going-fit 0 (plainBlock 2) (plainNumbers 2) two-read
+    ∙ ap (λ (v : StaticSound). answered ten v (blockOf (plainNumbers 2)) .refusal) (decoded-encoded voice)
+    ∙ accepted
+
 pub witnesses : Witnesses
-witnesses = record { streams = record { bytes = small-of threeFrames tt; wide = omega arith }; cut-records = (record { few = omega arith; accepted = accepted }, tt); lines-alike = same-but-for-samples }
+witnesses =
+    record {
+      streams = record { bytes = small-of threeFrames tt; wide = omega arith };
+      cut-records = (record { few = omega arith; accepted = accepted }, tt);
+      lines-alike = same-but-for-samples;
+      archive-replays = lent threeFrames tt refl;
+      streams-c =
+        record {
+          bytes = small-of threeFrames tt;
+          wide = omega arith;
+          answers = λ e. omega (arith, e, creation-shown);
+        };
+      cut-steps-c =
+        record {
+          fit = going-fit;
+          few = omega arith;
+          uncut = two-read;
+          first = one-read;
+          rest = one-read;
+          accepted = going-accepted;
+        };
+      three-frames-c = lent threeFrames tt refl;
+      lines-alike-c = record { first = lent threeFrames tt refl; second = lent threeNans tt refl; same = same-but-for-samples };
+    }

@@ -1,14 +1,20 @@
 -- For each theorem that asks something, an input that meets it: the three-frame example, and the voice of the theorems' witnesses.
 use Prim.Native.Nat.{ℕ}
-use mathlib.Core.List.{List, _++_}
+use mathlib.Core.List.{List, _∷_, _++_}
 use lib.ListN.{take, drop, replicate}
+use lib.Ieee.{Float}
+use Rattle.numbers.specs.Words.{positiveZero}
 use Rattle.theorems.specs.Examples.{ten}
 use Rattle.theorems.specs.Witnesses.{voice}
 use Rattle.trace_replay.specs.Runs.{Course}
+use Rattle.cableowl.specs.declared.replays.CableowlReplay.{CableowlReplay}
+use Rattle.cableowl.specs.Replays.{blankReplay}
+use Rattle.c_state.specs.Records.{encoded}
 use Rattle.theorems_replay.specs.Streams.{Window}
 use Rattle.theorems_replay.specs.Cuts.{Going, MayCutRecord}
 use Rattle.theorems_replay.specs.Example.{threeFrames}
 use Rattle.theorems_replay.specs.Lengths.{SameButForSamples}
+use Rattle.theorems_replay.specs.Archive.{Lent, BothLent, WindowC, MayCutStep}
 
 -- the example's trace with a NaN for each of its six samples, which are the 24 bytes from byte 31 on
 abbrev pub threeNans : List ℕ
@@ -17,8 +23,30 @@ threeNans = take 31 threeFrames ++ (replicate 24 255 ++ drop 55 threeFrames)
 abbrev pub evening : Course
 evening = record { voice = voice; sound = ten; blocks = 0 }
 
+-- buffers as large as a step asks
+abbrev pub lentSound : List Float
+lentSound = replicate 128 positiveZero
+
+abbrev pub lentOutput : List Float
+lentOutput = replicate 2048 positiveZero
+
+-- the voice of the theorems' witnesses, over a sound of ten frames
+abbrev pub going : CableowlReplay
+going = record { voice = encoded voice; samples = 20; blocks = 0; offset = 0; reader = 1; given = 0 }
+
+-- the block record of n frames at full volume, rate 1 and 1 Hz, without signals
+abbrev pub plainBlock : ℕ → List ℕ
+plainBlock n = 165 ∷ 29 ∷ 3 ∷ 37 ∷ 0 ∷ n ∷ drop 61 threeFrames
+
 pub record Witnesses : Type 0 where
   pub streams : Window 575 threeFrames
   -- two frames at full volume, rate 1 and 1 Hz, cut after the first: 1065353216 and 4607182418800017408 are the bits of 1 as an f32 and as an f64
   pub cut-records : MayCutRecord evening 1 1 1065353216 1065353216 1065353216 1065353216 4607182418800017408 4607182418800017408 0 0 0 × Going 0
   pub lines-alike : SameButForSamples threeFrames threeNans
+  pub archive-replays : Lent lentSound lentOutput threeFrames
+  pub streams-c : WindowC blankReplay lentSound lentOutput 0 575 threeFrames
+  pub cut-steps-c :
+      MayCutStep going lentSound lentOutput 0 (plainBlock 2) (plainBlock 1) (plainBlock 1) 1 1
+      1065353216 1065353216 1065353216 1065353216 4607182418800017408 4607182418800017408 0 0 0
+  pub three-frames-c : Lent lentSound lentOutput threeFrames
+  pub lines-alike-c : BothLent lentSound lentOutput lentSound lentOutput threeFrames threeNans
