@@ -47,11 +47,36 @@ use Rattle.cableowl.specs.declared.replays.CableowlReplay.{CableowlReplay}
 use Rattle.cableowl.specs.declared.replays.CableowlReplayed.{CableowlReplayed}
 use Rattle.cableowl.specs.Entries.{after}
 use Rattle.cableowl.specs.Replays.{
-  StepC, blankReplay, more, onward, lanesOf, blockOutcome, unplayed, creationC, commandsC, blockC, blockStep, turned, judged, begun,
-  refusedStep, steppedC}
+  StepC,
+  blankReplay,
+  more,
+  onward,
+  lanesOf,
+  blockOutcome,
+  unplayed,
+  creationC,
+  commandsC,
+  blockC,
+  blockStep,
+  turned,
+  judged,
+  begun,
+  refusedStep,
+  steppedC,
+}
 use Rattle.cableowl.proofs.ReplaySteps.{prefix, few-frames}
 use Rattle.theorems_replay.specs.Archive.{
-  blockLineC, lineC, printedC, ArchiveReplays, ThreeFramesC, LinesAlikeC, StreamsC, Fit, BlockAt, CutStepsC}
+  blockLineC,
+  lineC,
+  printedC,
+  ArchiveReplays,
+  ThreeFramesC,
+  LinesAlikeC,
+  StreamsC,
+  Fit,
+  BlockAt,
+  CutStepsC,
+}
 use Rattle.theorems_replay.specs.Cuts.{blockNumbers, Lines}
 use Rattle.theorems_replay.proofs.Streams.{Sized, sized}
 use Rattle.theorems_replay.proofs.Cuts.{cut-records}
@@ -213,7 +238,7 @@ module _ (r : CableowlReplay) (snd out : List Float) (f : Fit r snd out) (n : �
       heard = block x (b .«time_step») (rows (lanesOf b)) (b .signals) (decoded (r .voice))
 
       go : (t : Bool) → length (cond t (acceptedWith heard (heard .samples)) (refusedWith k (decoded (r .voice)) (take (2 * b .frames) out)) .samples) ≡ 2 * b .frames
-      go true = block-length x (b .«time_step») (rows (lanesOf b)) (b .signals) (decoded (r .voice)) 
+      go true = block-length x (b .«time_step») (rows (lanesOf b)) (b .signals) (decoded (r .voice))
           ∙ ap (λ (i : ℕ). 2 * i) (rows-long (b .fade) (b .volume) (b .left) (b .right) (b .rate) (b .frames))
       go false = length-take-le (2 * b .frames) out (omega (arith, few-frames vs b refl, f .output))
 
@@ -262,8 +287,13 @@ pub goes-on : (r : CableowlReplay) (snd out : List Float) (ended b : ℕ) (bs : 
     → steppedC r (b ∷ bs) ended snd out ≡ judged r ended (recordAt (b ∷ bs) 0) snd out
 unfolding steppedC begun refusedStep
 goes-on r snd out ended b bs f =
-    rw (eq-eqb (r .reader) 1 (f .reads), eq-eqb (r .given) 0 (f .alone), le-leb (r .samples) (length snd) (f .inside),
-      le-leb 128 (length snd) (f .room), le-leb 2048 (length out) (f .output)) refl
+    rw (
+      eq-eqb (r .reader) 1 (f .reads),
+      eq-eqb (r .given) 0 (f .alone),
+      le-leb (r .samples) (length snd) (f .inside),
+      le-leb 128 (length snd) (f .room),
+      le-leb 2048 (length out) (f .output),
+    ) refl
 
 -- the first line, and what is printed behind it
 abbrev onwardC : List ℕ → StepC → List ℕ
@@ -476,7 +506,7 @@ streams-c r snd out ended (suc w) (b ∷ bs) x =
     let e = ap (shown r z k ended snd out) q in
     first-line r z k snd out b bs (x .bytes)
     ∙ ap (firstlyC (b ∷ bs)) (sym (e ∙ same-step r z k ended snd out (recordAt (b ∷ bs) 0)
-      (λ i. x .answers (ap (λ (o : StepC). o .answer .what) e ∙ i))))
+    (λ i. x .answers (ap (λ (o : StepC). o .answer .what) e ∙ i))))
 
 -- ---- a traced block cut in two
 

@@ -87,20 +87,20 @@ witnesses =
       lines-alike = same-but-for-samples;
       archive-replays = lent threeFrames tt refl;
       streams-c =
-        record {
-          bytes = small-of threeFrames tt;
-          wide = omega arith;
-          answers = λ e. omega (arith, e, creation-shown);
-        };
+          record {
+            bytes = small-of threeFrames tt;
+            wide = omega arith;
+            answers = λ e. omega (arith, e, creation-shown);
+          };
       cut-steps-c =
-        record {
-          fit = going-fit;
-          few = omega arith;
-          uncut = two-read;
-          first = one-read;
-          rest = one-read;
-          accepted = going-accepted;
-        };
+          record {
+            fit = going-fit;
+            few = omega arith;
+            uncut = two-read;
+            first = one-read;
+            rest = one-read;
+            accepted = going-accepted;
+          };
       three-frames-c = lent threeFrames tt refl;
       lines-alike-c = record { first = lent threeFrames tt refl; second = lent threeNans tt refl; same = same-but-for-samples };
     }
