@@ -6,7 +6,7 @@ use mathlib.Core.Bool.{Bool, true, false, cond, _&&_}
 use mathlib.Core.List.{List, [], _∷_, _++_}
 use lib.Dec.{eqb, leb}
 use lib.ListN.{length, take, drop, replicate, getD, length-replicate, length-append, length-drop}
-use lib.Seq.{sets, length-sets, length-take-le}
+use lib.Seq.{sets, take-all, length-sets, length-take-le}
 use lib.Ieee.{Float}
 use borrow.Author.Tests.{eq-eqb, eqb-true, eqb-false, le-leb}
 use Rattle.numbers.specs.Words.{positiveZero}
@@ -37,7 +37,6 @@ use Rattle.trace_lines.specs.Lines.{blockLine, refusedBlockLine, refusedLine}
 use Rattle.trace_records.specs.declared.Record.{Record}
 use Rattle.trace_records.specs.Tables.{headTable, headRows}
 use Rattle.trace_records.specs.Records.{bodied, readRecord, valued, recordAt}
-use Rattle.trace_records.proofs.Windows.{window}
 use Rattle.trace_replay.specs.Runs as below
 use Rattle.trace_replay.specs.Runs.{Course, Turn, answered, lineOf, stepOf, printed}
 use Rattle.c_state.specs.declared.CableowlState.{CableowlState}
@@ -75,10 +74,11 @@ use Rattle.theorems_replay.specs.Archive.{
   StreamsC,
   Fit,
   BlockAt,
-  CutStepsC,
+  CutRecordsC,
 }
 use Rattle.theorems_replay.specs.Cuts.{blockNumbers, Lines}
 use Rattle.theorems_replay.proofs.Streams.{Sized, sized}
+use Rattle.theorems_replay.proofs.Narrow.{Shown, cut-off, whole, narrow}
 use Rattle.theorems_replay.proofs.Cuts.{cut-records}
 use Rattle.theorems_replay.proofs.Example.{three-frames}
 use Rattle.theorems_replay.proofs.Lengths.{lines-alike}
@@ -383,11 +383,11 @@ archive-replays snd out bs h =
     replays bs (h .bytes) 0 0 blankReplay snd out (blank-fit snd out (h .sound) (h .output)) refl (omega (arith, h .short))
     ∙ ap (λ (c : Course). printed c 0 0 bs) (blank-means snd)
 
-pub three-frames-c : ThreeFramesC
-three-frames-c snd out h = archive-replays snd out _ h ∙ three-frames
+pub archive-three-frames : ThreeFramesC
+archive-three-frames snd out h = archive-replays snd out _ h ∙ three-frames
 
-pub lines-alike-c : LinesAlikeC
-lines-alike-c snd1 out1 snd2 out2 bs cs h =
+pub archive-lines-alike : LinesAlikeC
+archive-lines-alike snd1 out1 snd2 out2 bs cs h =
     archive-replays snd1 out1 bs (h .first) ∙ lines-alike bs cs (h .same) ∙ sym (archive-replays snd2 out2 cs (h .second))
 
 -- ---- any cutting of the stream of bytes
@@ -484,29 +484,75 @@ first-line r true k snd out b bs s = go (eqb (d .refusal) 0) refl (eqb (d .refus
     go false e true = refl
     go false e false = refl
 
-pub streams-c : StreamsC
-unfolding steppedC begun printedC lineC
-streams-c r snd out ended zero bs x = none (let h = x .wide in omega arith)
-streams-c r snd out ended (suc w) [] x = go (eqb (refusedStep r (length snd) (length out)) 0) (eqb ended 0)
-  where
-    by : Bool → Bool → StepC
-    by z e =
-        cond z (record { answer = cond e (unplayed r 1 0) (unplayed r 2 0); sound = snd; samples = out })
-        (record { answer = unplayed r 4 (refusedStep r (length snd) (length out)); sound = snd; samples = out })
+-- where the end of the record is not shown, the step asks for more bytes, or the call is refused
+waits : (r : CableowlReplay) (ended : ℕ) (snd out : List Float) (d : Record) → d .refusal ≡ 18 → ended ≡ 0
+    → judged r ended d snd out .answer .what ≡ 1
+unfolding judged
+waits r ended snd out d h e = rw (h, e) refl
 
-    go : (z e : Bool) → [] ≡ firstlyC [] (by z e)
-    go true true = refl
-    go true false = refl
-    go false e = refl
-streams-c r snd out ended (suc w) (b ∷ bs) x =
-    let h = x .wide in
+short-window : (r : CableowlReplay) (z : Bool) (k ended : ℕ) (snd out : List Float) (b : ℕ) (bs : List ℕ) (d e : Record)
+    → e .refusal ≡ 18 → ended ≡ 0 → (shown r z k ended snd out e .answer .what ≡ 1 → ⊥)
+    → onwardC bs (shown r z k 1 snd out d) ≡ firstlyC (b ∷ bs) (shown r z k ended snd out e)
+short-window r true k ended snd out b bs d e h i n = none (n (waits r ended snd out e h i))
+short-window r false k ended snd out b bs d e h i n = refl
+
+full-window : (r : CableowlReplay) (z : Bool) (k ended : ℕ) (snd out : List Float) (b : ℕ) (bs : List ℕ) (e : Record) → Small (b ∷ bs)
+    → e ≡ recordAt (b ∷ bs) 0 → (shown r z k ended snd out e .answer .what ≡ 1 → ⊥)
+    → onwardC bs (shown r z k 1 snd out (recordAt (b ∷ bs) 0)) ≡ firstlyC (b ∷ bs) (shown r z k ended snd out e)
+full-window r z k ended snd out b bs e s q n =
+    let p = ap (shown r z k ended snd out) q in
+    first-line r z k snd out b bs s
+    ∙ ap (firstlyC (b ∷ bs)) (sym (p ∙ same-step r z k ended snd out (recordAt (b ∷ bs) 0)
+    (λ i. n (ap (λ (o : StepC). o .answer .what) p ∙ i))))
+
+any-window : (r : CableowlReplay) (z : Bool) (k ended : ℕ) (snd out : List Float) (b : ℕ) (bs : List ℕ) (e : Record) → Small (b ∷ bs)
+    → ((ended ≡ 0 → ⊥) → e ≡ recordAt (b ∷ bs) 0) → Shown (recordAt (b ∷ bs) 0) e
+    → (shown r z k ended snd out e .answer .what ≡ 1 → ⊥)
+    → onwardC bs (shown r z k 1 snd out (recordAt (b ∷ bs) 0)) ≡ firstlyC (b ∷ bs) (shown r z k ended snd out e)
+any-window r z k ended snd out b bs e s a (whole q) n = full-window r z k ended snd out b bs e s q n
+any-window r z k ended snd out b bs e s a (cut-off h) n = go (eqb ended 0) refl
+  where
+    go : (t : Bool) → eqb ended 0 ≡ t
+        → onwardC bs (shown r z k 1 snd out (recordAt (b ∷ bs) 0)) ≡ firstlyC (b ∷ bs) (shown r z k ended snd out e)
+    go true q = short-window r z k ended snd out b bs (recordAt (b ∷ bs) 0) e h (eqb-true ended 0 q) n
+    go false q = full-window r z k ended snd out b bs e s (a (eqb-false ended 0 q)) n
+
+-- a step that is shown no bytes
+abbrev nothing-shown : CableowlReplay → ℕ → List Float → List Float → Bool → Bool → StepC
+nothing-shown r k snd out z e =
+    cond z (record { answer = cond e (unplayed r 1 0) (unplayed r 2 0); sound = snd; samples = out })
+    (record { answer = unplayed r 4 k; sound = snd; samples = out })
+
+pub archive-streams : StreamsC
+unfolding steppedC begun printedC lineC
+archive-streams r snd out ended w [] x = go w
+  where
+    k : ℕ
+    k = refusedStep r (length snd) (length out)
+
+    by : (z e : Bool) → [] ≡ firstlyC [] (nothing-shown r k snd out z e)
+    by true true = refl
+    by true false = refl
+    by false e = refl
+
+    go : (n : ℕ) → [] ≡ firstlyC [] (steppedC r (take n []) ended snd out)
+    go zero = by (eqb k 0) (eqb ended 0)
+    go (suc n) = by (eqb k 0) (eqb ended 0)
+archive-streams r snd out ended zero (b ∷ bs) x = go (eqb k 0) (eqb ended 0) refl (x .answers)
+  where
+    k : ℕ
+    k = refusedStep r (length snd) (length out)
+
+    go : (z e : Bool) → eqb ended 0 ≡ e → (nothing-shown r k snd out z e .answer .what ≡ 1 → ⊥)
+        → onwardC bs (shown r z k 1 snd out (recordAt (b ∷ bs) 0)) ≡ firstlyC (b ∷ bs) (nothing-shown r k snd out z e)
+    go true true q h = none (h refl)
+    go true false q h = none (let a = x .all (eqb-false ended 0 q) in omega arith)
+    go false e q h = refl
+archive-streams r snd out ended (suc w) (b ∷ bs) x =
     let k = refusedStep r (length snd) (length out) in
-    let z = eqb k 0 in
-    let q = window (b ∷ bs) 0 (suc w) (omega arith) in
-    let e = ap (shown r z k ended snd out) q in
-    first-line r z k snd out b bs (x .bytes)
-    ∙ ap (firstlyC (b ∷ bs)) (sym (e ∙ same-step r z k ended snd out (recordAt (b ∷ bs) 0)
-    (λ i. x .answers (ap (λ (o : StepC). o .answer .what) e ∙ i))))
+    any-window r (eqb k 0) k ended snd out b bs (recordAt (take (suc w) (b ∷ bs)) 0) (x .bytes)
+    (λ h. ap (λ (l : List ℕ). recordAt l 0) (take-all (suc w) (b ∷ bs) (x .all h)))
+    (narrow (suc w) (b ∷ bs)) (x .answers)
 
 -- ---- a traced block cut in two
 
@@ -536,8 +582,8 @@ module _ (r : CableowlReplay) (snd out : List Float) (f : Fit r snd out) (ended 
 lines-as : (i k m : ℕ) (a b c x y z : List ℕ) → a ≡ x → b ≡ y → c ≡ z → Lines i k m x y z → Lines i k m a b c
 lines-as i k m a b c x y z e f g h = rw (e, f, g) h
 
-pub cut-steps-c : CutStepsC
-cut-steps-c q snd out ended xs ys zs k m a v l r p t f s u i =
+pub archive-cut-records : CutRecordsC
+archive-cut-records q snd out ended xs ys zs k m a v l r p t f s u i =
     let c = courseC q snd in
     let one = blockNumbers k a v l r p t f s u in
     let two = blockNumbers m a v l r p t 0 0 0 in

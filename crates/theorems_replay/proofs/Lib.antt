@@ -5,6 +5,7 @@ pub mod Played
 pub mod Example
 pub mod Lengths
 pub mod OtherSamples
+pub mod Narrow
 pub mod Archive
 pub mod Coincide
 pub mod Witnesses

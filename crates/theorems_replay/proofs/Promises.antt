@@ -4,7 +4,7 @@ use Rattle.theorems_replay.proofs.Streams.{streams}
 use Rattle.theorems_replay.proofs.Cuts.{cut-records}
 use Rattle.theorems_replay.proofs.Example.{three-frames}
 use Rattle.theorems_replay.proofs.Lengths.{lines-alike}
-use Rattle.theorems_replay.proofs.Archive.{archive-replays, streams-c, cut-steps-c, three-frames-c, lines-alike-c}
+use Rattle.theorems_replay.proofs.Archive.{archive-replays, archive-streams, archive-cut-records, archive-three-frames, archive-lines-alike}
 use Rattle.theorems_replay.proofs.Coincide.{coincide}
 use Rattle.theorems_replay.proofs.Witnesses.{witnesses}
 
@@ -16,10 +16,10 @@ all-kept =
       three-frames = three-frames;
       lines-alike = lines-alike;
       archive-replays = archive-replays;
-      streams-c = streams-c;
-      cut-steps-c = cut-steps-c;
-      three-frames-c = three-frames-c;
-      lines-alike-c = lines-alike-c;
+      archive-streams = archive-streams;
+      archive-cut-records = archive-cut-records;
+      archive-three-frames = archive-three-frames;
+      archive-lines-alike = archive-lines-alike;
       coincide = coincide;
       witnesses = witnesses;
     }

@@ -36,6 +36,9 @@ use Rattle.theorems_replay.proofs.Archive.{goes-on, blank-fit, step-ref
 use Rattle.theorems_replay.proofs.Example.{creation-read}
 use Rattle.theorems_replay.proofs.OtherSamples.{same-but-for-samples}
 
+none : {A : Type 0} → ⊥ → A
+none e = elim e [ ]
+
 -- two frames and one at full volume, rate 1 and 1 Hz, without signals
 abbrev plainNumbers : ℕ → List ℕ
 plainNumbers n = blockNumbers n 1065353216 1065353216 1065353216 1065353216 4607182418800017408 4607182418800017408 0 0 0
@@ -86,13 +89,13 @@ witnesses =
       cut-records = (record { few = omega arith; accepted = accepted }, tt);
       lines-alike = same-but-for-samples;
       archive-replays = lent threeFrames tt refl;
-      streams-c =
+      archive-streams =
           record {
             bytes = small-of threeFrames tt;
-            wide = omega arith;
+            all = λ n. none (n refl);
             answers = λ e. omega (arith, e, creation-shown);
           };
-      cut-steps-c =
+      archive-cut-records =
           record {
             fit = going-fit;
             few = omega arith;
@@ -101,6 +104,6 @@ witnesses =
             rest = one-read;
             accepted = going-accepted;
           };
-      three-frames-c = lent threeFrames tt refl;
-      lines-alike-c = record { first = lent threeFrames tt refl; second = lent threeNans tt refl; same = same-but-for-samples };
+      archive-three-frames = lent threeFrames tt refl;
+      archive-lines-alike = record { first = lent threeFrames tt refl; second = lent threeNans tt refl; same = same-but-for-samples };
     }

@@ -72,13 +72,14 @@ LinesAlikeC =
 
 -- ---- any cutting of the stream of bytes
 
--- what is asked: bytes, a window as wide as the longest record, and an answer other than 1, more bytes are needed
+-- what is asked: bytes, of which a step is shown the first w, all of them where it is told that the trace has ended; and an
+-- answer other than 1, more bytes are needed
 pub record WindowC (r : CableowlReplay) (snd out : List Float) (ended w : ℕ) (bs : List ℕ) : Type 0 where
   pub bytes : Bytes bs
-  pub wide : 575 ≤ w
+  pub all : (ended ≡ 0 → ⊥) → length bs ≤ w
   pub answers : steppedC r (take w bs) ended snd out .answer .what ≡ 1 → ⊥
 
--- the line of the step that is shown the window, then what is printed of the bytes behind its record
+-- the line of the step that is shown these bytes, then what is printed of the bytes behind its record
 abbrev pub StreamsC : Type 0
 StreamsC =
     (r : CableowlReplay) (snd out : List Float) (ended w : ℕ) (bs : List ℕ) → WindowC r snd out ended w bs
@@ -111,8 +112,8 @@ pub record MayCutStep (q : CableowlReplay) (snd out : List Float) (ended : ℕ) 
   pub rest : BlockAt zs (blockNumbers m a v l r p t 0 0 0)
   pub accepted : steppedC q xs ended snd out .answer .refusal ≡ 0
 
-abbrev pub CutStepsC : Type 0
-CutStepsC =
+abbrev pub CutRecordsC : Type 0
+CutRecordsC =
     (q : CableowlReplay) (snd out : List Float) (ended : ℕ) (xs ys zs : List ℕ) (k m a v l r p t f s u : ℕ)
     → MayCutStep q snd out ended xs ys zs k m a v l r p t f s u
     → let uncut = steppedC q xs ended snd out in

@@ -3,7 +3,7 @@ use Rattle.theorems_replay.specs.Streams.{Streams}
 use Rattle.theorems_replay.specs.Cuts.{CutRecords}
 use Rattle.theorems_replay.specs.Example.{ThreeFrames}
 use Rattle.theorems_replay.specs.Lengths.{LinesAlike}
-use Rattle.theorems_replay.specs.Archive.{ArchiveReplays, StreamsC, CutStepsC, ThreeFramesC, LinesAlikeC}
+use Rattle.theorems_replay.specs.Archive.{ArchiveReplays, StreamsC, CutRecordsC, ThreeFramesC, LinesAlikeC}
 use Rattle.theorems_replay.specs.Coincide.{Coincide}
 use Rattle.theorems_replay.specs.Witnesses.{Witnesses}
 
@@ -15,10 +15,10 @@ pub record Promises : Type 0 where
   pub lines-alike : LinesAlike
   -- the steps of `cableowl_replay_step` print the same, and so each of these holds of that entry
   pub archive-replays : ArchiveReplays
-  pub streams-c : StreamsC
-  pub cut-steps-c : CutStepsC
-  pub three-frames-c : ThreeFramesC
-  pub lines-alike-c : LinesAlikeC
+  pub archive-streams : StreamsC
+  pub archive-cut-records : CutRecordsC
+  pub archive-three-frames : ThreeFramesC
+  pub archive-lines-alike : LinesAlikeC
   -- each contract of a replay says enough: any two outcomes that it allows coincide
   pub coincide : Coincide
   -- an input for each that meets what it asks

@@ -44,9 +44,9 @@ pub record Witnesses : Type 0 where
   pub cut-records : MayCutRecord evening 1 1 1065353216 1065353216 1065353216 1065353216 4607182418800017408 4607182418800017408 0 0 0 × Going 0
   pub lines-alike : SameButForSamples threeFrames threeNans
   pub archive-replays : Lent lentSound lentOutput threeFrames
-  pub streams-c : WindowC blankReplay lentSound lentOutput 0 575 threeFrames
-  pub cut-steps-c :
+  pub archive-streams : WindowC blankReplay lentSound lentOutput 0 97 threeFrames
+  pub archive-cut-records :
       MayCutStep going lentSound lentOutput 0 (plainBlock 2) (plainBlock 1) (plainBlock 1) 1 1
       1065353216 1065353216 1065353216 1065353216 4607182418800017408 4607182418800017408 0 0 0
-  pub three-frames-c : Lent lentSound lentOutput threeFrames
-  pub lines-alike-c : BothLent lentSound lentOutput lentSound lentOutput threeFrames threeNans
+  pub archive-three-frames : Lent lentSound lentOutput threeFrames
+  pub archive-lines-alike : BothLent lentSound lentOutput lentSound lentOutput threeFrames threeNans
