@@ -1,6 +1,35 @@
 //! Which logs belong together: by what their names say, or by a table.
 
-use std::{collections::BTreeMap, fmt};
+use std::{
+    collections::BTreeMap,
+    fmt,
+    path::{Path, PathBuf},
+};
+
+use crate::{
+    fault::{Fault, Result},
+    input::Input,
+    out::shown,
+};
+
+/// How logs and traces are grouped, as it was asked for.
+#[derive(Debug, PartialEq, Eq)]
+pub enum Asked {
+    /// By what their names say.
+    Named(By, Pattern),
+    /// By a file of lines `file,group`.
+    Table(PathBuf),
+}
+
+impl Asked {
+    /// What it groups by, in a word.
+    pub fn name(&self) -> &'static str {
+        match self {
+            Self::Named(by, _) => by.name(),
+            Self::Table(_) => "group",
+        }
+    }
+}
 
 /// What logs are grouped by.
 #[derive(Debug, Clone, Copy, PartialEq, Eq)]
@@ -122,7 +151,7 @@ pub struct Named {
 
 impl Pattern {
     /// Reads a pattern; the words say what is wrong with it.
-    pub fn read(text: &str) -> Result<Self, String> {
+    pub fn read(text: &str) -> std::result::Result<Self, String> {
         let mut parts = Vec::new();
         let mut rest = text;
         while !rest.is_empty() {
@@ -202,9 +231,29 @@ pub enum Grouping {
 }
 
 impl Grouping {
+    /// What was asked for, with its table read.
+    pub fn read(asked: &Asked) -> Result<Self> {
+        match asked {
+            Asked::Named(by, pattern) => Ok(Self::Named(*by, pattern.clone())),
+            Asked::Table(path) => {
+                let mut input = Input::open(path)?;
+                let text = String::from_utf8_lossy(&input.all()?).into_owned();
+                Self::table(&text).map_err(|words| input.wrong(words))
+            }
+        }
+    }
+
+    /// The group of a file.
+    pub fn of_file(&self, file: &Path) -> Result<String> {
+        let name = file.file_name().unwrap_or_default().to_string_lossy();
+        let bare = name.strip_suffix(".log").or(name.strip_suffix(".trace"));
+        let group = self.of(bare.unwrap_or(&name));
+        group.map_err(|words| Fault::refused(format!("{}: {words}", shown(file))))
+    }
+
     /// The group of a file of this name, without its folder and `.log` or `.trace`; the words say why
     /// it has none.
-    pub fn of(&self, name: &str) -> Result<String, String> {
+    fn of(&self, name: &str) -> std::result::Result<String, String> {
         match self {
             Self::Table(table) => {
                 let group = table
@@ -232,7 +281,7 @@ impl Grouping {
     }
 
     /// A table of lines `file,group`; the words say what is wrong with it.
-    pub fn table(text: &str) -> Result<Self, String> {
+    fn table(text: &str) -> std::result::Result<Self, String> {
         let mut table = BTreeMap::new();
         for (index, line) in text.lines().enumerate() {
             let number = index + 1;
