@@ -149,6 +149,17 @@ pub struct Named {
     pub date: Option<Date>,
 }
 
+impl fmt::Display for Pattern {
+    fn fmt(&self, f: &mut fmt::Formatter<'_>) -> fmt::Result {
+        self.parts.iter().try_for_each(|part| match part {
+            Part::Text(text) => f.write_str(text),
+            Part::Box => f.write_str("{box}"),
+            Part::Date => f.write_str("{date}"),
+            Part::Any => f.write_str("{any}"),
+        })
+    }
+}
+
 impl Pattern {
     /// Reads a pattern; the words say what is wrong with it.
     pub fn read(text: &str) -> std::result::Result<Self, String> {
@@ -262,11 +273,13 @@ impl Grouping {
                     .or_else(|| table.get(&format!("{name}.trace")));
                 group
                     .cloned()
-                    .ok_or_else(|| "the table of groups does not name it".into())
+                    .ok_or_else(|| "the table of groups has no line for it: add one".into())
             }
             Self::Named(by, pattern) => {
                 let named = pattern.fit(name);
-                let named = named.ok_or("its name does not fit the pattern")?;
+                let named = named.ok_or_else(|| {
+                    format!("its name does not fit the pattern {pattern}: give its own with --name")
+                })?;
                 let date = named.date.ok_or("its name has no date");
                 match by {
                     By::Box => named.box_name.ok_or_else(|| "its name has no box".into()),
@@ -345,6 +358,14 @@ mod tests {
         assert_eq!(fit("{any}.{box}", "a.b.c"), told("c", ""));
         assert_eq!(fit("{box}_{date}", "hall7"), None);
         assert_eq!(fit("{box}_{date}", "_2026-11-15"), None);
+        for pattern in ["{box}_{date}", "{any}-{date}.{box}", "a"] {
+            assert_eq!(Pattern::read(pattern).expect("one").to_string(), pattern);
+        }
+        let by_box = Grouping::Named(By::Box, Pattern::read("{box}_{date}").expect("one"));
+        assert_eq!(
+            by_box.of("hall7"),
+            Err("its name does not fit the pattern {box}_{date}: give its own with --name".into())
+        );
         for (pattern, wrong) in [
             ("{box", "a '{' without its '}'"),
             ("{hall}", "'{hall}' is none of {box}, {date} and {any}"),
