@@ -206,17 +206,17 @@ impl Words<'_> {
 
     /// A word, and after it a number in decimal, of this size at most.
     fn number(&mut self, word: &[u8], most: u64) -> std::result::Result<u64, Wrong> {
-        let named = String::from_utf8_lossy(word.trim_ascii_start()).into_owned();
+        let named = || String::from_utf8_lossy(word.trim_ascii_start());
         if !self.next_is(word) {
-            return Err(self.wrong(format!("'{named}' must stand here")));
+            return Err(self.wrong(format!("'{}' must stand here", named())));
         }
         self.at += word.len();
         let length = self.rest().iter().take_while(|byte| byte.is_ascii_digit());
         let digits = self.rest().get(..length.count()).unwrap_or_default();
         let number = match digits {
-            [] => return Err(self.wrong(format!("'{named}' has no number"))),
+            [] => return Err(self.wrong(format!("'{}' has no number", named()))),
             [b'0', _, ..] => {
-                return Err(self.wrong(format!("the number of '{named}' begins with 0")));
+                return Err(self.wrong(format!("the number of '{}' begins with 0", named())));
             }
             _ => std::str::from_utf8(digits)
                 .ok()
@@ -224,6 +224,7 @@ impl Words<'_> {
                 .filter(|number| *number <= most),
         };
         let Some(number) = number else {
+            let named = named();
             return Err(self.wrong(format!("the number of '{named}' is above {most}")));
         };
         self.at += digits.len();

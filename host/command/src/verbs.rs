@@ -318,9 +318,9 @@ pub const VERBS: &[Verb] = &[
         name: "report",
         says: "the figures of one evening or of many, and a page with plots",
         about: &[
-            "Reads logs and traces: minutes played, paused and silent, times round the loop, seeks, refused blocks. With several files it prints one row for each, the total and five quantiles.",
+            "Reads logs and traces: minutes played, paused and silent, times round the loop, seeks, refused blocks. With several files it prints one row for each, the total and five quantiles. A folder stands for its files NAME.log.",
             "A damaged file is named on standard error and left out. A file that is given twice is named there too, and counts twice.",
-            "With --by or --groups it prints the figures of groups instead, and what changed from one group to the next, with intervals of 95 percent. FILE may then be a folder, which stands for its files NAME.log.",
+            "With --by or --groups it prints the figures of groups instead, and what changed from one group to the next, with intervals of 95 percent.",
         ],
         options: &[
             Opt {
@@ -363,7 +363,7 @@ pub const VERBS: &[Verb] = &[
             name: "FILE",
             kind: Kind::File,
             many: Many::Several,
-            says: "Logs or traces.",
+            says: "Logs or traces, or folders of logs.",
         }],
         folders: None,
         examples: &[
@@ -391,13 +391,13 @@ pub const VERBS: &[Verb] = &[
         says: "did this box play as proved? the first block that differs, and the creep",
         about: &[
             "Plays the trace with the proved player and compares the box's own log with it, at each frame where both have an edge. Where the two cannot be compared, or the trace is damaged, it says so and says nothing of the box.",
-            "Of folders it compares every NAME.trace with the NAME.log beside it, and prints a row for each box.",
+            "Of folders it compares every NAME.trace with the NAME.log beside it, and prints a row for each evening, the share that differs, and how the creep is distributed.",
         ],
         options: &[
             Opt {
                 name: "--csv",
                 value: None,
-                says: "Print comma separated values: a row for each block, or for each box of a folder.",
+                says: "Print comma separated values: a row for each block, or for each evening of a folder.",
             },
             Opt {
                 name: "--html",
@@ -432,7 +432,7 @@ pub const VERBS: &[Verb] = &[
             ),
             (
                 "audit --html week.html week",
-                "Say it of every box of a week, and write a page.",
+                "Say it of every evening of a week, and write a page.",
             ),
         ],
         statuses: &[
