@@ -1,4 +1,4 @@
-//! One block of a player: what its voice is given, and the frame in which it stops.
+//! One block of a player: the input of its voice, and the frame in which the voice stops.
 
 use std::ops::Range;
 
@@ -7,7 +7,7 @@ use crate::{
     trace::Block,
 };
 
-/// What a voice is given for a block.
+/// The input of a voice for a block.
 #[derive(Debug, Clone, Copy)]
 pub struct Given<'a> {
     pub sound: &'a [f32],
@@ -21,8 +21,8 @@ pub struct Given<'a> {
 }
 
 impl Given<'_> {
-    /// Plays a part of the block into its place of the block's output; the part at its beginning
-    /// takes the signals.
+    /// Plays a part of the block into the same part of the output. The part at the beginning gets the
+    /// signals.
     pub fn play(
         &self,
         part: Range<usize>,
@@ -34,7 +34,7 @@ impl Given<'_> {
             0 => self.signals,
             _ => Signals::new(),
         };
-        // The output has room for the block: its caller cut it so.
+        // The caller cut the block so that it fits into the output.
         let out = out
             .get_mut(2 * part.start..2 * part.end)
             .unwrap_or_default();
@@ -64,8 +64,8 @@ impl Given<'_> {
             .block(self.time_step, self.signals)
     }
 
-    /// Plays the whole block, or as much of it as there is until the voice runs off its sound's end.
-    /// Returns the frames played and their counts.
+    /// Plays the block up to the frame in which the sound ends, or all of it. Returns the frames played
+    /// and their counts.
     pub fn play_all(
         &self,
         frames: usize,

@@ -1,4 +1,4 @@
-//! A player that is recorded as it plays: its constant stretches become the records of a trace.
+//! A player that is recorded while it plays: each run of constant lanes becomes a record of a trace.
 
 use super::{Command, Player, Tween, playing::Place};
 use crate::{
@@ -6,12 +6,12 @@ use crate::{
     trace::{Block, Line, Record, Recorded, ShortSound, write},
 };
 
-/// Who learns what a player's voice is told and given.
+/// Gets the commands and blocks of a player's voice.
 pub trait Watch {
-    /// Whether a block must be one that a record can hold; then `played` is called.
+    /// Whether each block must fit into a record; then `played` is called.
     const RECORDS: bool = false;
 
-    /// The voice was told these.
+    /// The voice got these commands.
     fn told(&mut self, _: Commands) {}
 
     /// The voice, as it is now, played this block.
