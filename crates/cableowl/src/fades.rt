@@ -1,4 +1,4 @@
-// The C ABI of levels and fades: crate decibels over plain numbers and a lent lane.
+// The C entries of levels and fades: crate decibels over plain numbers and a lane.
 ghost use mathlib.Core.Path.{_≡_};
 ghost use lib.ListN.{length};
 ghost use Rattle.decibels.specs.Levels.{levelRefusal, amplitudeOr};

@@ -1,4 +1,4 @@
--- For each theorem that asks something, an input that meets it: the three-frame example, and the voice of the theorems' witnesses.
+-- One input for each hypothesis: the three-frame example, and the voice of the theorems' witnesses.
 use Rattle.theorems.specs.Examples.{ten}
 use Rattle.theorems.specs.Witnesses.{voice}
 use Rattle.trace_replay.specs.Runs.{Course}
