@@ -116,7 +116,8 @@ fn record(lines: &[String]) -> Option<(&[String], Vec<Field<'_>>)> {
     Some((head, fields.collect()))
 }
 
-/// A text without comments and layout: one space between words, and none beside a bracket or a semicolon.
+/// A text without comments and layout: one space between words, none beside a bracket or a semicolon, and no mark before
+/// a closing bracket, where layout puts one if the list takes several lines.
 fn plain(lines: &[String], comment: &str) -> String {
     let said = lines
         .iter()
@@ -129,17 +130,27 @@ fn plain(lines: &[String], comment: &str) -> String {
         }
         text += word;
     }
-    text
+    text.replace(";}", "}")
+        .replace(",}", "}")
+        .replace(",)", ")")
 }
 
 /// The names that a file's lines with this word bring in, each with the path that it comes from, in order.
 fn names(text: &str, word: &str) -> String {
     let mut found = BTreeSet::new();
-    for line in text.lines() {
+    let mut lines = text.lines();
+    while let Some(line) = lines.next() {
         let Some(path) = line.trim_start_matches("pub ").strip_prefix(word) else {
             continue;
         };
-        let path = plain(&[path.trim_end_matches(';').to_owned()], "--");
+        let mut path = vec![path.to_owned()];
+        if line.contains('{') && !line.contains('}') {
+            let more = lines.by_ref().map(str::to_owned);
+            path.extend(more.take_while(|line| !line.contains('}')));
+            path.push("}".to_owned());
+        }
+        let path = plain(&path, "--");
+        let path = path.trim_end_matches(';').trim_end();
         match path.strip_suffix('}').and_then(|path| path.split_once('{')) {
             Some((from, names)) => {
                 found.extend(names.split(", ").map(|name| format!("{from}{name}\n")));

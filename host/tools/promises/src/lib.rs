@@ -6,6 +6,7 @@
 pub mod records;
 
 use std::fs;
+use std::iter;
 use std::path::Path;
 
 /// What every source of every crate below `crates/` has, crate by crate.
@@ -112,11 +113,16 @@ impl Told {
         }
     }
 
-    /// What a function's line among the laws says.
-    fn law(&self, path: &str) -> Option<&str> {
-        let start = format!("pub {} : ", law_of(path));
-        let mut lines = self.laws.lines().map(str::trim_start);
-        lines.find_map(|line| line.strip_prefix(start.as_str()))
+    /// What a function's law says, on one line. A law ends before the next field and before a comment.
+    fn law(&self, path: &str) -> Option<String> {
+        let start = format!("pub {} :", law_of(path));
+        let mut lines = self.laws.lines().map(str::trim);
+        let first = lines.find_map(|line| line.strip_prefix(start.as_str()))?;
+        let ends =
+            |line: &str| line.is_empty() || ["pub ", "--"].iter().any(|w| line.starts_with(w));
+        let more = lines.take_while(|line| !ends(line));
+        let law: Vec<_> = iter::once(first).chain(more).collect();
+        Some(law.join(" ").trim_start().to_string())
     }
 
     /// Whether the last table of docs/EXCEPTIONS.md has a row of this name.

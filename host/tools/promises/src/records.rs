@@ -169,10 +169,10 @@ pub fn fields(text: &str, record: &str) -> Option<Vec<Field>> {
     let mut found: Vec<Field> = Vec::new();
     for line in lines.take_while(|line| line.starts_with("  ")) {
         if let Some(rest) = line.strip_prefix("  pub ") {
-            let (name, says) = rest.split_once(" : ").expect("a field has a type");
+            let (name, says) = rest.split_once(" :").expect("a field has a type");
             found.push(Field {
                 name: name.to_string(),
-                says: says.to_string(),
+                says: says.trim_start().to_string(),
             });
         } else if let (false, Some(field)) = (line.trim_start().starts_with("--"), found.last_mut())
         {
