@@ -1,4 +1,4 @@
-// Numbers as bytes, by a table of rows: one reader and one writer for every table. What is written is read back as the same
+// Numbers in bytes by a table of rows: one reader, one writer, whatever the table. What is written is read back as the same
 // numbers, and what is read is written again byte for byte (proofs/Codec.antt).
 ghost use mathlib.Core.Path.{_≡_};
 ghost use Prim.Native.Nat.{_+_, _-_, _*_, _≤_, _<_};
@@ -11,8 +11,8 @@ ghost use Rattle.byte_layout.specs.Rows.{rowAt, rows, stands, within, so
 ghost use Rattle.byte_layout.specs.Reads.{step, steps, view};
 ghost use Rattle.byte_layout.specs.Writes.{field, payload, fits, fine};
 
-// A row: a number of `width` bytes, from `least` to `most` or refused with `refusal`. It is present if the number of row
-// `guard` is at least `low`.
+// A number of `width` bytes, from `least` to `most` or refused by `refusal`, that stands if the number of row `guard` is at
+// least `low`.
 pub struct Row {
     pub width: usize,
     pub guard: usize,
@@ -22,7 +22,7 @@ pub struct Row {
     pub refusal: u64,
 }
 
-// A parse in progress: refused with a number, or at offset `at` with `left` bytes of payload left, and the numbers read.
+// A parse in progress: refused by a number, or at `at` with `left` bytes of payload left, and the numbers read.
 pub struct Parsed {
     pub refused: u64,
     pub at: usize,
@@ -59,7 +59,7 @@ fn guarding(values: [u64; 80], i: usize, g: usize) -> u64
     0
 }
 
-// Whether row r is present after the first i numbers.
+// Whether row r stands after the first i numbers.
 fn row_stands(values: [u64; 80], i: usize, r: Row) -> bool
     requires { ⌜ i ≤ 80 ⌝ }
     ensures { λ b. ⌜ b ≡ stands r (take i values) ⌝ }
@@ -151,7 +151,7 @@ pub fn begin(at: usize, left: usize) -> Parsed
     }
 }
 
-// Reads the first n rows of a table; the values after n do not change. A refused parse stays refused.
+// Reads the first n rows of a table, and leaves the values after n. What was refused stays refused.
 pub fn read_rows(s: &[u8], p: Parsed, table: &[u64], n: usize) -> Parsed
     requires { ⌜ (p .at ≤ length (now s)) × (n ≤ 80) × (6 * n ≤ length (now table)) × (sound (rows (now table) 0 n) ≡ true) ⌝ }
     ensures { λ q. ⌜ (view (now (s .entry)) n q ≡ steps (rows (now (table .entry)) 0 n) (view (now (s .entry)) 0 p)) × (q .at ≤ length (now (s .entry))) × (drop n (q .values) ≡ drop n (p .values)) ⌝ }
@@ -183,7 +183,7 @@ fn put_number(buf: &mut [u8], at: usize, width: usize, x: u64)
     }
 }
 
-// Writes row r, the row of number i, and returns the offset after it.
+// Writes row r, the row of number i, and returns the place after it.
 fn put_row(buf: &mut [u8], at: usize, values: [u64; 80], i: usize, r: Row) -> usize
     requires { ⌜ (i < 80) × (at + length (field (stands r (take i values)) r (getD values i 0)) ≤ length (now buf)) ⌝ }
     ensures { λ a. ⌜ (now (buf .exit) ≡ sets (now (buf .entry)) at (field (stands r (take i values)) r (getD values i 0))) × (a ≡ at + length (field (stands r (take i values)) r (getD values i 0))) ⌝ }
@@ -196,7 +196,7 @@ fn put_row(buf: &mut [u8], at: usize, values: [u64; 80], i: usize, r: Row) -> us
     at
 }
 
-// Writes the numbers of the first n rows of a table, and returns the offset after them.
+// Writes the numbers of the first n rows of a table, and returns the place after them.
 pub fn put_rows(buf: &mut [u8], at: usize, values: [u64; 80], table: &[u64], n: usize) -> usize
     requires { ⌜ (n ≤ 80) × (6 * n ≤ length (now table)) × (at + length (payload (rows (now table) 0 n) [] (take n values)) ≤ length (now buf)) ⌝ }
     ensures { λ a. ⌜ (now (buf .exit) ≡ sets (now (buf .entry)) at (payload (rows (now (table .entry)) 0 n) [] (take n values))) × (a ≡ at + length (payload (rows (now (table .entry)) 0 n) [] (take n values))) ⌝ }
@@ -211,7 +211,7 @@ pub fn put_rows(buf: &mut [u8], at: usize, values: [u64; 80], table: &[u64], n: 
     a
 }
 
-// Whether row r accepts number i.
+// Whether row r takes number i.
 fn row_fits(values: [u64; 80], i: usize, r: Row) -> bool
     requires { ⌜ i < 80 ⌝ }
     ensures { λ b. ⌜ b ≡ fits (stands r (take i values)) r (getD values i 0) ⌝ }
@@ -223,7 +223,7 @@ fn row_fits(values: [u64; 80], i: usize, r: Row) -> bool
     x == 0
 }
 
-// Whether the first n rows of a table accept the values.
+// Whether the first n rows of a table take the values.
 pub fn rows_fit(values: [u64; 80], table: &[u64], n: usize) -> bool
     requires { ⌜ (n ≤ 80) × (6 * n ≤ length (now table)) ⌝ }
     ensures { λ b. ⌜ b ≡ fine (rows (now (table .entry)) 0 n) [] (take n values) ⌝ }

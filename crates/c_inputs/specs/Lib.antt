@@ -1,2 +1,2 @@
--- Settings, commands and signals from C records.
+-- Inputs from records of numbers.
 pub mod Inputs

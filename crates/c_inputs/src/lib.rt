@@ -1,4 +1,4 @@
-// Settings, commands and signals from C records. An unknown tag becomes a value that its field's check refuses.
+// What creation, commands and blocks are given, from records of numbers, for the C ABI: a tag that means nothing is refused by the number of what it stands for.
 ghost use mathlib.Core.Path.{_≡_};
 ghost use lib.Ieee.{nan};
 ghost use Rattle.c_inputs.specs.Inputs.{placeOf, endOf, regionIf, optionalOf, settingsOf, amountOf, loopOf, resumeOf, commandsOf, answerOf, startOf, signalsOf};
@@ -15,7 +15,7 @@ use sound_creation::OptionalRegion;
 use sound_creation::Settings;
 use start_time::StartSignal;
 
-// A position in a sound: kind 0 is seconds, 1 samples, and for an end 2 the end of audio.
+// A place in a sound: kind 0 is seconds, 1 samples, and for an end 2 the end of audio.
 #[repr(C)]
 pub struct CableowlPlace {
     pub seconds: f64,
@@ -29,7 +29,7 @@ pub struct CableowlRegion {
     pub end: CableowlPlace,
 }
 
-// The settings of a creation.
+// What creation is given beside the sound.
 #[repr(C)]
 pub struct CableowlSettings {
     pub sample_rate: u32,
@@ -59,7 +59,7 @@ pub struct CableowlCommands {
     pub loop_region: CableowlRegion,
 }
 
-// The signals of a block. An answer is 0 still waiting, 1 now, 2 never; a start can also be 3: due at a tick, with the current tick.
+// What a block is told. An answer is 0 still waiting, 1 now, 2 never; the start may be 3, due at one tick and now at another.
 #[repr(C)]
 pub struct CableowlSignals {
     pub finished: u32,
@@ -69,7 +69,7 @@ pub struct CableowlSignals {
     pub now: u32,
 }
 
-// The value of an unknown tag: its field's check refuses it.
+// What no tag means: no number accepts it.
 fn nonsense() -> f64
     ensures { λ r. ⌜ r ≡ nan ⌝ }
 {
@@ -97,7 +97,7 @@ fn end_of(place: CableowlPlace) -> EndPosition
     EndPosition::Custom(place_of(place))
 }
 
-// The region if its tag is known, otherwise one that is refused.
+// The region where its tag is known, else one that no number accepts.
 fn region_if(known: bool, region: CableowlRegion) -> Region
     ensures { λ r. ⌜ r ≡ regionIf known region ⌝ }
 {

@@ -1,2 +1,2 @@
--- A voice as a C record.
+-- A voice as a record of numbers.
 pub mod Records

@@ -1,4 +1,4 @@
--- The definitions that the C entries' contracts cite.
+-- What the contracts of the C ABI cite.
 pub mod Entries
 pub mod Loops
 pub mod Saved

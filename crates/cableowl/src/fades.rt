@@ -1,4 +1,4 @@
-// The C entries of levels and fades: crate decibels over plain numbers and a lane.
+// The C ABI of levels and fades: crate decibels over plain numbers and a lent lane.
 ghost use mathlib.Core.Path.{_≡_};
 ghost use lib.ListN.{length};
 ghost use Rattle.decibels.specs.Levels.{levelRefusal, amplitudeOr};

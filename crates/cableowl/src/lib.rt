@@ -1,5 +1,5 @@
-// The C entries, over records of numbers by value and slices. They accept any bytes; an unknown value is refused with its
-// field's number.
+// The C ABI: every entry under a plain name, over records of numbers by value and lent slices. Any bytes may be given: what means
+// nothing is refused, by the number of what it stands for.
 ghost use mathlib.Core.Path.{_≡_};
 ghost use Prim.Native.Nat.{_≤_};
 ghost use Rattle.sound_lanes.specs.Lanes.{five};
@@ -64,14 +64,14 @@ pub struct CableowlProcessed {
     pub lowest_count: u32,
 }
 
-// A part of the sound, in samples.
+// A part of the lent sound, in samples.
 #[repr(C)]
 pub struct CableowlPart {
     pub offset: u64,
     pub length: u64,
 }
 
-// The state to return: after a refusal the given one.
+// The state that comes back: after a refusal the given one.
 fn state_after(refusal: u32, voice: StaticSound, state: CableowlState) -> CableowlState
     requires { ⌜ (refusal ≡ 0 → voice .moving .resampler .«time_until_empty» ≤ 4) ⌝ }
     ensures { λ r. ⌜ r ≡ after refusal voice state ⌝ }
@@ -96,7 +96,7 @@ fn answer(processed: Processed, state: CableowlState) -> CableowlProcessed
     }
 }
 
-// The version of this interface.
+// The version of this ABI.
 #[no_mangle]
 pub extern "C" fn cableowl_version() -> u32
     ensures { λ r. ⌜ r ≡ 2 ⌝ }
@@ -167,7 +167,7 @@ pub extern "C" fn cableowl_process(
     answer(processed, state)
 }
 
-// Into the middle of a longer mix, from the given frame on.
+// Into the middle of a longer mix, from the frame given on.
 #[no_mangle]
 pub extern "C" fn cableowl_process_into(
     state: CableowlState,
@@ -200,7 +200,7 @@ pub extern "C" fn cableowl_process_into(
     answer(processed, state)
 }
 
-// The offset and length of the part that `static_sound::stretch` returns.
+// The sound's own part, by its place in what was lent: that of `static_sound::stretch`.
 #[no_mangle]
 pub extern "C" fn cableowl_stretch(state: CableowlState, sound: &[f32]) -> CableowlPart
     ensures { λ r. ⌜ r ≡ partC (now (sound .entry)) state ⌝ }

@@ -1,4 +1,4 @@
-// The C entries of traces: crates trace_records and trace_salvage, a record as its kind and its numbers.
+// The C ABI of traces: crates trace_records and trace_salvage, a record as its kind and its numbers.
 ghost use mathlib.Core.Path.{_≡_};
 ghost use lib.ListN.{take};
 ghost use Rattle.trace_records.specs.Tables.{fields};

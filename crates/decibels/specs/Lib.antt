@@ -1,4 +1,4 @@
--- The definitions that contracts on levels and ramps cite.
+-- What the contracts of levels and ramps cite.
 pub mod Levels
 pub mod Ramps
 pub mod Promises

@@ -23,7 +23,7 @@ fn amplitude(entries: &[u32; 601], level: u32) -> f32
     }
 }
 
-// Returns the refusal, or 0 and writes the level's amplitude.
+// The refusal's number, or 0 and the level's amplitude is written.
 pub fn as_amplitude(level: u32, to: &mut f32) -> u32
     ensures { λ r. ⌜ (r ≡ levelRefusal level) × (now (to .exit) ≡ amplitudeOr level (now (to .entry))) ⌝ }
 {
@@ -43,7 +43,7 @@ fn divided(sum: u32, by: u32) -> u32
     sum / by
 }
 
-// The level of a frame on the straight line from start to end; a single frame has the end level.
+// Straight from start to end; one frame takes the end level.
 fn level_at(start: u32, end: u32, count: u32, i: u32) -> u32
     requires { ⌜ start ≤ 601 ⌝ }
     requires { ⌜ end ≤ 601 ⌝ }
@@ -93,7 +93,7 @@ fn refusal_of(start: u32, end: u32, count: u32, room: usize) -> u32
     if count as usize == room { 0 } else { 14 }
 }
 
-// Returns the refusal, or 0 and writes the whole lane.
+// The refusal's number, or 0 and the whole lane is written.
 pub fn fade_ramp(start: u32, end: u32, count: u32, lane: &mut [f32]) -> u32
     ensures { λ r. ⌜ (r ≡ refusal start end count (length (now (lane .entry)))) × (now (lane .exit) ≡ faded start end count (now (lane .entry))) ⌝ }
 {
@@ -106,7 +106,7 @@ pub fn fade_ramp(start: u32, end: u32, count: u32, lane: &mut [f32]) -> u32
     0
 }
 
-// An empty function whose contract collects the theorems, so that the checker must prove them.
+// What is promised beyond the contracts.
 pub fn promised()
     ensures { λ r. ⌜ Promises ⌝ }
 {}

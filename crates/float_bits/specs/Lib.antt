@@ -1,2 +1,2 @@
--- The definitions that the contracts cite.
+-- What the contracts of the words cite.
 pub mod Patterns

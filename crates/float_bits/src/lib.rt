@@ -1,4 +1,5 @@
-// Hexadecimal digits, and floats from their bits and back. Every NaN is represented by one canonical bit pattern.
+// The words of a fixed list: hexadecimal digits, and floats by their bits. A NaN has no bits that can be told, so every NaN
+// is one word.
 ghost use mathlib.Core.Path.{_≡_};
 ghost use lib.Ieee.{binary32, binary64};
 ghost use Rattle.float_bits.specs.Patterns.{digit, floatOf, bitsOf};

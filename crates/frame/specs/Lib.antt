@@ -1,2 +1,2 @@
--- The definitions that contracts on frames cite, here and in the crates above.
+-- What the contracts on frames cite, and the crates above.
 pub mod Frames

@@ -1,5 +1,5 @@
-// A copy of the loop table for one of two boxes that share no memory. It counts each hall's writes and clears; a merge of
-// two copies keeps each hall's newer half. Refusals 1, 27 and 28.
+// A copy of the loop table for a box that shares no memory with the other hall's: it counts each hall's writes and clears,
+// and two copies are merged by keeping each hall's newer half. Refusals 1, 27 and 28.
 ghost use mathlib.Core.Path.{_≡_};
 ghost use Prim.Native.Nat.{_≤_};
 ghost use lib.ListN.{take, drop};
@@ -136,7 +136,7 @@ impl LoopCopy {
         }
     }
 
-    // Whether a hall's two halves are equal if they have the same number.
+    // Whether a hall's two halves are one half if they have one number.
     fn agrees(self, theirs: LoopCopy, hall: Hall, from: usize) -> bool
         requires { ⌜ from ≡ first hall ⌝ }
         ensures { λ r. ⌜ r ≡ agrees hall self theirs ⌝ }
@@ -174,7 +174,7 @@ impl LoopCopy {
         0
     }
 
-    // The copy whose half is newer; ours if both have the same number.
+    // The copy whose half is newer; ours where both have one number.
     fn newer(self, theirs: LoopCopy, hall: Hall) -> LoopCopy
         ensures { λ r. ⌜ r ≡ newer hall self theirs ⌝ }
     {
@@ -185,7 +185,7 @@ impl LoopCopy {
         }
     }
 
-    // Each hall's newer half; if refused, our copy unchanged.
+    // Each hall's newer half; refused, our copy as it was.
     pub fn merge(self, theirs: LoopCopy) -> CopyChanged
         ensures { λ r. ⌜ r ≡ mergedCopy self theirs ⌝ }
     {

@@ -8,14 +8,14 @@ pub enum Hall {
     B,
 }
 
-// A loop in frames, end exclusive. An empty slot has start 0 and end 0, which no loop has.
+// A loop in frames, its end not in it; an empty slot has start 0 and end 0, which no loop has.
 #[repr(C)]
 pub struct LoopSlot {
     pub start: u64,
     pub end: u64,
 }
 
-// The frame count of the sound, inside which every loop must lie, and the slots.
+// The frames of the sound, by which every loop is judged, and the slots.
 #[repr(C)]
 pub struct LoopTable {
     pub num_frames: u64,
@@ -108,7 +108,7 @@ impl LoopTable {
         ok
     }
 
-    // Replaces the slot if the call is accepted; otherwise nothing changes.
+    // Accepted, the slot is replaced; refused, nothing changes.
     fn change(self, refusal: u32, slot: usize, held: LoopSlot) -> LoopChanged
         requires { ⌜ (refusal ≡ 0 → slot < 16) ⌝ }
         ensures { λ r. ⌜ r ≡ changed refusal self slot held ⌝ }

@@ -1,2 +1,2 @@
--- The definitions that contracts on positions and regions cite, here and in the crates above.
+-- What contracts on places and regions cite, and the crates above.
 pub mod Positions

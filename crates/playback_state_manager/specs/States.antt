@@ -1,4 +1,4 @@
--- docs/assurance/RULES.md, "States": the numbers, pause, resume and stop, and the change in a block.
+-- docs/assurance/RULES.md, "States": the numbers of the seven, what pause, resume and stop make of them, and the change a block makes.
 use Prim.Native.Nat.{ℕ}
 use mathlib.Core.Bool.{Bool, true, false, cond}
 use Rattle.playback_state_manager.specs.declared.PlaybackState.{PlaybackState}
@@ -26,7 +26,7 @@ advancing Resuming = true
 advancing Stopping = true
 advancing Stopped = false
 
--- Stopped stays; any other state becomes the wanted one
+-- a Stopped voice stays so, and any other goes to the wanted state
 abbrev pub unless-stopped : PlaybackState → PlaybackState → PlaybackState
 unless-stopped wanted Playing = wanted
 unless-stopped wanted Pausing = wanted
@@ -36,19 +36,19 @@ unless-stopped wanted Resuming = wanted
 unless-stopped wanted Stopping = wanted
 unless-stopped wanted Stopped = Stopped
 
--- the state after pause
+-- what pause gives
 abbrev pub pausing : PlaybackState → PlaybackState
 pausing state = unless-stopped Pausing state
 
--- the state after resume, by whether the resume waits
+-- what resume gives, told whether the resume waits
 abbrev pub resuming : Bool → PlaybackState → PlaybackState
 resuming waits state = unless-stopped (cond waits WaitingToResume Resuming) state
 
--- the state after stop
+-- what stop gives
 abbrev pub stopping : PlaybackState → PlaybackState
 stopping state = unless-stopped Stopping state
 
--- the state after the answer to a waiting resume
+-- what the answer makes of a waiting resume
 abbrev pub resumed : StartAnswer → PlaybackState
 resumed Waiting = WaitingToResume
 resumed Now = Resuming

@@ -1,4 +1,4 @@
-// The seven playback states: pause, resume, stop, and one change per block.
+// The seven states, what pause, resume and stop make of them, and one change a block.
 ghost use mathlib.Core.Path.{_≡_};
 ghost use Rattle.playback_state_manager.specs.States.{number, advancing, unless-stopped, pausing, resuming, stopping, settled};
 ghost use Rattle.playback_state_manager.specs.declared.PlaybackState.the-variants.{Stopped};
@@ -13,7 +13,7 @@ pub enum PlaybackState {
     Stopped,
 }
 
-// The host's answer for a start or a waiting resume.
+// What the host says of a start time.
 pub enum StartAnswer {
     Waiting,
     Now,

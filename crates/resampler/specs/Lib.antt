@@ -1,2 +1,2 @@
--- The definitions that contracts on the window cite, here and in the crates above.
+-- What the contracts on the window cite, and the crates above.
 pub mod Windows

@@ -1,4 +1,4 @@
--- The definitions that contracts on saved settings cite.
+-- What the contracts of saved settings cite.
 pub mod Tables
 pub mod Records
 pub mod Promises

@@ -1,4 +1,4 @@
--- The theorems about saved settings (request #113). A word is below 2^64, a byte below 256.
+-- What is promised of saved settings beyond the contracts (request #113). A word is below 2^64, a byte below 256.
 use Prim.Native.Nat.{ℕ, _^_, _≤_, _<_}
 use mathlib.Core.Path.{_≡_}
 use mathlib.Core.Bool.{true}
@@ -22,7 +22,7 @@ pub record Holds (version : ℕ) (s : SavedSettings) (bytes : List ℕ) : Type 0
   pub is : bytes ≡ encoded version s ++ rest
   pub may : storable version s ≡ true
 
--- ---- hypotheses
+-- ---- what is asked
 
 -- fields that may be stored, in version 1 and in version 2
 pub record First (s : SavedSettings) : Type 0 where
@@ -45,7 +45,7 @@ pub record Stores (version : ℕ) (s : SavedSettings) (buffer : List ℕ) : Type
   pub pitch-word : s .pitch < 2 ^ 64
   pub takes : storeRefusal version s (length buffer) ≡ 0
 
--- bytes that load as these fields, and a buffer with space for them
+-- bytes that load as these fields, and a buffer with room for them
 pub record LoadsWithRoom (reader version : ℕ) (s : SavedSettings) (bytes buffer : List ℕ) : Type 0 where
   pub small : Bytes bytes
   pub known : 0 < version
@@ -75,9 +75,9 @@ pub record Promises : Type 0 where
   pub second-again : (reader : ℕ) (s : SavedSettings) (bytes : List ℕ) → Loads 2 reader s bytes → Holds 2 s bytes
   -- a rate whose bits pass is a finite number
   pub rates : (bits : ℕ) → finiteBits bits ≡ finite (ofBits binary64 bits)
-  -- `load` returns what `store` wrote to the buffer
+  -- what `store` leaves in the buffer is what `load` shows
   pub store-loads : (version : ℕ) (s : SavedSettings) (buffer : List ℕ) → Stores version s buffer → loaded 2 (stored version s buffer) ≡ whole version s
-  -- and `store` writes what `load` returned as the same bytes, if they fit
+  -- and what `load` shows, `store` writes as the same bytes where there is room
   pub load-stores : (reader version : ℕ) (s : SavedSettings) (bytes buffer : List ℕ) → LoadsWithRoom reader version s bytes buffer → stored version s buffer ≡ sets buffer 0 (take (size version) bytes)
-  -- one input for each hypothesis
+  -- an input for each that meets what it asks
   pub witnesses : Witnesses

@@ -16,7 +16,7 @@ use byte_layout::Parsed;
 use tables::FIRST;
 use tables::SECOND;
 
-// Frames, the rate by its bits, the pitch in semitones in two's complement. Without a loop both loop numbers are 0.
+// Frames, the rate by its bits, the pitch in semitones with its sign in two's complement. Without a loop both of its numbers are 0.
 pub struct SavedSettings {
     pub start: u64,
     pub has_loop: u64,
@@ -27,7 +27,7 @@ pub struct SavedSettings {
     pub pitch: u64,
 }
 
-// The refusal, or 0. If refused, every other number is 0.
+// The refusal's number, or 0; where refused, every other number is 0.
 pub struct Loaded {
     pub settings: SavedSettings,
     pub version: u64,
@@ -163,7 +163,7 @@ fn is_second(reader: u64, s: &[u8]) -> bool
     s[2] == 2
 }
 
-// Accepts any bytes. Reader 1 knows version 1 only, any other reader also version 2.
+// Any bytes. Reader 1 knows version 1 alone, any other version 2 too.
 pub fn load(reader: u64, s: &[u8]) -> Loaded
     ensures { λ r. ⌜ r ≡ loaded reader (now (s .entry)) ⌝ }
 {
@@ -260,7 +260,7 @@ fn put_second(s: SavedSettings, buffer: &mut [u8])
     let end = byte_layout::put_rows(buffer, 0, values, &table, 10);
 }
 
-// Returns the refusal, or 0 and writes the record at the buffer's start.
+// The refusal's number, or 0 and the record stands at the buffer's start.
 pub fn store(version: u64, s: SavedSettings, buffer: &mut [u8]) -> u32
     ensures { λ r. ⌜ (r ≡ storeRefusal version s (length (now (buffer .entry)))) × (now (buffer .exit) ≡ stored version s (now (buffer .entry))) ⌝ }
 {
@@ -276,7 +276,7 @@ pub fn store(version: u64, s: SavedSettings, buffer: &mut [u8]) -> u32
     0
 }
 
-// An empty function whose contract collects the theorems, so that the checker must prove them.
+// What is promised beyond the contracts.
 pub fn promised()
     ensures { λ r. ⌜ Promises ⌝ }
 {}

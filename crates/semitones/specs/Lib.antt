@@ -1,3 +1,3 @@
--- The definitions that contracts on pitches cite.
+-- What the contracts of pitches cite.
 pub mod Ratios
 pub mod Promises

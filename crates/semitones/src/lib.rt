@@ -64,7 +64,7 @@ fn ratio(steps: u64) -> f64
     (scaled as f64) / 1125899906842624.0
 }
 
-// The rate times the pitch's ratio, rounded once. The pitch is in two's complement; one outside -24 to 24 gives NaN.
+// The rate times the pitch's ratio, rounded once. The pitch has its sign in two's complement; one that is not -24 to 24 gives a NaN.
 pub fn raised(rate: f64, pitch: u64) -> f64
     ensures { λ r. ⌜ r ≡ raisedBy rate pitch ⌝ }
 {
@@ -77,7 +77,7 @@ pub fn raised(rate: f64, pitch: u64) -> f64
     0.0 / 0.0
 }
 
-// An empty function whose contract collects the theorems, so that the checker must prove them.
+// What is promised beyond the contracts.
 pub fn promised()
     ensures { λ r. ⌜ Promises ⌝ }
 {}

@@ -33,25 +33,25 @@ use Rattle.sound_state.specs.Refusals.{unless}
 
 -- ---- what is refused
 
--- 6: the given loop is accepted over N
+-- 6: the loop given is lawful over N
 abbrev pub loopable : StaticSound → LoopCommand → Bool
 loopable v loop.Keep = true
 loopable v loop.Clear = true
 loopable v (loop.Set r) = lawfulRegion (v .setup .«sample_rate») (span (v .setup)) r
 
--- 7: the given rate is finite
+-- 7: the rate given is finite
 abbrev pub rateable : Amount → Bool
 rateable amount.Absent = true
 rateable (amount.Given x) = finite x
 
--- the target of a seek by x, in frames: (position / rate + x) * rate
+-- where a seek by x goes, in frames: position by rate, and x, times rate
 unfoldable pub targetBy : StaticSound → Float → Float
 targetBy v x =
     mul binary64
     (add binary64 (div binary64 (ofInt binary64 (pos (v .moving .transport .position))) (ofInt binary64 (pos (v .setup .«sample_rate»)))) x)
     (ofInt binary64 (pos (v .setup .«sample_rate»)))
 
--- the target of a seek to x, in frames
+-- where a seek to x goes, in frames
 unfoldable pub targetTo : StaticSound → Float → Float
 targetTo v x = mul binary64 x (ofInt binary64 (pos (v .setup .«sample_rate»)))
 
@@ -60,7 +60,7 @@ abbrev pub seekable : (Float → Float) → Amount → Bool
 seekable f amount.Absent = true
 seekable f (amount.Given x) = finite x && lt (f x) (fin false 1 (pos 32))
 
--- the refusal of a command set, 0 if it is accepted; both seeks are checked against the given state
+-- the number of a refused command set, 0 where it is accepted; both seeks are judged on the given state
 unfoldable pub refusedSet : ℕ → StaticSound → Commands → ℕ
 unfolding targetBy targetTo
 refusedSet len v c =
@@ -108,7 +108,7 @@ told c v =
       };
     }
 
--- the moving part after the transport's seek to frame q
+-- the moving parts once the transport has sought frame q
 abbrev pub jumped : StaticSound → ℕ → Moving
 jumped v q = record { state = v .moving .state; transport = seek (span (v .setup)) (v .moving .transport) q; resampler = v .moving .resampler; wraps = v .moving .wraps }
 
@@ -135,7 +135,7 @@ unfoldable pub obeyed : List Float → Commands → StaticSound → StaticSound
 unfolding told sought targetBy targetTo cutOff
 obeyed snd c v = soughtTo snd (soughtBy snd (told c v) (c .«seek_by»)) (c .«seek_to»)
 
--- the reported position: entry 1's frame index divided by the sample rate
+-- the reported position: entry 1's number divided by the sample rate
 unfoldable pub reported : StaticSound → Float
 reported v = div binary64 (ofInt binary64 (pos (heardNumber (v .moving .resampler)))) (ofInt binary64 (pos (v .setup .«sample_rate»)))
 

@@ -1,4 +1,4 @@
-// A command set: checks all commands, then applies them in a fixed order (kira's on_start_processing and read_commands).
+// A command set: judged as a whole, then obeyed in one order (kira's on_start_processing and read_commands).
 ghost use mathlib.Core.Path.{_≡_};
 ghost use Prim.Native.Nat.{_≤_};
 ghost use mathlib.Core.Bool.{false, _&&_, cond};
@@ -74,7 +74,7 @@ fn is_rate(command: Amount) -> bool
     }
 }
 
-// The target of a seek by the amount, in frames, before it is cut to a whole number.
+// Where a seek by the amount goes, in frames: not cut yet.
 fn frames_by(voice: StaticSound, amount: f64) -> f64
     requires { ⌜ voice .moving .transport .position ≤ most ⌝ }
     ensures { λ r. ⌜ r ≡ targetBy voice amount ⌝ }
@@ -87,7 +87,7 @@ fn frames_by(voice: StaticSound, amount: f64) -> f64
     position * setup.sample_rate as f64
 }
 
-// The target of a seek to the position, in frames, before it is cut to a whole number.
+// Where a seek to the position goes, in frames: not cut yet.
 fn frames_to(voice: StaticSound, position: f64) -> f64
     ensures { λ r. ⌜ r ≡ targetTo voice position ⌝ }
 {
@@ -121,7 +121,7 @@ fn is_seek_to(voice: StaticSound, command: Amount) -> bool
     }
 }
 
-// The lowest number that applies to a command set, 0 for none. Both seeks are checked against the given state.
+// The lowest number that applies to a command set, 0 for none. Both seeks are judged on the given state.
 fn refusal_of(voice: StaticSound, samples: usize, commands: Commands) -> u32
     ensures { λ r. ⌜ r ≡ refusedSet samples voice commands ⌝ }
 {
@@ -230,7 +230,7 @@ fn seek_to_index(voice: StaticSound, index: usize, sound: &[f32]) -> StaticSound
         transport,
         ..moving
     };
-    // Pushes one frame so that the target frame is not skipped.
+    // One frame is pushed so that the one sought is not skipped.
     if state.is_advancing() {
         let resampler = jumped.push_frame_to_resampler(voice.course(), sound);
         return StaticSound {
@@ -287,7 +287,7 @@ fn read_commands(voice: StaticSound, sound: &[f32], commands: Commands) -> Stati
     seek_to(sought, to, sound)
 }
 
-// The position of the frame that was heard last, in seconds.
+// The last frame heard, in seconds.
 fn last_played_position(voice: StaticSound) -> f64
     requires { ⌜ heardNumber (voice .moving .resampler) ≤ most ⌝ }
     ensures { λ r. ⌜ r ≡ reported voice ⌝ }

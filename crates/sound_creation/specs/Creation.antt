@@ -24,7 +24,7 @@ use Rattle.sound_creation.specs.declared.OptionalRegion.the-variants as 
 use Rattle.sound_creation.specs.declared.Settings.{Settings}
 use Rattle.sound_creation.specs.declared.Created.{Created}
 
--- the given region in frames, over n frames
+-- a region as it is given, in frames, over n frames
 abbrev pub ranged : ℕ → ℕ → OptionalRegion → FrameRange
 ranged hz n optional.Absent = range.Absent
 ranged hz n (optional.Present r) = stretched hz n r
@@ -33,7 +33,7 @@ abbrev pub allowed : ℕ → ℕ → OptionalRegion → Bool
 allowed hz n optional.Absent = true
 allowed hz n (optional.Present r) = lawfulRegion hz n r
 
--- what creation fixes; len is the sound's length in samples
+-- what creation fixes; len is the lent sound's length in samples
 abbrev pub setupOf : ℕ → Settings → Setup
 setupOf len s =
     record { «sample_rate» = s .«sample_rate»; «num_frames» = len / 2; slice = ranged (s .«sample_rate») (len / 2) (s .slice); reverse = s .reverse }
@@ -42,7 +42,7 @@ setupOf len s =
 abbrev pub startable : ℕ → Settings → Bool
 startable n s = placeable (s .«start_position») && ltb (placed (s .«sample_rate») (s .«start_position»)) n
 
--- the refusal of a creation, 0 if it is accepted
+-- the number of a refused creation, 0 where it is accepted
 unfoldable pub refusedNew : ℕ → Settings → ℕ
 refusedNew len s =
     let n = span (setupOf len s) in

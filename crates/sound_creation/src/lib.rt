@@ -1,4 +1,4 @@
-// Creation: checks all settings, then makes the voice (kira's StaticSound::new, StaticSoundData::slice and num_frames).
+// Creation: judged as a whole, then made (kira's StaticSound::new, StaticSoundData::slice and num_frames).
 ghost use mathlib.Core.Path.{_≡_};
 ghost use Prim.Native.Nat.{_/_, _%_};
 ghost use mathlib.Core.Bool.{_&&_};
@@ -22,7 +22,7 @@ pub enum OptionalRegion {
     Present(Region),
 }
 
-// The settings of a creation.
+// What creation is given beside the sound.
 pub struct Settings {
     pub sample_rate: u32,
     pub slice: OptionalRegion,
@@ -38,7 +38,7 @@ pub struct Created {
     pub sound: StaticSound,
 }
 
-// The region in frames, over this many frames.
+// The region in frames, over so many frames.
 fn into_frames(region: OptionalRegion, sample_rate: u32, num_frames: usize) -> FrameRange
     ensures { λ r. ⌜ r ≡ ranged «sample_rate» «num_frames» region ⌝ }
 {
@@ -57,7 +57,7 @@ fn is_lawful(region: OptionalRegion, sample_rate: u32, num_frames: usize) -> boo
     }
 }
 
-// What creation fixes for a sound of this many samples.
+// What creation fixes of a sound of so many samples.
 fn setup_of(settings: Settings, samples: usize) -> Setup
     ensures { λ r. ⌜ r ≡ setupOf samples settings ⌝ }
 {
@@ -77,14 +77,14 @@ fn is_sample_rate(sample_rate: u32) -> bool
     (sample_rate > 0) & (sample_rate <= 768000)
 }
 
-// Whether the samples are whole frames, at least one and not too many.
+// Whole frames, some of them and not too many.
 fn is_sound(samples: usize) -> bool
     ensures { λ r. ⌜ r ≡ (eqb (samples % 2) 0 && ltb 0 (samples / 2) && leb (samples / 2) 16777216) ⌝ }
 {
     (samples % 2 == 0) & (samples / 2 > 0) & (samples / 2 <= 16777216)
 }
 
-// Whether the start is inside the slice.
+// Whether the start lies in the frames that are played.
 fn is_start(settings: Settings, num_frames: usize) -> bool
     ensures { λ r. ⌜ r ≡ startable «num_frames» settings ⌝ }
 {
@@ -122,7 +122,7 @@ fn refusal_of(settings: Settings, samples: usize) -> u32
     0
 }
 
-// An accepted voice before its updates: at its first position, with an empty window.
+// An accepted sound before its updates: at its first position, nothing heard yet.
 fn open(settings: Settings, samples: usize) -> StaticSound
     requires { ⌜ refusedNew samples settings ≡ 0 ⌝ }
     ensures { λ r. ⌜ r ≡ opened (setupOf samples settings) (transportOf (setupOf samples settings) settings) (settings .«playback_rate») (settings .«start_waits») ⌝ }
@@ -156,7 +156,7 @@ fn open(settings: Settings, samples: usize) -> StaticSound
     }
 }
 
-// Makes three updates, which fill the window, so that playback can start at once.
+// Three updates fill the window, so that playback can start immediately.
 fn make(settings: Settings, sound: &[f32]) -> StaticSound
     requires { ⌜ refusedNew (length (now sound)) settings ≡ 0 ⌝ }
     ensures { λ r. ⌜ r ≡ made (now (sound .entry)) settings ⌝ }

@@ -1,4 +1,4 @@
-// Multiplies the readings in the output by their gains, in place: fade, then volume, then the channel's gain.
+// The gains over readings that are written: each frame's two samples times its fade, volume and gain, in place.
 ghost use mathlib.Core.Path.{_≡_};
 ghost use Prim.Native.Nat.{_+_, _*_, _≤_, _<_};
 ghost use lib.ListN.{length};
@@ -52,7 +52,7 @@ fn gain_one(fade: &[f32], volume: &[f32], left: &[f32], right: &[f32], i: usize,
     sound_fast_reading::store(out, 2 * i, x);
 }
 
-// Multiplies the first n frames of the output by their gains; clang vectorises it.
+// The first n frames of the output times their gains; clang makes vector code of it.
 pub fn by_frame(
     fade: &[f32],
     volume: &[f32],

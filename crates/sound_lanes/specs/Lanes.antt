@@ -9,7 +9,7 @@ use lib.Ieee.{Float, nan, fin, lt, le}
 use Rattle.numbers.specs.Words.{positiveZero, finite, finiteClear, advance}
 use Rattle.numbers.specs.Lists.{all}
 
--- the five numbers of one output frame
+-- what one output frame brings
 pub record Lane : Type 0 where
   pub fade : Float
   pub volume : Float
@@ -17,7 +17,7 @@ pub record Lane : Type 0 where
   pub right : Float
   pub rate : Float
 
--- the five lanes as they are passed
+-- the five lanes as they come
 pub record Lanes : Type 0 where
   pub fade : List Float
   pub volume : List Float
@@ -59,7 +59,7 @@ slow hz dt rate = le (advance hz rate dt) (fin false 1 (pos 8))
 abbrev pub near : ℕ → Float → Lane → Bool
 near hz dt l = slow hz dt (l .rate)
 
--- 11 and 12 over all frames, 11 first; 0 if both pass
+-- 11 and 12 over all frames, 11 first; 0 where both pass
 abbrev pub judged : ℕ → Float → Lanes → ℕ
 judged hz dt b = cond (all laned (rows b)) (cond (all (near hz dt) (rows b)) 0 12) 11
 

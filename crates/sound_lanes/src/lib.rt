@@ -1,4 +1,4 @@
-// Checks the five lanes of a block. No pass returns early, so that clang vectorises its loop.
+// The five lanes of a block, judged by accumulation: no pass leaves early, so that its loop becomes vector code.
 ghost use mathlib.Core.Path.{_≡_};
 ghost use lib.Dec.{T};
 ghost use lib.ListN.{length};
@@ -6,7 +6,7 @@ ghost use Rattle.numbers.specs.Words.{finite, finiteClear};
 ghost use Rattle.numbers.specs.Lists.{all};
 ghost use Rattle.sound_lanes.specs.Lanes.{five, sized, timeStep, slow, judged, fourFiniteClear, low};
 
-// Refusal 9, except for the output's length.
+// Refusal 9, but for the output's length.
 pub fn are_sized(fade: &[f32], volume: &[f32], left: &[f32], right: &[f32], rate: &[f64]) -> bool
     ensures { λ r. ⌜ r ≡ sized (five (now (fade .entry)) (now (volume .entry)) (now (left .entry)) (now (right .entry)) (now (rate .entry))) ⌝ }
 {
@@ -21,7 +21,7 @@ pub fn is_time_step(dt: f64) -> bool
     numbers::is_finite(dt) & (dt > 0.0)
 }
 
-// The bits of x if it is at most the largest number, otherwise only the top bit: that bit is set exactly if x is refused.
+// The bits of x where it is at most the largest number, else the top bit alone: that bit is set if and only if x is refused.
 fn top(x: f32) -> u32
     ensures { λ r. ⌜ low r ≡ finiteClear x ⌝ }
 {
@@ -48,7 +48,7 @@ fn four_finite_clear(fade: &[f32], volume: &[f32], left: &[f32], right: &[f32]) 
     tops < 0x8000_0000
 }
 
-// Computes the advance as the block does, so that in no rounding mode a rate passes here and is too fast there.
+// The advance is worked out as the block does, so that in no rounding mode a rate passes here and is too fast there.
 fn all_slow(sample_rate: u32, dt: f64, rate: &[f64]) -> bool
     ensures { λ r. ⌜ r ≡ all (slow «sample_rate» dt) (now (rate .entry)) ⌝ }
 {
@@ -75,7 +75,7 @@ fn all_finite(rate: &[f64]) -> bool
     ok
 }
 
-// Refusals 11 and 12, or 0. A slow rate is finite, so the pass for finite rates only distinguishes 11 from 12.
+// Refusals 11 and 12, or 0. A slow rate is finite, so the pass for finite rates only tells 11 from 12.
 pub fn judge(
     sample_rate: u32,
     dt: f64,

@@ -1,4 +1,4 @@
--- One frame of a block over the moving part, as the code's loop has it; and what the loop requires.
+-- One frame of a block over what moves, as the block's loop has it; and what the loop asks.
 use Prim.Native.Nat.{ℕ, _*_}
 use mathlib.Core.Path.{_≡_}
 use mathlib.Core.List.{List}
@@ -29,7 +29,7 @@ frameAt a b c d f fade volume left right =
       right = mul binary32 (mul binary32 (mul binary32 (x .right) fade) volume) right;
     }
 
--- frame i with its lanes: the window read at a fraction, with the count of the reading
+-- frame i of the lanes heard: the window read at a fraction, with the count that the read returns
 abbrev pub heardAt : Resampler → Float → List Float → List Float → List Float → List Float → ℕ → Reading
 heardAt w f fade volume left right i =
     record {
@@ -37,20 +37,20 @@ heardAt w f fade volume left right i =
       count = (reading w (narrowed f)) .count;
     }
 
--- the moving part and the fraction after one frame
+-- what one frame leaves of the moving parts and the fraction
 unfoldable pub turnOf : List Float → Course → ℕ → Float → Float → Moving → Float → Turned
 turnOf snd c hz rate dt m f =
     let x = add binary64 f (advance hz rate dt) in
     record { moving = updates (whole x) snd c m; «fractional_position» = part x; steps = whole x }
 
--- what a frame requires
+-- what a frame asks
 pub record Turning (snd : List Float) (c : Course) (hz : ℕ) (rate dt : Float) (m : Moving) (f : Float) : Type 0 where
   pub able : Able snd c m
   pub below : T (proper f)
   pub timeStep : T (lt positiveZero dt)
   pub slow : T (slow hz dt rate)
 
--- what holds of an accepted block; m is the output's length
+-- what a block asks that is neither refused nor judged again; m is the output's length
 pub record Playable (snd : List Float) (v : StaticSound) (dt : Float) (b : Lanes) (m : ℕ) : Type 0 where
   pub formed : Formed v
   pub lent : length snd ≡ 2 * v .setup .«num_frames»

@@ -1,4 +1,4 @@
-// The slow path: a block of a started, advancing voice, frame by frame (the loop of kira's StaticSound::process).
+// A started, advancing block: frame after frame, the window is read and the voice moves (the loop of kira's StaticSound::process).
 ghost use mathlib.Core.Path.{_≡_};
 ghost use Prim.Native.Nat.{_<_};
 ghost use lib.Dec.{T};
@@ -14,13 +14,13 @@ use sound_state::StaticSound;
 use sound_update::Course;
 use sound_update::Moving;
 
-// A voice, and the time step of its block.
+// A voice, and the seconds that each frame of its block takes.
 pub struct Timed {
     pub voice: StaticSound,
     pub dt: f64,
 }
 
-// The result of a block: refusal (0 for none), the voice after it, its steps, and the lowest count that it read.
+// What a block answers: its refusal, 0 for none, the voice after it, the steps made, and the lowest count that it read.
 pub struct Processed {
     pub refusal: u32,
     pub sound: StaticSound,
@@ -28,7 +28,7 @@ pub struct Processed {
     pub lowest_count: usize,
 }
 
-// The result of one frame: the moving part, the fraction, and its steps.
+// What one frame leaves: the moving parts, the fraction, and the steps made.
 pub struct Turned {
     pub moving: Moving,
     pub fractional_position: f64,
@@ -42,7 +42,7 @@ fn lower(a: usize, b: usize) -> usize
     if a <= b { a } else { b }
 }
 
-// Frame i: the window's reading times fade, times volume, times each channel's gain; and the count of the reading.
+// The window's reading, with the count that it was read at: its frame times fade, times volume, times each channel's gain, all of frame i.
 fn frame_heard(
     window: Resampler,
     fractional_position: f64,

@@ -1,4 +1,4 @@
--- The state of a voice, and when it is well formed.
+-- What a voice holds and when it is well formed.
 pub mod Voices
 pub mod WellFormed
 pub mod Refusals

@@ -1,3 +1,3 @@
--- The track, and windows that are four neighbouring frames of it (trails).
+-- The way of a transport, and the window as its trail.
 pub mod Tracks
 pub mod Trails

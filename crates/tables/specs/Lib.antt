@@ -1,2 +1,2 @@
--- The definitions that a table's contract cites.
+-- What the contracts of a table cite.
 pub mod Largest

@@ -1,4 +1,4 @@
--- A voice reads a slot and sets that loop by a command set (request #109). The slot's loop must lie inside the sound, the command's inside N.
+-- A voice reads a slot and sets that loop by a command set (request #109). The slot is judged over all frames of the sound, the command over the voice's N.
 use Prim.Native.Nat.{ℕ}
 use mathlib.Core.Bool.{false, cond}
 use mathlib.Core.List.{List}
@@ -32,7 +32,7 @@ loopCommand s =
       «seek_to» = amount.Absent;
     }
 
--- after a read: the table's refusal with the given voice and position +0, otherwise the command set's result
+-- what follows from a read: the table's refusal, with the given voice and position +0; else the command set's answer
 abbrev pub takenFrom : List Float → StaticSound → LoopFound → Commanded
 takenFrom snd v f =
     cond (eqb (f .refusal) 0) (commanded snd v (loopCommand (f .slot))) (record { refusal = f .refusal; sound = v; position = positiveZero })

@@ -1,4 +1,4 @@
-// A transport as plain numbers, and its moves. If a move's requirement is not met, the result is all zeros.
+// A transport as plain numbers, and its moves. Where a move asks for more than it is given, the answer is all zeros.
 ghost use mathlib.Core.Path.{_≡_};
 ghost use mathlib.Core.Bool.{cond};
 ghost use lib.Dec.{ltb};
@@ -14,7 +14,7 @@ use super::places::range_of;
 use playback_position::FrameRange;
 use transport::Transport;
 
-// Playing if `playing` is not 0.
+// Playing where `playing` is not 0.
 #[repr(C)]
 pub struct PlainTransport {
     pub position: u64,
@@ -54,7 +54,7 @@ fn plain_transport(t: Transport) -> PlainTransport
     }
 }
 
-// What a step back and a seek require.
+// What a step back and a seek ask for.
 fn is_ordered(loop_region: FrameRange) -> bool
     ensures { λ r. ⌜ r ≡ ordered «loop_region» ⌝ }
 {
@@ -64,7 +64,7 @@ fn is_ordered(loop_region: FrameRange) -> bool
     }
 }
 
-// What a step forward requires.
+// What a step forward asks for.
 fn is_formed_transport(t: Transport, num_frames: usize) -> bool
     ensures { λ r. ⌜ r ≡ formedTransport «num_frames» t ⌝ }
 {

@@ -126,7 +126,7 @@ pub extern "C" fn cableowl_test_new_window(starting_frame_index: u64) -> PlainWi
     plain_window(Resampler::new(starting_frame_index as usize))
 }
 
-// No frame is pushed if `given` is 0.
+// No frame is pushed where `given` is 0.
 #[no_mangle]
 pub extern "C" fn cableowl_test_push_frame(
     w: PlainWindow,

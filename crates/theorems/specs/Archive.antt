@@ -1,5 +1,5 @@
--- The C entries, on C records: a block cut in two, and the same into a mix, as Cut and Mix say for the entries below.
--- The second part gets the state that the first part returned, and signals of 0; if the start is due at a tick, it gets the same tick.
+-- The archive's own entries, on records of numbers: a block cut in two, and the same into a mix, as Cut and Mix say of the entries below.
+-- The second part is given the state that the first part answered, as a host hands it back, and signals of 0, but the same tick where the start is due at one.
 use Prim.Native.Nat.{ℕ, _+_, _*_, _≤_}
 use mathlib.Core.Path.{_≡_}
 use mathlib.Core.List.{List, _++_}
@@ -16,11 +16,11 @@ use Rattle.c_state.specs.Records.{decoded}
 use Rattle.cableowl.specs.Entries.{OutcomeC, processedC, processedIntoC}
 use Rattle.theorems.specs.Alike.{bare, Awake}
 
--- the signals of a later part: 0, or the same tick if the start is due at one
+-- the signals of a later part: 0, but the same tick where the start is due at one
 abbrev pub quietC : CableowlSignals → CableowlSignals
 quietC g = record { finished = 0; start = cond (eqb (g .start) 3) 3 0; resume = 0; due = g .due; now = g .now }
 
--- the results of the two parts against the result of the whole
+-- the answers of two parts against the answer of the whole
 pub record PartsC (uncut first rest : CableowlProcessed) : Type 0 where
   pub accepted : (first .refusal ≡ 0) × (rest .refusal ≡ 0)
   pub same : Awake (decoded (first .state)) → (uncut .state ≡ rest .state) × (uncut .steps ≡ first .steps + rest .steps)
@@ -35,7 +35,7 @@ pub record CutInMixC (uncut first rest : OutcomeC) : Type 0 where
   pub answers : PartsC (uncut .answer) (first .answer) (rest .answer)
   pub samples : uncut .samples ≡ rest .samples
 
--- hypothesis: an accepted block, and a number of its frames
+-- what is asked: an accepted block, and a number of its frames
 pub record MayCutC (snd : List Float) (c : CableowlState) (dt : Float) (b : Lanes) (g : CableowlSignals) (out : List Float) (k : ℕ) : Type 0 where
   pub accepted : (processedC snd c dt b g out) .answer .refusal ≡ 0
   pub inside : k ≤ length (b .rate)

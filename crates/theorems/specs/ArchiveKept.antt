@@ -1,6 +1,6 @@
--- What every C call returns, as Kept says for the entries below: if accepted, a record that the next call accepts over the same sound; if refused, the given record and samples.
--- A record can be saved and passed again. A record whose bytes represent no state is refused with 1, and an unknown tag with the number of its field.
--- And the part that the stretch entry returns is the stretch.
+-- What every call of the archive leaves, as Kept says of the entries below: accepted, a record that the next call takes over the same sound; refused, the given record and samples.
+-- A record may be read out, saved and given back; one whose bytes mean nothing is refused, and so is every tag that means nothing, by the number of its field.
+-- And the part that the stretch answers is the stretch.
 use Prim.Native.Nat.{ℕ, _<_}
 use mathlib.Core.Path.{_≡_}
 use mathlib.Core.Bool.{true, false}
@@ -28,13 +28,13 @@ use Rattle.c_inputs.specs.Inputs.{placeOf, endOf, regionIf, optionalOf, loopOf,
 use Rattle.cableowl.specs.Entries.{OutcomeC, createdC, commandedC, processedC, processedIntoC, partC}
 use Rattle.theorems.specs.Kept.{Either}
 
--- ---- the result of a call
+-- ---- what a call leaves
 
--- a record that the next call accepts over this sound
+-- a record that the next call takes over this sound
 abbrev pub Good : List Float → CableowlState → Type 0
 Good snd c = T (lawful c) × T (ours (length snd) (decoded c))
 
--- for a block's outcome, given the record and the samples before
+-- of a block's outcome, given the record and the samples before
 abbrev pub BlockKeepsC : List Float → CableowlState → List Float → OutcomeC → Type 0
 BlockKeepsC snd c out o =
     Either (o .answer .refusal) (Good snd (o .answer .state)) ((o .answer .state ≡ c) × (o .answer .steps ≡ 0) × (o .answer .«lowest_count» ≡ 4) × (o .samples ≡ out))
@@ -49,9 +49,9 @@ pub record ArchiveKeeps : Type 0 where
   pub mix : (snd : List Float) (c : CableowlState) (dt : Float) (b : Lanes) (g : CableowlSignals) (mix : List Float) (from : ℕ)
       → BlockKeepsC snd c mix (processedIntoC snd c dt b g mix from)
 
--- ---- saved and passed again
+-- ---- read out and given back
 
--- a record whose bytes represent a state, and one whose bytes do not
+-- a record whose bytes have a meaning, and one whose bytes have none
 abbrev pub Lawful : CableowlState → Type 0
 Lawful c = T (lawful c)
 
@@ -62,7 +62,7 @@ pub record ReadBack : Type 0 where
   pub voice : (v : StaticSound) → decoded (encoded v) ≡ v
   pub numbers : (c : CableowlState) → Lawful c → encoded (decoded c) ≡ c
 
--- ---- unknown bytes
+-- ---- bytes that mean nothing
 
 pub record UnlawfulRefused : Type 0 where
   pub commands : (snd : List Float) (c : CableowlState) (k : CableowlCommands) → Unlawful c → (commandedC snd c k) .refusal ≡ 1
@@ -72,11 +72,11 @@ pub record UnlawfulRefused : Type 0 where
       → (mix : List Float) (from : ℕ) → (processedIntoC snd c dt b g mix from) .answer .refusal ≡ 1
   pub stretch : (snd : List Float) (c : CableowlState) → Unlawful c → partC snd c ≡ record { offset = 0; length = 0 }
 
--- a tag above the last known one
+-- a tag above the last that has a meaning
 abbrev pub Unknown : ℕ → ℕ → Type 0
 Unknown last tag = last < tag
 
--- an unknown tag fails its field's check
+-- an unknown tag fails the test of its field's number
 pub record TagsRefused : Type 0 where
   pub place : (p : CableowlPlace) → Unknown 1 (p .kind) → placeable (placeOf p) ≡ false
   pub end : (p : CableowlPlace) → Unknown 2 (p .kind) → endable (endOf p) ≡ false

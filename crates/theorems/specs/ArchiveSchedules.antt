@@ -1,4 +1,4 @@
--- Block sizes do not matter for the C entries either, as Schedules says for the entries below: each block gets the state that the one before returned.
+-- Block sizes do not matter to the archive's own entries either, as Schedules says of the entries below: each block is given the state that the one before answered.
 use Prim.Native.Nat.{ℕ, _+_, _*_}
 use mathlib.Core.Path.{_≡_}
 use mathlib.Core.Bool.{Bool, _&&_}
@@ -18,7 +18,7 @@ use Rattle.theorems.specs.Alike.{bare, awake}
 use Rattle.theorems.specs.Schedules.{LawfulCut, LawfulCutMix}
 use Rattle.theorems.specs.Archive.{quietC}
 
--- the outcome of a sequence of blocks: whether each was accepted, the record after, all samples, all steps, the lowest count, and the record at each cut
+-- what a row of blocks gives: whether each was accepted, the record after, all samples, all steps, the lowest count, and the record at each cut between two blocks
 pub record RunC : Type 0 where
   pub accepted : Bool
   pub state : CableowlState
@@ -38,7 +38,7 @@ aloneC o =
       cuts = [];
     }
 
--- one block and the sequence after it, with their samples
+-- one block and the row that follows it, with the samples that they leave
 abbrev pub thenC : OutcomeC → RunC → List Float → RunC
 thenC o r samples =
     record {
@@ -79,7 +79,7 @@ pub record AgreeC (r s : RunC) : Type 0 where
   pub lowest : BothAwakeC r s → r .«lowest_count» ≡ s .«lowest_count»
   pub alike : bare (decoded (r .state)) ≡ bare (decoded (s .state))
 
--- hypotheses: a way to cut a stream whose blocks are all accepted, and two such ways
+-- a way to cut a stream, all of whose blocks are accepted, and two such ways
 pub record WayC (snd : List Float) (dt : Float) (b : Lanes) (g : CableowlSignals) (c : CableowlState) (k : ℕ) (ks : List ℕ) (out : List Float) : Type 0 where
   pub all-of-it : k + sum ks ≡ length (b .rate)
   pub accepted : T ((playedByC snd dt k ks b g c out) .accepted)

@@ -1,6 +1,6 @@
--- Blocks whose five numbers are given once. Their definition is the block over lanes that repeat the numbers, so every theorem about blocks holds for them.
--- Here by name: such a block can be cut into two such blocks, into an output or into a mix; what it keeps; its steps, and how many they are at most.
--- Sequences of such blocks are those of Schedules over such lanes, and they are calls of InTheLoop.
+-- Blocks whose five numbers are given once. Their definition is the block over lanes that repeat the numbers, so every theorem over blocks holds of them;
+-- here by name: cut in two, such a block is two such blocks, into an output or into a mix; what it keeps; the steps that it reports, and how many they are at most.
+-- Rows of such blocks are the rows of Schedules over such lanes, and they are calls of InTheLoop.
 use Prim.Native.Nat.{ℕ, _+_, _-_, _*_, _/_}
 use mathlib.Core.List.{List}
 use lib.ListN.{length, take, drop}

@@ -1,7 +1,8 @@
--- Once in the loop, always in the loop. Take a well formed voice whose transport plays inside its loop, and any sequence of calls: blocks, into an output or into a mix,
--- command sets, loops taken from a table, and stretches, each with a sound of its own. A loop that is taken counts as a loop command.
--- If no accepted call contains a loop command, the transport still plays inside that loop afterwards. The voice is Stopped only if an accepted call
--- contained a stop command or the answer never, or if it was Stopping or Stopped at first. Refused calls can contain anything. Seeks stay inside the loop.
+-- Once in the loop, always in the loop. Take a well formed voice whose transport plays inside its loop, and any row of calls: blocks, into an output or into a mix,
+-- command sets, loops taken from a table and stretches, each with a sound of its own. A loop that is taken counts as a loop command.
+-- As long as no accepted one holds a loop command, the transport still plays, inside that loop;
+-- and the voice is Stopped only if an accepted one held a stop command or a never answer, or if it was Stopping or Stopped at first.
+-- Of refused calls nothing is asked: they may hold anything. Seeks are commands like others, and stay inside.
 use Prim.Native.Nat.{ℕ}
 use mathlib.Core.Path.{_≡_}
 use mathlib.Core.Bool.{Bool, true, false, _&&_, _||_, not}
@@ -28,7 +29,7 @@ use Rattle.static_sound.specs.Entries.{processed, processedInto}
 
 -- ---- calls
 
--- the input of a call, without the voice
+-- all that a call is given but the voice
 pub data Call : Type 0 where
   Block : (sound : List Float) (dt : Float) (lanes : Lanes) (signals : Signals) (out : List Float) → Call
   Mix : (sound : List Float) (dt : Float) (lanes : Lanes) (signals : Signals) (mix : List Float) (from : ℕ) → Call
@@ -36,7 +37,7 @@ pub data Call : Type 0 where
   Take : (sound : List Float) (table : LoopTable) (slot : ℕ) → Call
   Stretch : (sound : List Float) → Call
 
--- the voice that a call returns; a stretch returns none, so it does not change
+-- the voice that a call gives back; a stretch gives back none, so it stays as it is
 abbrev pub after : Call → StaticSound → StaticSound
 after (Block snd dt b g out) v = (processed snd v dt b g out) .answer .sound
 after (Mix snd dt b g mix from) v = (processedInto snd v dt b g mix from) .answer .sound
@@ -52,17 +53,17 @@ accepted (Command snd c) v = eqb ((commanded snd v c) .refusal) 0
 accepted (Take snd t k) v = eqb ((taken snd t k v) .refusal) 0
 accepted (Stretch snd) v = true
 
--- a sequence of calls, each with the voice that the one before returned
+-- a row of calls, the first one first, each on what the one before left
 unfoldable pub afterAll : List Call → StaticSound → StaticSound
 afterAll [] v = v
 afterAll (c ∷ cs) v = afterAll cs (after c v)
 
--- whether some accepted call of the sequence is of a kind
+-- whether some accepted call of the row is of a kind
 unfoldable pub someAccepted : (Call → Bool) → List Call → StaticSound → Bool
 someAccepted kind [] v = false
 someAccepted kind (c ∷ cs) v = (accepted c v && kind c) || someAccepted kind cs (after c v)
 
--- ---- what calls contain
+-- ---- what they hold
 
 abbrev pub changesLoop : LoopCommand → Bool
 changesLoop loop.Keep = false
@@ -102,7 +103,7 @@ ending Stopped = true
 
 -- ---- what is promised
 
--- after the calls the voice is Stopped
+-- the voice that the calls leave is Stopped
 abbrev pub EndsStopped : List Call → StaticSound → Type 0
 EndsStopped cs v = (afterAll cs v) .moving .state ≡ Stopped
 
@@ -110,7 +111,7 @@ pub record Stays (s e : ℕ) (cs : List Call) (v : StaticSound) : Type 0 where
   pub inside : Inside s e ((afterAll cs v) .moving .transport)
   pub stopped : EndsStopped cs v → T (someAccepted stops cs v || ending (v .moving .state))
 
--- hypothesis
+-- what is asked
 pub record Entered (s e : ℕ) (cs : List Call) (v : StaticSound) : Type 0 where
   pub formed : T (wellFormed v)
   pub inside : Inside s e (v .moving .transport)

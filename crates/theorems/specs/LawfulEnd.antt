@@ -1,5 +1,5 @@
--- The only way to stop inside a block: an update does not change the playback state unless the transport has ended and the window is empty; then it becomes Stopped.
--- So after k frames of an accepted, sounding block the voice is in the state in which the block began, or it has stopped in this way, and every later sample is +0.
+-- Only a lawful end: an update leaves the state as it is, or the transport has ended and the window is empty, and then it is Stopped.
+-- So after k frames of an accepted, sounding block the voice is in the state in which the block began, or it has ended so, and every sample from there on is +0.
 use Prim.Native.Nat.{ℕ, _+_, _-_, _*_, _≤_}
 use mathlib.Core.Path.{_≡_}
 use mathlib.Core.Logic.{_⊎_}
@@ -20,7 +20,7 @@ use Rattle.sound_slow_path.specs.Plays.{plays}
 use Rattle.static_sound.specs.Entries.{processed, processedInto}
 use Rattle.theorems.specs.Accepted.{AcceptedBlock, AcceptedMix}
 
--- Stopped, the transport not playing, the window empty
+-- Stopped, the transport not playing, nothing left to hear
 pub record Ended (m : Moving) : Type 0 where
   pub stopped : m .state ≡ Stopped
   pub still : m .transport .playing ≡ false
@@ -33,7 +33,7 @@ EndsOnly s m = (m .state ≡ s) ⊎ Ended m
 abbrev pub UpdateEnds : Type 0
 UpdateEnds = (snd : List Float) (c : Course) (m : Moving) → EndsOnly (m .state) (updated snd c m)
 
--- hypothesis: an accepted block that sounds, and a number of its frames
+-- what is asked: an accepted block that sounds, and a number of its frames
 pub record Sounds (snd : List Float) (v : StaticSound) (dt : Float) (b : Lanes) (g : Signals) (out : List Float) (k : ℕ) : Type 0 where
   pub accepted : AcceptedBlock snd v dt b g out
   pub live : live (begun g v) ≡ true
@@ -51,7 +51,7 @@ BlockEnds =
     let m = (plays snd dt (take k (rows b)) (begun g v)) .voice .moving in
     Sounds snd v dt b g out k → (m .state ≡ (begun g v) .moving .state) ⊎ (Ended m × (drop (2 * k) (o .samples) ≡ zeros (drop k (rows b))))
 
--- for a block into a mix: the later samples of its own part
+-- of a block into a mix: the samples from there on are those of its own place
 abbrev pub MixEnds : Type 0
 MixEnds =
     (snd : List Float) (v : StaticSound) (dt : Float) (b : Lanes) (g : Signals) (mix : List Float) (from k : ℕ)

@@ -1,4 +1,4 @@
--- The list of theorems, one field each; the file of a field's type states it.
+-- All that is promised beyond the functions' own contracts: a field a theorem, each stated in the file that its type comes from.
 -- The contract of `promised` is this record, so the prover refuses a field that is false or has no proof.
 use Rattle.theorems.specs.Cut.{CutBlocks}
 use Rattle.theorems.specs.Mix.{CutMixes}
@@ -25,7 +25,7 @@ use Rattle.theorems.specs.Coincide.{Coincide}
 use Rattle.theorems.specs.Witnesses.{Witnesses}
 
 pub record Promises : Type 0 where
-  -- splitting a block does not change it
+  -- a block cut in two is the same block
   pub cut-blocks : CutBlocks
   pub cut-mixes : CutMixes
   -- and so is a stream of blocks of any sizes, each of which is accepted
@@ -33,7 +33,7 @@ pub record Promises : Type 0 where
   pub any-sizes-mix : AnySizesMix
   pub all-accepted : AllAccepted
   pub all-accepted-mix : AllAcceptedMix
-  -- the same for the C entries, on C records
+  -- the same of the archive's entries, on records of numbers
   pub archive-cut-blocks : CutBlocksC
   pub archive-cut-mixes : CutMixesC
   pub archive-any-sizes : AnySizesC
@@ -45,7 +45,7 @@ pub record Promises : Type 0 where
   pub archive-unlawful-refused : UnlawfulRefused
   pub archive-tags-refused : TagsRefused
   pub archive-part-is-stretch : PartIsStretch
-  -- an accepted call returns a well formed state, a refused one what it was given
+  -- an accepted call leaves a well formed state, a refused one all that it was given
   pub creation-keeps : CreationKeeps
   pub blank-is-not : BlankIsNot
   pub commands-keep : CommandsKeep
@@ -55,17 +55,17 @@ pub record Promises : Type 0 where
   pub update-ends : UpdateEnds
   pub block-ends : BlockEnds
   pub mix-ends : MixEnds
-  -- the reported steps are the updates made
+  -- the steps reported are the updates made
   pub steps-made : StepsMade
   pub mix-steps-made : MixStepsMade
-  -- their largest number, and an input that reaches it
+  -- how many they are at most, and that the bound is reached
   pub block-budget : BlockBudget
   pub mix-budget : MixBudget
   pub stream-budget : StreamBudget
   pub two-steps : TwoSteps
-  -- the same for blocks whose numbers are given once
+  -- the same of blocks whose numbers are given once
   pub held-blocks : HeldBlocks
-  -- what the lowest count means, for a voice that comes from creation by calls with its sound
+  -- what the lowest count tells a monitor of a voice that creation and its calls have fed
   pub creation-feeds : CreationFeeds
   pub commands-feed : CommandsFeed
   pub blocks-feed : BlocksFeed
@@ -73,10 +73,10 @@ pub record Promises : Type 0 where
   pub blocks-tell : BlocksTell
   pub mixes-tell : MixesTell
   pub silence-tells : SilenceTells
-  -- an ended transport and a Stopped voice stay so
+  -- what is over stays over
   pub seek-starts-nothing : SeekStartsNothing
   pub stopped-stays : StoppedStays
-  -- steps in any order, and any sequence of calls without a loop command, stay inside the loop
+  -- a loop is not left by steps, in any order, nor by any row of calls without a loop command
   pub any-order : AnyOrder
   pub there-and-back : ThereAndBack
   pub permutations : Permutations
@@ -99,5 +99,5 @@ pub record Promises : Type 0 where
   pub examples-hold : ExamplesHold
   -- each contract says enough: any two outcomes that it allows coincide
   pub coincide : Coincide
-  -- one input for each hypothesis
+  -- for each theorem that asks something, an input that meets it
   pub witnesses : Witnesses

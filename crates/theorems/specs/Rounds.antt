@@ -1,6 +1,6 @@
--- What the counts of wraps mean. For a voice that plays inside its loop (s, e), L = e - s, and an accepted block:
--- position after = position before + steps - L * wraps (forward), or - steps + L * wraps (backward),
--- as long as the count has not reached its limit. The other direction's count does not change, and no count falls.
+-- What the counts of wraps mean. Take a voice that plays inside its loop (s, e), L = e - s, and an accepted block. Then positions, steps and wraps fit:
+-- forward, the position after it is the one before, plus the steps, less L for each wrap counted in it; backward, the one before, less the steps, plus L for each wrap.
+-- As long as the count has not reached its limit, where it stands still. The count of the other direction stays as it is, and no count falls.
 use Prim.Native.Nat.{ℕ, _+_, _-_, _*_, _≤_, _<_}
 use mathlib.Core.Path.{_≡_}
 use mathlib.Core.Bool.{Bool, true, false}
@@ -30,7 +30,7 @@ CountsOnward backwards w = Onward backwards × (w .wraps .forward < 4294967295)
 abbrev pub CountsBack : Bool → Moving → Type 0
 CountsBack backwards w = Back backwards × (w .wraps .backward < 4294967295)
 
--- steps in the loop (s, e), in one direction, from m to w
+-- so many steps in the loop (s, e), in one direction, from m to w
 pub record Fits (s e : ℕ) (backwards : Bool) (steps : ℕ) (m w : Moving) : Type 0 where
   pub forward : CountsOnward backwards w
       → w .transport .position + (e - s) * (w .wraps .forward - m .wraps .forward) ≡ m .transport .position + steps
@@ -39,7 +39,7 @@ pub record Fits (s e : ℕ) (backwards : Bool) (steps : ℕ) (m w : Moving) : Ty
   pub other : (Onward backwards → w .wraps .backward ≡ m .wraps .backward) × (Back backwards → w .wraps .forward ≡ m .wraps .forward)
   pub grows : (m .wraps .forward ≤ w .wraps .forward) × (m .wraps .backward ≤ w .wraps .backward)
 
--- hypothesis: inside the loop, which is inside the frames; a block is accepted
+-- what is asked: inside the loop, which lies in the frames; and of a block, that it is accepted
 pub record MovesInLoop (c : Course) (s e : ℕ) (m : Moving) : Type 0 where
   pub fits : e ≤ c .«num_frames»
   pub inside : Inside s e (m .transport)

@@ -1,7 +1,7 @@
--- Block sizes do not matter. A stream of lanes between two commands, of any length, is cut into blocks. The first gets the signals, the others none; if the start is due at a tick, all get the same tick.
--- Any two ways to cut it whose blocks are all accepted write the same samples and end in states that agree in everything but the fraction and the window's frame indices.
--- Unless the voice has stopped by one of their cuts, they end in the same state, with the same steps and the same lowest count.
--- The same holds for blocks into a mix. Every way to cut a lawful stream into blocks of at most 4,096 frames is accepted.
+-- Block sizes do not matter. A stream of lanes between two commands, of any length, is cut into blocks: the first is given the signals, the others none, but the same tick where the start is due at one.
+-- Any two ways to cut it whose blocks are all accepted write the same samples; they end in states that agree in all but the fraction and the window's frame numbers;
+-- and unless the voice has stopped by one of their cuts, they end in the same state, with the same number of steps and the same lowest count.
+-- The same holds of blocks into a mix. And every way to cut a lawful stream is such a one, as long as no block has more than 4,096 frames.
 use Prim.Native.Nat.{ℕ, _+_, _*_}
 use mathlib.Core.Path.{_≡_}
 use mathlib.Core.Bool.{Bool, _&&_}
@@ -20,7 +20,7 @@ use Rattle.static_sound.specs.Entries.{room, processed, processedInto}
 use Rattle.theorems.specs.Sums.{sum}
 use Rattle.theorems.specs.Alike.{bare, awake}
 
--- the outcome of a sequence of blocks: whether each was accepted, the state after, all samples, all steps, the lowest count, and the state at each cut
+-- what a row of blocks gives: whether each was accepted, the state after, all samples, all steps, the lowest count, and the state at each cut between two blocks
 pub record Run : Type 0 where
   pub accepted : Bool
   pub sound : StaticSound
@@ -41,7 +41,7 @@ alone o =
       cuts = [];
     }
 
--- one block, and the sequence after it
+-- one block, and the row that follows it
 abbrev pub followed : Outcome → Run → Run
 followed o r =
     record {
@@ -53,14 +53,14 @@ followed o r =
       cuts = o .answer .sound ∷ r .cuts;
     }
 
--- blocks of k frames and then of the following sizes, from a stream of lanes, into an output of that length
+-- blocks of k frames and then of the sizes that follow, out of a stream of lanes, into an output as long
 unfoldable pub playedBy : List Float → Float → ℕ → List ℕ → Lanes → Signals → StaticSound → List Float → Run
 playedBy snd dt k [] b g v out = alone (processed snd v dt (firstLanes k b) g (take (2 * k) out))
 playedBy snd dt k (j ∷ ks) b g v out =
     let o = processed snd v dt (firstLanes k b) g (take (2 * k) out) in
     followed o (playedBy snd dt j ks (restLanes k b) (quiet g) (o .answer .sound) (drop (2 * k) out))
 
--- in two sequences no voice is Stopped at a cut
+-- no block of two rows has left a Stopped voice at a cut
 abbrev pub BothAwake : Run → Run → Type 0
 BothAwake r s = T (all awake (r .cuts)) × T (all awake (s .cuts))
 
@@ -75,7 +75,7 @@ pub record Way (snd : List Float) (dt : Float) (b : Lanes) (g : Signals) (v : St
   pub all-of-it : k + sum ks ≡ length (b .rate)
   pub accepted : T ((playedBy snd dt k ks b g v out) .accepted)
 
--- hypothesis: two such ways
+-- what is asked: two such ways
 abbrev pub TwoWays : List Float → Float → Lanes → Signals → StaticSound → ℕ → List ℕ → List Float → ℕ → List ℕ → List Float → Type 0
 TwoWays snd dt b g v k ks out j js mix = Way snd dt b g v k ks out × Way snd dt b g v j js mix
 
@@ -84,9 +84,9 @@ AnySizes =
     (snd : List Float) (dt : Float) (b : Lanes) (g : Signals) (v : StaticSound) (k : ℕ) (ks : List ℕ) (out : List Float) (j : ℕ) (js : List ℕ) (mix : List Float)
     → TwoWays snd dt b g v k ks out j js mix → Agree (playedBy snd dt k ks b g v out) (playedBy snd dt j js b g v mix)
 
--- ---- into a mix: the blocks follow each other from a frame on, each into the mix after the one before
+-- ---- into a mix: the blocks follow each other from a frame on, each into what the one before left of the mix
 
--- one block, and the sequence after it; the samples are those of the mix at the end
+-- one block, and the row that follows it: the samples are those of the mix at the end
 abbrev pub onto : Outcome → Run → Run
 onto o r =
     record {
@@ -116,9 +116,9 @@ AnySizesMix =
     (snd : List Float) (dt : Float) (b : Lanes) (g : Signals) (v : StaticSound) (k : ℕ) (ks : List ℕ) (j : ℕ) (js : List ℕ) (mix : List Float) (from : ℕ)
     → TwoWaysMix snd dt b g v k ks j js mix from → Agree (mixedBy snd dt k ks b g v mix from) (mixedBy snd dt j js b g v mix from)
 
--- ---- a sequence of blocks is accepted
+-- ---- a row of blocks is accepted
 
--- a lawful stream: the state is well formed over the sound, all lanes have the same length, and 10 to 12 refuse nothing
+-- a lawful stream: the state is well formed over the sound, the other lanes are as long as the rate lane, and nothing in it is refused by 10 to 12
 pub record Stream (snd : List Float) (dt : Float) (b : Lanes) (v : StaticSound) : Type 0 where
   pub ours : T (ours (length snd) v)
   pub fade : length (b .fade) ≡ length (b .rate)
@@ -133,7 +133,7 @@ pub record Stream (snd : List Float) (dt : Float) (b : Lanes) (v : StaticSound) 
 abbrev pub short : List ℕ → Bool
 short ks = all (λ (n : ℕ). leb n 4096) ks
 
--- hypothesis: a lawful stream, an output of that length or a mix with enough space, and sizes that add up to it
+-- what is asked: a lawful stream, an output as long, or a mix with room for it, and sizes that add up to all of it
 pub record LawfulCut (snd : List Float) (dt : Float) (b : Lanes) (v : StaticSound) (k : ℕ) (ks : List ℕ) (out : List Float) : Type 0 where
   pub stream : Stream snd dt b v
   pub holds : length out ≡ 2 * length (b .rate)

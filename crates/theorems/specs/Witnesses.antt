@@ -1,5 +1,5 @@
--- One input for each theorem with a hypothesis, so that none is true only because no input meets its hypothesis.
--- A field has its theorem's name in Promises. Its type is the theorem's hypothesis at that input, and each condition of its conclusion at one.
+-- For each theorem that asks something, one input that meets it: so none is true merely because no input meets what it asks.
+-- A field has its theorem's name in Promises, and its type is the theorem's hypothesis at that input, and each condition that stands in what it promises.
 -- The input is the examples' creation: ten frames at 1 Hz in the loop (3, 6), at rate 1. Its blocks have two frames, one step each.
 use Prim.Native.Nat.{ℕ}
 use mathlib.Core.Bool.{true, false}
@@ -58,7 +58,7 @@ use Rattle.theorems.specs.ArchiveInTheLoop.{CallC, EndsStoppedC, Entered
 abbrev pub voice : StaticSound
 voice = created ten (from 0 false) .sound
 
--- the same voice before it has started
+-- the same voice before its start has come
 abbrev pub unstarted : StaticSound
 unstarted =
     record { setup = voice .setup; «playback_rate» = one; started = false; «fractional_position» = positiveZero; moving = voice .moving }
@@ -92,7 +92,7 @@ lanes = let ones = one ∷ one ∷ [] in five ones ones ones ones ones
 abbrev pub ones : Held
 ones = record { fade = one; volume = one; left = one; right = one; rate = one }
 
--- the start is due at tick 4,294,967,295, and the current tick is 0, after the wrap
+-- the start is due at tick 4,294,967,295, and the tick now is 0, past the wrap
 abbrev pub due : Signals
 due = record { finished = false; start = Tick 4294967295 0; resume = Waiting }
 
@@ -103,7 +103,7 @@ waiting = record { finished = false; start = Answer Waiting; resume = Waiting }
 abbrev pub faded : Signals
 faded = record { finished = true; start = Answer Waiting; resume = Waiting }
 
--- buffers for two frames, and for three
+-- room for two frames, and for three
 abbrev pub output : List Float
 output = replicate 4 positiveZero
 
@@ -126,7 +126,7 @@ stop =
 abbrev pub stopping : List Call
 stopping = Command ten stop ∷ Block ten one lanes faded output ∷ []
 
--- for the C entries: the voice as a record, one with an unknown state, and the signals
+-- the archive's: the voice as a record, one with a state that means nothing, and the signals
 abbrev pub state : CableowlState
 state = encoded voice
 
@@ -186,7 +186,7 @@ stoppingC = archive.Command ten stopC ∷ archive.Block ten one lanes fadedC out
 abbrev pub full : Frame
 full = record { left = one; right = one }
 
--- ---- the hypotheses that it meets
+-- ---- what it meets
 
 pub record Witnesses : Type 0 where
   pub cut-blocks : MayCut ten voice one lanes due output 1 × Awake ((processed ten voice one (firstLanes 1 lanes) due (take 2 output)) .answer .sound)

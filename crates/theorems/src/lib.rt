@@ -1,4 +1,4 @@
-// An empty function whose contract collects all theorems, so that the checker must prove them.
+// What is promised beyond the contracts, as one function's contract: the code is nothing, the proof is every theorem.
 ghost use Rattle.theorems.specs.Promises.{Promises};
 
 pub fn promised()

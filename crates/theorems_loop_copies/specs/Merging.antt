@@ -13,7 +13,7 @@ use Rattle.loop_copies.specs.Copies.{changesOf, refusedMerge, mergedCopy}
 abbrev pub Sixteen : LoopCopy → Type 0
 Sixteen c = length (c .table .slots) ≡ 16
 
--- ---- hypotheses
+-- ---- what is asked
 
 pub record TwoCopies (c d : LoopCopy) : Type 0 where
   pub ours : Sixteen c
@@ -41,7 +41,7 @@ SameNumber c d h = changesOf h ((mergedCopy c d) .copy) ≡ changesOf h c
 
 -- ---- the theorems
 
--- no number falls, and a half changes only if its number rises
+-- no number falls, and a half changes only where its number rises
 pub record Forward (c d : LoopCopy) (h : Hall) : Type 0 where
   pub number : changesOf h c ≤ changesOf h ((mergedCopy c d) .copy)
   pub kept : SameNumber c d h → half h ((mergedCopy c d) .copy .table) ≡ half h (c .table)

@@ -11,11 +11,11 @@ pub record Promises : Type 0 where
   pub any-order : AnyOrder
   pub any-times : AnyTimes
   pub any-grouping : AnyGrouping
-  -- each box behaves as if it were alone
+  -- each box behaves as if it stood alone
   pub as-alone : AsAlone
-  -- in the end both boxes hold the table that one shared table would hold
+  -- both boxes come to hold the table that one shared table would hold
   pub together : Together
   pub last-copy-catches : LastCopyCatches
   pub none-refused : NoneRefused
-  -- one input for each hypothesis
+  -- an input for each that meets what it asks
   pub witnesses : Witnesses

@@ -13,7 +13,7 @@ use Rattle.theorems_loop_copies.specs.Boxes.{Step, Merges, Boxes, steppe
 abbrev pub reached : List Float → ℕ → (Hall → ℕ → StaticSound) → List Step → Boxes
 reached snd n vs ss = afterSteps snd (begun n vs) ss
 
--- ---- hypotheses
+-- ---- what is asked
 
 -- few steps, after which box g has all changes of both halls
 pub record AllCaught (snd : List Float) (n : ℕ) (vs : Hall → ℕ → StaticSound) (g : Hall) (ss : List Step) : Type 0 where

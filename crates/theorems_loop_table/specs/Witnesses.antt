@@ -1,4 +1,4 @@
--- Sequences of calls that meet each hypothesis: two halls at an empty table over ten frames.
+-- For each theorem that asks something, rows of calls that meet it: two halls at an empty table over ten frames.
 use Prim.Native.Nat.{ℕ}
 use mathlib.Core.Bool.{true, false}
 use mathlib.Core.List.{List, [], _∷_}

@@ -1,4 +1,4 @@
--- The theorems about a whole trace that is played again, one field each.
+-- All that is promised of a whole evening played again.
 use Rattle.theorems_replay.specs.Streams.{Streams}
 use Rattle.theorems_replay.specs.Cuts.{CutRecords}
 use Rattle.theorems_replay.specs.Example.{ThreeFrames}
@@ -11,5 +11,5 @@ pub record Promises : Type 0 where
   pub three-frames : ThreeFrames
   -- each contract of a replay says enough: any two outcomes that it allows coincide
   pub coincide : Coincide
-  -- one input for each hypothesis
+  -- an input for each that meets what it asks
   pub witnesses : Witnesses

@@ -1,4 +1,4 @@
--- One input for each hypothesis: the three-frame example, and the voice of the theorems' witnesses.
+-- For each theorem that asks something, an input that meets it: the three-frame example, and the voice of the theorems' witnesses.
 use Rattle.theorems.specs.Examples.{ten}
 use Rattle.theorems.specs.Witnesses.{voice}
 use Rattle.trace_replay.specs.Runs.{Course}

@@ -1,5 +1,5 @@
--- docs/assurance/RULES.md, "What must change shape": kira's `while` loops of transport.rs, to compare with the remainders.
--- A `while` runs at most k times here. As many as the position (down) or the bound (up) are enough, since a loop is not empty.
+-- docs/assurance/RULES.md, "What must change shape": kira's `while` wraps, as they stand in transport.rs, for comparison with the remainders.
+-- A `while` takes at most k turns here. As many as the place (down) or the bound (up) are enough, since a loop is not empty.
 use Prim.Native.Nat.{ℕ, zero, suc, _+_, _-_}
 use mathlib.Core.Bool.{false, cond}
 use lib.Dec.{leb, ltb, eqb}

@@ -1,4 +1,4 @@
-// The transport: position, loop, and whether it is playing. It is passed by value: each move returns the next transport.
+// The transport: where a sound plays, its loop, and whether it plays at all. It goes by value: each move hands back the next one.
 ghost use mathlib.Core.Path.{_≡_};
 ghost use Prim.Native.Nat.{_≤_, _<_};
 ghost use lib.Dec.{T};
@@ -10,12 +10,12 @@ use playback_position::FrameRange;
 
 pub struct Transport {
     pub position: usize,
-    // The frames that are looped. The end is exclusive.
+    // The frames that are looped. The end is not in the loop.
     pub loop_region: FrameRange,
     pub playing: bool,
 }
 
-// p, wrapped into the loop if it is at or past the loop's end.
+// Where the place p lies once it may not reach the loop's end.
 fn below_end(loop_region: FrameRange, p: usize) -> usize
     requires { ⌜ T (ordered «loop_region») ⌝ }
     ensures { λ r. ⌜ r ≡ under «loop_region» p ⌝ }
@@ -26,7 +26,7 @@ fn below_end(loop_region: FrameRange, p: usize) -> usize
             if p < end {
                 return p;
             }
-            // A step lands exactly on the end, so the common case needs no division.
+            // A step meets the end itself, and needs no division.
             if p == end {
                 return start;
             }
@@ -35,7 +35,7 @@ fn below_end(loop_region: FrameRange, p: usize) -> usize
     }
 }
 
-// p, wrapped into the loop if it is below the loop's start.
+// Where the place p lies once it may not fall below the loop's start.
 fn from_start(loop_region: FrameRange, p: usize) -> usize
     requires { ⌜ T (ordered «loop_region») ⌝ }
     ensures { λ r. ⌜ r ≡ over «loop_region» p ⌝ }
@@ -52,7 +52,7 @@ fn from_start(loop_region: FrameRange, p: usize) -> usize
     }
 }
 
-// Whether p is at or past the loop's end.
+// Whether the place p is at the loop's end or past it.
 fn is_at_end(loop_region: FrameRange, p: usize) -> bool
     ensures { λ r. ⌜ r ≡ atEnd «loop_region» p ⌝ }
 {
@@ -62,7 +62,7 @@ fn is_at_end(loop_region: FrameRange, p: usize) -> bool
     }
 }
 
-// Whether p is at or before the loop's start.
+// Whether the place p is at the loop's start or before it.
 fn is_at_start(loop_region: FrameRange, p: usize) -> bool
     ensures { λ r. ⌜ r ≡ atStart «loop_region» p ⌝ }
 {
@@ -103,7 +103,7 @@ impl Transport {
         }
     }
 
-    // Stops playing if the position is at or past the sound's end.
+    // A place from the sound's end on ends playing.
     fn ended_from(mut self, num_frames: usize) -> Transport
         ensures { λ r. ⌜ r ≡ landed «num_frames» self (self .position) ⌝ }
     {
@@ -133,7 +133,7 @@ impl Transport {
             let loop_region = self.loop_region;
             if let FrameRange::Frames(start, end) = loop_region {
                 if self.position <= start {
-                    // A step starts exactly at the start, so the common case needs no division.
+                    // A step meets the start itself, and needs no division.
                     if self.position == start {
                         self.position = end - 1;
                         return self;
@@ -151,7 +151,7 @@ impl Transport {
         self
     }
 
-    // Whether the next step wraps. It tests as the step itself does, so that the compiler merges the two tests.
+    // Whether the next step takes the wrap: asked as the step itself asks, so that the two tests become one.
     pub fn wraps(self, backwards: bool) -> bool
         requires { ⌜ self .position ≤ most ⌝ }
         ensures { λ r. ⌜ r ≡ wraps backwards self ⌝ }
