@@ -73,7 +73,6 @@
 
 mod commands;
 mod fades;
-mod ffi;
 mod float_mode;
 #[cfg(test)]
 mod header;
@@ -91,6 +90,8 @@ mod state;
 mod static_sound;
 mod stopping;
 pub mod trace;
+
+use cableowl_sys as ffi;
 
 pub use commands::{Commands, LoopCommand, ResumeCommand};
 pub use fades::{Level, MAX_RAMP_FRAMES, fade_ramp};

@@ -1,11 +1,35 @@
-//! One block of a player: the input of its voice, and the frame in which the voice stops.
+//! One block of a player: the input of its voice, where the frames go, who records it, and the frame in which it stops.
 
 use std::ops::Range;
 
 use crate::{
-    BlockLanes, Lane, Lanes, Processed, Refusal, Signals, StaticSound, stopping::until_it_stops,
-    trace::Block,
+    BlockLanes, Commands, Lane, Lanes, Processed, Refusal, Signals, StaticSound,
+    stopping::until_it_stops, trace::Block,
 };
+
+/// Where a call's frames go.
+#[derive(Debug, Clone, Copy)]
+pub enum Place {
+    /// They replace the output.
+    Out,
+    /// They are added to the output.
+    Mix,
+}
+
+/// Gets the commands and blocks of a player's voice.
+pub trait Watch {
+    /// Whether each block must fit into a record; then `played` is called.
+    const RECORDS: bool = false;
+
+    /// The voice got these commands.
+    fn told(&mut self, _: Commands) {}
+
+    /// The voice, as it is now, played this block.
+    fn played(&mut self, _: Result<Block, Refusal>, _: &StaticSound, _: Processed) {}
+}
+
+/// Nobody.
+impl Watch for () {}
 
 /// The input of a voice for a block.
 #[derive(Debug, Clone, Copy)]

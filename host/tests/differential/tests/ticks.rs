@@ -4,7 +4,7 @@
 use differential::{Harness, Kira, Ours, runs};
 use oracle::{Answer, LaneBuffers, Oracle, Settings};
 use random::Random;
-use raw::{CableowlSignals, CableowlState, convert};
+use raw::{CableowlSignals, CableowlState, StateBytes, convert};
 use rules::{Document, Rules};
 
 const SOUND: [f32; 32] = [0.5; 32];

@@ -7,7 +7,7 @@ use oracle::LaneBuffers;
 use random::Random;
 use raw::{
     CableowlCommands, CableowlEntry, CableowlPlace, CableowlRegion, CableowlSettings,
-    CableowlSignals, CableowlState, Held, STATE_BYTES, convert,
+    CableowlSignals, CableowlState, Held, STATE_BYTES, StateBytes, convert,
 };
 
 /// What is asked, as the entries take it.

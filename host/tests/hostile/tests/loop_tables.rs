@@ -3,7 +3,7 @@
 use random::Random;
 use raw::{
     CableowlCommands, CableowlLoopSlot, CableowlLoopTable, CableowlPlace, CableowlRegion,
-    CableowlSettings, CableowlState, clear_loop, loop_table, read_loop, write_loop,
+    CableowlSettings, CableowlState, StateBytes, clear_loop, loop_table, read_loop, write_loop,
 };
 
 const EMPTY: CableowlLoopSlot = CableowlLoopSlot { start: 0, end: 0 };

@@ -52,7 +52,7 @@ pub fn state_out(given: &CableowlState) -> Option<State> {
         reverse: flag(given.reverse)?,
         rate: given.playback_rate,
         started: flag(given.started)?,
-        playback: *PlaybackState::ALL.get(given.state as usize)?,
+        playback: PlaybackState::from_number(u8::try_from(given.state).ok()?)?,
         fraction: given.fraction,
         position: given.position as usize,
         loop_region: pair(given.has_loop, given.loop_start, given.loop_end)?,

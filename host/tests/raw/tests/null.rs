@@ -3,19 +3,19 @@
 use std::ptr::{null, null_mut};
 
 use oracle::{Oracle, Settings};
-use raw::{CableowlSignals, convert, entries};
+use raw::{CableowlSignals, StateBytes, convert};
 
 #[test]
 fn empty_slices_may_be_null() {
     let settings = Settings::new(1);
     // SAFETY: a count of 0 lends nothing.
-    let refused = unsafe { entries::cableowl_new(convert::settings_in(&settings), null(), 0) };
+    let refused = unsafe { cableowl_sys::cableowl_new(convert::settings_in(&settings), null(), 0) };
     assert_eq!(refused.refusal, 3);
     let sound = [0.5; 8];
     let state = convert::state_in(&Oracle::create(&settings, &sound).state());
     // SAFETY: the sound is lent whole, and of the other slices nothing.
     let answer = unsafe {
-        entries::cableowl_process(
+        cableowl_sys::cableowl_process(
             state,
             sound.as_ptr(),
             sound.len(),

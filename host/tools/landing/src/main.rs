@@ -58,7 +58,10 @@ fn report(before: &str, after: &str) -> Result<String> {
     let code = change(&files(&old, "src"), &files(&new, "src"));
     text += &row("code (files of src/)", &code);
     let interface = change(&interface(&old), &interface(&new));
-    text += &row("interface (cableowl.h, host/cableowl/src)", &interface);
+    text += &row(
+        "interface (cableowl.h, host/sys/src, host/cableowl/src)",
+        &interface,
+    );
     names += &named("interface", &interface);
     // The file of digests is younger than the first landings.
     if let (Some(before), Some(after)) = (old.0.get(FILE), new.0.get(FILE)) {
@@ -112,6 +115,7 @@ fn sources_at(commit: &str) -> Result<Sources> {
         "--",
         "crates",
         "host/include",
+        "host/sys/src",
         "host/cableowl/src",
         FILE,
     ])?;

@@ -1,6 +1,11 @@
-//! The C ABI of the proved archive, as `host/include/cableowl.h` has it: records of numbers by
-//! value, slices as a pointer and a length. All `unsafe` of this crate is here and in `float_mode`.
-#![allow(unsafe_code)]
+//! The C interface of the proved archive, as `host/include/cableowl.h` has it: records of numbers by value, slices as a
+//! pointer and a length. The build script links the archive. A function without `cableowl_` in its name calls the entry
+//! of its name with slices, and is safe.
+//!
+//! Programs use the crate `cableowl`, which is built on this one.
+
+/// The archive that this crate links, if it was built with one: C programs can link it too.
+pub const LINKED_ARCHIVE: Option<&str> = option_env!("LINKED_ARCHIVE");
 
 /// A window entry.
 #[repr(C)]
@@ -13,7 +18,7 @@ pub struct Entry {
 
 /// A voice's state.
 #[repr(C)]
-#[derive(Debug, Clone, Copy)]
+#[derive(Debug, Clone, Copy, Default)]
 pub struct State {
     pub sample_rate: u32,
     pub state: u32,
@@ -98,7 +103,7 @@ pub struct Signals {
 
 /// What creation answers.
 #[repr(C)]
-#[derive(Debug, Clone, Copy)]
+#[derive(Debug, Clone, Copy, Default)]
 pub struct Created {
     pub state: State,
     pub refusal: u32,
@@ -106,7 +111,7 @@ pub struct Created {
 
 /// What a command set answers.
 #[repr(C)]
-#[derive(Debug, Clone, Copy)]
+#[derive(Debug, Clone, Copy, Default)]
 pub struct Commanded {
     pub state: State,
     pub position: f64,
@@ -115,7 +120,7 @@ pub struct Commanded {
 
 /// What a block answers.
 #[repr(C)]
-#[derive(Debug, Clone, Copy)]
+#[derive(Debug, Clone, Copy, Default)]
 pub struct Processed {
     pub state: State,
     pub steps: u64,
@@ -125,7 +130,7 @@ pub struct Processed {
 
 /// A part of the lent samples.
 #[repr(C)]
-#[derive(Debug, Clone, Copy)]
+#[derive(Debug, Clone, Copy, Default, PartialEq, Eq)]
 pub struct Part {
     pub offset: u64,
     pub length: u64,
@@ -133,7 +138,7 @@ pub struct Part {
 
 /// A loop of the table in frames; both 0 in an empty slot.
 #[repr(C)]
-#[derive(Debug, Clone, Copy, PartialEq, Eq)]
+#[derive(Debug, Clone, Copy, Default, PartialEq, Eq)]
 pub struct LoopSlot {
     pub start: u64,
     pub end: u64,
@@ -141,7 +146,7 @@ pub struct LoopSlot {
 
 /// The table of loops.
 #[repr(C)]
-#[derive(Debug, Clone, Copy, PartialEq, Eq)]
+#[derive(Debug, Clone, Copy, Default, PartialEq, Eq)]
 pub struct LoopTable {
     pub num_frames: u64,
     pub slots: [LoopSlot; 16],
@@ -165,7 +170,7 @@ pub struct LoopFound {
 
 /// A copy of a loop table, with each hall's number of changes.
 #[repr(C)]
-#[derive(Debug, Clone, Copy, PartialEq, Eq)]
+#[derive(Debug, Clone, Copy, Default, PartialEq, Eq)]
 pub struct LoopCopy {
     pub table: LoopTable,
     pub changes_a: u64,
@@ -191,18 +196,18 @@ pub struct Lanes<'a> {
 }
 
 unsafe extern "C" {
-    safe fn cableowl_version() -> u32;
+    pub safe fn cableowl_version() -> u32;
 
-    fn cableowl_new(settings: Settings, sound: *const f32, sound_len: usize) -> Created;
+    pub fn cableowl_new(settings: Settings, sound: *const f32, sound_len: usize) -> Created;
 
-    fn cableowl_on_start_processing(
+    pub fn cableowl_on_start_processing(
         state: State,
         sound: *const f32,
         sound_len: usize,
         commands: Commands,
     ) -> Commanded;
 
-    fn cableowl_process(
+    pub fn cableowl_process(
         state: State,
         sound: *const f32,
         sound_len: usize,
@@ -222,7 +227,7 @@ unsafe extern "C" {
         out_len: usize,
     ) -> Processed;
 
-    fn cableowl_process_into(
+    pub fn cableowl_process_into(
         state: State,
         sound: *const f32,
         sound_len: usize,
@@ -243,11 +248,43 @@ unsafe extern "C" {
         from: u64,
     ) -> Processed;
 
-    fn cableowl_stretch(state: State, sound: *const f32, sound_len: usize) -> Part;
+    pub fn cableowl_process_held(
+        state: State,
+        sound: *const f32,
+        sound_len: usize,
+        fade: f32,
+        volume: f32,
+        left: f32,
+        right: f32,
+        rate: f64,
+        dt: f64,
+        signals: Signals,
+        out: *mut f32,
+        out_len: usize,
+    ) -> Processed;
 
-    safe fn cableowl_loop_table(num_frames: u64) -> LoopTable;
+    pub fn cableowl_process_held_into(
+        state: State,
+        sound: *const f32,
+        sound_len: usize,
+        fade: f32,
+        volume: f32,
+        left: f32,
+        right: f32,
+        rate: f64,
+        dt: f64,
+        signals: Signals,
+        mix: *mut f32,
+        mix_len: usize,
+        from: u64,
+        frames: u64,
+    ) -> Processed;
 
-    safe fn cableowl_write_loop(
+    pub fn cableowl_stretch(state: State, sound: *const f32, sound_len: usize) -> Part;
+
+    pub safe fn cableowl_loop_table(num_frames: u64) -> LoopTable;
+
+    pub safe fn cableowl_write_loop(
         table: LoopTable,
         hall: u32,
         slot: u64,
@@ -255,13 +292,13 @@ unsafe extern "C" {
         end: u64,
     ) -> LoopChanged;
 
-    safe fn cableowl_clear_loop(table: LoopTable, hall: u32, slot: u64) -> LoopChanged;
+    pub safe fn cableowl_clear_loop(table: LoopTable, hall: u32, slot: u64) -> LoopChanged;
 
-    safe fn cableowl_read_loop(table: LoopTable, slot: u64) -> LoopFound;
+    pub safe fn cableowl_read_loop(table: LoopTable, slot: u64) -> LoopFound;
 
-    safe fn cableowl_loop_copy(num_frames: u64) -> LoopCopy;
+    pub safe fn cableowl_loop_copy(num_frames: u64) -> LoopCopy;
 
-    safe fn cableowl_write_copy(
+    pub safe fn cableowl_write_copy(
         copy: LoopCopy,
         hall: u32,
         slot: u64,
@@ -269,11 +306,11 @@ unsafe extern "C" {
         end: u64,
     ) -> CopyChanged;
 
-    safe fn cableowl_clear_copy(copy: LoopCopy, hall: u32, slot: u64) -> CopyChanged;
+    pub safe fn cableowl_clear_copy(copy: LoopCopy, hall: u32, slot: u64) -> CopyChanged;
 
-    safe fn cableowl_merge_copies(ours: LoopCopy, theirs: LoopCopy) -> CopyChanged;
+    pub safe fn cableowl_merge_copies(ours: LoopCopy, theirs: LoopCopy) -> CopyChanged;
 
-    fn cableowl_take_loop(
+    pub fn cableowl_take_loop(
         table: LoopTable,
         slot: u64,
         state: State,
@@ -286,18 +323,22 @@ unsafe extern "C" {
 // call; the archive keeps no pointer, reads within those lengths and writes within what it is lent
 // as `&mut` alone, which nothing else borrows. Every number is accepted as input.
 
+#[inline]
 pub fn version() -> u32 {
     cableowl_version()
 }
 
+#[inline]
 pub fn new(settings: Settings, sound: &[f32]) -> Created {
     unsafe { cableowl_new(settings, sound.as_ptr(), sound.len()) }
 }
 
+#[inline]
 pub fn on_start_processing(state: State, sound: &[f32], commands: Commands) -> Commanded {
     unsafe { cableowl_on_start_processing(state, sound.as_ptr(), sound.len(), commands) }
 }
 
+#[inline]
 pub fn process(
     state: State,
     sound: &[f32],
@@ -329,6 +370,7 @@ pub fn process(
     }
 }
 
+#[inline]
 pub fn process_into(
     state: State,
     sound: &[f32],
@@ -362,58 +404,75 @@ pub fn process_into(
     }
 }
 
+#[inline]
 pub fn stretch(state: State, sound: &[f32]) -> Part {
     unsafe { cableowl_stretch(state, sound.as_ptr(), sound.len()) }
 }
 
+#[inline]
 pub fn loop_table(num_frames: u64) -> LoopTable {
     cableowl_loop_table(num_frames)
 }
 
+#[inline]
 pub fn write_loop(table: LoopTable, hall: u32, slot: u64, start: u64, end: u64) -> LoopChanged {
     cableowl_write_loop(table, hall, slot, start, end)
 }
 
+#[inline]
 pub fn clear_loop(table: LoopTable, hall: u32, slot: u64) -> LoopChanged {
     cableowl_clear_loop(table, hall, slot)
 }
 
+#[inline]
 pub fn read_loop(table: LoopTable, slot: u64) -> LoopFound {
     cableowl_read_loop(table, slot)
 }
 
+#[inline]
 pub fn loop_copy(num_frames: u64) -> LoopCopy {
     cableowl_loop_copy(num_frames)
 }
 
+#[inline]
 pub fn write_copy(copy: LoopCopy, hall: u32, slot: u64, start: u64, end: u64) -> CopyChanged {
     cableowl_write_copy(copy, hall, slot, start, end)
 }
 
+#[inline]
 pub fn clear_copy(copy: LoopCopy, hall: u32, slot: u64) -> CopyChanged {
     cableowl_clear_copy(copy, hall, slot)
 }
 
+#[inline]
 pub fn merge_copies(ours: LoopCopy, theirs: LoopCopy) -> CopyChanged {
     cableowl_merge_copies(ours, theirs)
 }
 
+#[inline]
 pub fn take_loop(table: LoopTable, slot: u64, state: State, sound: &[f32]) -> Commanded {
     unsafe { cableowl_take_loop(table, slot, state, sound.as_ptr(), sound.len()) }
 }
 
 // Levels and fades: plain numbers and one lent lane.
 unsafe extern "C" {
-    fn cableowl_amplitude(level: u32, to: *mut f32) -> u32;
+    pub fn cableowl_amplitude(level: u32, to: *mut f32) -> u32;
 
-    fn cableowl_fade_ramp(start: u32, end: u32, count: u32, lane: *mut f32, lane_len: usize)
-    -> u32;
+    pub fn cableowl_fade_ramp(
+        start: u32,
+        end: u32,
+        count: u32,
+        lane: *mut f32,
+        lane_len: usize,
+    ) -> u32;
 }
 
+#[inline]
 pub fn amplitude(level: u32, to: &mut f32) -> u32 {
     unsafe { cableowl_amplitude(level, to) }
 }
 
+#[inline]
 pub fn fade_ramp(start: u32, end: u32, count: u32, lane: &mut [f32]) -> u32 {
     unsafe { cableowl_fade_ramp(start, end, count, lane.as_mut_ptr(), lane.len()) }
 }
@@ -433,30 +492,33 @@ pub struct SavedSettings {
 }
 
 unsafe extern "C" {
-    fn cableowl_store_settings(
+    pub fn cableowl_store_settings(
         saved: *const SavedSettings,
         buffer: *mut u8,
         buffer_len: usize,
     ) -> u32;
 
-    fn cableowl_load_settings(
+    pub fn cableowl_load_settings(
         reader: u32,
         bytes: *const u8,
         bytes_len: usize,
         saved: *mut SavedSettings,
     ) -> u32;
 
-    fn cableowl_settings_of(saved: *const SavedSettings, sample_rate: u32) -> Settings;
+    pub fn cableowl_settings_of(saved: *const SavedSettings, sample_rate: u32) -> Settings;
 }
 
+#[inline]
 pub fn store_settings(saved: &SavedSettings, buffer: &mut [u8]) -> u32 {
     unsafe { cableowl_store_settings(saved, buffer.as_mut_ptr(), buffer.len()) }
 }
 
+#[inline]
 pub fn load_settings(reader: u32, bytes: &[u8], saved: &mut SavedSettings) -> u32 {
     unsafe { cableowl_load_settings(reader, bytes.as_ptr(), bytes.len(), saved) }
 }
 
+#[inline]
 pub fn settings_of(saved: &SavedSettings, sample_rate: u32) -> Settings {
     unsafe { cableowl_settings_of(saved, sample_rate) }
 }
@@ -473,7 +535,7 @@ pub struct Record {
 
 /// What a write of a record answers.
 #[repr(C)]
-#[derive(Debug, Clone, Copy, PartialEq, Eq)]
+#[derive(Debug, Clone, Copy, Default, PartialEq, Eq)]
 pub struct Sent {
     pub refusal: u64,
     pub next: u64,
@@ -481,7 +543,7 @@ pub struct Sent {
 
 /// What salvage answers.
 #[repr(C)]
-#[derive(Debug, Clone, Copy, PartialEq, Eq)]
+#[derive(Debug, Clone, Copy, Default, PartialEq, Eq)]
 pub struct Saved {
     pub refusal: u64,
     pub records: u64,
@@ -490,9 +552,9 @@ pub struct Saved {
 }
 
 unsafe extern "C" {
-    fn cableowl_read_record(bytes: *const u8, bytes_len: usize, at: u64) -> Record;
+    pub fn cableowl_read_record(bytes: *const u8, bytes_len: usize, at: u64) -> Record;
 
-    fn cableowl_write_record(
+    pub fn cableowl_write_record(
         buffer: *mut u8,
         buffer_len: usize,
         at: u64,
@@ -500,17 +562,25 @@ unsafe extern "C" {
         values: *const u64,
     ) -> Sent;
 
-    fn cableowl_salvage(bytes: *const u8, bytes_len: usize, out: *mut u8, out_len: usize) -> Saved;
+    pub fn cableowl_salvage(
+        bytes: *const u8,
+        bytes_len: usize,
+        out: *mut u8,
+        out_len: usize,
+    ) -> Saved;
 }
 
+#[inline]
 pub fn read_record(bytes: &[u8], at: u64) -> Record {
     unsafe { cableowl_read_record(bytes.as_ptr(), bytes.len(), at) }
 }
 
+#[inline]
 pub fn write_record(buffer: &mut [u8], at: u64, kind: u64, values: &[u64; 80]) -> Sent {
     unsafe { cableowl_write_record(buffer.as_mut_ptr(), buffer.len(), at, kind, values.as_ptr()) }
 }
 
+#[inline]
 pub fn salvage(bytes: &[u8], out: &mut [u8]) -> Saved {
     unsafe { cableowl_salvage(bytes.as_ptr(), bytes.len(), out.as_mut_ptr(), out.len()) }
 }
