@@ -142,7 +142,7 @@ fn drift_told(drift: f64) -> String {
     format!("{frames:>9} frames, {seconds:>6.1} s {way}")
 }
 
-/// Prints the figures of the wrong player.
+/// What the wrong player's figures show.
 fn verdict(drifts: &[f64]) -> &'static str {
     let same = drifts.iter().all(|drift| *drift == drifts[0]);
     match (same, drifts.iter().all(|drift| *drift == 0.0)) {
