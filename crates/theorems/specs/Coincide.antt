@@ -36,6 +36,7 @@ use Rattle.byte_layout.proofs as byte_layout
 use Rattle.saved_settings.proofs as saved_settings
 use Rattle.trace_records.proofs as trace_records
 use Rattle.trace_salvage.proofs as trace_salvage
+use Rattle.trace_sealed.proofs as trace_sealed
 use Rattle.c_state.proofs as c_state
 use Rattle.c_inputs.proofs as c_inputs
 use Rattle.cableowl.proofs as cableowl
@@ -182,6 +183,9 @@ pub record Coincide : Type 0 where
   -- saved_settings
   pub saved-settings-load : Decides saved_settings.load.Reads.Post
   pub saved-settings-store : DecidesWith (λ k r s. s .1 .1 .0 .now) saved_settings.store.Reads.Post
+  -- trace_sealed
+  pub trace-sealed-read : Decides trace_sealed.read.Reads.Post
+  pub trace-sealed-write : DecidesWith (λ k r s. s .0 .now) trace_sealed.writes.write.Reads.Post
   -- trace_records and trace_salvage
   pub trace-records-read : Decides trace_records.read.Reads.Post
   pub trace-records-write : DecidesWith (λ k r s. s .0 .now) trace_records.write.Reads.Post
