@@ -185,7 +185,7 @@ pub record Coincide : Type 0 where
   pub saved-settings-store : DecidesWith (λ k r s. s .1 .1 .0 .now) saved_settings.store.Reads.Post
   -- trace_sealed
   pub trace-sealed-read : Decides trace_sealed.read.Reads.Post
-  pub trace-sealed-write : DecidesWith (λ k r s. s .0 .now) trace_sealed.writes.write.Reads.Post
+  pub trace-sealed-write : DecidesWith (λ k r s. s .0 .now) trace_sealed.write.Reads.Post
   -- trace_records and trace_salvage
   pub trace-records-read : Decides trace_records.read.Reads.Post
   pub trace-records-write : DecidesWith (λ k r s. s .0 .now) trace_records.write.Reads.Post
