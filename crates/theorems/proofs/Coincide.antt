@@ -124,6 +124,7 @@ coincide =
       decibels-as-amplitude = λ k a x y s t p q. both p q;
       decibels-fade-ramp = λ k a x y s t p q. both p q;
       semitones-raised = λ k a x y s t p q. same p q;
+      crc32-checksum = λ k a x y s t p q. same p q;
       byte-layout-begin = λ k a x y s t p q. same p q;
       byte-layout-read-rows = λ k a x y s t p q. same (p .0) (q .0);
       byte-layout-put-rows = λ k a x y s t p q. (same (p .1) (q .1), same (p .0) (q .0));
