@@ -173,7 +173,7 @@ fn an_audit_keeps_its_verdict_when_its_reader_goes() {
 fn wrong_words() {
     let room = room("words");
     let all =
-        "replay, salvage, settings, report, audit, explain, help, version, man or completions";
+        "replay, salvage, settings, loops, report, audit, explain, help, version, man or completions";
     for (words, told, verb) in [
         (&[][..], &*format!("say what to do: {all}"), ""),
         (

@@ -7,6 +7,7 @@ mod explain;
 mod files;
 mod hints;
 mod log;
+mod loops;
 mod replay;
 mod report;
 mod room;

@@ -111,7 +111,7 @@ fn fish_options(completions: &str, verb: &str) -> BTreeSet<String> {
 #[test]
 fn help_man_pages_and_completions_come_from_one_table() {
     let verbs = verbs();
-    assert_eq!(verbs.len(), 11, "{verbs:?}");
+    assert_eq!(verbs.len(), 15, "{verbs:?}");
     let shells = ["bash", "zsh", "fish"].map(|shell| printed(&["completions", shell]));
     let first = printed(&["man"]).replace("\\-", "-");
     let mut options = 0;
