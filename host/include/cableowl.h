@@ -41,7 +41,8 @@
  *   creation 2 to 7; a command set 1, 6 to 8; a block 1, 9 to 12; a fade ramp 13, 14;
  *   a loop table: a write 1, 6, 20, 21; a clear 1, 20, 21; a read 1, 20, 22; a merge of two copies 1, 27, 28;
  *   saved settings, or a half: storing 24, 19; loading 15, 23, 24 (the length), 18, 24 (a field);
- *   a trace: a read 15 to 18, byte by byte in reading order; a write 16, 17, 19; a salvage 25.
+ *   a trace: a read 15 to 18, byte by byte in reading order; a write 16, 17, 19; a salvage 25;
+ *   a step of a replay 1, 19.
  *
  * The float mode. The promises hold in the mode in which a program begins: round to nearest, keep
  * subnormals (x86-64: neither FTZ nor DAZ; Arm: no FZ), mask exceptions. Audio hosts often flush
@@ -343,6 +344,41 @@ typedef struct CableowlSaved {
     uint64_t first;   /* the offset of the first skipped byte; bytes_len if none */
 } CableowlSaved;
 
+/* A replay of a trace. Begin with cableowl_replay(), and pass each step the replay that the step before it returned. */
+typedef struct CableowlReplay {
+    CableowlState voice; /* before any creation, and after a refused one, the blank state */
+    uint64_t samples;    /* how many samples of the sound buffer are the voice's sound */
+    uint64_t blocks;     /* counted so far, refused ones too; no creation resets it */
+    uint64_t offset;     /* the offset of the next record in the trace */
+    uint32_t reader;     /* the version of the traces that are read: 1 */
+    uint32_t given;      /* 0: reader 1 knows no sound but the recorded one */
+} CableowlReplay;
+
+/* CableowlReplayed's what. */
+enum {
+    CABLEOWL_REPLAY_PLAYED = 0,
+    CABLEOWL_REPLAY_MORE = 1,
+    CABLEOWL_REPLAY_END = 2,
+    CABLEOWL_REPLAY_BROKEN = 3,
+    CABLEOWL_REPLAY_REFUSED = 4
+};
+
+/* What a step of a replay did. What is not named for a `what` is 0, lowest_count 4, and the replay is the given one.
+ * 0: it played a record of `size` bytes and of this kind; the refusal is the voice's. A block's line has replay.blocks, frames, steps,
+ *    replay.voice's state and position, and if it is refused replay.blocks and the refusal.
+ * 1: the bytes end inside a record: call again with more of them. 2: the trace has ended.
+ * 3: the reader refuses the record at replay.offset, with 15 to 18. 4: the call is refused, with 1 or 19. */
+typedef struct CableowlReplayed {
+    CableowlReplay replay;
+    uint64_t size;
+    uint64_t frames; /* of a block */
+    uint64_t steps;  /* of a block */
+    uint64_t what;
+    uint64_t kind;
+    uint64_t refusal;
+    uint64_t lowest_count; /* of a block; 4 otherwise */
+} CableowlReplayed;
+
 /* This interface's version. */
 uint32_t cableowl_version(void);
 
@@ -450,6 +486,17 @@ CableowlSent cableowl_write_record(uint8_t *buffer, size_t buffer_len, uint64_t 
 /* Copies the complete records of a damaged trace to the output's start and skips all other bytes. The rest of the output does
  * not change. If the output is shorter than the bytes, it is refused with 25 and writes nothing. */
 CableowlSaved cableowl_salvage(const uint8_t *bytes, size_t bytes_len, uint8_t *out, size_t out_len);
+
+/* A replay before any record. */
+CableowlReplay cableowl_replay(void);
+
+/* Reads the record that the bytes begin with and plays it: docs/formats/TRACE.md. The bytes are those of the trace from replay.offset
+ * on, as many as there are; `ended` is 0 if more may follow them. Lend the same `sound` to each step, room for 128 samples or more: a
+ * creation puts its sound there. A block of n frames is heard in the first 2 n samples of `out`, which has room for 2,048 or more; the
+ * others stay. Refused with 1 where the numbers are no replay's (reader, given, or more samples than the sound has), with 19 where
+ * there is too little room. */
+CableowlReplayed cableowl_replay_step(CableowlReplay replay, const uint8_t *bytes, size_t bytes_len, uint32_t ended, float *sound,
+                                      size_t sound_len, float *out, size_t out_len);
 
 /* The sentence for a number that a call returned: "accepted" for 0, and the Rust crate's `Refusal::text` for a refusal. It
  * accepts any number; the text is a constant. */

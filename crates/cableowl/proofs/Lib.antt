@@ -6,3 +6,4 @@ pub mod Kept
 pub mod Unknown
 pub mod Parts
 pub mod Numbers
+pub mod ReplaySteps

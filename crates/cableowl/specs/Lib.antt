@@ -2,3 +2,4 @@
 pub mod Entries
 pub mod Loops
 pub mod Saved
+pub mod Replays

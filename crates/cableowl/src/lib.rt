@@ -10,6 +10,7 @@ mod fades;
 mod halves;
 mod loops;
 mod once;
+mod replays;
 mod saved;
 mod traces;
 
@@ -37,6 +38,10 @@ pub use loops::cableowl_take_loop;
 pub use loops::cableowl_write_loop;
 pub use once::cableowl_process_held;
 pub use once::cableowl_process_held_into;
+pub use replays::CableowlReplay;
+pub use replays::CableowlReplayed;
+pub use replays::cableowl_replay;
+pub use replays::cableowl_replay_step;
 pub use saved::cableowl_load_settings;
 pub use saved::cableowl_settings_of;
 pub use saved::cableowl_store_settings;

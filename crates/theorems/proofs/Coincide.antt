@@ -7,7 +7,9 @@ use Rattle.trace_records.specs.declared.writes.Sent.{Sent}
 use Rattle.trace_records.specs.Writes.{Written, sentOf}
 use Rattle.trace_salvage.specs.declared.Saved.{Saved}
 use Rattle.trace_salvage.specs.Salvage.{Salvaged, savedOf}
+use lib.Ieee.{Float}
 use Rattle.cableowl.specs.Entries.{OutcomeC}
+use Rattle.cableowl.specs.Replays.{StepC}
 use Rattle.theorems.specs.Coincide.{Coincide}
 
 same : {A : Type 0} {x y z : A} → x ≡ z → y ≡ z → x ≡ y
@@ -30,6 +32,16 @@ sent e = (ap (λ (o : Written). record { refusal = o .number; next = o .next }) 
 
 saved : {x y : Saved} {v w : List ℕ} → savedOf x v ≡ savedOf y w → (x ≡ y) × (v ≡ w)
 saved e = (ap (λ (o : Salvaged). record { refusal = o .number; records = o .count; skipped = o .skip; first = o .place }) e, ap (λ (o : Salvaged). o .output) e)
+
+-- a step of a replay, with the sound and the output that it leaves
+abbrev Buffers : Type 0
+Buffers = List Float × List Float
+
+abbrev buffers : StepC → Buffers
+buffers o = (o .sound, o .samples)
+
+stepped : {o p : StepC} → o ≡ p → (o .answer ≡ p .answer) × (buffers o ≡ buffers p)
+stepped e = (ap (λ (o : StepC). o .answer) e, ap buffers e)
 
 pub coincide : Coincide
 coincide =
@@ -172,4 +184,6 @@ coincide =
       cableowl-cableowl-read-record = λ k a x y s t p q. same p q;
       cableowl-cableowl-write-record = λ k a x y s t p q. sent (same p q);
       cableowl-cableowl-salvage = λ k a x y s t p q. saved (same p q);
+      cableowl-cableowl-replay = λ k a x y s t p q. same p q;
+      cableowl-cableowl-replay-step = λ k a x y s t p q. stepped (same p q);
     }

@@ -226,3 +226,5 @@ pub record Coincide : Type 0 where
   pub cableowl-cableowl-read-record : Decides cableowl.cableowl_read_record.Reads.Post
   pub cableowl-cableowl-write-record : DecidesWith (λ k r s. s .0 .now) cableowl.cableowl_write_record.Reads.Post
   pub cableowl-cableowl-salvage : DecidesWith (λ k r s. s .1 .0 .now) cableowl.cableowl_salvage.Reads.Post
+  pub cableowl-cableowl-replay : Decides cableowl.cableowl_replay.Reads.Post
+  pub cableowl-cableowl-replay-step : DecidesWith {B = List Float × List Float} (λ k r s. (s .1 .1 .1 .0 .now, s .1 .1 .1 .1 .0 .now)) cableowl.cableowl_replay_step.Reads.Post

@@ -20,10 +20,10 @@ use Rattle.theorems_replay.proofs.Streams.{run-on}
 use Rattle.theorems_replay.proofs.Played.{creationNumbers, sixNumbers, played}
 
 -- a record that is read
-abbrev read : ℕ → ℕ → List ℕ → Record
+abbrev pub read : ℕ → ℕ → List ℕ → Record
 read k n vs = record { refusal = 0; kind = k; next = n; values = vs }
 
-creation-read : recordAt threeFrames 0 ≡ read 1 55 creationNumbers
+pub creation-read : recordAt threeFrames 0 ≡ read 1 55 creationNumbers
 unfolding recordAt valued readRecord bodied ended possible steps step taken stands within num headRows creationRows rows rowAt headTable creationTable frameTable
 creation-read = refl
 

@@ -15,10 +15,11 @@ use Rattle.trace_replay.specs.Runs.{answered}
 use Rattle.theorems_replay.specs.Cuts.{MayCutRecord, blockNumbers}
 use Rattle.theorems_replay.specs.Example.{threeFrames}
 use Rattle.theorems_replay.specs.Witnesses.{evening, Witnesses}
+use Rattle.theorems_replay.proofs.OtherSamples.{same-but-for-samples}
 
 accepted : answered (evening .sound) (evening .voice) (blockOf (blockNumbers 2 1065353216 1065353216 1065353216 1065353216 4607182418800017408 4607182418800017408 0 0 0)) .refusal ≡ 0
 unfolding answered processed refusedBlock ours wellFormed created made refusedNew placed ended stretched lawfulRegion rounded magnitude advance blockOf floatOf mul lt le eq ofInt ofBits nanBits
 accepted = refl
 
 pub witnesses : Witnesses
-witnesses = record { streams = record { bytes = small-of threeFrames tt; wide = omega arith }; cut-records = (record { few = omega arith; accepted = accepted }, tt) }
+witnesses = record { streams = record { bytes = small-of threeFrames tt; wide = omega arith }; cut-records = (record { few = omega arith; accepted = accepted }, tt); lines-alike = same-but-for-samples }

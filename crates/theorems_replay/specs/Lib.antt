@@ -2,6 +2,7 @@
 pub mod Streams
 pub mod Cuts
 pub mod Example
+pub mod Lengths
 pub mod Coincide
 pub mod Witnesses
 pub mod Promises

@@ -274,6 +274,7 @@ fn three_declarations_are_one() {
         "trace_records/src/lib",
         "trace_records/src/writes",
         "trace_salvage/src/lib",
+        "cableowl/src/replays",
     ];
     let sources = sources.map(|name| read(&format!("../../crates/{name}.rt")));
     // A place in bytes has 64 bits on every processor that the archive is made for.
@@ -308,6 +309,8 @@ fn three_declarations_are_one() {
         ("Record", size_of::<ffi::Record>()),
         ("Sent", size_of::<ffi::Sent>()),
         ("Saved", size_of::<ffi::Saved>()),
+        ("Replay", size_of::<ffi::Replay>()),
+        ("Replayed", size_of::<ffi::Replayed>()),
     ] {
         let (by_rule, _) = layout(&ours, name, &mut Vec::new());
         assert_eq!(size, by_rule, "{name}");

@@ -84,6 +84,24 @@ impl Processed {
         },
     };
 
+    /// What an accepted block of so many frames reports, `still` of them at a rate of 0, by the state
+    /// after it.
+    pub(crate) fn of_block(
+        state: &ffi::State,
+        frames: u64,
+        still: u64,
+        steps: u64,
+        lowest_count: u32,
+    ) -> Self {
+        let is_backward = State::from(*state).is_backward();
+        Self {
+            steps,
+            lowest_count,
+            steps_back: if is_backward { steps } else { 0 },
+            usage: Usage::of_block(frames, still, state, steps),
+        }
+    }
+
     /// Of two parts, one after the other.
     pub(crate) fn and(self, next: Self) -> Self {
         Self {
@@ -380,6 +398,15 @@ impl StaticSound {
         }
     }
 
+    /// The voice of a state that the library has answered.
+    pub(crate) fn from_raw(state: ffi::State) -> Self {
+        Self { state }
+    }
+
+    pub(crate) fn raw(&self) -> ffi::State {
+        self.state
+    }
+
     fn take(
         &mut self,
         answer: ffi::Processed,
@@ -390,12 +417,14 @@ impl StaticSound {
         Refusal::check_block(answer.refusal, self.state.sample_rate, dt, lanes)?;
         self.state = answer.state;
         let (steps, frames) = (answer.steps, lanes.rate.len() as u64);
-        Ok(Processed {
+        let lowest = answer.lowest_count;
+        Ok(Processed::of_block(
+            &self.state,
+            frames,
+            still,
             steps,
-            lowest_count: answer.lowest_count,
-            steps_back: if self.state().is_backward() { steps } else { 0 },
-            usage: Usage::of_block(frames, still, &self.state, steps),
-        })
+            lowest,
+        ))
     }
 }
 

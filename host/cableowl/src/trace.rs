@@ -43,7 +43,7 @@ pub use line::Line;
 pub use log::{LOG_HEAD, Log, LogLine, Since};
 pub use record::{Block, Record, ShortSound};
 pub use recorder::{Recorded, Recorder};
-pub use replay::{Lines, Replay, lines, replay};
+pub use replay::{Lines, Replay, Step, lines, replay};
 pub use salvage::{Salvaged, salvage};
 pub use stream::{TraceError, TraceReader};
 

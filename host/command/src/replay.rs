@@ -4,7 +4,7 @@ use std::path::Path;
 
 use cableowl::{
     Refusal, StaticSound,
-    trace::{LOG_HEAD, Line, Log, LogLine, Record, Replay, ShortSound, TraceError, TraceReader},
+    trace::{LOG_HEAD, Line, Log, LogLine, Record, Replay, Step, TraceError, TraceReader},
 };
 
 use crate::{
@@ -14,10 +14,9 @@ use crate::{
     out::Out,
 };
 
-/// A trace's run: for each block the line of form 1, and the line of form 3.
+/// A trace's run: what each record did, and for each block the line of form 3.
 pub struct Run {
     replay: Replay,
-    sound: ShortSound,
     log: Log,
 }
 
@@ -26,7 +25,6 @@ impl Run {
     pub fn new() -> Self {
         Self {
             replay: Replay::new(),
-            sound: ShortSound::EMPTY,
             log: Log::new(),
         }
     }
@@ -36,36 +34,30 @@ impl Run {
         self.replay.voice()
     }
 
-    /// Plays a record, and returns the lines of a block in the forms 1 and 3.
-    pub fn play(&mut self, record: &Record) -> Option<(Line, LogLine)> {
-        let before = self.replay.voice().cloned();
-        let line = self.replay.play(record);
-        match (record, before, self.replay.voice()) {
-            (Record::Creation { sound, .. }, _, after) => {
-                self.sound = *sound;
-                if after.is_some() {
-                    self.log.created();
-                }
-            }
-            (Record::Commands(commands), Some(before), Some(after)) => {
-                let obeyed = before
-                    .clone()
-                    .on_start_processing(self.sound.samples(), *commands);
-                if obeyed.is_ok() {
-                    self.log
-                        .commanded(commands, &before.state(), &after.state());
-                }
+    /// Plays a record that was read from these bytes, and returns what it did.
+    pub fn play(&mut self, record: &Record, bytes: &[u8]) -> Step {
+        let before = self.replay.voice().map(StaticSound::state);
+        let (step, _) = self.replay.step(bytes, true);
+        let after = self.replay.voice().map(StaticSound::state);
+        match (step, record, before, after) {
+            (Step::Creation(Ok(())), ..) => self.log.created(),
+            (Step::Commands(Ok(())), Record::Commands(commands), Some(before), Some(after)) => {
+                self.log.commanded(commands, &before, &after);
             }
             _ => {}
         }
-        let line = line?;
-        let (frames, answer) = match line {
+        step
+    }
+
+    /// The line of form 3 of the block that was played last, whose line of form 1 is given.
+    pub fn line(&mut self, line: &Line) -> LogLine {
+        let (frames, answer) = match *line {
             Line::Block { frames, .. } => (frames as usize, Ok(self.replay.counts())),
             Line::RefusedBlock { refusal, .. } => (0, Err(refusal)),
             // Played again, every record was read.
             Line::Refused(refused) => (0, Err(refused.refusal)),
         };
-        Some((line, self.log.block(frames, self.replay.voice(), answer)))
+        self.log.block(frames, self.replay.voice(), answer)
     }
 }
 
@@ -86,24 +78,11 @@ pub fn fault(input: &Input, error: &TraceError) -> Fault {
 pub fn replay(trace: &Path, form: Form, out: &mut Out<'_>) -> Result<()> {
     let mut input = Input::open(trace)?;
     input.kind()?;
-    let mut broken = None;
-    if form == Form::Third {
-        out.put(format!("{LOG_HEAD}\n"))?;
-    }
-    let mut run = Run::new();
-    for record in TraceReader::new(&mut input) {
-        match record {
-            Ok((_, record)) => match (run.play(&record), form) {
-                (Some((_, line)), Form::Third) => out.put(format!("{line}\n"))?,
-                (Some((line, _)), _) => out.put(format!("{line}\n"))?,
-                (None, _) => {}
-            },
-            Err(error) => broken = Some(error),
-        }
-        if out.closed() {
-            return Err(Fault::Closed);
-        }
-    }
+    let reader = TraceReader::new(&mut input);
+    let broken = match form {
+        Form::Third => third(reader, out)?,
+        Form::First | Form::Second => first(reader, out)?,
+    };
     let Some(error) = broken else {
         return Ok(());
     };
@@ -111,6 +90,41 @@ pub fn replay(trace: &Path, form: Form, out: &mut Out<'_>) -> Result<()> {
         out.put(format!("{}\n", Line::Refused(refused)))?;
     }
     Err(fault(&input, &error))
+}
+
+/// The lines of form 1; what ended the trace too early.
+fn first(mut reader: TraceReader<&mut Input>, out: &mut Out<'_>) -> Result<Option<TraceError>> {
+    let mut replay = Replay::new();
+    while let Some(step) = reader.step(&mut replay) {
+        match step {
+            Ok(Step::Block(line)) => out.put(format!("{line}\n"))?,
+            Ok(_) => {}
+            Err(error) => return Ok(Some(error)),
+        }
+        if out.closed() {
+            return Err(Fault::Closed);
+        }
+    }
+    Ok(None)
+}
+
+/// The lines of form 3; what ended the trace too early.
+fn third(mut reader: TraceReader<&mut Input>, out: &mut Out<'_>) -> Result<Option<TraceError>> {
+    out.put(format!("{LOG_HEAD}\n"))?;
+    let mut run = Run::new();
+    while let Some(record) = reader.next() {
+        let record = match record {
+            Ok((_, record)) => record,
+            Err(error) => return Ok(Some(error)),
+        };
+        if let Step::Block(line) = run.play(&record, reader.bytes()) {
+            out.put(format!("{}\n", run.line(&line)))?;
+        }
+        if out.closed() {
+            return Err(Fault::Closed);
+        }
+    }
+    Ok(None)
 }
 
 /// A refusal's number, as a log has it.

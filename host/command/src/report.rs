@@ -7,7 +7,7 @@ use std::{
 
 use cableowl::{
     Refusal,
-    trace::{TraceError, TraceReader},
+    trace::{Step, TraceError, TraceReader},
 };
 
 use crate::{
@@ -309,12 +309,13 @@ fn read_trace(mut input: Input, rates: Rates) -> Result<(Evening, Option<Damage>
     };
     let mut run = Run::new();
     let (mut sound_rate, mut damage) = (rates.sound, None);
-    for record in TraceReader::new(&mut input) {
+    let mut reader = TraceReader::new(&mut input);
+    while let Some(record) = reader.next() {
         match record {
             Ok((_, record)) => {
                 // As its log says it.
-                if let Some((_, line)) = run.play(&record)
-                    && let Ok(line) = parse(line.to_string().as_bytes(), Form::Third)
+                if let Step::Block(line) = run.play(&record, reader.bytes())
+                    && let Ok(line) = parse(run.line(&line).to_string().as_bytes(), Form::Third)
                 {
                     add(&line);
                 }

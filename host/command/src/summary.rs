@@ -3,8 +3,8 @@
 use std::path::Path;
 
 use cableowl::{
-    Commands, LoopCommand, PlaybackState, Refusal, ResumeCommand, Settings, State, StaticSound,
-    trace::{Block, Line, Record, ShortSound, TraceReader},
+    Commands, LoopCommand, PlaybackState, Refusal, ResumeCommand, State, StaticSound,
+    trace::{Block, Line, Record, Step, TraceReader},
 };
 
 use crate::{
@@ -22,9 +22,10 @@ pub fn summary(trace: &Path, out: &mut Out<'_>) -> Result<()> {
     input.kind()?;
     let mut teller = Teller::new();
     let mut broken = None;
-    for record in TraceReader::new(&mut input) {
+    let mut reader = TraceReader::new(&mut input);
+    while let Some(record) = reader.next() {
         match record {
-            Ok((_, record)) => teller.take(&record, out)?,
+            Ok((_, record)) => teller.take(&record, reader.bytes(), out)?,
             Err(error) => broken = Some(error),
         }
         if out.closed() {
@@ -59,7 +60,6 @@ struct Refused {
 /// What was told so far.
 struct Teller {
     run: Run,
-    sound: ShortSound,
     blocks: u64,
     all_refused: u64,
     seconds: f64,
@@ -73,7 +73,6 @@ impl Teller {
     fn new() -> Self {
         Self {
             run: Run::new(),
-            sound: ShortSound::EMPTY,
             blocks: 0,
             all_refused: 0,
             seconds: 0.0,
@@ -91,27 +90,25 @@ impl Teller {
         self.run.voice().map(StaticSound::state)
     }
 
-    fn take(&mut self, record: &Record, out: &mut Out<'_>) -> Result<()> {
+    fn take(&mut self, record: &Record, bytes: &[u8], out: &mut Out<'_>) -> Result<()> {
         let before = self.state();
-        let line = self.run.play(record);
-        match (record, line) {
-            (Record::Block(block), Some((line, _))) => self.block(block, line, out),
-            (Record::Creation { settings, sound }, _) => self.creation(settings, sound, out),
-            (Record::Commands(commands), _) => self.commands(commands, before, out),
-            (Record::Block(_), None) => Ok(()),
+        match (self.run.play(record, bytes), record) {
+            (Step::Block(line), Record::Block(block)) => self.block(block, line, out),
+            (Step::Creation(answer), _) => self.creation(answer, out),
+            (Step::Commands(answer), Record::Commands(commands)) => {
+                self.commands(commands, answer, before, out)
+            }
+            _ => Ok(()),
         }
     }
 
     fn creation(
         &mut self,
-        settings: &Settings,
-        sound: &ShortSound,
+        answer: std::result::Result<(), Refusal>,
         out: &mut Out<'_>,
     ) -> Result<()> {
         self.put_refused(out)?;
-        self.sound = *sound;
-        let created = StaticSound::new(*settings, sound.samples());
-        let says = match created.map(|voice| voice.state()) {
+        let says = match answer.map(|()| self.state().unwrap_or_default()) {
             Err(refusal) => format!("no voice is created: {refusal}"),
             Ok(state) => {
                 let looped = state.loop_region.map_or(String::new(), |region| {
@@ -142,6 +139,7 @@ impl Teller {
     fn commands(
         &mut self,
         commands: &Commands,
+        answer: std::result::Result<(), Refusal>,
         before: Option<State>,
         out: &mut Out<'_>,
     ) -> Result<()> {
@@ -149,10 +147,8 @@ impl Teller {
         let (Some(before), Some(after)) = (before, self.state()) else {
             return self.put("a command without a voice: it does nothing", out);
         };
-        let judged = StaticSound::from_state(before, self.sound.samples())
-            .and_then(|mut voice| voice.on_start_processing(self.sound.samples(), *commands));
-        let says = match judged {
-            Ok(_) => obeyed(commands, &before, &after),
+        let says = match answer {
+            Ok(()) => obeyed(commands, &before, &after),
             Err(refusal) => format!("a command is refused: {refusal}"),
         };
         match says.is_empty() {

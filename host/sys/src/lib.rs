@@ -617,3 +617,71 @@ pub fn write_record(buffer: &mut [u8], at: u64, kind: u64, values: &[u64; 80]) -
 pub fn salvage(bytes: &[u8], out: &mut [u8]) -> Saved {
     unsafe { cableowl_salvage(bytes.as_ptr(), bytes.len(), out.as_mut_ptr(), out.len()) }
 }
+
+/// A replay of a trace: the voice, the samples of its sound, the blocks counted, the next record's place.
+#[repr(C)]
+#[derive(Debug, Clone, Copy)]
+pub struct Replay {
+    pub voice: State,
+    pub samples: u64,
+    pub blocks: u64,
+    pub offset: u64,
+    pub reader: u32,
+    pub given: u32,
+}
+
+/// What a step of a replay did.
+#[repr(C)]
+#[derive(Debug, Clone, Copy)]
+pub struct Replayed {
+    pub replay: Replay,
+    pub size: u64,
+    pub frames: u64,
+    pub steps: u64,
+    pub what: u64,
+    pub kind: u64,
+    pub refusal: u64,
+    pub lowest_count: u64,
+}
+
+unsafe extern "C" {
+    safe fn cableowl_replay() -> Replay;
+
+    fn cableowl_replay_step(
+        replay: Replay,
+        bytes: *const u8,
+        bytes_len: usize,
+        ended: u32,
+        sound: *mut f32,
+        sound_len: usize,
+        out: *mut f32,
+        out_len: usize,
+    ) -> Replayed;
+}
+
+#[inline]
+pub fn replay() -> Replay {
+    cableowl_replay()
+}
+
+#[inline]
+pub fn replay_step(
+    replay: Replay,
+    bytes: &[u8],
+    ended: bool,
+    sound: &mut [f32],
+    out: &mut [f32],
+) -> Replayed {
+    unsafe {
+        cableowl_replay_step(
+            replay,
+            bytes.as_ptr(),
+            bytes.len(),
+            ended.into(),
+            sound.as_mut_ptr(),
+            sound.len(),
+            out.as_mut_ptr(),
+            out.len(),
+        )
+    }
+}

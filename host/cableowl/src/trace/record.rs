@@ -78,6 +78,11 @@ impl Block {
         self
     }
 
+    /// The same block without signals.
+    pub(crate) fn without_signals(self) -> Self {
+        self.with_signals(Signals::new())
+    }
+
     /// What the block is told beside its lanes.
     #[must_use]
     pub fn signals(&self) -> Signals {

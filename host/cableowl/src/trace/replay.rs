@@ -1,4 +1,5 @@
-//! A trace played again.
+//! A trace played again. The archive's step reads and plays each record; this holds its room and
+//! gives its numbers names.
 
 use std::{
     io::{self, Read, Write},
@@ -6,94 +7,143 @@ use std::{
 };
 
 use super::{
-    Block, Line, MAX_TRACED_FRAMES, Record, Refused, ShortSound, Trace, TraceError, TraceReader,
+    Block, Line, MAX_RECORD_BYTES, MAX_SOUND_FRAMES, MAX_TRACED_FRAMES, Record, Refused,
+    TraceError, TraceReader, read, write,
 };
-use crate::{Lanes, Processed, Refusal, Signals, StaticSound, stopping::until_it_stops};
+use crate::{
+    PlaybackState, Processed, Refusal, StaticSound, ffi, float_mode, stopping::until_it_stops,
+};
+
+/// What a step of a replay did.
+#[derive(Debug, Clone, Copy, PartialEq, Eq)]
+pub enum Step {
+    /// A creation was accepted, or refused with 2 to 7.
+    Creation(Result<(), Refusal>),
+    /// A command set was obeyed, or refused with 1 or 6 to 8.
+    Commands(Result<(), Refusal>),
+    /// A block was played or refused: its line.
+    Block(Line),
+    /// The reader refuses the record. The replay stays before it.
+    Refused(Refused),
+    /// The bytes end inside a record, and more may come.
+    More,
+    /// The trace has ended.
+    End,
+}
+
+impl Step {
+    /// The line that is printed.
+    #[must_use]
+    pub fn line(self) -> Option<Line> {
+        match self {
+            Self::Block(line) => Some(line),
+            Self::Refused(refused) => Some(Line::Refused(refused)),
+            Self::Creation(_) | Self::Commands(_) | Self::More | Self::End => None,
+        }
+    }
+}
 
 /// A run of a trace: takes its records one after the other, plays them, and tells the line of each
-/// block.
+/// block. The proved archive does it (`cableowl_replay_step` in C).
 ///
 /// Before any creation, and after a refused one, there is no voice, and a block is refused with 1. A
 /// refused creation or command set has no line. The counter counts refused blocks, and no creation
 /// resets it. All room is allocated by [`Replay::new`].
 #[derive(Debug, Clone)]
 pub struct Replay {
+    replay: ffi::Replay,
     voice: Option<StaticSound>,
-    sound: ShortSound,
-    blocks: u64,
-    lanes: Lanes,
+    sound: [f32; 2 * MAX_SOUND_FRAMES],
     out: Vec<f32>,
     heard: usize,
-    counts: Processed,
+    last: LastBlock,
 }
 
 impl Replay {
     /// Before any record.
     #[must_use]
     pub fn new() -> Self {
+        let replay = ffi::replay();
         Self {
+            replay,
             voice: None,
-            sound: ShortSound::EMPTY,
-            blocks: 0,
-            lanes: Lanes::new(),
+            sound: [0.0; 2 * MAX_SOUND_FRAMES],
             out: vec![0.0; 2 * MAX_TRACED_FRAMES],
             heard: 0,
-            counts: Processed::NONE,
+            last: LastBlock::new(replay),
         }
     }
 
-    /// Plays a record, and tells the line of a block.
+    /// Reads the record that the bytes begin with, plays it, and says what it did and how many bytes
+    /// it has. `ended` says that the trace has no bytes behind these.
+    ///
+    /// ```
+    /// use cableowl::{Commands, Refusal, trace::{Record, Replay, Step, write}};
+    ///
+    /// let mut bytes = [0; 12];
+    /// write(&Record::Commands(Commands::new()), &mut bytes, 0)?;
+    /// let mut replay = Replay::new();
+    /// assert_eq!(replay.step(&bytes[..7], false), (Step::More, 0));
+    /// let without_a_voice = Step::Commands(Err(Refusal::State));
+    /// assert_eq!(replay.step(&bytes, false), (without_a_voice, 12));
+    /// assert_eq!(replay.step(&[], true), (Step::End, 0));
+    /// # Ok::<(), Refusal>(())
+    /// ```
+    pub fn step(&mut self, bytes: &[u8], ended: bool) -> (Step, usize) {
+        let before = self.replay;
+        let (sound, out) = (&mut self.sound, &mut self.out);
+        let did = float_mode::plain(|| ffi::replay_step(before, bytes, ended, sound, out));
+        self.replay = did.replay;
+        let size = did.size as usize;
+        let answer = Refusal::check_word(did.refusal);
+        let step = match (did.what, did.kind) {
+            (0, 1) => {
+                let voice = StaticSound::from_raw(did.replay.voice);
+                self.voice = answer.is_ok().then_some(voice);
+                Step::Creation(answer)
+            }
+            (0, 2) => {
+                self.set_voice();
+                Step::Commands(answer)
+            }
+            (0, _) => {
+                self.set_voice();
+                self.last.set(before, did, &bytes[..size]);
+                self.heard = if answer.is_ok() {
+                    2 * did.frames as usize
+                } else {
+                    0
+                };
+                Step::Block(self.last.line(&did))
+            }
+            (1, _) => Step::More,
+            (2, _) => Step::End,
+            // What is left is a refused record: this room and this replay are never refused.
+            _ => Step::Refused(Refused {
+                refusal: answer.err().unwrap_or(Refusal::State),
+                at: did.replay.offset,
+            }),
+        };
+        (step, size)
+    }
+
+    fn set_voice(&mut self) {
+        if let Some(voice) = &mut self.voice {
+            *voice = StaticSound::from_raw(self.replay.voice);
+        }
+    }
+
+    /// Plays a record as its bytes, and tells the line of a block. A record that cannot be written is
+    /// refused, and the replay stays as it is.
     pub fn play(&mut self, record: &Record) -> Option<Line> {
-        match record {
-            Record::Creation { settings, sound } => {
-                self.sound = *sound;
-                self.voice = StaticSound::new(*settings, sound.samples()).ok();
-                None
-            }
-            Record::Commands(commands) => {
-                if let Some(voice) = &mut self.voice {
-                    // A refused command set changes nothing and prints nothing.
-                    let _ = voice.on_start_processing(self.sound.samples(), *commands);
-                }
-                None
-            }
-            Record::Block(block) => Some(self.block(block)),
+        let mut bytes = [0; MAX_RECORD_BYTES];
+        match write(record, &mut bytes, 0) {
+            Ok(size) => self.step(&bytes[..size], true).0.line(),
+            Err(refusal) => Some(Line::Refused(Refused {
+                refusal,
+                at: self.replay.offset,
+            })),
         }
-    }
-
-    fn block(&mut self, block: &Block) -> Line {
-        self.blocks = self.blocks.saturating_add(1);
-        (self.heard, self.counts) = (0, Processed::NONE);
-        let number = self.blocks;
-        let refused = |refusal| Line::RefusedBlock {
-            block: number,
-            refusal,
-        };
-        let Some(voice) = &mut self.voice else {
-            return refused(Refusal::State);
-        };
-        let samples = block.frames.saturating_mul(2);
-        let Some(out) = self.out.get_mut(..samples) else {
-            // No record has so many frames.
-            return refused(Refusal::Block);
-        };
-        let (lanes, sound, before) = (&mut self.lanes, self.sound.samples(), voice.clone());
-        let answer = play(block, 0..block.frames, voice, lanes, sound, out);
-        if let Ok(processed) = answer {
-            (self.heard, self.counts) = (samples, processed);
-            if voice.finished() && processed.steps > 0 {
-                let mut again = before;
-                let stops = until_it_stops(&mut again, block.frames, |part, voice| {
-                    play(block, part, voice, lanes, sound, out)
-                });
-                // Not refused: the whole block was not.
-                if let Ok((frames, counts)) = stops {
-                    self.counts = counts;
-                    self.counts.usage.silent = (block.frames - frames) as u64;
-                }
-            }
-        }
-        Line::of_block(number, block.frames, voice, answer)
     }
 
     /// The samples of the last block, left and right in turn; none where it was refused.
@@ -107,7 +157,7 @@ impl Replay {
     /// reports where it was refused.
     #[must_use]
     pub fn counts(&self) -> Processed {
-        self.counts
+        self.last.counts(&self.sound)
     }
 
     /// The voice as it is now, if there is one.
@@ -123,33 +173,156 @@ impl Default for Replay {
     }
 }
 
-/// Plays a part of a recorded block into its place of the block's output; the part at its beginning
-/// takes the signals.
-fn play(
-    block: &Block,
-    part: Range<usize>,
-    voice: &mut StaticSound,
-    lanes: &mut Lanes,
-    sound: &[f32],
-    out: &mut [f32],
-) -> Result<Processed, Refusal> {
-    let signals = match part.start {
-        0 => block.signals(),
-        _ => Signals::new(),
-    };
-    let lanes = lanes.frames(part.len()).fade(block.fade);
-    let lanes = lanes.volume(block.volume).left(block.left);
-    let lanes = lanes.right(block.right).rate(block.rate);
-    let out = out
-        .get_mut(2 * part.start..2 * part.end)
-        .unwrap_or_default();
-    voice.process(sound, lanes, block.time_step, signals, out)
+/// The block that was played last: its bytes, the replay before it, and what the step answered.
+#[derive(Debug, Clone)]
+struct LastBlock {
+    before: ffi::Replay,
+    did: Option<ffi::Replayed>,
+    bytes: [u8; BLOCK_BYTES],
+}
+
+/// The bytes of a block's record.
+const BLOCK_BYTES: usize = 42;
+
+impl LastBlock {
+    /// No block was played yet.
+    fn new(before: ffi::Replay) -> Self {
+        Self {
+            before,
+            did: None,
+            bytes: [0; BLOCK_BYTES],
+        }
+    }
+
+    fn set(&mut self, before: ffi::Replay, did: ffi::Replayed, bytes: &[u8]) {
+        (self.before, self.did) = (before, Some(did));
+        // Every block's record has as many bytes.
+        if let Ok(bytes) = bytes.try_into() {
+            self.bytes = bytes;
+        }
+    }
+
+    /// The block, if its record is read.
+    fn block(&self) -> Option<Block> {
+        match read(&self.bytes, 0) {
+            Ok((Record::Block(block), _)) => Some(block),
+            _ => None,
+        }
+    }
+
+    fn line(&self, did: &ffi::Replayed) -> Line {
+        let replay = did.replay;
+        let block = replay.blocks;
+        match did.refusal {
+            0 => Line::Block {
+                block,
+                frames: did.frames,
+                steps: did.steps,
+                // The library answers with 0 to 6 alone.
+                state: PlaybackState::from_number(replay.voice.state)
+                    .unwrap_or(PlaybackState::Stopped),
+                position: replay.voice.position,
+            },
+            number => Line::RefusedBlock {
+                block,
+                refusal: self.refusal(number),
+            },
+        }
+    }
+
+    /// Why the block was refused: the lane of a refusal 11 is looked for in its numbers.
+    fn refusal(&self, number: u64) -> Refusal {
+        let number = u32::try_from(number).unwrap_or(u32::MAX);
+        let judged = match self.block() {
+            Some(block) => {
+                let lanes = ffi::Lanes {
+                    fade: &[block.fade],
+                    volume: &[block.volume],
+                    left: &[block.left],
+                    right: &[block.right],
+                    rate: &[block.rate],
+                };
+                let sample_rate = self.before.voice.sample_rate;
+                Refusal::check_block(number, sample_rate, block.time_step, lanes)
+            }
+            None => Refusal::check(number),
+        };
+        judged.err().unwrap_or(Refusal::State)
+    }
+
+    fn counts(&self, sound: &[f32; 2 * MAX_SOUND_FRAMES]) -> Processed {
+        let (Some(did), Some(block)) = (self.did, self.block()) else {
+            return Processed::NONE;
+        };
+        if did.refusal != 0 {
+            return Processed::NONE;
+        }
+        let mut voice = StaticSound::from_raw(did.replay.voice);
+        let counts = counts_of(&did, &block);
+        if !voice.finished() || counts.steps == 0 {
+            return counts;
+        }
+        voice = StaticSound::from_raw(self.before.voice);
+        let mut room = Room {
+            sound: *sound,
+            out: [0.0; 2 * MAX_TRACED_FRAMES],
+        };
+        let stops = until_it_stops(&mut voice, block.frames, |part, voice| {
+            self.part(&block, part, voice, &mut room)
+        });
+        // Not refused: the whole block was not.
+        stops.map_or(counts, |(frames, mut counts)| {
+            counts.usage.silent = (block.frames - frames) as u64;
+            counts
+        })
+    }
+
+    /// Plays a part of the block as a record of its own; the part at its beginning takes the signals.
+    fn part(
+        &self,
+        block: &Block,
+        part: Range<usize>,
+        voice: &mut StaticSound,
+        room: &mut Room,
+    ) -> Result<Processed, Refusal> {
+        let part = Block {
+            frames: part.len(),
+            ..match part.start {
+                0 => *block,
+                _ => block.without_signals(),
+            }
+        };
+        let mut bytes = [0; BLOCK_BYTES];
+        write(&Record::Block(part), &mut bytes, 0)?;
+        let before = ffi::Replay {
+            voice: voice.raw(),
+            ..self.before
+        };
+        let (sound, out) = (&mut room.sound, &mut room.out);
+        let did = float_mode::plain(|| ffi::replay_step(before, &bytes, true, sound, out));
+        Refusal::check_word(did.refusal)?;
+        *voice = StaticSound::from_raw(did.replay.voice);
+        Ok(counts_of(&did, &part))
+    }
+}
+
+/// What a step is lent.
+struct Room {
+    sound: [f32; 2 * MAX_SOUND_FRAMES],
+    out: [f32; 2 * MAX_TRACED_FRAMES],
+}
+
+/// What an accepted block reports.
+fn counts_of(did: &ffi::Replayed, block: &Block) -> Processed {
+    let still = if block.rate == 0.0 { did.frames } else { 0 };
+    let lowest = did.lowest_count as u32;
+    Processed::of_block(&did.replay.voice, did.frames, still, did.steps, lowest)
 }
 
 /// The lines of a trace, played again: see [`lines`].
 #[derive(Debug, Clone)]
 pub struct Lines<'a> {
-    trace: Trace<'a>,
+    bytes: &'a [u8],
     replay: Replay,
 }
 
@@ -164,7 +337,7 @@ pub struct Lines<'a> {
 #[must_use]
 pub fn lines(bytes: &[u8]) -> Lines<'_> {
     Lines {
-        trace: Trace::new(bytes),
+        bytes,
         replay: Replay::new(),
     }
 }
@@ -173,11 +346,19 @@ impl Iterator for Lines<'_> {
     type Item = Line;
 
     fn next(&mut self) -> Option<Line> {
-        let replay = &mut self.replay;
-        self.trace.find_map(|record| match record {
-            Ok((_, record)) => replay.play(&record),
-            Err(refused) => Some(Line::Refused(refused)),
-        })
+        loop {
+            let (step, size) = self.replay.step(self.bytes, true);
+            self.bytes = &self.bytes[size..];
+            match step {
+                Step::Creation(_) | Step::Commands(_) => {}
+                Step::Block(line) => return Some(line),
+                Step::Refused(refused) => {
+                    self.bytes = &[];
+                    return Some(Line::Refused(refused));
+                }
+                Step::More | Step::End => return None,
+            }
+        }
     }
 }
 
@@ -198,11 +379,11 @@ impl Iterator for Lines<'_> {
 ///
 /// What reading or writing gives.
 pub fn replay(trace: impl Read, mut to: impl Write) -> io::Result<Option<Refused>> {
-    let mut replay = Replay::new();
-    for record in TraceReader::new(trace) {
-        match record {
-            Ok((_, record)) => {
-                if let Some(line) = replay.play(&record) {
+    let (mut reader, mut replay) = (TraceReader::new(trace), Replay::new());
+    while let Some(step) = reader.step(&mut replay) {
+        match step {
+            Ok(step) => {
+                if let Some(line) = step.line() {
                     writeln!(to, "{line}")?;
                 }
             }

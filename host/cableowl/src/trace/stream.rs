@@ -7,7 +7,7 @@ use std::{
     ops::Range,
 };
 
-use super::{MAX_RECORD_BYTES, Record, Refused, read};
+use super::{MAX_RECORD_BYTES, Record, Refused, Replay, Step, read};
 
 /// How much of a trace is held.
 const ROOM: usize = 64 * 1_024;
@@ -56,6 +56,8 @@ pub struct TraceReader<R> {
     ended: bool,
     /// Whether the record at `at` was refused.
     refused: bool,
+    /// The bytes of the record before `at`.
+    last: usize,
 }
 
 impl<R: Read> TraceReader<R> {
@@ -70,14 +72,21 @@ impl<R: Read> TraceReader<R> {
             base: 0,
             ended: false,
             refused: false,
+            last: 0,
         }
     }
 
     /// Reads on until a whole record is held, or the trace's end.
     fn fill(&mut self) -> io::Result<()> {
-        if self.ended || self.end - self.at >= MAX_RECORD_BYTES {
-            return Ok(());
+        match self.ended || self.end - self.at >= MAX_RECORD_BYTES {
+            true => Ok(()),
+            false => self.read_on(),
         }
+    }
+
+    /// Moves what is left to the front, and reads as much behind it as there is room for.
+    fn read_on(&mut self) -> io::Result<()> {
+        self.last = 0;
         self.held.copy_within(self.at..self.end, 0);
         self.base = self.base.wrapping_add(self.at as u64);
         (self.end, self.at) = (self.end - self.at, 0);
@@ -117,6 +126,7 @@ impl<R: Read> TraceReader<R> {
             return Ok(None);
         }
         let from = self.place();
+        self.last = 0;
         loop {
             self.at += 1;
             self.fill()?;
@@ -126,6 +136,56 @@ impl<R: Read> TraceReader<R> {
                 return Ok(Some(from..self.place()));
             }
         }
+    }
+
+    /// The bytes of the record that was yielded last.
+    #[must_use]
+    pub fn bytes(&self) -> &[u8] {
+        &self.held[self.at - self.last..self.at]
+    }
+
+    /// Plays the next record without yielding it, and says what it did; `None` at the trace's end. A
+    /// record that is refused, or an error in reading, is the last.
+    ///
+    /// ```
+    /// use cableowl::{Commands, Refusal, trace::{Record, Replay, Step, TraceReader, write}};
+    ///
+    /// let mut bytes = [0; 12];
+    /// write(&Record::Commands(Commands::new()), &mut bytes, 0)?;
+    /// let (mut reader, mut replay) = (TraceReader::new(&bytes[..]), Replay::new());
+    /// let step = reader.step(&mut replay).and_then(Result::ok);
+    /// assert_eq!(step, Some(Step::Commands(Err(Refusal::State))));
+    /// assert!(reader.step(&mut replay).is_none());
+    /// # Ok::<(), Refusal>(())
+    /// ```
+    pub fn step(&mut self, replay: &mut Replay) -> Option<Result<Step, TraceError>> {
+        if self.refused {
+            return None;
+        }
+        loop {
+            let (step, size) = replay.step(&self.held[self.at..self.end], self.ended);
+            (self.at, self.last) = (self.at + size, size);
+            match step {
+                Step::End => return None,
+                Step::More => {
+                    if let Err(error) = self.read_on() {
+                        return Some(Err(self.broken(error)));
+                    }
+                }
+                Step::Refused(Refused { refusal, .. }) => {
+                    self.refused = true;
+                    let at = self.place();
+                    return Some(Err(TraceError::Refused(Refused { refusal, at })));
+                }
+                step => return Some(Ok(step)),
+            }
+        }
+    }
+
+    /// Nothing more is read.
+    fn broken(&mut self, error: io::Error) -> TraceError {
+        (self.ended, self.at, self.last) = (true, self.end, 0);
+        TraceError::Io(error)
     }
 
     /// The place in the trace of the next record.
@@ -142,8 +202,7 @@ impl<R: Read> Iterator for TraceReader<R> {
             return None;
         }
         if let Err(error) = self.fill() {
-            (self.ended, self.at) = (true, self.end);
-            return Some(Err(TraceError::Io(error)));
+            return Some(Err(self.broken(error)));
         }
         if self.at == self.end {
             return None;
@@ -151,7 +210,7 @@ impl<R: Read> Iterator for TraceReader<R> {
         let at = self.place();
         match read(&self.held[..self.end], self.at) {
             Ok((record, next)) => {
-                self.at = next;
+                (self.last, self.at) = (next - self.at, next);
                 Some(Ok((at, record)))
             }
             Err(refusal) => {

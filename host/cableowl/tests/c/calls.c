@@ -182,6 +182,19 @@ int main(void) {
     expect(kept_records.refusal == 0 && kept_records.records == 1, "salvage: records");
     expect(kept_records.skipped == 18 && kept_records.first == 0, "salvage: skipped");
     expect(memcmp(mended, trace + 3, 42) == 0 && mended[42] == 7 && mended[60] == 7, "salvage: bytes");
+    static float recorded[128], replayed[2048];
+    CableowlReplay replay = cableowl_replay();
+    expect(replay.reader == 1 && replay.blocks == 0, "replay: begins");
+    expect(cableowl_replay_step(replay, trace, 0, 0, recorded, 127, replayed, 2048).refusal == 19, "replay_step: room");
+    expect(cableowl_replay_step(replay, trace, 0, 0, recorded, 128, replayed, 2048).what == CABLEOWL_REPLAY_MORE, "replay_step: more");
+    expect(cableowl_replay_step(replay, trace, 0, 1, recorded, 128, replayed, 2048).what == CABLEOWL_REPLAY_END, "replay_step: end");
+    const CableowlReplayed broken = cableowl_replay_step(replay, trace, 60, 1, recorded, 128, replayed, 2048);
+    expect(broken.what == CABLEOWL_REPLAY_BROKEN && broken.refusal == 15 && broken.size == 0, "replay_step: broken");
+    const CableowlReplayed blind = cableowl_replay_step(replay, trace + 3, 57, 0, recorded, 128, replayed, 2048);
+    expect(blind.what == CABLEOWL_REPLAY_PLAYED && blind.kind == CABLEOWL_KIND_BLOCK && blind.refusal == 1, "replay_step: no voice");
+    expect(blind.size == 42 && blind.replay.blocks == 1 && blind.replay.offset == 42, "replay_step: counted");
+    replay.given = 1;
+    expect(cableowl_replay_step(replay, trace, 60, 1, recorded, 128, replayed, 2048).refusal == 1, "replay_step: state");
 
     printf("%d differ\n", faults);
     return faults == 0 ? 0 : 1;

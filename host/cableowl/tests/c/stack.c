@@ -52,6 +52,11 @@ static void write_record(void) {
     refusal = (uint32_t)cableowl_write_record(saved, sizeof saved, 0, CABLEOWL_KIND_CREATION, numbers).refusal;
 }
 static void salvage(void) { refusal = (uint32_t)cableowl_salvage(trace, sizeof trace, saved, sizeof saved).refusal; }
+static CableowlReplay replay;
+static float lent[128], heard[2048];
+static void replay_step(void) {
+    refusal = (uint32_t)cableowl_replay_step(replay, trace, sizeof trace, 1, lent, 128, heard, 2048).refusal;
+}
 static void stretch(void) { refusal = cableowl_stretch(voice, sound, SOUND).length == SOUND ? 0 : 1; }
 
 static void *run(void *call) {
@@ -100,6 +105,7 @@ int main(void) {
         {"read_record", read_record, TRACE, 0},
         {"write_record", write_record, TRACE, 0},
         {"salvage", salvage, TRACE, 0},
+        {"replay_step", replay_step, TRACE, 2},
     };
     for (int i = 0; i < FRAMES; i += 1) {
         ones[i] = 1;
@@ -120,6 +126,8 @@ int main(void) {
     voice = cableowl_new(settings, sound, SOUND).state;
     broken = voice;
     broken.count = 5;
+
+    replay = cableowl_replay();
 
     /* The longest record there is. */
     numbers[1] = numbers[6] = 3;

@@ -6,7 +6,7 @@ use std::{fmt, ops::Range};
 
 use cableowl::{
     Usage,
-    trace::{Block as Recorded, Line as Proved, LogLine, Record, TraceError, TraceReader},
+    trace::{Block as Recorded, Line as Proved, LogLine, Record, Step, TraceError, TraceReader},
 };
 
 use crate::{
@@ -387,7 +387,9 @@ impl Rule {
     /// The next block.
     fn next(&mut self) -> Next<Option<Played>> {
         while let Some(record) = self.record()? {
-            if let (Some((bare, full)), Record::Block(block)) = (self.run.play(&record), &record) {
+            let step = self.run.play(&record, self.reader.bytes());
+            if let (Step::Block(bare), Record::Block(block)) = (step, &record) {
+                let full = self.run.line(&bare);
                 self.created = self.created.saturating_add(full.since.created);
                 return Ok(Some(self.played(&bare, &full, block)));
             }
@@ -418,8 +420,8 @@ impl Rule {
         loop {
             match self.record() {
                 Ok(Some(record @ Record::Creation { .. })) => {
-                    self.run.play(&record);
-                    if self.run.voice().is_some() {
+                    let step = self.run.play(&record, self.reader.bytes());
+                    if step == Step::Creation(Ok(())) {
                         return true;
                     }
                 }

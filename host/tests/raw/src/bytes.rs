@@ -1,4 +1,4 @@
-use crate::CableowlState;
+use crate::{CableowlReplay, CableowlState};
 
 /// The bytes of a state: it has no padding.
 pub const STATE_BYTES: usize = 168;
@@ -21,6 +21,32 @@ impl StateBytes for CableowlState {
     }
 
     fn from_bytes(bytes: [u8; STATE_BYTES]) -> Self {
+        // SAFETY: every field is a number, and any bytes are a number.
+        unsafe { std::mem::transmute(bytes) }
+    }
+}
+
+/// The bytes of a replay: it has no padding.
+pub const REPLAY_BYTES: usize = 200;
+
+/// A replay as bytes, and back.
+pub trait ReplayBytes {
+    /// Its bytes.
+    #[must_use]
+    fn to_bytes(self) -> [u8; REPLAY_BYTES];
+
+    /// The replay with these bytes: any bytes are one.
+    #[must_use]
+    fn from_bytes(bytes: [u8; REPLAY_BYTES]) -> Self;
+}
+
+impl ReplayBytes for CableowlReplay {
+    fn to_bytes(self) -> [u8; REPLAY_BYTES] {
+        // SAFETY: numbers without padding, of exactly this size (the compiler compares sizes).
+        unsafe { std::mem::transmute(self) }
+    }
+
+    fn from_bytes(bytes: [u8; REPLAY_BYTES]) -> Self {
         // SAFETY: every field is a number, and any bytes are a number.
         unsafe { std::mem::transmute(bytes) }
     }

@@ -7,19 +7,20 @@
 mod bytes;
 pub mod convert;
 
-pub use bytes::{STATE_BYTES, StateBytes};
+pub use bytes::{REPLAY_BYTES, ReplayBytes, STATE_BYTES, StateBytes};
 
 /// The structs, by their names in C.
 pub use cableowl_sys::{
     Commanded as CableowlCommanded, Commands as CableowlCommands, Created as CableowlCreated,
     Entry as CableowlEntry, LoopSlot as CableowlLoopSlot, LoopTable as CableowlLoopTable,
     Place as CableowlPlace, Processed as CableowlProcessed, Region as CableowlRegion,
-    Settings as CableowlSettings, Signals as CableowlSignals, State as CableowlState,
+    Replay as CableowlReplay, Replayed as CableowlReplayed, Settings as CableowlSettings,
+    Signals as CableowlSignals, State as CableowlState,
 };
 /// The entries, with slices for their pointers and lengths.
 pub use cableowl_sys::{
-    clear_loop, loop_table, new, on_start_processing, read_loop, stretch, take_loop, version,
-    write_loop,
+    clear_loop, loop_table, new, on_start_processing, read_loop, replay, replay_step, stretch,
+    take_loop, version, write_loop,
 };
 
 /// The lanes of a block, lent; each may have a length of its own.

@@ -3,8 +3,10 @@
 
 pub mod entries;
 pub mod make;
+pub mod model;
 pub mod page;
 pub mod program;
+pub mod replays;
 pub mod runs;
 
 /// A record's numbers in the page's order, one place for each field; absent ones are 0.

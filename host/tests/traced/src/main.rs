@@ -1,6 +1,6 @@
 //! Long runs against the page, the program against the library, and long traces.
 //!
-//! - `traced reads|writes|salvages|prints [--seed N] [--count N]`: random ones, compared
+//! - `traced reads|writes|salvages|steps|replays|prints [--seed N] [--count N]`: random ones, compared
 //! - `traced cuts`: every cut of a short trace, and some changes of each byte, printed by the program and the library
 //! - `traced trace [--megabytes N] [--blocks N] [--frames N]`: a long trace on standard output, a creation before
 //!   so many blocks of so many frames, again and again
@@ -22,10 +22,11 @@ use cableowl::{
 use traced::{
     make,
     program::Program,
+    replays,
     runs::{self, COMPILED},
 };
 
-const USAGE: &str = "usage: traced reads|writes|salvages|prints|cuts|trace|print|recording|holes|heads [--seed N] [--count N] [--megabytes N] [--blocks N] [--frames N]";
+const USAGE: &str = "usage: traced reads|writes|salvages|steps|replays|prints|cuts|trace|print|recording|holes|heads [--seed N] [--count N] [--megabytes N] [--blocks N] [--frames N]";
 
 fn main() -> ExitCode {
     match run() {
@@ -66,6 +67,8 @@ fn run() -> Result<String, String> {
         Some("reads") => COMPILED.reads(seed, count),
         Some("writes") => COMPILED.writes(seed, count),
         Some("salvages") => COMPILED.salvages(seed, count),
+        Some("steps") => replays::steps(seed, count),
+        Some("replays") => replays::any_bytes(seed, count),
         Some("prints") => runs::prints(&program()?, seed, count),
         Some("cuts") => runs::print_cuts(&program()?),
         Some("trace") => return long_trace(megabytes, blocks, frames),

@@ -24,7 +24,8 @@ pub struct Tally {
 }
 
 impl Tally {
-    fn call(&mut self, refusal: u64, bytes: usize) {
+    /// One call more.
+    pub(crate) fn call(&mut self, refusal: u64, bytes: usize) {
         self.calls += 1;
         self.bytes += bytes as u64;
         self.refused[refusal as usize % 26] += 1;

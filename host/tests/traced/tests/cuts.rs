@@ -109,12 +109,12 @@ fn no_record_makes_a_replay_panic() {
     for frames in [1_025, 4_096, 4_097, usize::MAX / 2, usize::MAX] {
         let line = replay.play(&Record::Block(Block::new(frames, 1.0)));
         let refused =
-            matches!(line, Some(Line::RefusedBlock { refusal, .. }) if refusal.number() == 9);
+            matches!(line, Some(Line::Refused(refused)) if refused.refusal.number() == 17);
         assert!(refused && replay.heard().is_empty(), "{line:?}");
     }
     let line = replay.play(&Record::Block(Block::new(1_024, 1.0)));
     let stopped = Line::Block {
-        block: 6,
+        block: 1,
         frames: 1_024,
         steps: 1_024,
         state: PlaybackState::Stopped,

@@ -48,5 +48,10 @@ fn random_and_damaged_traces() {
     let Some(program) = program("random traces") else {
         return;
     };
-    println!("{}", runs::prints(&program, 1_041, 16).unwrap());
+    let tally = runs::prints(&program, 1_041, 16).unwrap();
+    println!("{tally}");
+    // Every kind of line: an accepted block, a refused one, a refused record.
+    for number in [0, 1, 10, 11, 12, 15, 17, 18] {
+        assert!(tally.refused[number] > 0, "no line with {number}: {tally}");
+    }
 }

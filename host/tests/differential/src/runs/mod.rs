@@ -1,9 +1,10 @@
-//! The runs: tiny sounds exhaustively, held zeros, random calls, voices that play on, refusals by construction, cuts, rows of calls inside a loop, starts due at a tick, blocks whose numbers are given once.
+//! The runs: tiny sounds exhaustively, held zeros, random calls, voices that play on, refusals by construction, cuts, rows of calls inside a loop, starts due at a tick, blocks whose numbers are given once, two sounds of equal length.
 
 mod cuts;
 mod held;
 mod in_the_loop;
 mod large;
+mod lengths;
 mod refusals;
 mod rides;
 mod ticks;
@@ -14,6 +15,7 @@ pub use cuts::cuts;
 pub use held::held;
 pub use in_the_loop::{Seen, in_the_loop};
 pub use large::large;
+pub use lengths::{Alike, lengths};
 pub use refusals::{Big, refusals};
 pub use rides::rides;
 pub use ticks::ticks;

@@ -1,0 +1,10 @@
+-- `theorems_sound_length::promised` does nothing, and what it ensures is the record of all theorems.
+use Rattle.theorems_sound_length.proofs.Promises.{promises}
+use Rattle.theorems_sound_length.proofs.promised.Statement.{statement}
+use Rattle.theorems_sound_length.proofs.promised.Tie as tie
+
+returns : tie.Need-returns
+returns c = promises
+
+pub promised-spec : {M : Type 1} → statement M
+promised-spec = tie.close (tie.spec returns)
