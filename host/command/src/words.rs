@@ -585,8 +585,7 @@ mod tests {
 
     #[test]
     fn wrong_words_are_told() {
-        let all =
-            "replay, salvage, settings, loops, report, audit, explain, help, version, man or completions";
+        let all = "replay, salvage, settings, loops, report, audit, explain, help, version, man or completions";
         for (words, told) in [
             ("", &*format!("say what to do: {all}")),
             (
