@@ -99,9 +99,44 @@ impl LoopCopy {
         self.change(ffi::merge_copies(self.copy, theirs.copy))
     }
 
+    /// A hall's half.
+    pub(crate) fn half(&self, hall: Hall) -> ffi::LoopHalf {
+        let mut slots = [ffi::LoopSlot::default(); 8];
+        slots.copy_from_slice(&self.copy.table.slots[own_slots(hall)]);
+        ffi::LoopHalf {
+            hall: hall as u64,
+            num_frames: self.copy.table.num_frames,
+            changes: self.changes(hall),
+            slots,
+        }
+    }
+
+    /// A copy that has this half, and nothing of the other hall.
+    pub(crate) fn of_half(hall: Hall, half: &ffi::LoopHalf) -> Self {
+        Self::new(half.num_frames).with_half(hall, half)
+    }
+
+    /// This copy with a half in place of its own.
+    pub(crate) fn with_half(mut self, hall: Hall, half: &ffi::LoopHalf) -> Self {
+        self.copy.table.slots[own_slots(hall)].copy_from_slice(&half.slots);
+        match hall {
+            Hall::A => self.copy.changes_a = half.changes,
+            Hall::B => self.copy.changes_b = half.changes,
+        }
+        self
+    }
+
     fn change(&mut self, answer: ffi::CopyChanged) -> Result<(), Refusal> {
         Refusal::check(answer.refusal)?;
         self.copy = answer.copy;
         Ok(())
+    }
+}
+
+/// A hall's slots in the table.
+fn own_slots(hall: Hall) -> Range<usize> {
+    match hall {
+        Hall::A => 0..8,
+        Hall::B => 8..16,
     }
 }

@@ -101,7 +101,7 @@ pub enum Refusal {
     EmptySlot,
     /// 23: a version that the reader does not know.
     Version,
-    /// 24: a field of saved settings, or the length of their record.
+    /// 24: a field of saved settings or of a hall's loops, or the length of their record.
     SavedField,
     /// 25: a salvage's output.
     Output,
@@ -289,7 +289,7 @@ impl Refusal {
                 "a level is 0 to 600 tenths of a decibel below full level, or 601 for silence"
             }
             Self::Mark => {
-                "no record begins here: saved settings begin with the bytes 5E 71, a record of a trace with A5 1D"
+                "no record begins here: saved settings begin with the bytes 5E 71, a hall's loops with A7 4C, a record of a trace with A5 1D"
             }
             Self::Kind => {
                 "a record of a trace is of kind 1, a creation, 2, a command set, or 3, a block: salvage the trace, or read it with a newer reader"
@@ -301,13 +301,13 @@ impl Refusal {
                 "the bytes end inside the record: give the rest of it, then read again"
             }
             Self::Room => {
-                "the buffer is too short: saved settings have 25 bytes, or 26 with a pitch, a record of a trace at most 575"
+                "the buffer is too short: saved settings have 25 bytes, or 26 with a pitch, a hall's loops 666, a record of a trace at most 575"
             }
             Self::Version => {
                 "the record is of a version that this reader does not know: load it with a newer reader"
             }
             Self::SavedField => {
-                "saved settings need a loop that starts before it ends, a finite rate, a pitch of -24 to 24 (0 in version 1), and in bytes the length of their version, 21 or 22"
+                "saved settings need a loop that starts before it ends, a finite rate, a pitch of -24 to 24 (0 in version 1), and in bytes the length of their version, 21 or 22; a hall's loops must lie in their sound, a name has at most 64 bytes of UTF-8, and in bytes their length is 661 and their CRC right"
             }
             Self::Output => "the output of a salvage must be at least as long as the trace",
             Self::Ramp => {

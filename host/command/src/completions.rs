@@ -38,9 +38,12 @@ fn completes(kind: Kind) -> Completes {
         Kind::OneOf(words) => Completes::Words(words.iter().map(|w| (*w).into()).collect()),
         Kind::Verb => Completes::Words(first_words().iter().map(|w| (*w).into()).collect()),
         Kind::Meaning => Completes::Words(explain::words()),
-        Kind::Number(..) | Kind::Decimal | Kind::Place | Kind::Part | Kind::Pattern => {
-            Completes::Nothing
-        }
+        Kind::Number(..)
+        | Kind::Decimal
+        | Kind::Place
+        | Kind::Part
+        | Kind::Pattern
+        | Kind::Name => Completes::Nothing,
     }
 }
 

@@ -74,7 +74,7 @@ const fn explained(
     }
 }
 
-const READING: &str = "reading a trace, or saved settings";
+const READING: &str = "reading a trace, saved settings, or a hall's loops";
 const TRACE: &str = "reading or writing a trace";
 
 /// All refusals.
@@ -190,8 +190,8 @@ const REFUSALS: [Explained; 28] = [
     explained(
         19,
         "a buffer that is too short",
-        "writing a trace, or saved settings",
-        "Give a buffer of 575 bytes for a record of a trace, or 26 for saved settings",
+        "writing a trace, saved settings, or a hall's loops",
+        "Give a buffer of 575 bytes for a record of a trace, 26 for saved settings, or 666 for a hall's loops",
     ),
     explained(
         20,
@@ -213,15 +213,15 @@ const REFUSALS: [Explained; 28] = [
     ),
     explained(
         23,
-        "the version of saved settings",
-        "reading saved settings",
-        "Read them with a newer version, or save them again with 'cableowl settings save --format 1'",
+        "the version of saved settings, or of a hall's loops",
+        "reading saved settings, or a hall's loops",
+        "Read them with a newer version, or save settings again with 'cableowl settings save --format 1'",
     ),
     explained(
         24,
-        "a field of saved settings",
-        "reading or writing saved settings",
-        "In reading, the bytes are damaged: save the settings again. In writing, correct the loop, the rate or the pitch",
+        "a field of saved settings, or of a hall's loops",
+        "reading or writing saved settings, or a hall's loops",
+        "In reading, the bytes are damaged: save the settings again, or copy the hall's file again from its own box. In writing, correct the loop, the rate, the pitch or the name",
     ),
     explained(
         25,

@@ -13,6 +13,7 @@ mod help;
 mod input;
 mod interval;
 mod log;
+mod loops;
 mod man;
 mod out;
 mod page;
@@ -88,6 +89,9 @@ fn obey(words: &[OsString], out: &mut Out<'_>, complain: &mut dyn FnMut(&Fault))
         Asked::Salvage { trace, to } => salvage::salvage(&trace, &to, out).map(|()| true),
         Asked::ShowSettings { file, rate } => settings::show(&file, rate, out).map(|()| true),
         Asked::SaveSettings { save, to } => settings::save(&save, &to, out).map(|()| true),
+        Asked::ShowLoops { folder, rate } => loops::show(&folder, rate, out, complain),
+        Asked::ChangeLoops(change) => loops::change(&change, out, complain),
+        Asked::MergeLoops { copies, rate } => loops::merge(&copies, rate, out).map(|()| true),
         Asked::Report(request) => report::report(&request, out, complain),
         Asked::AuditFolders { folders, csv, page } => {
             audit::folder::audit(&folders, csv, page.as_deref(), out)

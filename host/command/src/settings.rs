@@ -136,7 +136,7 @@ impl Place {
     }
 
     /// Its frame, by docs/assurance/RULES.md, "Seconds to frames", if a record can hold it.
-    fn frame(self, rate: u32) -> Result<u32> {
+    pub fn frame(self, rate: u32) -> Result<u32> {
         match self {
             Self::Frames(frame) => Ok(frame),
             Self::Seconds(seconds) => {

@@ -79,6 +79,8 @@ pub enum Kind {
     Place,
     /// A part of a sound.
     Part,
+    /// A name for people.
+    Name,
     /// A verb of this table.
     Verb,
     /// A refusal's number, or a state.
@@ -98,6 +100,7 @@ impl Kind {
             Self::Part => Some(
                 "a part of the sound: two places with .. between them, such as 6.2s..10.9s".into(),
             ),
+            Self::Name => Some("a name of at most 64 bytes of UTF-8".into()),
             Self::Meaning => Some(format!(
                 "a refusal's number ({}), a state's (0 to 6), or a state's name",
                 explain::numbers()
@@ -315,6 +318,90 @@ pub const VERBS: &[Verb] = &[
         ],
     },
     Verb {
+        name: "loops show",
+        says: "show the loops of two halls: each slot in frames and seconds, with its name",
+        about: &[
+            "The folder holds hall A's loops in hall-a.loops and hall B's in hall-b.loops. A file that is refused is named with its number, and the other hall's loops are shown.",
+        ],
+        options: &[LOOP_RATE],
+        arguments: &[LOOPS],
+        folders: None,
+        examples: &[(
+            "loops show --rate 44100 loops",
+            "Show the loops of a sound of 44,100 frames a second.",
+        )],
+        statuses: PLAIN,
+    },
+    Verb {
+        name: "loops set",
+        says: "put a loop into a slot of a hall",
+        about: &[
+            "Writes the hall's file, beside its place and then renamed, and shows the folder. Hall A writes slots 0 to 7, hall B slots 8 to 15.",
+            "A hall's file has one writer. Run this at the hall's own box while no program there has the loops open: a box that runs does not read its own file again.",
+        ],
+        options: &[
+            LOOP_HALL,
+            Opt {
+                name: "--name",
+                value: Some(("NAME", Kind::Name)),
+                says: "The slot's name, at most 64 bytes of UTF-8. Without this option it has none.",
+            },
+            LOOP_FRAMES,
+            LOOP_RATE,
+        ],
+        arguments: &[
+            LOOPS,
+            SLOT,
+            Argument {
+                name: "START",
+                kind: Kind::Place,
+                many: Many::One,
+                says: "The loop's first frame, such as 6.2s or 273420f.",
+            },
+            Argument {
+                name: "END",
+                kind: Kind::Place,
+                many: Many::One,
+                says: "The loop's end, which is not part of it.",
+            },
+        ],
+        folders: None,
+        examples: &[(
+            "loops set --hall A --name greeting --rate 44100 loops 0 6.2s 10.9s",
+            "Put a sentence into hall A's first slot.",
+        )],
+        statuses: PLAIN,
+    },
+    Verb {
+        name: "loops clear",
+        says: "empty a slot of a hall",
+        about: &[
+            "Writes the hall's file and shows the folder, as 'loops set' does, with the same rule: one writer a file.",
+        ],
+        options: &[LOOP_HALL, LOOP_FRAMES, LOOP_RATE],
+        arguments: &[LOOPS, SLOT],
+        folders: None,
+        examples: &[("loops clear --hall B loops 8", "Empty hall B's first slot.")],
+        statuses: PLAIN,
+    },
+    Verb {
+        name: "loops merge",
+        says: "show the newest loops among copies of a folder, and which copy has them",
+        about: &[
+            "Of each hall the file with the most writes and clears is the newest. If two copies have the same number and differ, nothing is chosen: it says so, with refusal 28. Nothing is written. A hall that lost its file, or has an old one, gets the newest back when its hall-a.loops or hall-b.loops is copied to its own folder before its box starts.",
+        ],
+        options: &[LOOP_RATE],
+        arguments: &[Argument {
+            name: "COPY",
+            kind: Kind::Folder,
+            many: Many::Several,
+            says: "Copies of the folder.",
+        }],
+        folders: None,
+        examples: &[("loops merge loops backup", "Show the newest of two copies.")],
+        statuses: PLAIN,
+    },
+    Verb {
         name: "report",
         says: "the figures of one evening or of many, and a page with plots",
         about: &[
@@ -520,11 +607,43 @@ pub const VERBS: &[Verb] = &[
     },
 ];
 
+const LOOPS: Argument = Argument {
+    name: "FOLDER",
+    kind: Kind::Folder,
+    many: Many::One,
+    says: "The folder of the loops.",
+};
+
+const SLOT: Argument = Argument {
+    name: "SLOT",
+    kind: Kind::Number(0, 15),
+    many: Many::One,
+    says: "The slot, 0 to 15.",
+};
+
+const LOOP_HALL: Opt = Opt {
+    name: "--hall",
+    value: Some(("HALL", Kind::OneOf(&["A", "B"]))),
+    says: "The hall that makes the change. It must be given.",
+};
+
+const LOOP_FRAMES: Opt = Opt {
+    name: "--frames",
+    value: Some(("N", Kind::Number(1, 16_777_216))),
+    says: "The sound's frames. Needed if the folder has no loops yet.",
+};
+
+const LOOP_RATE: Opt = Opt {
+    name: "--rate",
+    value: Some(("HZ", HZ)),
+    says: "The sound's frames a second, 48000 if not given.",
+};
+
 const VERB: Argument = Argument {
     name: "VERB",
     kind: Kind::Verb,
     many: Many::Any,
-    says: "A verb. 'settings show' and 'settings save' are two words.",
+    says: "A verb. Those of settings and loops are two words, such as 'settings show'.",
 };
 
 impl Verb {

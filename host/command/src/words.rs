@@ -6,11 +6,14 @@ use std::{
     slice,
 };
 
+use cableowl::Hall;
+
 use crate::{
     completions::Shell,
     explain::Meaning,
     fault::{Fault, Result},
     log::Form,
+    loops::{Change, Loop},
     out::shown,
     report::{
         Rates, Request,
@@ -65,6 +68,22 @@ pub enum Asked {
         save: Save,
         /// Where they go.
         to: PathBuf,
+    },
+    /// The loops of a folder shown.
+    ShowLoops {
+        /// The folder.
+        folder: PathBuf,
+        /// Frames a second of the sound.
+        rate: u32,
+    },
+    /// A slot of a folder's loops changed.
+    ChangeLoops(Change),
+    /// Copies of loops merged.
+    MergeLoops {
+        /// Their folders.
+        copies: Vec<PathBuf>,
+        /// Frames a second of the sound.
+        rate: u32,
     },
     /// The figures of evenings, or of groups of them.
     Report(Request),
@@ -198,6 +217,10 @@ impl Given {
         found.map(|(_, value)| value.as_os_str())
     }
 
+    fn text(&self, name: &str) -> Option<&str> {
+        self.value(name).and_then(OsStr::to_str)
+    }
+
     /// Each word with the kind that it must be of, and the name of what it is.
     fn judge(&self) -> Result<()> {
         let mut inputs = 0;
@@ -324,6 +347,16 @@ impl Given {
                 save: self.save(rate),
                 to: self.path(0),
             },
+            "loops show" => Asked::ShowLoops {
+                folder: self.path(0),
+                rate,
+            },
+            "loops set" => Asked::ChangeLoops(self.change(rate, self.given())?),
+            "loops clear" => Asked::ChangeLoops(self.change(rate, None)?),
+            "loops merge" => Asked::MergeLoops {
+                copies: self.paths(),
+                rate,
+            },
             "report" => Asked::Report(Request {
                 files: self.paths(),
                 rates: Rates {
@@ -387,8 +420,44 @@ impl Given {
         Ok(Some(asked))
     }
 
+    /// The loop that a slot is to get.
+    fn given(&self) -> Option<Loop> {
+        let place = |index: usize| Place::read(self.words.get(index)?.to_str()?);
+        Some(Loop {
+            start: place(2)?,
+            end: place(3)?,
+            name: self.text("--name").unwrap_or_default().to_owned(),
+        })
+    }
+
+    /// A change of a slot by a hall.
+    fn change(&self, rate: u32, loops: Option<Loop>) -> Result<Change> {
+        let hall = match self.text("--hall") {
+            Some("A") => Hall::A,
+            Some(_) => Hall::B,
+            None => {
+                return Err(Fault::usage(format!(
+                    "{} needs --hall A or --hall B",
+                    self.verb.name
+                )));
+            }
+        };
+        let slot = self
+            .words
+            .get(1)
+            .and_then(|word| word.to_str()?.parse().ok());
+        Ok(Change {
+            folder: self.path(0),
+            hall,
+            slot: slot.unwrap_or_default(),
+            loops,
+            frames: self.number("--frames").map(|frames| frames as u64),
+            rate,
+        })
+    }
+
     fn save(&self, rate: u32) -> Save {
-        let text = |name| self.value(name).and_then(OsStr::to_str);
+        let text = |name| self.text(name);
         Save {
             start: text("--start").and_then(Place::read),
             looped: text("--loop").and_then(Part::read),
@@ -425,6 +494,7 @@ fn is_of(kind: Kind, name: &str, word: &OsStr) -> Result<()> {
         Kind::Decimal => text.and_then(decimal).is_some(),
         Kind::Place => text.and_then(Place::read).is_some(),
         Kind::Part => text.and_then(Part::read).is_some(),
+        Kind::Name => text.is_some_and(|text| text.len() <= 64),
         Kind::Meaning => Meaning::read(word).is_some(),
     };
     if good {
@@ -488,8 +558,7 @@ mod tests {
 
     #[test]
     fn wrong_words_are_told() {
-        let all =
-            "replay, salvage, settings, report, audit, explain, help, version, man or completions";
+        let all = "replay, salvage, settings, loops, report, audit, explain, help, version, man or completions";
         for (words, told) in [
             ("", &*format!("say what to do: {all}")),
             (

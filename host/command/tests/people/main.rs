@@ -8,6 +8,7 @@ mod explain;
 mod files;
 mod hints;
 mod log;
+mod loops;
 mod replay;
 mod report;
 mod room;
