@@ -44,7 +44,7 @@ fn completes(kind: Kind) -> Completes {
     }
 }
 
-/// First words that a second must follow, each once.
+/// First words that need a second word, each once.
 fn two_words() -> impl Iterator<Item = (&'static str, Vec<&'static str>)> {
     let firsts = first_words().into_iter();
     firsts
@@ -73,7 +73,7 @@ fn bash() -> String {
     text += "_cableowl() {\n";
     text += "    local cur=${COMP_WORDS[COMP_CWORD]} prev=${COMP_WORDS[COMP_CWORD-1]} verb=${COMP_WORDS[1]}\n";
     text += "    COMPREPLY=()\n";
-    // bash parts a word at '='.
+    // bash splits a word at '='.
     text += "    if [[ $cur == = ]]; then cur=; elif [[ $prev == = ]]; then prev=${COMP_WORDS[COMP_CWORD-2]}; fi\n";
     text += &format!(
         "    if ((COMP_CWORD == 1)); then\n        mapfile -t COMPREPLY < <(compgen -W '{} --help --version' -- \"$cur\")\n        return\n    fi\n",
@@ -183,7 +183,7 @@ fn zsh_words(kind: Kind) -> String {
     }
 }
 
-/// Within single quotes, where a colon parts.
+/// Escapes text for single quotes, where a colon separates.
 fn zsh_quoted(text: &str) -> String {
     text.replace('\'', "'\\''").replace(':', "\\:")
 }

@@ -15,9 +15,9 @@ pub struct Verb {
     pub about: &'static [&'static str],
     /// Its options, beside `--help`.
     pub options: &'static [Opt],
-    /// The words that it takes.
+    /// Its arguments.
     pub arguments: &'static [Argument],
-    /// Folders that it takes in place of them.
+    /// Folders that it accepts instead.
     pub folders: Option<Argument>,
     /// Examples: the words after `cableowl`, and what they do.
     pub examples: &'static [(&'static str, &'static str)],
@@ -35,19 +35,19 @@ pub struct Opt {
     pub says: &'static str,
 }
 
-/// A word that a verb takes.
+/// An argument of a verb.
 pub struct Argument {
     /// Its name.
     pub name: &'static str,
     /// Its kind.
     pub kind: Kind,
-    /// How many are taken.
+    /// How many it accepts.
     pub many: Many,
     /// What it is.
     pub says: &'static str,
 }
 
-/// How many words an argument takes; only the last argument of a verb may take other than one.
+/// How many words an argument accepts; only the last argument of a verb accepts more or fewer than one.
 #[derive(Debug, Clone, Copy, PartialEq, Eq)]
 pub enum Many {
     /// Exactly one.
@@ -75,7 +75,7 @@ pub enum Kind {
     Number(i64, i64),
     /// A finite number.
     Decimal,
-    /// A place in a sound.
+    /// A position in a sound.
     Place,
     /// A part of a sound.
     Part,
@@ -86,7 +86,7 @@ pub enum Kind {
 }
 
 impl Kind {
-    /// What a word of this kind must be, if the parser judges it.
+    /// What a word of this kind must be, if the parser checks it.
     pub fn must_be(self) -> Option<String> {
         match self {
             Self::OneOf(words) => Some(list(words, "or")),
@@ -126,7 +126,7 @@ const PLAIN: &[(u8, &str)] = &[DONE, REFUSED, USAGE];
 
 const CSV: &str = "Print comma separated values, for a spreadsheet or for R.";
 
-/// What `--help` says, for every verb.
+/// The description of `--help`, for every verb.
 pub const HELP: Opt = Opt {
     name: "--help",
     value: None,
@@ -136,7 +136,7 @@ pub const HELP: Opt = Opt {
 /// What the command is for, in one line.
 pub const PURPOSE: &str = "what happened at a listening box";
 
-/// What is said of the whole command.
+/// The description of the whole command.
 pub const ABOUT: &[&str] = &[
     "A trace is an evening recorded by the box: everything that the host asked of one voice. A log is what the box, or replay, says of it: one line for each block. docs/guide/TOOLS.md shows each verb at work.",
     "A file named - is standard input. An option may be written --rate 44100 or --rate=44100, before or after the files; after -- every word is a file.",
@@ -318,9 +318,9 @@ pub const VERBS: &[Verb] = &[
         name: "report",
         says: "the figures of one evening or of many, and a page with plots",
         about: &[
-            "Reads logs and traces: minutes played, paused and silent, times round the loop, seeks, refused blocks. With several files it prints one row for each, the total and five quantiles.",
+            "Reads logs and traces: minutes played, paused and silent, times round the loop, seeks, refused blocks. With several files it prints one row for each, the total and five quantiles. A folder stands for its files NAME.log.",
             "A damaged file is named on standard error and left out. A file that is given twice is named there too, and counts twice.",
-            "With --by or --groups it prints the figures of groups instead, and what changed from one group to the next, with intervals of 95 percent. FILE may then be a folder, which stands for its files NAME.log.",
+            "With --by or --groups it prints the figures of groups instead, and what changed from one group to the next, with intervals of 95 percent.",
         ],
         options: &[
             Opt {
@@ -363,7 +363,7 @@ pub const VERBS: &[Verb] = &[
             name: "FILE",
             kind: Kind::File,
             many: Many::Several,
-            says: "Logs or traces.",
+            says: "Logs or traces, or folders of logs.",
         }],
         folders: None,
         examples: &[
@@ -391,13 +391,13 @@ pub const VERBS: &[Verb] = &[
         says: "did this box play as proved? the first block that differs, and the creep",
         about: &[
             "Plays the trace with the proved player and compares the box's own log with it, at each frame where both have an edge. Where the two cannot be compared, or the trace is damaged, it says so and says nothing of the box.",
-            "Of folders it compares every NAME.trace with the NAME.log beside it, and prints a row for each box.",
+            "Of folders it compares every NAME.trace with the NAME.log beside it, and prints a row for each evening, the share that differs, and how the creep is distributed.",
         ],
         options: &[
             Opt {
                 name: "--csv",
                 value: None,
-                says: "Print comma separated values: a row for each block, or for each box of a folder.",
+                says: "Print comma separated values: a row for each block, or for each evening of a folder.",
             },
             Opt {
                 name: "--html",
@@ -432,7 +432,7 @@ pub const VERBS: &[Verb] = &[
             ),
             (
                 "audit --html week.html week",
-                "Say it of every box of a week, and write a page.",
+                "Say it of every evening of a week, and write a page.",
             ),
         ],
         statuses: &[
@@ -528,7 +528,7 @@ const VERB: Argument = Argument {
 };
 
 impl Verb {
-    /// How it is called, in each of its ways: `cableowl replay [--log FORM] TRACE`.
+    /// Its usage, one line per form: `cableowl replay [--log FORM] TRACE`.
     pub fn synopses(&self) -> Vec<String> {
         let mut ways = vec![self.synopsis(self.arguments)];
         if let Some(folders) = &self.folders {
@@ -552,7 +552,7 @@ impl Verb {
         line
     }
 
-    /// The words that it takes, in each of its ways.
+    /// Its arguments, for each form.
     pub fn all_arguments(&'static self) -> impl Iterator<Item = &'static Argument> {
         self.arguments.iter().chain(&self.folders)
     }

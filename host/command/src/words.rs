@@ -7,13 +7,15 @@ use std::{
 };
 
 use crate::{
-    by_group,
     completions::Shell,
     explain::Meaning,
     fault::{Fault, Result},
-    group::{By, Pattern},
     log::Form,
     out::shown,
+    report::{
+        Rates, Request,
+        grouping::{self, By, Pattern},
+    },
     settings::{Part, Place, Save},
     verbs::{self, Argument, HELP, Kind, Many, Opt, VERBS, Verb, list},
 };
@@ -64,35 +66,13 @@ pub enum Asked {
         /// Where they go.
         to: PathBuf,
     },
-    /// The figures of evenings.
-    Report {
-        /// Their logs and traces.
-        files: Vec<PathBuf>,
-        /// Frames a second of the box.
-        rate: u32,
-        /// Frames a second of the sound, where they are given.
-        sound_rate: Option<u32>,
-        /// Told as comma separated values.
-        csv: bool,
-        /// Where the page goes.
-        page: Option<PathBuf>,
-    },
-    /// The figures of groups of evenings.
-    ReportGroups {
-        /// Their logs and traces, or folders of logs.
-        files: Vec<PathBuf>,
-        /// How they are grouped.
-        by: by_group::Asked,
-        /// Frames a second of the box.
-        rate: u32,
-        /// Told as comma separated values.
-        csv: bool,
-    },
+    /// The figures of evenings, or of groups of them.
+    Report(Request),
     /// Every log in some folders compared with its trace.
     AuditFolders {
         /// The folders.
         folders: Vec<PathBuf>,
-        /// Told as comma separated values, a row for each box.
+        /// Told as comma separated values, a row for each evening.
         csv: bool,
         /// Where the page goes.
         page: Option<PathBuf>,
@@ -344,21 +324,16 @@ impl Given {
                 save: self.save(rate),
                 to: self.path(0),
             },
-            "report" => match self.group_by()? {
-                Some(by) => Asked::ReportGroups {
-                    files: self.paths(),
-                    by,
-                    rate,
-                    csv: self.has("--csv"),
+            "report" => Asked::Report(Request {
+                files: self.paths(),
+                rates: Rates {
+                    device: rate,
+                    sound: self.rate("--sound-rate"),
                 },
-                None => Asked::Report {
-                    rate,
-                    sound_rate: self.rate("--sound-rate"),
-                    csv: self.has("--csv"),
-                    page: page(),
-                    files: self.paths(),
-                },
-            },
+                by: self.group_by()?,
+                csv: self.has("--csv"),
+                page: page(),
+            }),
             "audit" if self.are_folders() => Asked::AuditFolders {
                 folders: self.paths(),
                 csv: self.has("--csv"),
@@ -390,7 +365,7 @@ impl Given {
     }
 
     /// How files are to be grouped, if they are.
-    fn group_by(&self) -> Result<Option<by_group::Asked>> {
+    fn group_by(&self) -> Result<Option<grouping::Asked>> {
         let by = match self.value("--by").and_then(OsStr::to_str) {
             None => None,
             Some("box") => Some(By::Box),
@@ -400,20 +375,15 @@ impl Given {
         let asked = match (by, self.value("--groups")) {
             (None, _) if self.has("--name") => return Err(Fault::usage("--name goes with --by")),
             (None, None) => return Ok(None),
-            (None, Some(table)) => by_group::Asked::Table(table.into()),
+            (None, Some(table)) => grouping::Asked::Table(table.into()),
             (Some(_), Some(_)) => return Err(Fault::usage("give --by or --groups, not both")),
             (Some(by), None) => {
                 let name = self.value("--name").unwrap_or(OsStr::new("{box}_{date}"));
                 let pattern = Pattern::read(&name.to_string_lossy());
                 let pattern = pattern.map_err(|words| Fault::usage(format!("--name: {words}")))?;
-                by_group::Asked::Named(by, pattern)
+                grouping::Asked::Named(by, pattern)
             }
         };
-        for option in ["--html", "--sound-rate"] {
-            if self.has(option) {
-                return Err(Fault::usage(format!("a report by groups has no {option}")));
-            }
-        }
         Ok(Some(asked))
     }
 
@@ -486,13 +456,16 @@ mod tests {
 
     #[test]
     fn words_are_read_in_any_order() {
-        let report = Asked::Report {
+        let report = Asked::Report(Request {
             files: vec!["a".into(), "-".into(), "--csv".into()],
-            rate: 44_100,
-            sound_rate: None,
+            rates: Rates {
+                device: 44_100,
+                sound: None,
+            },
+            by: None,
             csv: true,
             page: Some("p".into()),
-        };
+        });
         for words in [
             "report --csv --rate 44100 --html p a - -- --csv",
             "report --html=p a --rate=44100 - --csv -- --csv",
@@ -543,7 +516,10 @@ mod tests {
                 "settings show",
                 "settings show needs FILE: the saved settings",
             ),
-            ("report", "report needs FILE: logs or traces"),
+            (
+                "report",
+                "report needs FILE: logs or traces, or folders of logs",
+            ),
             ("report - -", "standard input, '-', can be read only once"),
             (
                 "report --groups - -",
@@ -567,10 +543,6 @@ mod tests {
             (
                 "report --by box --groups t a",
                 "give --by or --groups, not both",
-            ),
-            (
-                "report --by day --html p a",
-                "a report by groups has no --html",
             ),
             (
                 "report --html - a",

@@ -3,6 +3,7 @@
 mod audit;
 mod browser;
 mod cuttings;
+mod exact;
 mod explain;
 mod files;
 mod hints;
@@ -12,6 +13,7 @@ mod report;
 mod room;
 mod salvage;
 mod settings;
+mod students;
 mod tools;
 mod week;
 mod words;
