@@ -173,6 +173,19 @@ A frame costs these instructions, counted by callgrind in blocks of 512 at rate 
 
 Ratios differ between processors more than instructions do. With the form before this one a Neoverse N1 took 0.65 of kira's time at 0.93 and 512, and a Neoverse V1 0.85: kira's text is twice as fast on the V1, ours 1.45 times.
 
+The first table's ratios, on both processors. The Intel Xeon (x86-64, \"Intel(R) Xeon(R) Processor\", rustc 1.95.0, 2026-11-16) was shared with other work, so only its least times count.
+
+| lanes | V1, 512 and 4,096 | V1, 64 | Xeon, 512 and 4,096 | Xeon, 64 |
+|---|---|---|---|---|
+| given once | 1.98 to 2.24 | 2.07 to 2.34 | 1.20 to 1.50 | 1.37 to 1.68 |
+| constant | 0.58 to 0.70 | 0.76 to 0.91 | 0.47 to 0.62 | 0.68 to 0.87 |
+| per frame, one rate | 0.58 to 0.70 | 0.76 to 0.92 | 0.48 to 0.62 | 0.68 to 0.87 |
+| per frame, rates vary | 0.64 to 0.77 | 0.83 to 0.97 | 0.49 to 0.65 | 0.69 to 0.88 |
+| rate 2, any of these | 0.50 to 1.80 | 0.67 to 1.85 | 0.34 to 1.02 | 0.47 to 1.12 |
+| loops of 3 frames, per frame | 0.76 to 1.06 | 0.95 to 1.25 | 0.60 to 0.77 | 0.78 to 0.97 |
+
+On the Xeon the part of a call that does not depend on its frames took 145 to 197 ns (108 to 129 ns on the V1), and a player at rest 1.11 to 1.29 times its bare voice, one in motion 1.61 to 2.22 times.
+
 ## Beside others
 
 Time a frame over that of kira's text in the same run, stereo, looped, rate 0.93; all but the last row were measured together on x86-64 with Debian 12's packages, one more voice each, and do less or more as said.
