@@ -1,8 +1,8 @@
 // The gains over readings that are written: each frame's two samples times its fade, volume and gain, in place.
 ghost use mathlib.Core.Path.{_≡_};
 ghost use Prim.Native.Nat.{_+_, _*_, _≤_, _<_};
-ghost use lib.ListN.{length};
-ghost use Rattle.sound_gains.specs.Gained.{gainsAt, scaled, gainedAt, gained};
+ghost use lib.ListN.{length, replicate};
+ghost use Rattle.sound_gains.specs.Gained.{gainsAt, scaled, scaledAt, gainedAt, gained};
 use frame::Frame;
 
 // What a frame's reading is multiplied by.
@@ -37,6 +37,16 @@ fn scale(left: f32, right: f32, gains: Gains) -> Frame
     }
 }
 
+// Frame i of the output times some gains.
+fn gain_by(gains: Gains, i: usize, out: &mut [f32])
+    requires { ⌜ 2 * i + 1 < length (now out) ⌝ }
+    requires { ⌜ i < 4096 ⌝ }
+    ensures { λ _. ⌜ now (out .exit) ≡ scaledAt gains i (now (out .entry)) (now (out .entry)) ⌝ }
+{
+    let x = scale(out[2 * i], out[2 * i + 1], gains);
+    sound_fast_reading::store(out, 2 * i, x);
+}
+
 // Frame i of the output times its gains.
 fn gain_one(fade: &[f32], volume: &[f32], left: &[f32], right: &[f32], i: usize, out: &mut [f32])
     requires { ⌜ i < length (now fade) ⌝ }
@@ -48,8 +58,7 @@ fn gain_one(fade: &[f32], volume: &[f32], left: &[f32], right: &[f32], i: usize,
     ensures { λ _. ⌜ now (out .exit) ≡ gainedAt (now (fade .entry)) (now (volume .entry)) (now (left .entry)) (now (right .entry)) i (now (out .entry)) (now (out .entry)) ⌝ }
 {
     let gains = gains_at(fade, volume, left, right, i);
-    let x = scale(out[2 * i], out[2 * i + 1], gains);
-    sound_fast_reading::store(out, 2 * i, x);
+    gain_by(gains, i, out);
 }
 
 // The first n frames of the output times their gains; clang makes vector code of it.
@@ -72,6 +81,19 @@ pub fn by_frame(
     let mut i: usize = 0;
     while i < n {
         gain_one(fade, volume, left, right, i, out);
+        i += 1;
+    }
+}
+
+// The first n frames of the output times one frame's gains.
+pub fn once(gains: Gains, n: usize, out: &mut [f32])
+    requires { ⌜ 2 * n ≤ length (now out) ⌝ }
+    requires { ⌜ n ≤ 4096 ⌝ }
+    ensures { λ _. ⌜ now (out .exit) ≡ gained (replicate n (gains .fade)) (replicate n (gains .volume)) (replicate n (gains .left)) (replicate n (gains .right)) n (now (out .entry)) ⌝ }
+{
+    let mut i: usize = 0;
+    while i < n {
+        gain_by(gains, i, out);
         i += 1;
     }
 }

@@ -144,7 +144,9 @@ pub record Coincide : Type 0 where
   pub sound-fast-reading-moved : Decides sound_fast_reading.moved.Reads.Post
   pub sound-fast-reading-store : DecidesWith (λ k r s. s .0 .now) sound_fast_reading.store.Reads.Post
   pub sound-gains-by-frame : DecidesWith (λ k r s. s .1 .1 .1 .1 .1 .0 .now) sound_gains.by_frame.Reads.Post
+  pub sound-gains-once : DecidesWith (λ k r s. s .1 .1 .0 .now) sound_gains.once.Reads.Post
   pub sound-fast-path-play : DecidesWith (λ k r s. s .1 .1 .1 .1 .1 .1 .1 .0 .now) sound_fast_path.play.Reads.Post
+  pub sound-fast-path-play-held : DecidesWith (λ k r s. s .1 .1 .1 .0 .now) sound_fast_path.play_held.Reads.Post
   pub sound-held-play : DecidesWith (λ k r s. s .1 .1 .1 .0 .now) sound_held.play.Reads.Post
   pub sound-block-block-held : DecidesWith (λ k r s. s .1 .1 .1 .0 .now) sound_block.block_held.Reads.Post
   pub sound-block-block : DecidesWith (λ k r s. s .1 .1 .1 .1 .1 .1 .1 .0 .now) sound_block.block.Reads.Post

@@ -190,6 +190,16 @@ pub struct Lanes<'a> {
     pub rate: &'a [f64],
 }
 
+/// The five numbers of a block whose frames all have the same.
+#[derive(Debug, Clone, Copy)]
+pub struct Held {
+    pub fade: f32,
+    pub volume: f32,
+    pub left: f32,
+    pub right: f32,
+    pub rate: f64,
+}
+
 unsafe extern "C" {
     safe fn cableowl_version() -> u32;
 
@@ -241,6 +251,38 @@ unsafe extern "C" {
         mix: *mut f32,
         mix_len: usize,
         from: u64,
+    ) -> Processed;
+
+    fn cableowl_process_held(
+        state: State,
+        sound: *const f32,
+        sound_len: usize,
+        fade: f32,
+        volume: f32,
+        left: f32,
+        right: f32,
+        rate: f64,
+        dt: f64,
+        signals: Signals,
+        out: *mut f32,
+        out_len: usize,
+    ) -> Processed;
+
+    fn cableowl_process_held_into(
+        state: State,
+        sound: *const f32,
+        sound_len: usize,
+        fade: f32,
+        volume: f32,
+        left: f32,
+        right: f32,
+        rate: f64,
+        dt: f64,
+        signals: Signals,
+        mix: *mut f32,
+        mix_len: usize,
+        from: u64,
+        frames: u64,
     ) -> Processed;
 
     fn cableowl_stretch(state: State, sound: *const f32, sound_len: usize) -> Part;
@@ -358,6 +400,63 @@ pub fn process_into(
             mix.as_mut_ptr(),
             mix.len(),
             from,
+        )
+    }
+}
+
+pub fn process_held(
+    state: State,
+    sound: &[f32],
+    held: Held,
+    dt: f64,
+    signals: Signals,
+    out: &mut [f32],
+) -> Processed {
+    unsafe {
+        cableowl_process_held(
+            state,
+            sound.as_ptr(),
+            sound.len(),
+            held.fade,
+            held.volume,
+            held.left,
+            held.right,
+            held.rate,
+            dt,
+            signals,
+            out.as_mut_ptr(),
+            out.len(),
+        )
+    }
+}
+
+#[expect(clippy::too_many_arguments, reason = "those of the C entry")]
+pub fn process_held_into(
+    state: State,
+    sound: &[f32],
+    held: Held,
+    dt: f64,
+    signals: Signals,
+    mix: &mut [f32],
+    from: u64,
+    frames: u64,
+) -> Processed {
+    unsafe {
+        cableowl_process_held_into(
+            state,
+            sound.as_ptr(),
+            sound.len(),
+            held.fade,
+            held.volume,
+            held.left,
+            held.right,
+            held.rate,
+            dt,
+            signals,
+            mix.as_mut_ptr(),
+            mix.len(),
+            from,
+            frames,
         )
     }
 }
