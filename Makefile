@@ -4,7 +4,7 @@
 .PHONY: all archive command dist test
 cargo = cd host && CABLEOWL_PROGRESS=/proc/$$$$/fd/2 cargo
 
-# The build script of host/cableowl has rt prove the crates; where a proof fails it says which, and nothing is played.
+# The build script of host/sys has rt prove the crates; where a proof fails it says which, and nothing is played.
 all:
 	@$(cargo) run --release --offline -p command --example evening
 

@@ -43,9 +43,6 @@ pub fn link(name: &str) -> ExitCode {
     ] {
         println!("cargo::rerun-if-env-changed={variable}");
     }
-    for file in ["build.rs", "../archive.rs", "../archive"] {
-        println!("cargo::rerun-if-changed={file}");
-    }
     if env::var_os("CABLEOWL_NO_ARCHIVE").is_some_and(|value| value == "1") {
         return ExitCode::SUCCESS;
     }
@@ -60,9 +57,7 @@ pub fn link(name: &str) -> ExitCode {
 
 fn prove_and_link(name: &str) -> Result<()> {
     let target = Target::asked_for(name)?;
-    let root = Path::new(&env::var("CARGO_MANIFEST_DIR")?)
-        .join("../..")
-        .canonicalize()?;
+    let root = root()?;
     let out = PathBuf::from(env::var("OUT_DIR")?);
     println!("cargo::rustc-link-search=native={}", out.display());
     println!("cargo::rustc-link-lib=static={name}");
@@ -99,6 +94,16 @@ fn prove_and_link(name: &str) -> Result<()> {
     let sources = sources_of(&root, &crates)?;
     given::Note::of(&archive, &target.arch, &kit.identity()?, &sources)?.write(&archive)?;
     link_copy(&archive, name, &out)
+}
+
+/// The folder that has host/: above the package, the folder of this file is the nearest one that has a file of its name.
+fn root() -> Result<PathBuf> {
+    let package = PathBuf::from(env::var("CARGO_MANIFEST_DIR")?);
+    let host = package
+        .ancestors()
+        .find(|folder| folder.join("archive.rs").is_file())
+        .ok_or("no archive.rs in a folder above the package")?;
+    Ok(host.join("..").canonicalize()?)
 }
 
 /// Links a copy: `rt ci` begins by removing target/.

@@ -1,4 +1,4 @@
-// How an archive is found and its making told, tried on a small repository without a kit: host/promises runs these.
+// How an archive is found and its making told, tried on a small repository without a kit: host/tools/promises runs these.
 
 use super::*;
 

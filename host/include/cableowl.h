@@ -1,12 +1,12 @@
 /* Cableowl: kira's static sound, proved. The C interface of the archive libcableowl.a, which
  * `make archive` writes for Linux on x86-64 or Arm (aarch64).
  *
- * Every call takes any numbers and refuses bad ones by number (0: accepted). A refused call gives
- * back the state it was given, byte for byte (creation: the blank state), and writes nothing. No
- * call allocates, waits, or keeps a pointer; a pointer must lead to as many elements as the length
- * after it says, and what is written must overlap nothing that is read.
+ * Every call accepts any numbers and refuses bad ones with a number (0: accepted). A refused call
+ * returns the state that it was given, byte for byte (creation: the blank state), and writes nothing.
+ * No call allocates, waits or keeps a pointer. A pointer must lead to as many elements as the length
+ * after it says, and what a call writes must not overlap what it reads.
  *
- *  1  the state is not well formed, or the lent sound's length is not the recorded one
+ *  1  the state is not well formed, or the sound's length is not the one that the state records
  *  2  sample rate 0 or above 768,000
  *  3  sample count odd, or frames 0 or above 16,777,216
  *  4  slice not start < end <= frames, or seconds not finite
@@ -14,18 +14,18 @@
  *  6  loop not start < end <= N, or seconds not finite
  *  7  playback rate not finite
  *  8  seek amount not finite, or it goes to frame 4,294,967,296 or further
- *  9  block above 4,096 frames, lanes of another length, output odd, or no room in the mix
+ *  9  block above 4,096 frames, lanes of another length, output odd, or too little space in the mix
  * 10  time step not finite or not above 0
  * 11  an amplitude or gain not finite or with its sign bit set, or a lane rate not finite
  * 12  an advance, (sample rate * |lane rate|) * time step, above 256
  * 13  a level above 601
  * 14  a ramp's count 0 or above 65,536, or not its lane's length
  * 15  bytes that do not begin with the mark of a record
- * 16  a record of a trace of no known kind
- * 17  a record of a trace: a length that its kind cannot have, a tag or a limit wrong, or fields that do not end
- *     where the length says; in writing, a field beyond its limit
+ * 16  a trace record of an unknown kind
+ * 17  a trace record with a length that its kind cannot have, a wrong tag, a number above its limit, or fields that do
+ *     not end where the length says; in writing, a field above its limit
  * 18  bytes that end inside a record
- * 19  a buffer without room for a record
+ * 19  a buffer with too little space for a record
  * 20  loop table: slot above 15
  * 21  loop table: a write or a clear by the other hall
  * 22  loop table: a read of an empty slot
@@ -33,30 +33,31 @@
  * 24  a field of saved settings wrong, or their length
  * 25  salvage: an output shorter than the input
  * 27  two copies of a loop table are over sounds of different frame counts
- * 28  two copies of a loop table have one number of changes for a hall and differ in its slots
- * 29  the Rust crate's player alone: a seek where 64 wait for the next frame already; no call here answers it
+ * 28  two copies of a loop table have the same number of changes for a hall and different slots
+ * 29  only in the Rust crate's player: a seek when 64 already wait for the next frame; no C call returns it
  *
- * The lowest number wins. Creation uses 2 to 7, a command set 1 and 6 to 8, a block 1 and 9 to 12,
- * a fade ramp 13 and 14; of a loop table a write 1, 6, 20, 21, a clear 1, 20, 21, a read 1, 20, 22,
- * a merge of two copies 1, 27, 28;
- * storing settings 24, then 19, loading them 15, 23, 24 for the length, 18, 24 for a field, in this order;
- * of a trace a read 15 to 18, byte by byte in reading order, a write 16, 17, 19, a salvage 25.
+ * If several numbers apply, a call returns the first of its list:
  *
- * The float mode. What is promised of frames and refusals is promised in the mode that a program
- * begins with: rounding to nearest, subnormals kept (x86-64: neither FTZ nor DAZ; Arm: no FZ),
- * exceptions masked. Audio hosts often flush on the callback thread. There, hold the mode round a
- * call, or round all calls of a callback, which costs less:
+ *   creation 2 to 7; a command set 1, 6 to 8; a block 1, 9 to 12; a fade ramp 13, 14;
+ *   a loop table: a write 1, 6, 20, 21; a clear 1, 20, 21; a read 1, 20, 22; a merge of two copies 1, 27, 28;
+ *   saved settings: storing 24, 19; loading 15, 23, 24 (the length), 18, 24 (a field);
+ *   a trace: a read 15 to 18, byte by byte in reading order; a write 16, 17, 19; a salvage 25.
+ *
+ * The float mode. The promises hold in the mode in which a program begins: round to nearest, keep
+ * subnormals (x86-64: neither FTZ nor DAZ; Arm: no FZ), mask exceptions. Audio hosts often flush
+ * subnormals on the callback thread. Set the mode around each call there, or around all calls of a
+ * callback, which costs less:
  *
  *     const CableowlFloatMode given = cableowl_float_mode_hold();
  *     ... calls ...
  *     cableowl_float_mode_give_back(given);
  *
- * In another mode with exceptions masked a call still returns, and reads and writes what it was lent
- * alone, but its frames and even a refusal may differ: flushed, subnormal samples are lost, a held
- * rate of -5e-324 plays forward, and a state with a subnormal where silence is due is accepted.
+ * In another mode with exceptions masked a call still returns and stays inside its buffers, but its
+ * frames and even a refusal may differ: subnormal samples are lost, a held rate of -5e-324 plays
+ * forward, and a state with a subnormal where there must be silence is accepted.
  *
- * The held rate gives the direction alone; the speed is the rate lane's, in each frame. Pause and
- * stop fade nothing: the host lends a falling fade lane and then says finished.
+ * The held rate gives only the direction; the rate lane gives the speed of each frame. Pause and stop
+ * do not fade by themselves: the host passes a falling fade lane and then the signal `finished`.
  */
 #ifndef CABLEOWL_H
 #define CABLEOWL_H
@@ -72,9 +73,9 @@
 extern "C" {
 #endif
 
-/* The version of this interface, which cableowl_version() answers. Since 1: CableowlProcessed has
- * lowest_count; CableowlSignals has due and now, and a start of 3 is due at a tick; CableowlState has
- * forward_wraps and backward_wraps. */
+/* The version of this interface, which cableowl_version() returns. New since version 1: lowest_count in
+ * CableowlProcessed; due, now and the start 3 (due at a tick) in CableowlSignals; forward_wraps and
+ * backward_wraps in CableowlState. */
 #define CABLEOWL_VERSION 2
 
 /* The limits. */
@@ -116,7 +117,7 @@ enum {
     CABLEOWL_REFUSAL_TWO_HALVES = 28
 };
 
-/* What a voice is doing: CableowlState's state. */
+/* The playback state: CableowlState's state. */
 enum {
     CABLEOWL_STATE_PLAYING = 0,
     CABLEOWL_STATE_PAUSING = 1,
@@ -134,31 +135,31 @@ enum { CABLEOWL_PLACE_SECONDS = 0, CABLEOWL_PLACE_SAMPLES = 1, CABLEOWL_PLACE_EN
 enum { CABLEOWL_LOOP_KEEP = 0, CABLEOWL_LOOP_CLEAR = 1, CABLEOWL_LOOP_SET = 2 };
 enum { CABLEOWL_RESUME_NO = 0, CABLEOWL_RESUME_AT_ONCE = 1, CABLEOWL_RESUME_WAITING = 2 };
 
-/* CableowlSignals' start and resume; its start alone may also be due at a tick. */
+/* CableowlSignals' start and resume. Only the start can also be due at a tick. */
 enum { CABLEOWL_ANSWER_WAITING = 0, CABLEOWL_ANSWER_NOW = 1, CABLEOWL_ANSWER_NEVER = 2 };
 enum { CABLEOWL_START_TICK = 3 };
 
-/* An entry of the window of four: a frame and its number. */
+/* An entry of the window of four: a frame and its frame index. */
 typedef struct CableowlEntry {
     float left;
     float right;
     uint64_t number;
 } CableowlEntry;
 
-/* A voice's whole state. Save it as it is; change nothing, or expect refusal 1.
+/* A voice's whole state. Save it as it is and change nothing, or a call may refuse it with 1.
  *
- * Its wraps are the steps that took the loop's wrap: one for each, however many lengths it goes back, creation's own
- * three among them. Seeks do not count and no command clears them. Each stands still at 4,294,967,295, and any two are
- * well formed. The direction is the position's: reverse at rate 1 counts backward. In a block inside a loop of L frames,
- * forward, the position after it is the one before, plus the steps, less L times the wraps counted in it. */
+ * The wraps count the steps that wrapped round the loop, creation's three steps included. A step counts once, however
+ * many loop lengths it covers. Seeks do not count, and no command clears the counts. A count stays at 4,294,967,295, and
+ * any two counts are well formed. The direction is the one in which the position moves: reverse at rate 1 counts
+ * backward. In a forward block inside a loop of L frames: position after = position before + steps - L * wraps. */
 typedef struct CableowlState {
     uint32_t sample_rate;
     uint32_t state; /* 0 playing, 1 pausing, 2 paused, 3 waiting to resume, 4 resuming, 5 stopping, 6 stopped */
     uint32_t reverse;   /* this and the next four: 0 or 1 */
     uint32_t started;
     uint32_t playing;
-    uint32_t has_slice; /* where 0, the slice's two numbers are 0 */
-    uint32_t has_loop;  /* where 0, the loop's two numbers are 0 */
+    uint32_t has_slice; /* if 0, the slice's two numbers are 0 */
+    uint32_t has_loop;  /* if 0, the loop's two numbers are 0 */
     uint32_t count;     /* the window's count, 0 to 4 */
     uint64_t num_frames;
     uint64_t slice_start;
@@ -173,20 +174,20 @@ typedef struct CableowlState {
     uint32_t backward_wraps;
 } CableowlState;
 
-/* A place in a sound. The number that the kind does not name is ignored. */
+/* A position in a sound. The number that the kind does not name is ignored. */
 typedef struct CableowlPlace {
     double seconds;
     uint64_t samples; /* frames */
     uint32_t kind;    /* 0 seconds, 1 samples; for an end also 2, the end of audio */
 } CableowlPlace;
 
-/* A part of a sound, its end exclusive. */
+/* A part of a sound; the end is exclusive. */
 typedef struct CableowlRegion {
     CableowlPlace start;
     CableowlPlace end;
 } CableowlRegion;
 
-/* How a voice is created. What is not given is not read. */
+/* How to create a voice. A slice or loop that is absent is not read. */
 typedef struct CableowlSettings {
     uint32_t sample_rate;
     uint32_t has_slice; /* 0 absent, 1 given, any other 4 */
@@ -199,7 +200,7 @@ typedef struct CableowlSettings {
     CableowlRegion loop_region;
 } CableowlSettings;
 
-/* A command set; all zeros is the empty one. Applied in the order rate, loop, pause, resume, stop, seek_by, seek_to. */
+/* A command set; all zeros is the empty set. Order: rate, loop, pause, resume, stop, seek_by, seek_to. */
 typedef struct CableowlCommands {
     uint32_t has_rate;     /* 0 absent, 1 given, any other 7 */
     uint32_t loop_command; /* 0 keep, 1 clear, 2 set, any other 6 */
@@ -216,18 +217,18 @@ typedef struct CableowlCommands {
 
 /* A block's signals; all zeros is no signals.
  *
- * A start of 3 is due at a tick of 32 bits, which may wrap: it says now where now - due, in uint32_t, is
- * below 2147483648, and is still waiting elsewhere. So a tick that is due less than half a turn ahead, or
- * exactly half a turn, is waited for, and one that is due further ahead counts as reached already: at 1,000
- * ticks a second half a turn is 24 days, 20 hours, 31 minutes and 23.648 seconds. A start that has come
- * stays so, though the tick goes on or back. Where a block is cut in two, bring both parts the same tick.
+ * A start of 3 is due at a 32-bit tick, which may wrap. It means "now" if now - due, in uint32_t, is below
+ * 2147483648, and otherwise "still waiting". So a tick that is due at most half the range ahead is waited
+ * for, and one that is due further ahead counts as reached. At 1,000 ticks per second half the range is 24
+ * days, 20 hours, 31 minutes and 23.648 seconds. A start that has come stays, even if the tick goes back.
+ * If you cut a block in two, pass both parts the same tick.
  */
 typedef struct CableowlSignals {
     uint32_t finished; /* the fade has finished: 0 no, any other yes */
     uint32_t start;    /* 1 now, 2 never, 3 by the tick, any other still waiting */
     uint32_t resume;   /* 1 now, 2 never, any other still waiting */
-    uint32_t due;      /* where start is 3: the tick at which it is due */
-    uint32_t now;      /* where start is 3: the tick now */
+    uint32_t due;      /* if start is 3: the tick at which it is due */
+    uint32_t now;      /* if start is 3: the current tick */
 } CableowlSignals;
 
 typedef struct CableowlCreated {
@@ -241,48 +242,48 @@ typedef struct CableowlCommanded {
     uint32_t refusal;
 } CableowlCommanded;
 
-/* For a monitor: a lowest_count of 4 says that at every read of the block the newest entry was a frame of
- * the sound, so no tail had begun. t below 4 says that at one of its reads 4 - t pushes had been made
- * without a frame (0: at least four), so the transport had ended: silence is the sound's tail, no gap.
- * For a block cut in two it is the smaller of the two, unless the voice had stopped by the cut. */
+/* For a monitor: a lowest_count of 4 means that at every read of the block the newest entry was a frame of
+ * the sound. A count t below 4 means that at one of its reads 4 - t pushes had been made without a frame
+ * (0: at least four), because the transport had ended: the silence is the sound's end, not a gap. For a
+ * block cut in two it is the smaller of the two counts, unless the voice had stopped by the cut. */
 typedef struct CableowlProcessed {
     CableowlState state;
-    uint64_t steps; /* frames of the sound stepped over */
+    uint64_t steps; /* the number of frames that the transport stepped */
     uint32_t refusal;
-    uint32_t lowest_count; /* the lowest count of the window that was read; 4 for 0 frames, silent or refused */
+    uint32_t lowest_count; /* the lowest window count that was read; 4 for 0 frames, silent or refused */
 } CableowlProcessed;
 
-/* A part of the lent samples; its numbers count samples, two a frame. */
+/* A part of the sound's samples; both numbers count samples, two per frame. */
 typedef struct CableowlPart {
     uint64_t offset;
     uint64_t length;
 } CableowlPart;
 
-/* A loop of the table, in frames, its end exclusive; in an empty slot both are 0. */
+/* A loop of the table, in frames; the end is exclusive. In an empty slot both are 0. */
 typedef struct CableowlLoopSlot {
     uint64_t start;
     uint64_t end;
 } CableowlLoopSlot;
 
-/* Sixteen loops over one sound. A slot's name is its number: hall A writes 0 to 7, hall B 8 to 15, both read all.
- * The numbers may be any: a slot that is neither empty nor start < end <= num_frames gets 1, whichever is asked. */
+/* Sixteen loops over one sound. Hall A writes slots 0 to 7, hall B writes 8 to 15, and both read all. If any slot is
+ * neither empty nor start < end <= num_frames, every call refuses the table with 1. */
 typedef struct CableowlLoopTable {
-    uint64_t num_frames; /* of the whole sound, by which each loop is judged */
+    uint64_t num_frames; /* of the whole sound; each loop must lie inside */
     CableowlLoopSlot slots[16];
 } CableowlLoopTable;
 
 typedef struct CableowlLoopChanged {
-    CableowlLoopTable table; /* refused: the given one */
+    CableowlLoopTable table; /* if refused: the given one */
     uint32_t refusal;
 } CableowlLoopChanged;
 
 typedef struct CableowlLoopFound {
-    CableowlLoopSlot slot; /* refused: both 0 */
+    CableowlLoopSlot slot; /* if refused: both 0 */
     uint32_t refusal;
 } CableowlLoopFound;
 
 /* A copy of a loop table, for two boxes that share no memory: the table, and how many writes and clears each hall has
- * made. Each hall changes its half at one box only, so of two copies of a half the one with the larger number is newer. */
+ * made. Each hall changes its half at one box only, so the half with the larger number is the newer one. */
 typedef struct CableowlLoopCopy {
     CableowlLoopTable table;
     uint64_t changes_a;
@@ -290,14 +291,14 @@ typedef struct CableowlLoopCopy {
 } CableowlLoopCopy;
 
 typedef struct CableowlCopyChanged {
-    CableowlLoopCopy copy; /* refused: the given one */
+    CableowlLoopCopy copy; /* if refused: the given one */
     uint32_t refusal;
 } CableowlCopyChanged;
 
-/* What a tutor saves of a sound: docs/formats/SETTINGS.md. Eight words. */
+/* The settings that a tutor saves for a sound, eight words: docs/formats/SETTINGS.md. */
 typedef struct CableowlSavedSettings {
     uint64_t start;      /* frames, below 2^32 */
-    uint64_t has_loop;   /* 0 none, and then both of its numbers 0; 1 given */
+    uint64_t has_loop;   /* 0 none, then both numbers are 0; 1 given */
     uint64_t loop_start; /* frames */
     uint64_t loop_end;   /* frames, exclusive, below 2^32 */
     uint64_t reverse;    /* 0 or 1 */
@@ -309,48 +310,48 @@ typedef struct CableowlSavedSettings {
 /* CableowlRecord's kind: docs/formats/TRACE.md. */
 enum { CABLEOWL_KIND_CREATION = 1, CABLEOWL_KIND_COMMANDS = 2, CABLEOWL_KIND_BLOCK = 3 };
 
-/* A record of a trace. Its numbers stand in the order of docs/formats/TRACE.md, floats by their bits, one place for each field, also
- * for one that is absent, which is 0: a creation has 77 (13, then the 64 frames of the sound, the left sample in the low half), a
- * command set 12, a block 10. What comes after them is 0. */
+/* A record of a trace. Its numbers are in the order of docs/formats/TRACE.md, floats by their bits. Each field has a
+ * number, and an absent one is 0: a creation has 77 (13, then the 64 frames of the sound, the left sample in the low
+ * half), a command set 12, a block 10. The numbers after them are 0. */
 typedef struct CableowlRecord {
     uint64_t refusal;
-    uint64_t kind;       /* refused: 0 */
-    uint64_t next;       /* the place after the record, where the next one is read; refused: the given place */
-    uint64_t values[80]; /* refused: all 0 */
+    uint64_t kind;       /* if refused: 0 */
+    uint64_t next;       /* the offset after the record, where the next one begins; if refused: the given offset */
+    uint64_t values[80]; /* if refused: all 0 */
 } CableowlRecord;
 
-/* What a write of a record answers. */
+/* What a write of a record returns. */
 typedef struct CableowlSent {
     uint64_t refusal;
-    uint64_t next; /* the place after the record, where the next one goes; refused: the given place */
+    uint64_t next; /* the offset after the record, where the next one goes; if refused: the given offset */
 } CableowlSent;
 
-/* What salvage answers; refused: all numbers but the refusal are 0. */
+/* What salvage returns. If refused, all other numbers are 0. */
 typedef struct CableowlSaved {
     uint64_t refusal;
-    uint64_t records; /* kept; their bytes are bytes_len - skipped, at the output's start */
-    uint64_t skipped; /* bytes that belong to no kept record */
-    uint64_t first;   /* the place of the first byte skipped; bytes_len if none */
+    uint64_t records; /* kept; they are the first bytes_len - skipped bytes of the output */
+    uint64_t skipped; /* bytes that are in no kept record */
+    uint64_t first;   /* the offset of the first skipped byte; bytes_len if none */
 } CableowlSaved;
 
 /* This interface's version. */
 uint32_t cableowl_version(void);
 
-/* Creates a voice over a sound of interleaved samples, left then right. Lend the same to each call. */
+/* Creates a voice over a sound of interleaved samples, left then right. Pass the same sound to each later call. */
 CableowlCreated cableowl_new(CableowlSettings settings, const float *sound, size_t sound_len);
 
-/* Obeys a command set, an empty one too, and reports the position. */
+/* Applies a command set, which may be empty, and reports the position. */
 CableowlCommanded cableowl_on_start_processing(CableowlState state, const float *sound, size_t sound_len,
                                                CableowlCommands commands);
 
-/* Plays a block of out_len / 2 frames; each lane has a number for each. dt is the seconds of one output frame. */
+/* Plays a block of out_len / 2 frames; each lane has one number per frame. dt is the seconds of one output frame. */
 CableowlProcessed cableowl_process(CableowlState state, const float *sound, size_t sound_len, const float *fade,
                                    size_t fade_len, const float *volume, size_t volume_len, const float *left,
                                    size_t left_len, const float *right, size_t right_len, const double *rate,
                                    size_t rate_len, double dt, CableowlSignals signals, float *out, size_t out_len);
 
-/* Plays a block of rate_len frames into a longer buffer from frame `from` on, in place of what stands there (it does
- * not add); every other sample stays. */
+/* Plays a block of rate_len frames into a longer buffer from frame `from` on. It replaces the samples there (it does
+ * not add) and changes no other sample. */
 CableowlProcessed cableowl_process_into(CableowlState state, const float *sound, size_t sound_len, const float *fade,
                                         size_t fade_len, const float *volume, size_t volume_len, const float *left,
                                         size_t left_len, const float *right, size_t right_len, const double *rate,
@@ -358,24 +359,24 @@ CableowlProcessed cableowl_process_into(CableowlState state, const float *sound,
                                         size_t mix_len, uint64_t from);
 
 /* Plays a block of out_len / 2 frames that all have the same five numbers: cableowl_process with lanes that repeat them.
- * An odd out_len is refused with 9; with no frames the five numbers are not judged. */
+ * An odd out_len is refused with 9. With no frames the five numbers are not checked. */
 CableowlProcessed cableowl_process_held(CableowlState state, const float *sound, size_t sound_len, float fade,
                                         float volume, float left, float right, double rate, double dt,
                                         CableowlSignals signals, float *out, size_t out_len);
 
-/* Plays such a block of so many frames into a longer buffer from frame `from` on, as cableowl_process_into does. */
+/* Plays such a block of `frames` frames into a longer buffer from frame `from` on, as cableowl_process_into does. */
 CableowlProcessed cableowl_process_held_into(CableowlState state, const float *sound, size_t sound_len, float fade,
                                              float volume, float left, float right, double rate, double dt,
                                              CableowlSignals signals, float *mix, size_t mix_len, uint64_t from,
                                              uint64_t frames);
 
-/* The part of the sound that the voice plays; where it would be refused with 1, the empty part at 0. */
+/* The part of the sound that the voice plays. For a state that is refused with 1, the empty part at 0. */
 CableowlPart cableowl_stretch(CableowlState state, const float *sound, size_t sound_len);
 
-/* A table of empty slots over a sound of so many frames. */
+/* A table of empty slots over a sound of num_frames frames. */
 CableowlLoopTable cableowl_loop_table(uint64_t num_frames);
 
-/* Hall 0 is A, 1 is B, any other gets 1. A write replaces what the slot holds; a clear empties it, or leaves it empty. */
+/* Hall 0 is A, 1 is B; any other is refused with 1. A write replaces the slot's loop; a clear empties the slot. */
 CableowlLoopChanged cableowl_write_loop(CableowlLoopTable table, uint32_t hall, uint64_t slot, uint64_t start,
                                         uint64_t end);
 CableowlLoopChanged cableowl_clear_loop(CableowlLoopTable table, uint32_t hall, uint64_t slot);
@@ -389,56 +390,56 @@ CableowlCopyChanged cableowl_write_copy(CableowlLoopCopy copy, uint32_t hall, ui
                                         uint64_t end);
 CableowlCopyChanged cableowl_clear_copy(CableowlLoopCopy copy, uint32_t hall, uint64_t slot);
 
-/* Our copy with each hall's newer half. */
+/* Returns our copy with each hall's newer half. */
 CableowlCopyChanged cableowl_merge_copies(CableowlLoopCopy ours, CableowlLoopCopy theirs);
 
-/* Reads a slot and sets its loop by a command set: the table's refusal, or the command set's answer. */
+/* Reads a slot and sets its loop by a command set. Returns the table's refusal or the command set's result. */
 CableowlCommanded cableowl_take_loop(CableowlLoopTable table, uint64_t slot, CableowlState state, const float *sound,
                                      size_t sound_len);
 
 /* A level is 0 to 600 tenths of a decibel below full level, or 601 for silence. Its amplitude is e / 2^24 exactly, for
- * the largest whole e with (e / 2^24)^200 * 10^level at most 1; silence is +0. Answers 0, or 13 and writes nothing. */
+ * the largest whole e with (e / 2^24)^200 * 10^level at most 1; silence is +0. Returns 0, or 13 and writes nothing. */
 uint32_t cableowl_amplitude(uint32_t level, float *to);
 
-/* Fills a fade lane with amplitudes whose levels run straight from start on the first frame to end on the last, rounded
- * down: (start * (count - 1 - i) + end * i) / (count - 1) on frame i; one frame takes the end level. A block is lent the
- * part of the lane that it plays. Answers 0, or 13, then 14, and writes nothing. */
+/* Fills a fade lane with amplitudes whose levels go in a straight line from start on the first frame to end on the last,
+ * rounded down: (start * (count - 1 - i) + end * i) / (count - 1) on frame i. A single frame has the end level. Pass each
+ * block its part of the lane. Returns 0; or 13 or 14 (13 first) and writes nothing. */
 uint32_t cableowl_fade_ramp(uint32_t start, uint32_t end, uint32_t count, float *lane, size_t lane_len);
 
-/* Writes the settings as a record of their version, 25 or 26 bytes, at the buffer's start. Answers 0, or 24, then 19, and
- * writes nothing. */
+/* Writes the settings as a record of their version, 25 or 26 bytes, at the buffer's start. Returns 0; or 24 or 19 (24
+ * first) and writes nothing. */
 uint32_t cableowl_store_settings(const CableowlSavedSettings *saved, uint8_t *buffer, size_t buffer_len);
 
-/* Reads the record that the bytes begin with; what follows it is not read. Reader 1 knows version 1 alone, any other
- * version 2 too. Answers 0, or a refusal and every field of `saved` is 0. */
+/* Reads the record at the beginning of the bytes and ignores what follows. Reader 1 knows version 1 only, any other
+ * reader also version 2. Returns 0, or a refusal and sets every field of `saved` to 0. */
 uint32_t cableowl_load_settings(uint32_t reader, const uint8_t *bytes, size_t bytes_len, CableowlSavedSettings *saved);
 
-/* What cableowl_new is told: all of the sound, the saved start and loop in frames, and the saved rate times the ratio of
- * the pitch, rounded once; a NaN, which creation refuses, where the rate is not finite or the pitch not -24 to 24. The
- * version is not read. */
+/* The settings for cableowl_new: the whole sound, the saved start and loop in frames, and the saved rate times the ratio
+ * of the pitch, rounded once. If the rate is not finite or the pitch is not -24 to 24, the rate is NaN, which creation
+ * refuses. The version is not read. */
 CableowlSettings cableowl_settings_of(const CableowlSavedSettings *saved, uint32_t sample_rate);
 
-/* Reads the record at a place of a trace: docs/formats/TRACE.md. At the trace's end, and beyond it, there is none: 18. A record has at most
- * 575 bytes, so the next 575 of a longer trace, or all that is left, are enough. */
+/* Reads the record at an offset of a trace: docs/formats/TRACE.md. At the trace's end and after it, it returns 18. A record has at
+ * most 575 bytes, so the next 575 bytes of a longer trace, or all that are left, are enough. */
 CableowlRecord cableowl_read_record(const uint8_t *bytes, size_t bytes_len, uint64_t at);
 
-/* Writes a record of the kind at a place of the buffer, for cableowl_read_record to read; `values` has 80 numbers, of which those
- * of the kind are read. Answers 0, or 16 an unknown kind, 17 a field beyond its limit or an absent one that is not 0, 19 too little
- * room from that place on, and writes nothing. */
+/* Writes a record at an offset of the buffer, for cableowl_read_record to read. `values` has 80 numbers, of which those of the
+ * kind are used. Refused, it writes nothing: 16 an unknown kind, 17 a field above its limit or an absent field that is not 0,
+ * 19 too little space after the offset. */
 CableowlSent cableowl_write_record(uint8_t *buffer, size_t buffer_len, uint64_t at, uint64_t kind, const uint64_t *values);
 
-/* Copies the complete records of a damaged trace to the output's start, and skips any other byte, one at a time; the rest of the
- * output stays. Answers 0, or 25 where the output is shorter than the bytes, and writes nothing. */
+/* Copies the complete records of a damaged trace to the output's start and skips all other bytes. The rest of the output does
+ * not change. If the output is shorter than the bytes, it is refused with 25 and writes nothing. */
 CableowlSaved cableowl_salvage(const uint8_t *bytes, size_t bytes_len, uint8_t *out, size_t out_len);
 
-/* The sentence of a number that a call answered, without its place: "accepted" for 0, and the same as the Rust crate's
- * `Refusal::text` for a refusal. Any number may be given; the text is a constant. */
+/* The sentence for a number that a call returned: "accepted" for 0, and the Rust crate's `Refusal::text` for a refusal. It
+ * accepts any number; the text is a constant. */
 static inline const char *cableowl_refusal_text(uint64_t number) {
     switch (number) {
     case CABLEOWL_ACCEPTED:
         return "accepted";
     case CABLEOWL_REFUSAL_STATE:
-        return "the state is not well formed or belongs to another sound: lend the samples it was created with, or "
+        return "the state is not well formed or belongs to another sound: pass the samples it was created with, or "
                "create the sound anew";
     case CABLEOWL_REFUSAL_SAMPLE_RATE:
         return "the sample rate must be from 1 to 768,000";
@@ -500,14 +501,14 @@ static inline const char *cableowl_refusal_text(uint64_t number) {
         return "one hall has made the same number of changes in both copies, but its slots differ: two boxes have "
                "written for one hall, or one went back to an old copy; keep the copy that is right and write its slots "
                "again";
-    case 29: /* of the Rust crate's player alone; a log may have it */
+    case 29: /* only of the Rust crate's player; a log may contain it */
         return "64 seeks wait for the next frame already: play a frame, then seek again";
     default:
         return "no refusal has this number";
     }
 }
 
-/* The mode that floats were in, given back after the calls. */
+/* The thread's float mode before the calls, to restore after them. */
 typedef uint64_t CableowlFloatMode;
 
 #if defined(__x86_64__)

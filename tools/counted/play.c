@@ -1,4 +1,4 @@
-/* Plays a workload of the guard (host/benches/tests/instructions.rs) through the C entry, or only makes it ready:
+/* Plays a workload of the guard (host/tools/benches/tests/instructions.rs) through the C entry, or only makes it ready:
  * play ours|none RATE BLOCK LOOPED LANES FRAMES, where LOOPED is the frames of the loop, in the middle of the sound, and LANES
  * is once, constant, frames or rates. */
 #include <stdlib.h>

@@ -1,5 +1,5 @@
-//! Holds the declarations of the C interface to each other (the archive's own source, `cableowl.h`,
-//! `ffi.rs` and the test side's `raw`), and calls the archive from C.
+//! Compares the declarations of the C interface with each other (the archive's own source, `cableowl.h` and
+//! `cableowl-sys`), and calls the archive from C.
 
 use std::{
     collections::BTreeMap,
@@ -16,6 +16,8 @@ use crate::{MAX_BLOCK_FRAMES, PlaybackState, Refusal, ffi};
 type Field = (String, String);
 /// The structs in their order, each with its fields in theirs.
 type Structs = Vec<(String, Vec<Field>)>;
+/// The functions by their names, each with its parameters and the type that it returns.
+type Functions = BTreeMap<String, (Vec<Field>, String)>;
 
 fn here() -> &'static Path {
     Path::new(env!("CARGO_MANIFEST_DIR"))
@@ -26,7 +28,7 @@ fn read(path: &str) -> String {
     fs::read_to_string(&path).unwrap_or_else(|error| panic!("{}: {error}", path.display()))
 }
 
-/// A struct's name as `ffi.rs` has it.
+/// A struct's name as `cableowl-sys` has it.
 fn short(name: &str) -> String {
     name.replace("Cableowl", "")
 }
@@ -48,6 +50,69 @@ fn rust_structs(text: &str) -> Structs {
         .collect()
 }
 
+/// The functions of `extern "C"` blocks.
+fn rust_functions(text: &str) -> Functions {
+    let blocks = text.split("unsafe extern \"C\" {").skip(1);
+    let blocks = blocks.map(|text| text.split_once("\n}").expect("its end").0);
+    blocks
+        .flat_map(|block| block.split("fn ").skip(1))
+        .map(|text| {
+            let (text, _) = text.split_once(';').expect("its end");
+            let (name, rest) = text.split_once('(').expect("its parameters");
+            let (parameters, returned) = rest.split_once(')').expect("their end");
+            let parameters = parameters.split(',').filter_map(|parameter| {
+                let (name, kind) = parameter.trim().split_once(": ")?;
+                Some((name.into(), kind.into()))
+            });
+            let returned = returned.trim().trim_start_matches("-> ");
+            (name.into(), (parameters.collect(), returned.into()))
+        })
+        .collect()
+}
+
+/// A type of the header in Rust's words.
+fn in_rust(kind: &str) -> String {
+    match kind {
+        "float" => "f32".into(),
+        "double" => "f64".into(),
+        "uint8_t" => "u8".into(),
+        "uint32_t" => "u32".into(),
+        "uint64_t" => "u64".into(),
+        "int64_t" => "i64".into(),
+        "size_t" => "usize".into(),
+        other => short(other),
+    }
+}
+
+/// The functions that the header declares and does not define.
+fn c_functions(text: &str) -> Functions {
+    let is_declared =
+        |line: &str| line.contains(" cableowl_") && line.starts_with(char::is_alphanumeric);
+    let starts = text.match_indices('\n').map(|(at, _)| &text[at + 1..]);
+    starts
+        .filter(|text| is_declared(text.lines().next().unwrap_or_default()))
+        .filter(|text| !text.starts_with("static"))
+        .map(|text| {
+            let (text, _) = text.split_once(';').expect("its end");
+            let (returned, rest) = text.split_once(' ').expect("a name");
+            let (name, parameters) = rest.split_once('(').expect("its parameters");
+            let parameters = parameters.trim_end_matches(')').split(',');
+            let parameters = parameters.filter_map(|parameter| {
+                let (kind, name) = parameter.trim().rsplit_once(' ')?;
+                let pointed = |kind: &str| match kind.strip_prefix("const ") {
+                    Some(kind) => format!("*const {}", in_rust(kind)),
+                    None => format!("*mut {}", in_rust(kind)),
+                };
+                Some(match name.strip_prefix('*') {
+                    Some(name) => (name.into(), pointed(kind)),
+                    None => (name.into(), in_rust(kind)),
+                })
+            });
+            (name.into(), (parameters.collect(), in_rust(returned)))
+        })
+        .collect()
+}
+
 /// The structs of the header.
 fn c_structs(text: &str) -> Structs {
     let structs = text.split("typedef struct ").skip(1);
@@ -57,14 +122,7 @@ fn c_structs(text: &str) -> Structs {
             let (fields, _) = rest.split_once('}').expect("its end");
             let fields = fields.lines().filter_map(|line| {
                 let (kind, name) = line.trim().split_once(';')?.0.split_once(' ')?;
-                let kind = match kind {
-                    "float" => "f32".into(),
-                    "double" => "f64".into(),
-                    "uint32_t" => "u32".into(),
-                    "uint64_t" => "u64".into(),
-                    "int64_t" => "i64".into(),
-                    other => short(other),
-                };
+                let kind = in_rust(kind);
                 Some(match name.split_once('[') {
                     Some((name, many)) => {
                         let many = many.trim_end_matches(']');
@@ -80,6 +138,10 @@ fn c_structs(text: &str) -> Structs {
 
 fn header_text() -> String {
     read("../include/cableowl.h")
+}
+
+fn sys_text() -> String {
+    read("../sys/src/lib.rs")
 }
 
 /// The header's constants: its enums' and its plain numbers.
@@ -168,7 +230,7 @@ fn run_c(name: &str, more: &str) {
         );
         return;
     }
-    let Some(archive) = option_env!("LINKED_ARCHIVE") else {
+    let Some(archive) = ffi::LINKED_ARCHIVE else {
         panic!("built without the archive");
     };
     let folder = Folder::new(name);
@@ -202,7 +264,7 @@ fn run_c(name: &str, more: &str) {
 }
 
 #[test]
-fn four_declarations_are_one() {
+fn three_declarations_are_one() {
     let sources = [
         "c_state/src/lib",
         "c_inputs/src/lib",
@@ -219,12 +281,11 @@ fn four_declarations_are_one() {
     let fields: usize = ours.iter().map(|(_, fields)| fields.len()).sum();
     assert!(ours.len() >= 11 && fields >= 58, "they are read: {ours:?}");
     // Saved settings are eight words in the archive's own source, and a record in C and Rust alone.
-    let [in_c, in_rust] = [c_structs(&header_text()), rust_structs(&read("src/ffi.rs"))];
-    assert_eq!(in_c, in_rust, "cableowl.h and ffi.rs");
+    let [in_c, in_rust] = [c_structs(&header_text()), rust_structs(&sys_text())];
+    assert_eq!(in_c, in_rust, "cableowl.h and cableowl-sys");
     let is_named = |(name, _): &(String, Vec<Field>)| name != "SavedSettings";
     let named: Structs = in_c.into_iter().filter(is_named).collect();
     assert_eq!(named, ours, "cableowl.h");
-    assert_eq!(rust_structs(&read("../raw/src/structs.rs")), ours, "raw");
     for (name, size) in [
         ("Entry", size_of::<ffi::Entry>()),
         ("State", size_of::<ffi::State>()),
@@ -253,7 +314,40 @@ fn four_declarations_are_one() {
 }
 
 #[test]
-fn a_slip_in_a_declaration_is_seen() {
+fn rust_declares_each_function_of_the_header() {
+    let [in_c, in_rust] = [c_functions(&header_text()), rust_functions(&sys_text())];
+    assert!(in_c.len() >= 23, "they are read: {in_c:?}");
+    assert_eq!(in_c, in_rust, "cableowl.h and cableowl-sys");
+}
+
+#[test]
+fn a_slip_in_a_function_is_seen() {
+    let header = header_text();
+    let ours = c_functions(&header);
+    for (from, to) in [
+        (
+            "cableowl_stretch(CableowlState state, const",
+            "cableowl_stretch(CableowlState state,",
+        ),
+        ("uint64_t from,\n", "uint32_t from,\n"),
+        (
+            "CableowlPart cableowl_stretch",
+            "CableowlSent cableowl_stretch",
+        ),
+        (", float *to)", ", double *to)"),
+        (
+            "uint32_t hall, uint64_t slot);",
+            "uint64_t slot, uint32_t hall);",
+        ),
+    ] {
+        let slipped = header.replacen(from, to, 1);
+        assert_ne!(slipped, header, "{from} is there");
+        assert_ne!(c_functions(&slipped), ours, "{from}");
+    }
+}
+
+#[test]
+fn a_slip_in_a_struct_is_seen() {
     let header = header_text();
     let ours = c_structs(&header);
     for (from, to) in [

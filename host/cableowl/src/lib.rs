@@ -73,7 +73,6 @@
 
 mod commands;
 mod fades;
-mod ffi;
 mod float_mode;
 #[cfg(test)]
 mod header;
@@ -91,6 +90,8 @@ mod state;
 mod static_sound;
 mod stopping;
 pub mod trace;
+
+use cableowl_sys as ffi;
 
 pub use commands::{Commands, LoopCommand, ResumeCommand};
 pub use fades::{Level, MAX_RAMP_FRAMES, fade_ramp};
@@ -111,6 +112,11 @@ pub use static_sound::{Processed, StaticSound, Usage};
 #[cfg(doctest)]
 #[doc = include_str!("../../../README.md")]
 pub struct Readme;
+
+/// The examples of docs/guide/PLAYER.md, tried with the others.
+#[cfg(doctest)]
+#[doc = include_str!("../../../docs/guide/PLAYER.md")]
+pub struct PlayerGuide;
 
 /// The most frames a block may have.
 pub const MAX_BLOCK_FRAMES: usize = 4_096;

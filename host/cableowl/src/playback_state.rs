@@ -45,6 +45,11 @@ impl PlaybackState {
         Self::ALL.get(usize::try_from(number).ok()?).copied()
     }
 
+    /// The state that a voice's record has: the archive returns the numbers 0 to 6 alone.
+    pub(crate) fn of_voice(number: u32) -> Self {
+        Self::from_number(number).unwrap_or(Self::Stopped)
+    }
+
     /// Whether a voice in this state moves on.
     #[must_use]
     pub fn is_advancing(self) -> bool {

@@ -20,8 +20,9 @@ pub use shared::SharedPlayer;
 pub use tween::Tween;
 
 use self::{
-    playing::Place,
-    queue::{Press, Queue, Seek},
+    block::Place,
+    command::Seek,
+    queue::{Press, Queue},
     room::{Amplitudes, Room, amplitudes},
     tween::{Parameter, Ramp, frames},
 };
@@ -402,11 +403,9 @@ impl Player {
     #[must_use]
     pub fn position(&self) -> f64 {
         let state = self.voice.state();
-        let (frame, rate) = (
-            state.window[1].frame_index as f64,
-            f64::from(state.sample_rate),
-        );
-        float_mode::plain(|| black_box(black_box(frame) / rate))
+        let (frame, rate) = (state.window[1].frame_index, f64::from(state.sample_rate));
+        // Rounding down, x86-64 converts a frame of 0 to minus zero.
+        float_mode::plain(|| black_box(black_box(frame) as f64 / rate))
     }
 
     /// The counts of all its frames so far.

@@ -251,7 +251,7 @@ impl Refusal {
     fn sentence(self) -> &'static str {
         match self {
             Self::State => {
-                "the state is not well formed or belongs to another sound: lend the samples it was created with, or create the sound anew"
+                "the state is not well formed or belongs to another sound: pass the samples it was created with, or create the sound anew"
             }
             Self::SampleRate => "the sample rate must be from 1 to 768,000",
             Self::FrameCount => {

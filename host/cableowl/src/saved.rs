@@ -63,7 +63,7 @@ impl fmt::Display for Unreadable {
             }
             Self::Value => f.write_str("one of these bytes means nothing"),
             Self::Sound => f.write_str(
-                "the saved player is of another sound: lend the samples it was created with",
+                "the saved player is of another sound: pass the samples it was created with",
             ),
         }
     }

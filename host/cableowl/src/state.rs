@@ -155,9 +155,7 @@ impl From<ffi::State> for State {
             reverse: state.reverse != 0,
             playback_rate: state.playback_rate,
             started: state.started != 0,
-            // The library answers with 0 to 6 alone.
-            playback_state: PlaybackState::from_number(state.state)
-                .unwrap_or(PlaybackState::Stopped),
+            playback_state: PlaybackState::of_voice(state.state),
             fractional_position: state.fraction,
             position: state.position as usize,
             loop_region: optional(state.has_loop, state.loop_start, state.loop_end),

@@ -49,11 +49,11 @@ impl Usage {
     /// A block's frames, `still` of them at a rate of 0, by the state after it.
     fn of_block(frames: u64, still: u64, state: &ffi::State, steps: u64) -> Self {
         let mut usage = Self::default();
-        match PlaybackState::from_number(state.state) {
+        match PlaybackState::of_voice(state.state) {
             _ if state.started == 0 => usage.silent = frames,
-            Some(PlaybackState::Paused | PlaybackState::WaitingToResume) => usage.paused = frames,
+            PlaybackState::Paused | PlaybackState::WaitingToResume => usage.paused = frames,
             // With a step it stopped in this block: it ran off its sound.
-            Some(PlaybackState::Stopped) if steps == 0 => usage.silent = frames,
+            PlaybackState::Stopped if steps == 0 => usage.silent = frames,
             _ => (usage.played, usage.still) = (frames, still),
         }
         usage
@@ -313,8 +313,7 @@ impl StaticSound {
     /// What the voice is doing.
     #[must_use]
     pub fn playback_state(&self) -> PlaybackState {
-        // The library answers with 0 to 6 alone.
-        PlaybackState::from_number(self.state.state).unwrap_or(PlaybackState::Stopped)
+        PlaybackState::of_voice(self.state.state)
     }
 
     /// Whether the sound has the recorded length. A voice's state is well formed, so this is all that

@@ -34,6 +34,7 @@ mod recorder;
 mod replay;
 mod salvage;
 mod stream;
+mod tape;
 mod values;
 
 use std::{error::Error, fmt};
@@ -45,6 +46,8 @@ pub use recorder::{Recorded, Recorder};
 pub use replay::{Lines, Replay, lines, replay};
 pub use salvage::{Salvaged, salvage};
 pub use stream::{TraceError, TraceReader};
+
+pub(crate) use tape::Tape;
 
 use crate::{Refusal, ffi, float_mode};
 

@@ -260,7 +260,7 @@ impl Count {
     }
 }
 
-/// What the frames of an accepted block were spent on: docs/guide/TOOLS.md, "How each figure is told". The
+/// What the frames of an accepted block were spent on: docs/guide/TOOLS.md, "How each figure is computed". The
 /// forms 1 and 2 count a block whole, by the state at its end.
 fn usage(block: &Block) -> Usage {
     if let Some(third) = block.more.and_then(|more| more.third) {

@@ -1,11 +1,35 @@
-//! One block of a player: what its voice is given, and the frame in which it stops.
+//! One block of a player: what its voice is given, where the frames go, who learns of it, and the frame in which it stops.
 
 use std::ops::Range;
 
 use crate::{
-    BlockLanes, Lane, Lanes, Processed, Refusal, Signals, StaticSound, stopping::until_it_stops,
-    trace::Block,
+    BlockLanes, Commands, Lane, Lanes, Processed, Refusal, Signals, StaticSound,
+    stopping::until_it_stops, trace::Block,
 };
+
+/// Where a call's frames go.
+#[derive(Debug, Clone, Copy)]
+pub enum Place {
+    /// In place of what stands in the output.
+    Out,
+    /// Added to it.
+    Mix,
+}
+
+/// Who learns what a player's voice is told and given.
+pub trait Watch {
+    /// Whether a block must be one that a record can hold; then `played` is called.
+    const RECORDS: bool = false;
+
+    /// The voice was told these.
+    fn told(&mut self, _: Commands) {}
+
+    /// The voice, as it is now, played this block.
+    fn played(&mut self, _: Result<Block, Refusal>, _: &StaticSound, _: Processed) {}
+}
+
+/// Nobody.
+impl Watch for () {}
 
 /// What a voice is given for a block.
 #[derive(Debug, Clone, Copy)]

@@ -2,7 +2,6 @@
 
 use std::{hint::black_box, time::Duration};
 
-use super::queue::Seek;
 use crate::{EndPosition, Level, PlaybackPosition, Refusal, Region, State, Tween, float_mode};
 
 /// A counter of 32 bits that wraps, as the host reads it now, and how fast it counts.
@@ -45,6 +44,13 @@ pub enum Command {
     StartAtTick(u32, Ticks),
 }
 
+/// A seek, in seconds.
+#[derive(Debug, Clone, Copy, PartialEq)]
+pub enum Seek {
+    By(f64),
+    To(f64),
+}
+
 /// Places are below this frame number: docs/assurance/RULES.md, "Seconds to frames".
 const FRAME_LIMIT: f64 = 4_294_967_296.0;
 
@@ -57,9 +63,9 @@ pub fn frames_of(state: &State, region: Region) -> Result<(u64, u64), Refusal> {
         PlaybackPosition::Samples(samples) => Some(samples as u64),
         PlaybackPosition::Seconds(seconds) if seconds.is_finite() => {
             let rate = f64::from(state.sample_rate);
-            let product = float_mode::plain(|| black_box(black_box(seconds) * rate));
             // Below 0 it is 0.
-            Some(product.min(FRAME_LIMIT).round() as u64)
+            let frame = |seconds: f64| (seconds * rate).min(FRAME_LIMIT).round() as u64;
+            Some(float_mode::plain(|| black_box(frame(black_box(seconds)))))
         }
         PlaybackPosition::Seconds(_) => None,
     };

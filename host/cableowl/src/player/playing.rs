@@ -4,24 +4,14 @@ use std::hint::black_box;
 
 use super::{
     Player,
-    block::Given,
+    block::{Given, Place, Watch},
     queue::Press,
-    recorded::Watch,
     room::{first, gain_lanes, gains},
 };
 use crate::{
     Commands, Lane, Level, MAX_BLOCK_FRAMES, Processed, Refusal, Signals, StartAnswer, float_mode,
     trace::MAX_TRACED_FRAMES,
 };
-
-/// Where a call's frames go.
-#[derive(Debug, Clone, Copy)]
-pub enum Place {
-    /// In place of what stands in the output.
-    Out,
-    /// Added to it.
-    Mix,
-}
 
 impl Player {
     /// A whole call, in the plain float mode.

@@ -3,20 +3,13 @@
 use std::hint::black_box;
 
 use super::{
-    command::{frames_of, judge_seek, wrapped},
+    command::{Seek, frames_of, judge_seek, wrapped},
     tween::Ramp,
 };
 use crate::{Commands, LoopCommand, Refusal, Region, ResumeCommand, State, float_mode};
 
 /// The most seeks that can wait for one frame.
 pub const MAX_SEEKS: usize = 64;
-
-/// A seek, in seconds.
-#[derive(Debug, Clone, Copy, PartialEq)]
-pub enum Seek {
-    By(f64),
-    To(f64),
-}
 
 /// A pause, resume or stop.
 #[derive(Debug, Clone, Copy, PartialEq, Eq)]

@@ -1,25 +1,13 @@
 //! A player that is recorded as it plays: its constant stretches become the records of a trace.
 
-use super::{Command, Player, Tween, playing::Place};
+use super::{
+    Command, Player, Tween,
+    block::{Place, Watch},
+};
 use crate::{
     Commands, Processed, Refusal, Settings, StaticSound,
-    trace::{Block, Line, Record, Recorded, ShortSound, write},
+    trace::{Block, Line, Record, Recorded, ShortSound, Tape},
 };
-
-/// Who learns what a player's voice is told and given.
-pub trait Watch {
-    /// Whether a block must be one that a record can hold; then `played` is called.
-    const RECORDS: bool = false;
-
-    /// The voice was told these.
-    fn told(&mut self, _: Commands) {}
-
-    /// The voice, as it is now, played this block.
-    fn played(&mut self, _: Result<Block, Refusal>, _: &StaticSound, _: Processed) {}
-}
-
-/// Nobody.
-impl Watch for () {}
 
 /// A [`Player`] over a sound of at most 64 frames that plays and is recorded in one go, into a lent
 /// buffer (docs/formats/TRACE.md).
@@ -58,15 +46,6 @@ pub struct RecordedPlayer<'a> {
     tape: Tape<'a>,
 }
 
-/// A trace in a lent buffer, up to the first record that it could not hold.
-#[derive(Debug)]
-struct Tape<'a> {
-    buffer: &'a mut [u8],
-    held: usize,
-    ended: Option<Refusal>,
-    blocks: u64,
-}
-
 impl<'a> RecordedPlayer<'a> {
     /// Plays a sound, as [`Player::play`], and keeps a copy of it.
     ///
@@ -82,13 +61,9 @@ impl<'a> RecordedPlayer<'a> {
     ) -> Result<Self, Refusal> {
         let player = Player::play(settings, output_rate, sound)?;
         let sound = ShortSound::new(sound)?;
-        let held = write(&Record::Creation { settings, sound }, buffer, 0)?;
-        let tape = Tape {
-            buffer,
-            held,
-            ended: None,
-            blocks: 0,
-        };
+        let mut tape = Tape::new(buffer);
+        tape.keep(Ok(Record::Creation { settings, sound }));
+        tape.recorded()?;
         Ok(Self {
             player,
             sound,
@@ -128,7 +103,7 @@ impl<'a> RecordedPlayer<'a> {
         let answer = self.player.run(self.sound.samples(), out, place, watch);
         Recorded {
             answer,
-            recorded: self.tape.ended.map_or(Ok(()), Err),
+            recorded: self.tape.recorded(),
         }
     }
 
@@ -147,31 +122,19 @@ impl<'a> RecordedPlayer<'a> {
     /// The records that the buffer holds.
     #[must_use]
     pub fn bytes(&self) -> &[u8] {
-        self.tape.buffer.get(..self.tape.held).unwrap_or_default()
+        self.tape.bytes()
     }
 
     /// The bytes that the buffer still has room for.
     #[must_use]
     pub fn room(&self) -> usize {
-        self.tape.buffer.len().saturating_sub(self.tape.held)
+        self.tape.room()
     }
 
     /// Empties the buffer, once the host has kept its records: what is recorded next goes on with the
     /// same trace.
     pub fn clear(&mut self) {
-        self.tape.held = 0;
-    }
-}
-
-impl Tape<'_> {
-    fn keep(&mut self, record: Result<Record, Refusal>) {
-        if self.ended.is_some() {
-            return;
-        }
-        match record.and_then(|record| write(&record, self.buffer, self.held)) {
-            Ok(next) => self.held = next,
-            Err(refusal) => self.ended = Some(refusal),
-        }
+        self.tape.clear();
     }
 }
 
@@ -189,10 +152,9 @@ impl<F: FnMut(Line)> Watch for Logged<'_, '_, F> {
     }
 
     fn played(&mut self, block: Result<Block, Refusal>, voice: &StaticSound, counts: Processed) {
-        self.tape.blocks = self.tape.blocks.saturating_add(1);
         let frames = block.map_or(0, |block| block.frames);
+        let line = Line::of_block(self.tape.next_block(), frames, voice, Ok(counts));
         self.tape.keep(block.map(Record::Block));
-        let line = Line::of_block(self.tape.blocks, frames, voice, Ok(counts));
         (self.log)(line);
     }
 }

@@ -2,8 +2,9 @@
 
 use super::{
     Player,
+    command::Seek,
     easing::Easing,
-    queue::{Press, Presses, Seek},
+    queue::{Press, Presses},
     tween::{MOST_FRAMES, Parameter, Ramp},
 };
 use crate::{

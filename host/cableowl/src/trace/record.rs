@@ -1,6 +1,6 @@
 //! A record: what a host did, once.
 
-use super::{MAX_SOUND_FRAMES, values};
+use super::MAX_SOUND_FRAMES;
 use crate::{Commands, Refusal, Settings, Signals, StartAnswer};
 
 /// One thing that a host did with a voice.
@@ -25,14 +25,6 @@ pub enum Record {
     /// A block was played, or refused.
     Block(Block),
 }
-
-impl PartialEq for Record {
-    fn eq(&self, other: &Self) -> bool {
-        values::of(self) == values::of(other)
-    }
-}
-
-impl Eq for Record {}
 
 /// A block whose lanes are constant: each number stands for every frame.
 #[derive(Debug, Clone, Copy, PartialEq)]

@@ -1,6 +1,6 @@
 //! A voice that is recorded as it plays.
 
-use super::{Block, Line, Record, ShortSound, write};
+use super::{Block, Line, Record, ShortSound, Tape};
 use crate::{BlockLanes, Commands, LoopTable, Processed, Refusal, Settings, Signals, StaticSound};
 
 /// What a recorded call answers.
@@ -65,10 +65,7 @@ pub struct Recorded<T> {
 pub struct Recorder<'a> {
     voice: Option<StaticSound>,
     sound: ShortSound,
-    buffer: &'a mut [u8],
-    held: usize,
-    ended: Option<Refusal>,
-    blocks: u64,
+    tape: Tape<'a>,
     line: Option<Line>,
 }
 
@@ -79,10 +76,7 @@ impl<'a> Recorder<'a> {
         Self {
             voice: None,
             sound: ShortSound::EMPTY,
-            buffer,
-            held: 0,
-            ended: None,
-            blocks: 0,
+            tape: Tape::new(buffer),
             line: None,
         }
     }
@@ -117,7 +111,7 @@ impl<'a> Recorder<'a> {
             Err(refusal) => {
                 return Recorded {
                     answer: Err(refusal),
-                    recorded: self.ended.map_or(Ok(()), Err),
+                    recorded: self.tape.recorded(),
                 };
             }
         };
@@ -187,19 +181,19 @@ impl<'a> Recorder<'a> {
     /// The records that the buffer holds.
     #[must_use]
     pub fn bytes(&self) -> &[u8] {
-        &self.buffer[..self.held]
+        self.tape.bytes()
     }
 
     /// The bytes that the buffer still has room for.
     #[must_use]
     pub fn room(&self) -> usize {
-        self.buffer.len() - self.held
+        self.tape.room()
     }
 
     /// Empties the buffer, once the host has kept its records: what is recorded next goes on with the
     /// same trace.
     pub fn clear(&mut self) {
-        self.held = 0;
+        self.tape.clear();
     }
 
     /// A block's record, and its line.
@@ -210,11 +204,11 @@ impl<'a> Recorder<'a> {
         answer: Result<Processed, Refusal>,
         block: Result<Block, Refusal>,
     ) -> Recorded<Processed> {
-        self.blocks = self.blocks.saturating_add(1);
+        let block_number = self.tape.next_block();
         self.line = Some(match &self.voice {
-            Some(voice) => Line::of_block(self.blocks, frames, voice, answer),
+            Some(voice) => Line::of_block(block_number, frames, voice, answer),
             None => Line::RefusedBlock {
-                block: self.blocks,
+                block: block_number,
                 refusal: Refusal::State,
             },
         });
@@ -240,17 +234,10 @@ impl<'a> Recorder<'a> {
         answer: Result<T, Refusal>,
         record: Result<Record, Refusal>,
     ) -> Recorded<T> {
-        let recorded = match self.ended {
-            Some(refusal) => Err(refusal),
-            None => record.and_then(|record| write(&record, self.buffer, self.held)),
-        };
-        match recorded {
-            Ok(next) => self.held = next,
-            Err(refusal) => self.ended = Some(refusal),
-        }
+        self.tape.keep(record);
         Recorded {
             answer,
-            recorded: recorded.map(|_| ()),
+            recorded: self.tape.recorded(),
         }
     }
 }

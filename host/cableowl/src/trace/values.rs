@@ -40,6 +40,14 @@ pub fn of(record: &Record) -> (u64, Values) {
     (kind, values)
 }
 
+impl PartialEq for Record {
+    fn eq(&self, other: &Self) -> bool {
+        of(self) == of(other)
+    }
+}
+
+impl Eq for Record {}
+
 fn put(values: &mut Values, numbers: &[u64]) {
     for (value, number) in values.iter_mut().zip(numbers) {
         *value = *number;

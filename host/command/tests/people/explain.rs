@@ -120,7 +120,7 @@ fn a_summary_has_states_by_name_and_speeds_once() {
             "0:07.000  stopped, at frame 11 (5.500 s)",
             "0:08.000  no voice is created: refusal 2: the sample rate must be from 1 to 768,000",
             "0:08.000  a command without a voice: it does nothing",
-            "0:08.000  blocks 9 to 10 are refused: refusal 1: the state is not well formed or belongs to another sound: lend the samples it was created with, or create the sound anew",
+            "0:08.000  blocks 9 to 10 are refused: refusal 1: the state is not well formed or belongs to another sound: pass the samples it was created with, or create the sound anew",
             "standard input: 10 blocks, 2 refused, 0:08.000 in all",
         ]
     );

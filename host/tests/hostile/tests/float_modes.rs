@@ -1,0 +1,18 @@
+// In every float mode with its exceptions masked each call returns, whatever its bytes: what it answers is judged in the plain
+// mode alone.
+
+#[path = "../../../cableowl/tests/mode/mod.rs"]
+mod mode;
+
+use mode::Mode;
+
+#[test]
+fn every_call_returns() {
+    let before = Mode::now();
+    for mode in mode::ALL.into_iter().filter(|mode| mode.masks()) {
+        mode.set();
+        let answered = hostile::unjudged(2, 100_000);
+        before.set();
+        assert_eq!(answered, 100_000, "in {mode:?}");
+    }
+}

@@ -1,0 +1,158 @@
+//! The examples of docs/formats/TRACE.md, read from the page: its records, its short inputs, what is printed, what salvage takes.
+
+use cableowl::{
+    Commands, Frames, PlaybackPosition, Region, Settings,
+    trace::{Block, Record, ShortSound, read, salvage, write},
+};
+use traced::{entries, hex, page, runs};
+
+const PAGE: &str = include_str!("../../../../docs/formats/TRACE.md");
+
+/// The bytes of each block of code in a part of the page: the words of two hex digits at a line's start.
+fn codes_of(part: &str) -> Vec<Vec<u8>> {
+    let is_byte = |word: &&str| word.len() == 2 && u8::from_str_radix(word, 16).is_ok();
+    let blocks = part.split("```").skip(1).step_by(2);
+    let bytes = blocks.map(|block| {
+        let lines = block.lines();
+        let words = lines.flat_map(|line| line.split_whitespace().take_while(is_byte));
+        hex(&words.collect::<Vec<_>>().join(" "))
+    });
+    bytes.collect()
+}
+
+/// What stands below a heading.
+fn below(heading: &str) -> &'static str {
+    let (_, part) = PAGE.split_once(heading).unwrap();
+    part.split("\n## ").next().unwrap()
+}
+
+/// A creation, a command set, a block, and the rules' three-frame example.
+fn codes() -> Vec<Vec<u8>> {
+    codes_of(below("\n## Examples\n"))
+}
+
+fn creation() -> Record {
+    Record::Creation {
+        settings: Settings::new(1),
+        sound: ShortSound::new(&[1.0, 1.0, 2.0, 2.0, 3.0, 3.0]).unwrap(),
+    }
+}
+
+#[test]
+fn its_records() {
+    let codes = codes();
+    assert_eq!(codes.len(), 4);
+    let from_a_second_to_frame_3 = Region {
+        start: PlaybackPosition::Seconds(1.0),
+        ..Region::from(..Frames(3))
+    };
+    let commands = Commands::new()
+        .set_playback_rate(0.5)
+        .set_loop_region(from_a_second_to_frame_3)
+        .resume()
+        .seek_to(2.5);
+    let records = [
+        creation(),
+        Record::Commands(commands),
+        Record::Block(Block::new(6, 1.0)),
+    ];
+    for (bytes, record) in codes.iter().zip(&records) {
+        assert_eq!(read(bytes, 0), Ok((*record, bytes.len())));
+        let mut written = vec![0; bytes.len()];
+        assert_eq!(write(record, &mut written, 0), Ok(bytes.len()));
+        assert_eq!(&written, bytes);
+    }
+    assert_eq!(codes[3], [&codes[0][..], &codes[2][..]].concat());
+    assert_eq!(codes[3].len(), 97);
+}
+
+#[test]
+fn what_its_example_prints() {
+    let printed = String::from_utf8(runs::library_prints(&codes()[3]).unwrap()).unwrap();
+    assert_eq!(printed, "block=1 frames=6 steps=6 state=6 position=3\n");
+    let said = format!("It prints `{}`.", printed.trim_end());
+    assert!(PAGE.contains(&said), "{said}");
+}
+
+#[test]
+fn its_short_inputs() {
+    let (_, table) = PAGE.split_once("| input | answer |").unwrap();
+    let rows = table
+        .lines()
+        .skip(2)
+        .take_while(|line| line.starts_with('|'));
+    let mut tried = 0;
+    for row in rows {
+        let [_, inputs, answer, _] = row.split('|').collect::<Vec<_>>()[..] else {
+            panic!("{row}");
+        };
+        let number: String = answer
+            .trim()
+            .chars()
+            .take_while(char::is_ascii_digit)
+            .collect();
+        for input in inputs.split('`').skip(1).step_by(2) {
+            let bytes = hex(input);
+            assert_eq!(
+                entries::read(&bytes, 0).refusal.to_string(),
+                number,
+                "{input}"
+            );
+            assert_eq!(page::read(&bytes, 0).refusal.to_string(), number, "{input}");
+            let printed = runs::library_prints(&bytes).unwrap();
+            let line = format!("refused={number} at=0\n");
+            assert_eq!(String::from_utf8(printed).unwrap(), line, "{input}");
+            tried += 1;
+        }
+    }
+    assert_eq!(tried, 14);
+    // Nothing prints nothing, though there is no record: 18.
+    assert_eq!(runs::library_prints(&[]), Ok(Vec::new()));
+    assert_eq!(entries::read(&[], 0).refusal, 18);
+    // A line feed after the last record.
+    let with_line_feed = [&codes()[3][..], b"\n"].concat();
+    let printed = String::from_utf8(runs::library_prints(&with_line_feed).unwrap()).unwrap();
+    assert_eq!(
+        printed,
+        "block=1 frames=6 steps=6 state=6 position=3\nrefused=15 at=97\n"
+    );
+}
+
+#[test]
+fn blocks_before_a_creation_and_after_a_refused_one() {
+    let block = codes()[2].clone();
+    let refused = page::bytes(1, &{
+        let mut values = [0; 80];
+        values[10] = 1.0_f64.to_bits();
+        values
+    });
+    let parts = [&block, &codes()[0], &block, &refused.unwrap(), &block];
+    let trace: Vec<u8> = parts.into_iter().flatten().copied().collect();
+    let printed = String::from_utf8(runs::library_prints(&trace).unwrap()).unwrap();
+    assert_eq!(
+        printed,
+        "block=1 refused=1\nblock=2 frames=6 steps=6 state=6 position=3\nblock=3 refused=1\n"
+    );
+}
+
+/// Each example of a false record is salvaged as the page tells.
+#[test]
+fn false_records() {
+    let part = below("\n## Salvage\n");
+    let told: Vec<&str> = part.split(" bytes skipped, the first at ").collect();
+    let examples = codes_of(part);
+    assert_eq!((told.len(), examples.len()), (3, 2));
+    for (words, bytes) in told.windows(2).zip(&examples) {
+        let mut out = vec![0; bytes.len()];
+        let salvaged = salvage(bytes, &mut out).unwrap();
+        let skipped = salvaged.skipped.to_string();
+        assert!(
+            words[0].ends_with(&format!(": 1 record, {skipped}")),
+            "{skipped}"
+        );
+        let first = format!("{}.", salvaged.first_skipped);
+        assert!(words[1].starts_with(&first), "{first}");
+        assert_eq!(salvaged.records, 1);
+        assert_eq!(read(&out, 0).unwrap().1, salvaged.kept);
+    }
+}

@@ -1,0 +1,320 @@
+//! Whether each public function of the Rattle crates has its promise told: an `ensures`, a row in docs/PROMISES.md, and
+//! either a line among the laws that two outcomes of one promise coincide or, unless C calls it, a row in
+//! docs/EXCEPTIONS.md. And whether docs/EXCEPTIONS.md names every function that asks something of its callers, in the
+//! table of public or of private functions as the sources have it, and those callers.
+
+pub mod records;
+
+use std::fs;
+use std::iter;
+use std::path::Path;
+
+/// What every source of every crate below `crates/` has, crate by crate.
+fn of_every_source<T>(crates: &Path, of_one: impl Fn(&str, &str) -> Vec<T>) -> Vec<T> {
+    let mut found = Vec::new();
+    for krate in sorted(crates) {
+        let sources = crates.join(&krate).join("src");
+        for file in sorted(&sources) {
+            if file.ends_with(".rt") {
+                let text = fs::read_to_string(sources.join(&file)).expect("a source is text");
+                found.extend(of_one(&krate, &text));
+            }
+        }
+    }
+    found
+}
+
+fn sorted(folder: &Path) -> Vec<String> {
+    let mut names: Vec<String> = fs::read_dir(folder)
+        .unwrap_or_else(|e| panic!("{}: {e}", folder.display()))
+        .map(|entry| {
+            let name = entry.expect("a folder's entry").file_name();
+            name.to_string_lossy().into_owned()
+        })
+        .collect();
+    names.sort();
+    names
+}
+
+/// The Rust packages below `host`, each by its path from there: `cableowl`, `tests/raw`.
+pub fn packages(host: &Path) -> Vec<String> {
+    let is_package = |path: &String| host.join(path).join("Cargo.toml").is_file();
+    let folders = sorted(host);
+    let folders = folders.into_iter().filter(|path| host.join(path).is_dir());
+    let (mut found, groups): (Vec<_>, Vec<_>) = folders.partition(is_package);
+    for group in groups {
+        let inside = sorted(&host.join(&group));
+        let paths = inside.iter().map(|name| format!("{group}/{name}"));
+        found.extend(paths.filter(is_package));
+    }
+    found
+}
+
+/// The name of a function's line among the laws: `transport::Transport::seek_to` has `transport-transport-seek-to`.
+pub fn law_of(function: &str) -> String {
+    function.replace("::", "-").replace('_', "-").to_lowercase()
+}
+
+/// The lines that outcomes coincide: `specs/Coincide.antt` of every crate below `crates/` that has one.
+pub fn all_laws(crates: &Path) -> String {
+    let files = sorted(crates)
+        .into_iter()
+        .map(|krate| crates.join(krate).join("specs/Coincide.antt"));
+    let texts = files.filter_map(|file| fs::read_to_string(file).ok());
+    texts.collect()
+}
+
+/// The texts that a promise is told in.
+pub struct Told {
+    /// docs/PROMISES.md
+    pub promises: String,
+    /// docs/EXCEPTIONS.md
+    pub exceptions: String,
+    /// the records of lines that outcomes coincide
+    pub laws: String,
+}
+
+impl Told {
+    /// What is missing of one public function's promise, in words; nothing where all is told.
+    pub fn missing(&self, function: &Function) -> Option<String> {
+        let path = &function.path;
+        if !function.promises {
+            return Some(format!("{path}: no `ensures`"));
+        }
+        let whole_crate = format!("{}::*", function.krate());
+        if self.excuses(&whole_crate) && !function.is_entry() {
+            return None;
+        }
+        if !self.promises.contains(&format!("| `{path}` |")) {
+            return Some(format!("{path}: no row in docs/PROMISES.md"));
+        }
+        let excused = self.excuses(path) || self.excuses(&format!("*::{}", function.name()));
+        match self.law(path) {
+            Some(_) if excused => Some(format!(
+                "{path}: it has a law, so docs/EXCEPTIONS.md need not excuse it"
+            )),
+            Some(law) if !law.ends_with(&format!(" {}.Reads.Post", path.replace("::", "."))) => {
+                Some(format!("{path}: its law is of another contract: {law}"))
+            }
+            Some(law) if function.writes() && !law.starts_with("DecidesWith ") => Some(format!(
+                "{path}: it writes through a `&mut`, and its law says nothing of what it leaves"
+            )),
+            Some(_) => None,
+            None if excused && !function.is_entry() => None,
+            None => Some(format!(
+                "{path}: no law `{}` that two outcomes coincide{}",
+                law_of(path),
+                if function.is_entry() {
+                    ", and a C entry is never excused"
+                } else {
+                    ", and no row in docs/EXCEPTIONS.md"
+                }
+            )),
+        }
+    }
+
+    /// What a function's law says, on one line. A law ends before the next field and before a comment.
+    fn law(&self, path: &str) -> Option<String> {
+        let start = format!("pub {} :", law_of(path));
+        let mut lines = self.laws.lines().map(str::trim);
+        let first = lines.find_map(|line| line.strip_prefix(start.as_str()))?;
+        let ends =
+            |line: &str| line.is_empty() || ["pub ", "--"].iter().any(|w| line.starts_with(w));
+        let more = lines.take_while(|line| !ends(line));
+        let law: Vec<_> = iter::once(first).chain(more).collect();
+        Some(law.join(" ").trim_start().to_string())
+    }
+
+    /// Whether the last table of docs/EXCEPTIONS.md has a row of this name.
+    fn excuses(&self, name: &str) -> bool {
+        self.excused().any(|row| row == name)
+    }
+
+    /// The names in the last table of docs/EXCEPTIONS.md: functions without a line of their own.
+    pub fn excused(&self) -> impl Iterator<Item = &str> {
+        self.exceptions
+            .lines()
+            .skip_while(|line| !line.starts_with("## Without a line"))
+            .filter_map(|line| line.strip_prefix("| `")?.split('`').next())
+    }
+}
+
+/// A function of a Rattle source, and what stands in it.
+#[derive(Default)]
+pub struct Function {
+    /// `crate::Type::name` or `crate::name`
+    pub path: String,
+    /// whether it is `pub` or C calls it; `pub(crate)` is private
+    pub public: bool,
+    /// what is given and returned, as it stands in the source
+    pub signature: String,
+    /// whether its contract has a `requires`
+    pub asks: bool,
+    /// whether its contract has an `ensures`
+    pub promises: bool,
+    /// its code, without comments and contracts
+    pub code: String,
+    /// the paths that its file uses by their last name
+    pub used: Vec<String>,
+}
+
+/// Every function of one file of Rattle.
+pub fn functions(krate: &str, source: &str) -> Vec<Function> {
+    let mut owner = String::new();
+    let mut found: Vec<Function> = Vec::new();
+    let used = source.lines().filter_map(|line| {
+        let path = line.strip_prefix("use ")?.strip_suffix(';')?;
+        Some(path.to_string())
+    });
+    let used: Vec<String> = used.collect();
+    let mut in_signature = false;
+    for line in source.lines() {
+        if let Some(rest) = line.strip_prefix("impl ") {
+            owner = rest.trim_end_matches(" {").to_string();
+        } else if line == "}" {
+            owner.clear();
+        }
+        let text = line.trim_start();
+        let unsealed = text.strip_prefix("pub ");
+        let rest = unsealed.or(text.strip_prefix("pub(crate) "));
+        let rest = rest.unwrap_or(text);
+        let exported = rest.strip_prefix("extern \"C\" ");
+        let rest = exported.unwrap_or(rest);
+        if let Some(rest) = rest.strip_prefix("fn ") {
+            let name: String = rest
+                .chars()
+                .take_while(|c| c.is_alphanumeric() || *c == '_')
+                .collect();
+            let path = if owner.is_empty() {
+                format!("{krate}::{name}")
+            } else {
+                format!("{krate}::{owner}::{name}")
+            };
+            found.push(Function {
+                path,
+                public: unsealed.or(exported).is_some(),
+                used: used.clone(),
+                ..Function::default()
+            });
+            in_signature = true;
+        }
+        let Some(function) = found.last_mut() else {
+            continue;
+        };
+        if text.starts_with("requires {") {
+            function.asks = true;
+        } else if text.starts_with("ensures {") {
+            function.promises = true;
+        } else if in_signature {
+            function.signature.push_str(line);
+            function.signature.push('\n');
+        } else if !text.starts_with("//") {
+            function.code.push_str(line);
+            function.code.push('\n');
+        }
+        in_signature &= !text.starts_with('{') && !text.ends_with(" {");
+    }
+    found
+}
+
+/// Every function of every crate below `crates/`.
+pub fn all_functions(crates: &Path) -> Vec<Function> {
+    of_every_source(crates, functions)
+}
+
+impl Function {
+    fn krate(&self) -> &str {
+        self.path.split("::").next().expect("a crate's name")
+    }
+
+    fn name(&self) -> &str {
+        self.path.rsplit("::").next().expect("a function's name")
+    }
+
+    /// Whether C calls it: a public function of the crate that the archive is made of.
+    pub fn is_entry(&self) -> bool {
+        self.public && self.krate() == "cableowl"
+    }
+
+    /// Whether it writes through a reference that it is given.
+    fn writes(&self) -> bool {
+        self.signature.contains("&mut ")
+    }
+
+    /// Whether its code calls the function of this path: a method by `.name(` or `Type::name(`, another by its name
+    /// inside its crate or where a `use` brings it in, and by `crate::name(` elsewhere.
+    pub fn calls(&self, path: &str) -> bool {
+        let parts: Vec<&str> = path.split("::").collect();
+        let name = parts[parts.len() - 1];
+        let call = format!("{name}(");
+        let same_crate = self.krate() == parts[0];
+        let by_name = same_crate || self.used.iter().any(|used| used == path);
+        self.code.match_indices(&call).any(|(at, _)| {
+            let before = &self.code[..at];
+            if parts.len() == 3 {
+                return before.ends_with('.') || before.ends_with(&format!("{}::", parts[1]));
+            }
+            let alone = !before.ends_with(|c: char| c.is_alphanumeric() || "_.:".contains(c));
+            before
+                .strip_suffix(&format!("{}::", parts[0]))
+                .is_some_and(|b| !b.ends_with(|c: char| c.is_alphanumeric() || c == '_'))
+                || (by_name && alone)
+        })
+    }
+}
+
+/// A row of docs/EXCEPTIONS.md that names callers.
+pub struct Asking {
+    pub path: String,
+    /// whether its row is in the table of public functions, which says who guarantees what they ask
+    pub public: bool,
+    pub callers: Vec<String>,
+}
+
+/// The rows of docs/EXCEPTIONS.md that name callers.
+pub fn callers_told(exceptions: &str) -> Vec<Asking> {
+    let mut callers_follow = false;
+    let mut public = false;
+    let mut found = Vec::new();
+    for line in exceptions.lines() {
+        if line.starts_with("| function |") {
+            callers_follow = line.ends_with("| called by |");
+            public = line.contains("| who guarantees it |");
+        }
+        if !callers_follow || !line.starts_with("| `") {
+            continue;
+        }
+        let cells: Vec<&str> = line
+            .trim_start_matches("| ")
+            .trim_end_matches(" |")
+            .split(" | ")
+            .collect();
+        let name = |cell: &str| cell.trim_matches('`').to_string();
+        found.push(Asking {
+            path: name(cells[0]),
+            public,
+            callers: cells[cells.len() - 1].split(", ").map(name).collect(),
+        });
+    }
+    found
+}
+
+/// The files that comments of a Rattle or antt source name: words that end in `.rt`, `.antt` or `.md`.
+pub fn files_named(source: &str) -> Vec<String> {
+    let comment = |line: &&str| {
+        let text = line.trim_start();
+        text.starts_with("//") || text.starts_with("--")
+    };
+    source
+        .lines()
+        .filter(comment)
+        .flat_map(|line| line.split(|c: char| !(c.is_alphanumeric() || "_./".contains(c))))
+        .map(|word| word.trim_end_matches('.'))
+        .filter(|word| {
+            [".rt", ".antt", ".md"]
+                .iter()
+                .any(|end| word.ends_with(end))
+        })
+        .map(str::to_string)
+        .collect()
+}

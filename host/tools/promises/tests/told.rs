@@ -1,0 +1,222 @@
+//! Every public function's promise is told, and a function whose promise is not told is found.
+
+use promises::{Function, Told, all_functions, all_laws, callers_told, files_named, functions};
+use std::fs;
+use std::path::{Path, PathBuf};
+
+fn root() -> PathBuf {
+    Path::new(env!("CARGO_MANIFEST_DIR")).join("../../..")
+}
+
+fn read(path: &str) -> String {
+    fs::read_to_string(root().join(path)).unwrap_or_else(|e| panic!("{path}: {e}"))
+}
+
+fn told() -> Told {
+    Told {
+        promises: read("docs/PROMISES.md"),
+        exceptions: read("docs/EXCEPTIONS.md"),
+        laws: all_laws(&root().join("crates")),
+    }
+}
+
+fn public_functions() -> Vec<Function> {
+    let mut all = all_functions(&root().join("crates"));
+    all.retain(|f| f.public);
+    all
+}
+
+#[test]
+fn every_public_function_has_its_promise_told() {
+    let told = told();
+    let functions = public_functions();
+    assert!(functions.len() > 50, "only {} found", functions.len());
+    let missing: Vec<String> = functions.iter().filter_map(|f| told.missing(f)).collect();
+    assert!(missing.is_empty(), "{}", missing.join("\n"));
+}
+
+#[test]
+fn a_function_is_found_in_its_type_and_alone() {
+    let source = "impl Transport {\n    pub fn seek_to(mut self) -> Transport\n    {\n    }\n}\n\npub fn judge(\n    dt: f64,\n) -> u32\n{\n}\n#[no_mangle]\npub extern \"C\" fn cableowl_new() -> u32 {\n}\nfn private() {\n}\npub(crate) fn sealed() {\n}\n";
+    let found = functions("k", source);
+    let named = |public: bool| -> Vec<&str> {
+        let found = found.iter().filter(|f| f.public == public);
+        found.map(|f| f.path.as_str()).collect()
+    };
+    assert_eq!(
+        named(true),
+        ["k::Transport::seek_to", "k::judge", "k::cableowl_new"]
+    );
+    assert_eq!(named(false), ["k::private", "k::sealed"]);
+}
+
+/// A public function with this parameter and contract.
+fn public(krate: &str, name: &str, parameter: &str, contract: &str) -> Function {
+    let source = format!("pub fn {name}(\n    {parameter},\n)\n    {contract}\n{{\n}}\n");
+    functions(krate, &source).remove(0)
+}
+
+#[test]
+fn what_is_not_told_is_missed() {
+    let mut told = told();
+    let ensures = "ensures { λ r. ⌜ x ⌝ }";
+    let narrow = public("numbers", "narrow", "x: f64", ensures);
+    let widen = public("numbers", "widen", "x: f64", ensures);
+    assert!(told.missing(&narrow).is_none());
+    assert!(told.missing(&widen).is_some());
+    told.promises
+        .push_str("\n| `numbers::widen` | `wide` | |\n");
+    let words = told.missing(&widen).expect("it has no law");
+    assert!(words.contains("numbers-widen"), "{words}");
+    let law = "\npub numbers-widen : Decides numbers.widen.Reads.Post\n";
+    told.laws.push_str(&law.replace(".widen", ".narrow"));
+    let words = told.missing(&widen).expect("its law is another's");
+    assert!(words.contains("numbers.narrow"), "{words}");
+    told.laws = told.laws.replace(&law.replace(".widen", ".narrow"), law);
+    assert!(told.missing(&widen).is_none());
+    let unpromised = public("numbers", "widen", "x: f64", "requires { ⌜ x ⌝ }");
+    let words = told.missing(&unpromised).expect("it promises nothing");
+    assert!(words.contains("no `ensures`"), "{words}");
+    let writing = public("numbers", "widen", "x: &mut f64", ensures);
+    let words = told.missing(&writing).expect("what it leaves is not told");
+    assert!(words.contains("what it leaves"), "{words}");
+    told.laws.clear();
+    assert!(told.missing(&narrow).is_some());
+}
+
+#[test]
+fn what_is_excused_has_no_law_and_is_no_entry() {
+    let mut told = told();
+    let ensures = "ensures { λ r. ⌜ x ⌝ }";
+    let excuse = |told: &mut Told, name: &str| {
+        told.exceptions
+            .push_str(&format!("| `{name}` | why not |\n"));
+    };
+    let narrow = public("numbers", "narrow", "x: f64", ensures);
+    excuse(&mut told, "numbers::narrow");
+    let words = told.missing(&narrow).expect("it is excused for nothing");
+    assert!(words.contains("need not excuse"), "{words}");
+    told.laws.clear();
+    assert!(told.missing(&narrow).is_none());
+    let entry = public("cableowl", "cableowl_new", "x: u32", ensures);
+    for name in ["cableowl::cableowl_new", "cableowl::*", "*::cableowl_new"] {
+        excuse(&mut told, name);
+        let words = told.missing(&entry).expect("an entry is never excused");
+        assert!(words.contains("cableowl-cableowl-new"), "{words}");
+    }
+}
+
+#[test]
+fn each_excuse_is_of_a_function_that_is_there() {
+    let told = told();
+    let functions = public_functions();
+    let idle: Vec<&str> = told
+        .excused()
+        .filter(|row| {
+            !functions.iter().any(|f| match row.split_once('*') {
+                Some((start, end)) => f.path.starts_with(start) && f.path.ends_with(end),
+                None => f.path == *row,
+            })
+        })
+        .collect();
+    assert!(idle.is_empty(), "no such public function: {idle:?}");
+}
+
+#[test]
+fn each_wrong_answer_named_is_an_edit_that_must_be_refused() {
+    let mut named = 0;
+    for line in read("docs/PROMISES.md").lines() {
+        let Some(rest) = line.strip_prefix("| `") else {
+            continue;
+        };
+        let (function, rest) = rest.split_once('`').expect("a function's name ends");
+        if !function.contains("::") {
+            continue;
+        }
+        let krate = function.split("::").next().expect("a crate's name");
+        let wrong = rest.trim_end_matches(" |").rsplit(" | ").next();
+        for edit in wrong.expect("a last column").split(", ") {
+            let path = format!("crates/{krate}/must-fail/{edit}.edit");
+            assert!(root().join(&path).is_file(), "{function}: no {path}");
+            named += 1;
+        }
+    }
+    assert!(named > 100, "only {named} found");
+}
+
+#[test]
+fn each_function_that_asks_has_a_row_with_its_callers() {
+    let all = all_functions(&root().join("crates"));
+    let told = callers_told(&read("docs/EXCEPTIONS.md"));
+    let mut wrong = Vec::new();
+    for asking in all.iter().filter(|f| f.asks) {
+        let Some(row) = told.iter().find(|row| row.path == asking.path) else {
+            wrong.push(format!("{}: no row", asking.path));
+            continue;
+        };
+        if row.public != asking.public {
+            let table = if asking.public { "public" } else { "private" };
+            wrong.push(format!("{}: it is {table}", asking.path));
+        }
+        let mut named = row.callers.clone();
+        let mut calling: Vec<String> = all
+            .iter()
+            .filter(|f| f.calls(&asking.path))
+            .map(|f| f.path.clone())
+            .collect();
+        named.sort_unstable();
+        calling.sort_unstable();
+        if named != calling {
+            wrong.push(format!("{}: {named:?} against {calling:?}", asking.path));
+        }
+    }
+    for row in &told {
+        if !all.iter().any(|f| f.asks && f.path == row.path) {
+            wrong.push(format!("{}: asks nothing", row.path));
+        }
+    }
+    assert!(told.len() > 20, "only {} found", told.len());
+    assert!(wrong.is_empty(), "{}", wrong.join("\n"));
+}
+
+#[test]
+fn a_call_is_found_by_its_path() {
+    let source = "fn held(x: u32) -> u32\n    requires { ⌜ x ⌝ }\n{\n    x\n}\nfn one() -> u32 {\n    // held(2)\n    upheld(1) + k::other(held(1))\n}\n";
+    let found = functions("k", source);
+    assert!(found[0].asks && !found[1].asks);
+    assert!(found[1].calls("k::held") && found[1].calls("k::other"));
+    assert!(!found[0].calls("k::held") && !found[1].calls("j::held"));
+}
+
+#[test]
+fn each_file_that_a_comment_names_is_there() {
+    let mut missing = Vec::new();
+    let mut folders = vec![root().join("crates")];
+    let mut named = 0;
+    while let Some(folder) = folders.pop() {
+        for entry in fs::read_dir(&folder).expect("a folder") {
+            let path = entry.expect("an entry").path();
+            if path.is_dir() {
+                folders.push(path);
+                continue;
+            }
+            let end = path.extension().unwrap_or_default();
+            if end != "rt" && end != "antt" {
+                continue;
+            }
+            let below = path.strip_prefix(root().join("crates")).expect("below");
+            let krate = root()
+                .join("crates")
+                .join(below.iter().next().expect("a crate"));
+            let text = fs::read_to_string(&path).expect("a source is text");
+            for file in files_named(&text) {
+                named += 1;
+                if !krate.join(&file).is_file() && !root().join(&file).is_file() {
+                    missing.push(format!("{}: {file}", below.display()));
+                }
+            }
+        }
+    }
+    assert!(named > 0, "no comment names a file");
+    assert!(missing.is_empty(), "{}", missing.join("\n"));
+}
