@@ -29,8 +29,8 @@
  * 20  loop table: slot above 15
  * 21  loop table: a write or a clear by the other hall
  * 22  loop table: a read of an empty slot
- * 23  saved settings of a version that the reader does not know
- * 24  a field of saved settings wrong, or their length
+ * 23  saved settings or a hall's loops of a version that the reader does not know
+ * 24  a field of saved settings or of a hall's loops wrong, their length, or the CRC
  * 25  salvage: an output shorter than the input
  * 27  two copies of a loop table are over sounds of different frame counts
  * 28  two copies of a loop table have the same number of changes for a hall and different slots
@@ -40,7 +40,7 @@
  *
  *   creation 2 to 7; a command set 1, 6 to 8; a block 1, 9 to 12; a fade ramp 13, 14;
  *   a loop table: a write 1, 6, 20, 21; a clear 1, 20, 21; a read 1, 20, 22; a merge of two copies 1, 27, 28;
- *   saved settings: storing 24, 19; loading 15, 23, 24 (the length), 18, 24 (a field);
+ *   saved settings, or a half: storing 24, 19; loading 15, 23, 24 (the length), 18, 24 (a field);
  *   a trace: a read 15 to 18, byte by byte in reading order; a write 16, 17, 19; a salvage 25;
  *   a step of a replay 1, 19.
  *
@@ -308,6 +308,15 @@ typedef struct CableowlSavedSettings {
     uint64_t version; /* 1 or 2 */
 } CableowlSavedSettings;
 
+/* What one hall has written of a loop table: docs/formats/LOOPS.md. Nineteen words. Its slots are slots 0 to 7 of a
+ * CableowlLoopTable if the hall is 0, and 8 to 15 if it is 1; `changes` is the copy's changes_a or changes_b. */
+typedef struct CableowlLoopHalf {
+    uint64_t hall; /* 0 for A, 1 for B */
+    uint64_t num_frames;
+    uint64_t changes;
+    CableowlLoopSlot slots[8];
+} CableowlLoopHalf;
+
 /* CableowlRecord's kind: docs/formats/TRACE.md. */
 enum { CABLEOWL_KIND_CREATION = 1, CABLEOWL_KIND_COMMANDS = 2, CABLEOWL_KIND_BLOCK = 3 };
 
@@ -450,6 +459,16 @@ uint32_t cableowl_store_settings(const CableowlSavedSettings *saved, uint8_t *bu
  * reader also version 2. Returns 0, or a refusal and sets every field of `saved` to 0. */
 uint32_t cableowl_load_settings(uint32_t reader, const uint8_t *bytes, size_t bytes_len, CableowlSavedSettings *saved);
 
+/* Writes a half and its names as a record of 666 bytes at the buffer's start. The names are 512 bytes, 64 a slot: text,
+ * then zero bytes; they are not checked. Answers 0, or 24, then 19, and writes nothing. */
+uint32_t cableowl_store_half(const CableowlLoopHalf *half, const uint8_t *names, size_t names_len, uint8_t *buffer,
+                             size_t buffer_len);
+
+/* Reads the record that the bytes begin with; what follows it is not read. The names are bytes 150 to 661 of the record.
+ * To take a half that another box has sent, put it into an empty copy (cableowl_loop_copy) and merge that copy. Answers
+ * 0, or a refusal and every field of `half` is 0. */
+uint32_t cableowl_load_half(const uint8_t *bytes, size_t bytes_len, CableowlLoopHalf *half);
+
 /* The settings for cableowl_new: the whole sound, the saved start and loop in frames, and the saved rate times the ratio
  * of the pitch, rounded once. If the rate is not finite or the pitch is not -24 to 24, the rate is NaN, which creation
  * refuses. The version is not read. */
@@ -516,7 +535,8 @@ static inline const char *cableowl_refusal_text(uint64_t number) {
     case CABLEOWL_REFUSAL_RAMP:
         return "a ramp has 1 to 65,536 frames, and its lane as many: cut a longer fade into several ramps";
     case CABLEOWL_REFUSAL_MARK:
-        return "no record begins here: saved settings begin with the bytes 5E 71, a record of a trace with A5 1D";
+        return "no record begins here: saved settings begin with the bytes 5E 71, a hall's loops with A7 4C, a record "
+               "of a trace with A5 1D";
     case CABLEOWL_REFUSAL_KIND:
         return "a record of a trace is of kind 1, a creation, 2, a command set, or 3, a block: salvage the trace, "
                "or read it with a newer reader";
@@ -527,8 +547,8 @@ static inline const char *cableowl_refusal_text(uint64_t number) {
     case CABLEOWL_REFUSAL_TRUNCATED:
         return "the bytes end inside the record: give the rest of it, then read again";
     case CABLEOWL_REFUSAL_ROOM:
-        return "the buffer is too short: saved settings have 25 bytes, or 26 with a pitch, a record of a trace at "
-               "most 575";
+        return "the buffer is too short: saved settings have 25 bytes, or 26 with a pitch, a hall's loops 666, a "
+               "record of a trace at most 575";
     case CABLEOWL_REFUSAL_LOOP_SLOT:
         return "a loop table has the slots 0 to 15";
     case CABLEOWL_REFUSAL_OTHER_HALL:
@@ -539,7 +559,8 @@ static inline const char *cableowl_refusal_text(uint64_t number) {
         return "the record is of a version that this reader does not know: load it with a newer reader";
     case CABLEOWL_REFUSAL_SAVED_FIELD:
         return "saved settings need a loop that starts before it ends, a finite rate, a pitch of -24 to 24 (0 in "
-               "version 1), and in bytes the length of their version, 21 or 22";
+               "version 1), and in bytes the length of their version, 21 or 22; a hall's loops must lie in their "
+               "sound, a name has at most 64 bytes of UTF-8, and in bytes their length is 661 and their CRC right";
     case CABLEOWL_REFUSAL_OUTPUT:
         return "the output of a salvage must be at least as long as the trace";
     case CABLEOWL_REFUSAL_OTHER_FRAMES:

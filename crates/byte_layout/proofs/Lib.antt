@@ -5,3 +5,5 @@ pub mod Lengths
 pub mod Ways
 pub mod Loops
 pub mod Puts
+pub mod Low
+pub mod Takes

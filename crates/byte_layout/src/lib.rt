@@ -77,7 +77,7 @@ fn row_within(r: Row, x: u64) -> bool
 // ---- reading
 
 // The number of the `width` bytes from `at`, lowest first.
-fn number(s: &[u8], at: usize, width: usize) -> u64
+pub fn number(s: &[u8], at: usize, width: usize) -> u64
     requires { ⌜ (at + width ≤ length (now s)) × (width ≤ 8) ⌝ }
     ensures { λ r. ⌜ r ≡ num (take width (drop at (now (s .entry)))) ⌝ }
 {
@@ -169,7 +169,7 @@ pub fn read_rows(s: &[u8], p: Parsed, table: &[u64], n: usize) -> Parsed
 // ---- writing
 
 // Writes the `width` bytes of x from `at`, lowest first.
-fn put_number(buf: &mut [u8], at: usize, width: usize, x: u64)
+pub fn put_number(buf: &mut [u8], at: usize, width: usize, x: u64)
     requires { ⌜ at + width ≤ length (now buf) ⌝ }
     ensures { λ _. ⌜ now (buf .exit) ≡ sets (now (buf .entry)) at (bytes width x) ⌝ }
 {

@@ -7,6 +7,7 @@ ghost use Rattle.cableowl.specs.Entries.{after, createdC, commandedC, an
 
 mod copies;
 mod fades;
+mod halves;
 mod loops;
 mod once;
 mod replays;
@@ -28,6 +29,8 @@ pub use copies::cableowl_merge_copies;
 pub use copies::cableowl_write_copy;
 pub use fades::cableowl_amplitude;
 pub use fades::cableowl_fade_ramp;
+pub use halves::cableowl_load_half;
+pub use halves::cableowl_store_half;
 pub use loops::cableowl_clear_loop;
 pub use loops::cableowl_loop_table;
 pub use loops::cableowl_read_loop;

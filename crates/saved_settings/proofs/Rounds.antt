@@ -13,8 +13,8 @@ use Rattle.byte_layout.specs.Numbers.{num, bytes}
 use Rattle.byte_layout.specs.Rows.{rowAt, rows, stands, within}
 use Rattle.byte_layout.specs.Reads.{Reading, bad, good, steps, step, taken}
 use Rattle.byte_layout.specs.Writes.{field, fits, fine, payload}
-use Rattle.byte_layout.proofs.Codec.{never, both, ands, read-written, written-read, Written}
-use Rattle.byte_layout.proofs.Lengths.{always}
+use Rattle.byte_layout.proofs.Codec.{read-written, written-read, Written}
+use Rattle.byte_layout.proofs.Takes.{took, none, peel, ended, read-back}
 use Rattle.saved_settings.specs.declared.SavedSettings.{SavedSettings}
 use Rattle.saved_settings.specs.declared.Loaded.{Loaded}
 use Rattle.saved_settings.specs.Tables.{firstTable, secondTable, firstRows, secondRows}
@@ -23,33 +23,6 @@ use Rattle.saved_settings.specs.Promises.{whole, Holds}
 use Rattle.saved_settings.proofs.Fields.{Lawful, lawful-parts, storable-parts, signed-back, byte-back}
 use Rattle.saved_settings.proofs.Loads.{first-sound, second-sound}
 use Rattle.saved_settings.proofs.Stores.{first-length, second-length}
-
--- ---- rows
-
--- a row that always stands takes a number of its range
-took : (r : Row) (rs : List Row) (vs : List ℕ) (x : ℕ) (ws : List ℕ) → r .low ≡ 0 → r .least ≤ x → x ≤ r .most → fine rs (vs ++ (x ∷ [])) ws ≡ true → fine (r ∷ rs) vs (x ∷ ws) ≡ true
-unfolding fine fits within
-took r rs vs x ws l a b h = rw (always r vs l) (rw (le-leb (r .least) x a, le-leb x (r .most) b) h)
-
-none : (vs : List ℕ) → fine [] vs [] ≡ true
-unfolding fine
-none vs = refl
-
--- and what it took was one
-peel : (P : List ℕ → Type 0) (r : Row) (rs : List Row) (vs ws : List ℕ) → r .low ≡ 0 → fine (r ∷ rs) vs ws ≡ true
-    → ((x : ℕ) (l : List ℕ) → r .least ≤ x → x ≤ r .most → fine rs (vs ++ (x ∷ [])) l ≡ true → P (x ∷ l)) → P ws
-unfolding fine fits within
-peel P r rs vs [] l h k = never h
-peel P r rs vs (x ∷ ws) l h k =
-    let g : cond (fits true r x) (fine rs (vs ++ (x ∷ [])) ws) false ≡ true = subst (λ (b : Bool). cond (fits b r x) (fine rs (vs ++ (x ∷ [])) ws) false ≡ true) (always r vs l) h in
-    let p = both (leb (r .least) x && leb x (r .most)) (fine rs (vs ++ (x ∷ [])) ws) g in
-    let q = ands (leb (r .least) x) (leb x (r .most)) (p .0) in
-    k x ws (leb-true (r .least) x (q .0)) (leb-true x (r .most) (q .1)) (p .1)
-
-ended : (vs ws : List ℕ) → fine [] vs ws ≡ true → ws ≡ []
-unfolding fine
-ended vs [] h = refl
-ended vs (x ∷ ws) h = never h
 
 -- ---- stored, then loaded
 
@@ -81,10 +54,6 @@ second-fine s r l =
     (took _ _ _ _ _ refl (omega arith) (omega (arith, r))
     (took _ _ _ _ _ refl (omega arith) (omega arith)
     (none _))))))))))
-
-read-back : (rs : List Row) (ws rest : List ℕ) (n : ℕ) → length (payload rs [] ws) ≡ n → steps rs (good (length (payload rs [] ws) + 0) [] (payload rs [] ws ++ rest)) ≡ good 0 ws rest
-    → steps rs (good n [] (payload rs [] ws ++ rest)) ≡ good 0 ws rest
-read-back rs ws rest n e h = ap (λ (k : ℕ). steps rs (good k [] (payload rs [] ws ++ rest))) (sym (add-zero (length (payload rs [] ws)) ∙ e)) ∙ h
 
 -- the version's byte
 first-is : (reader : ℕ) (s : SavedSettings) (rest : List ℕ) → second reader (payload (rows firstTable 0 9) [] (firstNumbers s) ++ rest) ≡ false

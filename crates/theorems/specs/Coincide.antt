@@ -31,10 +31,13 @@ use Rattle.loop_table.proofs as loop_table
 use Rattle.take_loop.proofs as take_loop
 use Rattle.decibels.proofs as decibels
 use Rattle.semitones.proofs as semitones
+use Rattle.crc32.proofs as crc32
 use Rattle.byte_layout.proofs as byte_layout
 use Rattle.saved_settings.proofs as saved_settings
+use Rattle.saved_loops.proofs as saved_loops
 use Rattle.trace_records.proofs as trace_records
 use Rattle.trace_salvage.proofs as trace_salvage
+use Rattle.trace_sealed.proofs as trace_sealed
 use Rattle.c_state.proofs as c_state
 use Rattle.c_inputs.proofs as c_inputs
 use Rattle.cableowl.proofs as cableowl
@@ -169,7 +172,11 @@ pub record Coincide : Type 0 where
   pub decibels-as-amplitude : DecidesWith (λ k r s. s .1 .0 .now) decibels.as_amplitude.Reads.Post
   pub decibels-fade-ramp : DecidesWith (λ k r s. s .1 .1 .1 .0 .now) decibels.fade_ramp.Reads.Post
   pub semitones-raised : Decides semitones.raised.Reads.Post
+  -- crc32
+  pub crc32-checksum : Decides crc32.checksum.Reads.Post
   -- byte_layout
+  pub byte-layout-number : Decides byte_layout.number.Reads.Post
+  pub byte-layout-put-number : DecidesWith (λ k r s. s .0 .now) byte_layout.put_number.Reads.Post
   pub byte-layout-begin : Decides byte_layout.begin.Reads.Post
   pub byte-layout-read-rows : DecidesAs (λ k a r. view (now (a .0)) (a .1 .1 .1 .0) r) byte_layout.read_rows.Reads.Post
   pub byte-layout-put-rows : DecidesWith (λ k r s. s .0 .now) byte_layout.put_rows.Reads.Post
@@ -179,6 +186,12 @@ pub record Coincide : Type 0 where
   -- saved_settings
   pub saved-settings-load : Decides saved_settings.load.Reads.Post
   pub saved-settings-store : DecidesWith (λ k r s. s .1 .1 .0 .now) saved_settings.store.Reads.Post
+  -- trace_sealed
+  pub trace-sealed-read : Decides trace_sealed.read.Reads.Post
+  pub trace-sealed-write : DecidesWith (λ k r s. s .0 .now) trace_sealed.write.Reads.Post
+  -- saved_loops
+  pub saved-loops-load : Decides saved_loops.load.Reads.Post
+  pub saved-loops-store : DecidesWith (λ k r s. s .1 .1 .0 .now) saved_loops.store.Reads.Post
   -- trace_records and trace_salvage
   pub trace-records-read : Decides trace_records.read.Reads.Post
   pub trace-records-write : DecidesWith (λ k r s. s .0 .now) trace_records.write.Reads.Post
@@ -212,6 +225,8 @@ pub record Coincide : Type 0 where
   pub cableowl-cableowl-store-settings : DecidesWith (λ k r s. s .1 .0 .now) cableowl.cableowl_store_settings.Reads.Post
   pub cableowl-cableowl-load-settings : DecidesWith (λ k r s. s .1 .1 .0 .now) cableowl.cableowl_load_settings.Reads.Post
   pub cableowl-cableowl-settings-of : Decides cableowl.cableowl_settings_of.Reads.Post
+  pub cableowl-cableowl-store-half : DecidesWith (λ k r s. s .1 .1 .0 .now) cableowl.cableowl_store_half.Reads.Post
+  pub cableowl-cableowl-load-half : DecidesWith (λ k r s. s .1 .0 .now) cableowl.cableowl_load_half.Reads.Post
   pub cableowl-cableowl-read-record : Decides cableowl.cableowl_read_record.Reads.Post
   pub cableowl-cableowl-write-record : DecidesWith (λ k r s. s .0 .now) cableowl.cableowl_write_record.Reads.Post
   pub cableowl-cableowl-salvage : DecidesWith (λ k r s. s .1 .0 .now) cableowl.cableowl_salvage.Reads.Post

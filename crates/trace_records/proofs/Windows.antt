@@ -33,18 +33,18 @@ drop-front (suc n) [] ys h = none (omega arith)
 drop-front (suc n) (x ∷ xs) ys h = drop-front n xs ys (omega arith)
 
 -- a reading with more input behind it
-unfoldable longer : List ℕ → Reading → Reading
+unfoldable pub longer : List ℕ → Reading → Reading
 longer m (bad k) = bad k
 longer m (good l us rest) = good l us (rest ++ m)
 
 -- the input holds what is left of the payload, and d bytes more
-data Holds (d : ℕ) : Reading → Type 0 where
+pub data Holds (d : ℕ) : Reading → Type 0 where
   refusal : (k : ℕ) → Holds d (bad k)
   input : (l : ℕ) (us rest : List ℕ) → l + d ≤ length rest → Holds d (good l us rest)
 
-record Same (d : ℕ) (m : List ℕ) (x y : Reading) : Type 0 where
-  equal : x ≡ longer m y
-  holds : Holds d y
+pub record Same (d : ℕ) (m : List ℕ) (x y : Reading) : Type 0 where
+  pub equal : x ≡ longer m y
+  pub holds : Holds d y
 
 one-row : (r : Row) (d left : ℕ) (vs win m : List ℕ) → left + d ≤ length win → Same d m (step r (good left vs (win ++ m))) (step r (good left vs win))
 unfolding step taken longer
@@ -82,7 +82,7 @@ unfolding longer step
 row-same r d m _ (refusal k) = record { equal = refl; holds = refusal k }
 row-same r d m _ (input l us rest h) = one-row r d l us rest m h
 
-rows-same : (rs : List Row) (d : ℕ) (m : List ℕ) (x : Reading) → Holds d x → Same d m (steps rs (longer m x)) (steps rs x)
+pub rows-same : (rs : List Row) (d : ℕ) (m : List ℕ) (x : Reading) → Holds d x → Same d m (steps rs (longer m x)) (steps rs x)
 unfolding steps
 rows-same [] d m x h = record { equal = refl; holds = h }
 rows-same (r ∷ rs) d m x h =
@@ -91,7 +91,7 @@ rows-same (r ∷ rs) d m x h =
     record { equal = ap (steps rs) (s .equal) ∙ t .equal; holds = t .holds }
 
 -- what is found, with more input behind it
-unfoldable beyond : List ℕ → Found → Found
+unfoldable pub beyond : List ℕ → Found → Found
 beyond m (refused n) = refused n
 beyond m (found k ws rest) = found k ws (rest ++ m)
 

@@ -1,10 +1,10 @@
-//! A host shaped like an audio callback: interleaved f32 output of any length, commands from another thread by a bounded
-//! channel, and nothing in the callback that waits or allocates, which a counting allocator shows.
+//! A host shaped like an audio callback: interleaved f32 output of any length, and commands from another thread through a
+//! bounded channel. Nothing in the callback waits or allocates, which a counting allocator shows.
 //!
-//! The callback notes at which frame it heard each command. Afterwards the evening is played again, the same commands at the
-//! same frames, in as few calls as there can be, and must be the same samples: the host decides when a command is heard, and
-//! nothing else. Presses come faster than callbacks, so several are heard before one frame; all are obeyed, in their order,
-//! and again with an empty call between each two of them.
+//! The callback notes at which frame it got each command. Afterwards the evening is played again with the same commands at
+//! the same frames, in as few calls as possible, and must give the same samples: the host decides when a command is heard,
+//! and nothing else. Commands come faster than callbacks, so several come before one frame. All are obeyed, in their order,
+//! and the result is the same with an empty call between them.
 //!
 //! `cd host && cargo run --release --offline -p cableowl --example audio_callback`
 
@@ -33,10 +33,10 @@ thread_local! {
     static CALLS: Cell<usize> = const { Cell::new(0) };
 }
 
-/// The system's allocator; each thread counts its calls, to free as well.
+/// The system's allocator; each thread counts its calls, frees included.
 struct Counting;
 
-// SAFETY: every call goes on to the system's allocator as it came.
+// SAFETY: every call is passed on unchanged to the system's allocator.
 unsafe impl GlobalAlloc for Counting {
     unsafe fn alloc(&self, layout: Layout) -> *mut u8 {
         CALLS.set(CALLS.get() + 1);
@@ -56,15 +56,15 @@ static ALLOCATOR: Counting = Counting;
 struct Audio {
     player: SharedPlayer,
     commands: Receiver<Command>,
-    /// What was heard when; its room is made beforehand.
+    /// Which command came at which frame; allocated beforehand.
     heard: Vec<(u64, Command)>,
     refused: usize,
 }
 
 impl Audio {
-    /// The callback: the commands that have come, then the frames that are asked for.
+    /// The callback: applies the commands that have come, then plays the requested frames.
     fn callback(&mut self, out: &mut [f32]) {
-        // A note must have its room; what does not fit waits for a later call.
+        // A note must fit without allocating; otherwise the command waits for a later call.
         while self.heard.len() < self.heard.capacity() {
             let Ok(command) = self.commands.try_recv() else {
                 break;
@@ -80,8 +80,8 @@ impl Audio {
     }
 }
 
-/// What the student does, as long as the device plays. A full channel is tried again, not waited at: nobody has to be woken
-/// by the callback.
+/// What the student does while the device plays. If the channel is full it tries again and does not block, so that the
+/// callback need not wake a thread.
 fn student(commands: &SyncSender<Command>, plays: impl Fn() -> bool) {
     let fade = Tween::from_millis(40);
     let evening = [
@@ -101,7 +101,7 @@ fn student(commands: &SyncSender<Command>, plays: impl Fn() -> bool) {
         while plays() && matches!(commands.try_send(command), Err(TrySendError::Full(_))) {
             thread::sleep(Duration::from_micros(50));
         }
-        // Three presses in a row, then a pause.
+        // Three commands in a row, then a pause.
         if number % 3 == 2 {
             thread::sleep(Duration::from_micros(600));
         }
@@ -120,7 +120,7 @@ fn device(mut audio: Audio) -> (Audio, Vec<f32>, usize) {
         audio.callback(out);
         calls += CALLS.get() - before;
         rest = later;
-        // No card sets the pace here.
+        // No sound card sets the pace here.
         thread::sleep(Duration::from_micros(100));
     }
     (audio, samples, calls)

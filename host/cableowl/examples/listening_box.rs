@@ -1,9 +1,8 @@
 //! A small host: a student's evening on the listening box, played with several block sizes.
 //!
-//! The player has the fades and tweens; the host brings commands at their frames and cuts time as it
-//! likes. The first evening's samples are kept whole (115 MB), and the others are compared with them.
-//! Beside Cableowl's player the same evening is played by one whose fraction is cleared at block
-//! edges.
+//! The player has the fades and tweens; the host passes commands at their frames and chooses the block
+//! sizes. All samples of the first evening are kept (115 MB), and the others are compared with them. The
+//! same evening is also played by a wrong player whose fraction is cleared at block edges.
 
 use std::process::ExitCode;
 
@@ -19,7 +18,7 @@ use student::{
     Blocks, DEVICE_RATE, EVENING, LESSON, LESSON_RATE, Progress, SCRIPT, digested, grouped, lesson,
 };
 
-/// What an evening came to.
+/// The result of an evening.
 #[derive(PartialEq)]
 struct Outcome {
     counts: Processed,
@@ -27,8 +26,8 @@ struct Outcome {
     state: State,
 }
 
-/// Every sample of the first evening that is heard, and how many of the later ones differ from it, by
-/// their bits or by being too many or too few.
+/// Every sample of the first evening, and how many samples of the later ones differ from it, by their
+/// bits or because there are too many or too few.
 #[derive(Default)]
 struct Heard {
     first: Vec<f32>,
@@ -53,8 +52,8 @@ impl Heard {
     }
 }
 
-/// Plays the whole evening. Without a listener it makes the plausible slip: after each block, what
-/// lies between two frames is forgotten.
+/// Plays the whole evening. Without a listener it makes a plausible mistake: it clears the fraction
+/// after each block.
 fn evening(
     sound: &[f32],
     mut blocks: Blocks,
@@ -117,7 +116,7 @@ const HEADING: &str = "
                                                      at block edges is after an hour
 blocks of      steps   position  digest of frames";
 
-/// A way to cut time, by its name.
+/// A way to choose block sizes, by its name.
 type Cut = (&'static str, fn() -> Blocks);
 
 /// The seed of the random cuts, which their line names.
@@ -143,7 +142,7 @@ fn drift_told(drift: f64) -> String {
     format!("{frames:>9} frames, {seconds:>6.1} s {way}")
 }
 
-/// What the other player's figures say.
+/// What the wrong player's figures show.
 fn verdict(drifts: &[f64]) -> &'static str {
     let same = drifts.iter().all(|drift| *drift == drifts[0]);
     match (same, drifts.iter().all(|drift| *drift == 0.0)) {

@@ -1,5 +1,5 @@
-//! Two halls share one table of loops. Each has a thread that edits its own slots and a voice that takes loops from them;
-//! the evening is played with hall A quiet, busy and busier, and B's frames have the same digest each time.
+//! Two halls share one loop table. Each has a thread that edits its own slots and a voice that takes loops from them. The
+//! evening is played with hall A quiet, busy and busier, and B's frames have the same digest each time.
 //!
 //! `cd host && cargo run --release --offline -p cableowl --example two_halls`
 
@@ -67,7 +67,7 @@ fn evening(
     Ok(digest)
 }
 
-/// Both halls at once; A makes so many edits a block, B one.
+/// Both halls at once; A makes this many edits per block, B one.
 fn both(edits_of_a: u64, sound: &[f32]) -> Result<(Digest, Digest), Refusal> {
     let table = Mutex::new(LoopTable::new(FRAMES));
     let (a, b) = thread::scope(|scope| {

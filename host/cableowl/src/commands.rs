@@ -8,13 +8,13 @@ pub enum LoopCommand {
     /// Nothing.
     #[default]
     Keep,
-    /// Loops no more.
+    /// Removes the loop.
     Clear,
     /// Loops this part.
     Set(Region),
 }
 
-/// What a command set says of resuming.
+/// Whether a command set resumes.
 #[derive(Debug, Clone, Copy, PartialEq, Eq, Hash, Default)]
 pub enum ResumeCommand {
     /// Nothing.
@@ -22,11 +22,12 @@ pub enum ResumeCommand {
     No,
     /// Resumes with the next block.
     AtOnce,
-    /// Resumes once a block brings the answer (see [`Signals::resume`](crate::Signals::resume)).
+    /// Resumes when a block passes the answer (see [`Signals::resume`](crate::Signals::resume)).
     Waiting,
 }
 
-/// A command set: at most one of each, applied in the order of the fields. The default is empty.
+/// A command set: at most one of each command, applied in the order of the fields. The default is
+/// empty.
 ///
 /// ```
 /// use cableowl::{Commands, Frames, Settings, StaticSound};
@@ -41,32 +42,31 @@ pub enum ResumeCommand {
 #[derive(Debug, Clone, Copy, PartialEq, Default)]
 #[non_exhaustive]
 pub struct Commands {
-    /// A new held rate: its sign gives the direction, and it does not change the speed.
+    /// A new held rate: its sign gives the direction. It does not change the speed.
     pub playback_rate: Option<f64>,
     /// A new loop, or none.
     pub loop_region: LoopCommand,
-    /// Pauses, once a block says that the fade has finished.
+    /// Pauses when a block says that the fade has finished.
     pub pause: bool,
     /// Resumes.
     pub resume: ResumeCommand,
-    /// Stops, once a block says that the fade has finished.
+    /// Stops when a block says that the fade has finished.
     pub stop: bool,
-    /// Moves by so many seconds.
+    /// Moves by this many seconds.
     pub seek_by: Option<f64>,
     /// Moves to this many seconds.
     pub seek_to: Option<f64>,
 }
 
 impl Commands {
-    /// The empty command set, which only asks for the position.
+    /// The empty command set, which only reports the position.
     #[must_use]
     pub fn new() -> Self {
         Self::default()
     }
 
-    /// Sets the held rate, of which the voice takes the direction alone: below 0 it plays backward.
-    /// **It does not change the speed**, which is the rate lane's
-    /// ([`BlockLanes::rate`](crate::BlockLanes::rate)).
+    /// Sets the held rate. The voice uses only its sign: below 0 it plays backward. **It does not change
+    /// the speed**, which comes from the rate lane ([`BlockLanes::rate`](crate::BlockLanes::rate)).
     #[must_use]
     pub fn set_playback_rate(mut self, playback_rate: f64) -> Self {
         self.playback_rate = Some(playback_rate);
@@ -80,19 +80,18 @@ impl Commands {
         self
     }
 
-    /// Loops no more.
+    /// Removes the loop.
     #[must_use]
     pub fn clear_loop_region(mut self) -> Self {
         self.loop_region = LoopCommand::Clear;
         self
     }
 
-    /// Asks for a pause: the voice is `Pausing` and **plays on as loud as the host's fade lane says**
-    /// until a block brings [`Signals::finished`](crate::Signals::finished); then it is `Paused`.
+    /// Begins a pause. The voice is `Pausing` and **keeps playing, as loud as the host's fade lane
+    /// says**, until a block passes [`Signals::finished`](crate::Signals::finished); then it is `Paused`.
     ///
-    /// The fade is the host's: it lends a falling fade, block by block, and says when it has
-    /// finished. A host that lends fades of 1 hears no fade, and one that never says finished hears
-    /// no pause.
+    /// The host makes the fade: it passes a falling fade lane, block by block, and says when the fade
+    /// has finished. Without a falling lane there is no fade; without `finished` there is no pause.
     ///
     /// ```
     /// use cableowl::{Commands, Lanes, PlaybackState, Settings, Signals, StaticSound};
@@ -116,30 +115,30 @@ impl Commands {
         self
     }
 
-    /// Resumes: the voice is `Resuming` and plays at once, as loud as the host's fade lane says (a
-    /// host that fades in lends a rising one), and `Playing` once a block says finished.
+    /// Resumes: the voice is `Resuming` and plays at once, as loud as the host's fade lane says (pass a
+    /// rising one to fade in). It is `Playing` when a block says `finished`.
     #[must_use]
     pub fn resume(mut self) -> Self {
         self.resume = ResumeCommand::AtOnce;
         self
     }
 
-    /// The same, once a block brings the answer ([`Signals::resume`](crate::Signals::resume)).
+    /// The same, when a block passes the answer ([`Signals::resume`](crate::Signals::resume)).
     #[must_use]
     pub fn resume_waiting(mut self) -> Self {
         self.resume = ResumeCommand::Waiting;
         self
     }
 
-    /// Asks for the end: as [`Commands::pause`](Commands::pause()), the voice plays on under the host's
-    /// falling fade until a block says finished; then it is stopped for ever.
+    /// Begins to stop: as with [`Commands::pause`](Commands::pause()), the voice keeps playing under the
+    /// host's falling fade until a block says `finished`. Then it is `Stopped` for ever.
     #[must_use]
     pub fn stop(mut self) -> Self {
         self.stop = true;
         self
     }
 
-    /// Moves by so many seconds.
+    /// Moves by this many seconds.
     #[must_use]
     pub fn seek_by(mut self, seconds: f64) -> Self {
         self.seek_by = Some(seconds);

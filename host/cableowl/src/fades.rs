@@ -4,13 +4,12 @@ use std::hint::black_box;
 
 use crate::{Refusal, ffi, float_mode};
 
-/// The most frames a ramp may have.
+/// The largest number of frames in a ramp.
 pub const MAX_RAMP_FRAMES: usize = 65_536;
 
 /// A level in tenths of a decibel below full level: 0 to 600, or [`Level::SILENCE`].
 ///
-/// Its amplitude comes from a proved table, so no power is computed, and it is the same on every
-/// machine.
+/// Its amplitude comes from a proved table, so it is the same on every machine.
 ///
 /// ```
 /// use cableowl::{Level, Refusal};
@@ -31,10 +30,10 @@ impl Level {
     #[doc(alias = "IDENTITY")]
     pub const FULL: Self = Self(0);
 
-    /// Silence, amplitude 0. The level before it, 600, is 60 decibels down and no silence.
+    /// Silence, amplitude 0. Level 600, 60 decibels down, is not silent.
     pub const SILENCE: Self = Self(601);
 
-    /// The level so many tenths of a decibel below full level; 601 is silence.
+    /// The level this many tenths of a decibel below full level; 601 is silence.
     ///
     /// # Errors
     ///
@@ -46,8 +45,8 @@ impl Level {
         }
     }
 
-    /// The level of this many decibels, 0 or below: rounded to the nearest tenth, a half down; silence
-    /// below -60.05. kira's `Decibels` go above 0, and are silence from -60 on.
+    /// The level of this many decibels, 0 or below, rounded to the nearest tenth (a half down). Below
+    /// -60.05 it is silence. (kira's `Decibels` can be above 0, and -60 is silence there.)
     ///
     /// ```
     /// use cableowl::{Level, Refusal};
@@ -88,11 +87,11 @@ impl Level {
     }
 }
 
-/// Fills a fade lane: levels run straight from `start` on the first frame to `end` on the last,
-/// rounded down to tenths of a decibel; one frame takes the end level.
+/// Fills a fade lane with levels in a straight line from `start` on the first frame to `end` on the
+/// last, rounded down to tenths of a decibel. A single frame has the end level.
 ///
-/// The frames are the lane's length. A block lends the part of the lane that it plays as its fade
-/// lane, so a fade may be longer than a block, and how it is cut changes nothing.
+/// The lane's length is the number of frames. Pass each block its part of the lane: a fade can be
+/// longer than a block, and block sizes do not change it.
 ///
 /// ```
 /// use cableowl::{Lanes, Level, Settings, Signals, StaticSound, fade_ramp};
@@ -116,9 +115,9 @@ impl Level {
 ///
 /// # Errors
 ///
-/// [`Refusal::Ramp`] for an empty lane, or one above [`MAX_RAMP_FRAMES`]; nothing is written.
+/// [`Refusal::Ramp`] for an empty lane, or one longer than [`MAX_RAMP_FRAMES`]. Nothing is written.
 pub fn fade_ramp(start: Level, end: Level, lane: &mut [f32]) -> Result<(), Refusal> {
-    // A length past 32 bits is past the largest count too.
+    // A length above 32 bits is above the largest count too.
     let count = u32::try_from(lane.len()).unwrap_or(u32::MAX);
     Refusal::check(float_mode::plain(|| {
         ffi::fade_ramp(start.0, end.0, count, lane)

@@ -1,12 +1,12 @@
-//! The float mode of a call. Audio hosts let their callback thread flush subnormals to zero, and the
-//! library's promises are about IEEE 754 as it stands: so each call runs in the mode a program begins
-//! with (round to nearest, subnormals kept, no traps), and the host's own comes back after it.
+//! The float mode of a call. Audio hosts often flush subnormals to zero on the callback thread, but the
+//! library's promises are about plain IEEE 754. So each call runs in the mode in which a program begins
+//! (round to nearest, keep subnormals, no traps), and restores the host's mode afterwards.
 #![allow(unsafe_code)]
 
 use std::arch::asm;
 
-/// Makes a call in the plain mode. `call` crosses into the archive, or hides its float operations
-/// from the optimizer, which takes every mode for the plain one.
+/// Makes a call in the plain mode. `call` must cross into the archive or hide its float operations
+/// from the optimizer, which assumes the plain mode.
 #[inline]
 pub fn plain<T>(call: impl FnOnce() -> T) -> T {
     let given = Mode::now();
@@ -28,7 +28,7 @@ struct Mode(u32);
 impl Mode {
     /// All exceptions masked, to nearest, neither FTZ nor DAZ.
     const PLAIN: Self = Self(0x1f80);
-    /// What has happened so far, which is no part of the mode.
+    /// The exception flags, which are not part of the mode.
     const FLAGS: u32 = 0x3f;
 
     fn now() -> Self {

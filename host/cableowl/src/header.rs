@@ -281,10 +281,11 @@ fn three_declarations_are_one() {
     let ours = rust_structs(&sources.concat().replace(": usize,", ": u64,"));
     let fields: usize = ours.iter().map(|(_, fields)| fields.len()).sum();
     assert!(ours.len() >= 11 && fields >= 58, "they are read: {ours:?}");
-    // Saved settings are eight words in the archive's own source, and a record in C and Rust alone.
+    // Saved settings and halves are words in the archive's own source, and records in C and Rust alone.
     let [in_c, in_rust] = [c_structs(&header_text()), rust_structs(&sys_text())];
     assert_eq!(in_c, in_rust, "cableowl.h and cableowl-sys");
-    let is_named = |(name, _): &(String, Vec<Field>)| name != "SavedSettings";
+    let is_named =
+        |(name, _): &(String, Vec<Field>)| !["SavedSettings", "LoopHalf"].contains(&name.as_str());
     let named: Structs = in_c.into_iter().filter(is_named).collect();
     assert_eq!(named, ours, "cableowl.h");
     for (name, size) in [

@@ -41,10 +41,10 @@ impl<'a, T> From<&'a Vec<T>> for Lane<'a, T> {
     }
 }
 
-/// Makes the lanes of block after block, and holds the room in which constants are spread.
+/// Makes the lanes of each block, and owns the buffers in which constants are repeated.
 ///
-/// Keep one beside a voice, or one for all voices of a thread: the room is allocated once, by
-/// [`Lanes::new`], and no block allocates after that.
+/// Keep one for a voice, or one for all voices of a thread. [`Lanes::new`] allocates the buffers once,
+/// and no block allocates after that.
 ///
 /// ```
 /// use cableowl::Lanes;
@@ -63,7 +63,7 @@ pub struct Lanes {
 }
 
 impl Lanes {
-    /// Makes room for the largest block.
+    /// Allocates buffers for the largest block.
     #[must_use]
     pub fn new() -> Self {
         Self {
@@ -75,8 +75,8 @@ impl Lanes {
         }
     }
 
-    /// The lanes of a block of so many frames: every amplitude and gain 1, and rate 1, until
-    /// another is said.
+    /// The lanes of a block of this many frames. Every amplitude, gain and rate is 1 unless set
+    /// otherwise.
     pub fn frames(&mut self, frames: usize) -> BlockLanes<'_> {
         BlockLanes {
             room: self,
@@ -98,7 +98,7 @@ impl Default for Lanes {
 
 /// The lanes of one block, made by [`Lanes::frames`].
 ///
-/// A lane of another length than the block's is refused by the call it is given to
+/// If a lane has another length than the block, the call that gets it refuses it
 /// ([`Refusal::Block`](crate::Refusal::Block)).
 #[derive(Debug)]
 #[must_use]
@@ -137,14 +137,14 @@ impl<'a> BlockLanes<'a> {
         self
     }
 
-    /// The rates, which are the speed. Their sign does not count: the direction is the held rate's.
+    /// The rates: the speed. Their sign is ignored; the held rate gives the direction.
     pub fn rate(mut self, rate: impl Into<Lane<'a, f64>>) -> Self {
         self.rate = rate.into();
         self
     }
 
-    /// How many frames from the first on have the same numbers, by their bits, in every lane: where a
-    /// host cuts a block that is to be recorded ([`trace`](crate::trace)).
+    /// How many frames, from the first on, have the same numbers in every lane, compared by their bits.
+    /// A host cuts a block there to record it ([`trace`](crate::trace)).
     ///
     /// ```
     /// use cableowl::Lanes;
@@ -178,8 +178,8 @@ impl<'a> BlockLanes<'a> {
         still as u64
     }
 
-    /// The record of the block, if one can hold it: constant lanes of its length. Its frames are not
-    /// judged.
+    /// The record of the block, if its lanes are constant and of its length. The number of frames is not
+    /// checked.
     pub(crate) fn block(&self, time_step: f64, signals: Signals) -> Result<Block, Refusal> {
         let frames = self.frames;
         let block = Block {
@@ -217,8 +217,8 @@ fn constant_in<T: Number>(lane: Lane<T>, frames: usize) -> usize {
     }
 }
 
-/// A lane's one number: [`Refusal::Record`] where it has several, or another length than the block's.
-/// A lane of no frames has any number.
+/// A lane's one number, or [`Refusal::Record`] if it has several or another length than the block.
+/// For a lane without frames it is any number.
 fn constant<T: Number + From<f32>>(lane: Lane<T>, frames: usize) -> Result<T, Refusal> {
     match lane {
         Lane::Constant(number) => Ok(number),
@@ -230,7 +230,7 @@ fn constant<T: Number + From<f32>>(lane: Lane<T>, frames: usize) -> Result<T, Re
     }
 }
 
-/// Room for a constant, spread over a block's frames.
+/// A buffer for a constant, repeated for each frame of a block.
 #[derive(Debug)]
 struct Spread<T> {
     /// All the same number, from an earlier block.
@@ -238,7 +238,7 @@ struct Spread<T> {
 }
 
 impl<T: Number> Spread<T> {
-    /// One frame more than a block may have: so much is refused, so more is never needed.
+    /// One frame more than a block can have: that is refused, so more is never needed.
     const ROOM: usize = MAX_BLOCK_FRAMES + 1;
 
     fn new() -> Self {
@@ -255,7 +255,7 @@ impl<T: Number> Spread<T> {
     }
 
     fn spread(&mut self, number: T, frames: usize) -> &[T] {
-        // Most lanes are ones: all voices share them, and they stay in the cache.
+        // Most lanes are ones. All voices share them, so they stay in the cache.
         if number.same_bits(T::ONES[0]) {
             return &T::ONES[..frames];
         }
@@ -273,7 +273,7 @@ impl<T: Number> Spread<T> {
     }
 }
 
-/// A clone has the same room: a cloned `Vec` would have room for what it holds alone.
+/// A clone has the same capacity; a cloned `Vec` would only have capacity for its contents.
 impl<T: Number> Clone for Spread<T> {
     fn clone(&self) -> Self {
         let mut room = Self::new();
@@ -282,9 +282,9 @@ impl<T: Number> Clone for Spread<T> {
     }
 }
 
-/// A number that is told from another by its bits: minus zero is refused where zero is not.
+/// A number that is compared by its bits: minus zero is refused, zero is not.
 trait Number: Copy + 'static {
-    /// As many ones as are ever lent.
+    /// As many ones as a lane ever needs.
     const ONES: &'static [Self];
 
     fn same_bits(self, other: Self) -> bool;

@@ -1,14 +1,14 @@
-//! kira's static sound, carried over to Rattle and proved, behind safe Rust.
+//! kira's static sound, carried over to Rattle and proved, behind a safe Rust interface.
 //!
-//! A voice plays a lent sound in blocks. What is heard does not depend on how the host cuts time
-//! into blocks: **block size may change when a command is heard, and nothing else.** Every call
-//! takes any input and refuses bad input by number ([`Refusal`]); a refused call changes nothing.
-//! No call of a voice or a player panics, allocates (but for `play` and for saving as bytes), waits or
-//! keeps what it was lent, and none depends on the thread's float mode: a host may flush subnormals
-//! to zero on its audio thread.
+//! A voice plays a sound in blocks; each call borrows the sound. The output does not depend on the
+//! block sizes: **block size may change when a command is heard, and nothing else.** Every call
+//! accepts any input and refuses bad input with a number ([`Refusal`]); a refused call changes nothing.
+//! No call of a voice or a player panics, allocates (except to create or save a player), waits or keeps
+//! what it borrowed. No call depends on the thread's float mode, so a host may flush subnormals to zero
+//! on its audio thread.
 //!
-//! A [`Player`] has volume, rate, panning and fades with tweens of its own, by kira's words, and plays
-//! outputs of any length:
+//! A [`Player`] has volume, rate, panning and fades with tweens, under kira's names, and plays outputs
+//! of any length (docs/guide/PLAYER.md):
 //!
 //! ```
 //! use std::time::Duration;
@@ -25,8 +25,8 @@
 //! # Ok::<(), cableowl::Refusal>(())
 //! ```
 //!
-//! Below it is the voice, for a host with parameters of its own: it brings each block the numbers of
-//! every output frame in [`Lanes`], and learns what it needs from the answers.
+//! Below it is the voice, for a host with its own parameters. The host passes each block the numbers of
+//! every output frame in [`Lanes`].
 //!
 //! ```
 //! use cableowl::{Commands, Lanes, Settings, Signals, StaticSound};
@@ -64,10 +64,10 @@
 //! | `StartTime::ClockTime` | [`Player::start_at_tick`] |
 //! | `resume_at`, modulators, effects, tracks, streams | not here |
 //!
-//! What a host does with a voice can be recorded, and played again from its bytes: [`trace`].
+//! A host can record the calls of a voice as bytes and play them again: [`trace`].
 //!
-//! docs/assurance/RULES.md states the exact rules; the definitions of the crates below
-//! `crates/` say them, and the proofs hold the compiled code to them.
+//! docs/assurance/RULES.md states the exact rules. The definitions in `crates/` state them formally,
+//! and the sources of the linked archive are proved to meet them.
 #![deny(missing_docs)]
 #![deny(unsafe_code)]
 
@@ -78,6 +78,7 @@ mod float_mode;
 mod header;
 mod lanes;
 mod loop_copy;
+mod loop_half;
 mod loop_table;
 mod playback_position;
 mod playback_state;
@@ -86,6 +87,7 @@ mod refusal;
 mod saved;
 mod saved_settings;
 mod settings;
+mod shared_loops;
 mod state;
 mod static_sound;
 mod stopping;
@@ -97,6 +99,7 @@ pub use commands::{Commands, LoopCommand, ResumeCommand};
 pub use fades::{Level, MAX_RAMP_FRAMES, fade_ramp};
 pub use lanes::{BlockLanes, Lane, Lanes};
 pub use loop_copy::LoopCopy;
+pub use loop_half::LoopHalf;
 pub use loop_table::{Hall, LoopTable};
 pub use playback_position::{EndPosition, Frames, PlaybackPosition, Region};
 pub use playback_state::{PlaybackState, Signals, StartAnswer, StartSignal};
@@ -105,6 +108,7 @@ pub use refusal::{LaneName, Refusal};
 pub use saved::Unreadable;
 pub use saved_settings::{SavedSettings, SettingsVersion};
 pub use settings::Settings;
+pub use shared_loops::{LoopsFault, SharedLoops, Start, Theirs};
 pub use state::{Frame, RecentFrame, State, Wraps};
 pub use static_sound::{Processed, StaticSound, Usage};
 
@@ -118,7 +122,7 @@ pub struct Readme;
 #[doc = include_str!("../../../docs/guide/PLAYER.md")]
 pub struct PlayerGuide;
 
-/// The most frames a block may have.
+/// The largest number of frames in a block.
 pub const MAX_BLOCK_FRAMES: usize = 4_096;
 
 /// The version of the archive's C ABI.

@@ -1,4 +1,4 @@
-//! A copy of a loop table for a box of its own, and two copies merged.
+//! A copy of a loop table for one of two boxes, and the merge of two copies.
 
 use std::ops::Range;
 
@@ -6,15 +6,17 @@ use crate::{Hall, LoopTable, Refusal, ffi};
 
 /// A copy of a [`LoopTable`] at one of two boxes that share no memory.
 ///
-/// Beside the table it holds how many writes and clears each hall has made. Each hall changes its
-/// half at its own box only, so of two copies of a half the one with the larger number is the newer.
-/// A box sends its copy to the other box at any time, and [`merge`](Self::merge) keeps each hall's
-/// newer half.
+/// It also counts the writes and clears of each hall. Each hall changes its half only at its own box,
+/// so the half with the larger count is the newer one. A box can send its copy to the other box at any
+/// time, and [`merge`](Self::merge) keeps each hall's newer half.
 ///
-/// It is proved that copies may be lost, repeated, late and out of order: a hall's own answers and
-/// slots, and the frames of voices that take loops from these slots, are what they would be without
-/// the other box; a merge never goes back to an older half; and once each box has merged the other's
-/// last copy, both hold the table that one shared table would hold.
+/// Copies can be lost, repeated, late or out of order. It is proved that
+///
+/// - a hall's own results and slots, and the frames of voices that take loops from these slots, are
+///   the same as without the other box;
+/// - a merge never goes back to an older half;
+/// - once each box has merged the other's last copy, both hold the table that one shared table would
+///   hold.
 ///
 /// ```
 /// use cableowl::{Hall, LoopCopy};
@@ -36,7 +38,7 @@ pub struct LoopCopy {
 }
 
 impl LoopCopy {
-    /// An empty table over a sound of so many frames, and no changes.
+    /// An empty table over a sound of this many frames, with no changes.
     #[must_use]
     pub fn new(num_frames: u64) -> Self {
         Self {
@@ -52,7 +54,7 @@ impl LoopCopy {
         }
     }
 
-    /// How many writes and clears of a hall this copy has. The number stays at its limit of 64 bits.
+    /// How many writes and clears of a hall this copy contains. The count stays at the largest `u64`.
     #[must_use]
     pub fn changes(&self, hall: Hall) -> u64 {
         match hall {
@@ -61,7 +63,7 @@ impl LoopCopy {
         }
     }
 
-    /// Puts a loop into a slot, in place of what it holds. Call it only at the hall's own box.
+    /// Writes a loop to a slot and replaces its old one. Call it only at the hall's own box.
     ///
     /// # Errors
     ///
@@ -91,15 +93,50 @@ impl LoopCopy {
     /// # Errors
     ///
     /// Refusal 27 if the copies are over sounds of different frame counts; 28 if both have the same
-    /// number of changes for a hall and its slots differ, which happens only if a hall was written at
-    /// two boxes or went back to an old copy. Nothing changes then.
+    /// number of changes for a hall and different slots, which happens only if a hall was written at
+    /// two boxes or went back to an old copy. A refused merge changes nothing.
     pub fn merge(&mut self, theirs: &Self) -> Result<(), Refusal> {
         self.change(ffi::merge_copies(self.copy, theirs.copy))
+    }
+
+    /// A hall's half.
+    pub(crate) fn half(&self, hall: Hall) -> ffi::LoopHalf {
+        let mut slots = [ffi::LoopSlot::default(); 8];
+        slots.copy_from_slice(&self.copy.table.slots[own_slots(hall)]);
+        ffi::LoopHalf {
+            hall: hall as u64,
+            num_frames: self.copy.table.num_frames,
+            changes: self.changes(hall),
+            slots,
+        }
+    }
+
+    /// A copy that has this half, and nothing of the other hall.
+    pub(crate) fn of_half(hall: Hall, half: &ffi::LoopHalf) -> Self {
+        Self::new(half.num_frames).with_half(hall, half)
+    }
+
+    /// This copy with a half in place of its own.
+    pub(crate) fn with_half(mut self, hall: Hall, half: &ffi::LoopHalf) -> Self {
+        self.copy.table.slots[own_slots(hall)].copy_from_slice(&half.slots);
+        match hall {
+            Hall::A => self.copy.changes_a = half.changes,
+            Hall::B => self.copy.changes_b = half.changes,
+        }
+        self
     }
 
     fn change(&mut self, answer: ffi::CopyChanged) -> Result<(), Refusal> {
         Refusal::check(answer.refusal)?;
         self.copy = answer.copy;
         Ok(())
+    }
+}
+
+/// A hall's slots in the table.
+fn own_slots(hall: Hall) -> Range<usize> {
+    match hall {
+        Hall::A => 0..8,
+        Hall::B => 8..16,
     }
 }

@@ -15,14 +15,13 @@ pub enum Hall {
 
 /// Sixteen loops over one sound, in frames.
 ///
-/// Hall A writes and clears slots 0 to 7, hall B slots 8 to 15; both read all, so a read names no
-/// hall. A slot's name is its number; what else a loop is called, the host keeps beside the table.
-/// Each loop is judged over all frames of the sound, which the table records; a voice with a slice
-/// judges it again when it takes it ([`StaticSound::take_loop`](crate::StaticSound::take_loop)). A
-/// refused call changes nothing.
+/// Hall A writes and clears slots 0 to 7, hall B slots 8 to 15. Both read all slots, so a read names no
+/// hall. The host keeps names for the slots, if it needs them. Each loop must lie inside the sound,
+/// whose frame count the table records. A voice with a slice checks a loop again when it takes it
+/// ([`StaticSound::take_loop`](crate::StaticSound::take_loop)). A refused call changes nothing.
 ///
-/// It is proved that whatever one hall calls, the answers to the other's writes and clears, its
-/// eight slots, and all that voices do which take loops from those slots alone stay the same.
+/// It is proved that the calls of one hall never change the results of the other hall's writes and
+/// clears, its eight slots, or a voice that takes loops only from those slots.
 ///
 /// ```
 /// use cableowl::{Hall, LoopTable, Refusal};
@@ -37,8 +36,8 @@ pub enum Hall {
 /// # Ok::<(), Refusal>(())
 /// ```
 ///
-/// The table is a plain value. Two threads share it behind a mutex of the host's, held for one
-/// call; the audio thread takes a copy, or takes its loop under the mutex between two blocks.
+/// The table is a plain value. Two threads can share it behind the host's mutex, locked for one call.
+/// The audio thread copies the table, or takes its loop under the mutex between two blocks.
 ///
 /// ```
 /// use std::{sync::Mutex, thread};
@@ -61,7 +60,7 @@ pub struct LoopTable {
 }
 
 impl LoopTable {
-    /// Sixteen empty slots over a sound of so many frames. Over 0 frames every write is refused
+    /// Sixteen empty slots over a sound of this many frames. Over 0 frames every write is refused
     /// with 6.
     #[must_use]
     pub fn new(num_frames: u64) -> Self {
@@ -76,7 +75,7 @@ impl LoopTable {
         self.table.num_frames
     }
 
-    /// Puts a loop into a slot, in place of what it holds.
+    /// Writes a loop to a slot and replaces its old one.
     ///
     /// # Errors
     ///
@@ -112,7 +111,7 @@ impl LoopTable {
         Ok(found.slot.start..found.slot.end)
     }
 
-    /// The same, as a loop command takes it.
+    /// The same as a `Region`, for a loop command.
     pub(crate) fn region(&self, slot: usize) -> Result<Region, Refusal> {
         let frames = self.read(slot)?;
         Ok((Frames(frames.start as usize)..Frames(frames.end as usize)).into())

@@ -1,4 +1,4 @@
-//! Places in a sound: docs/assurance/RULES.md, "Seconds to frames".
+//! Positions in a sound: docs/assurance/RULES.md, "Seconds to frames".
 
 use std::ops::{Range, RangeFrom, RangeFull, RangeTo};
 
@@ -6,8 +6,8 @@ use crate::ffi;
 
 /// A point in time in a piece of audio.
 ///
-/// Seconds are multiplied by the sample rate and rounded half away from zero; below 0 they give
-/// frame 0.
+/// Seconds are multiplied by the sample rate and rounded, a half away from zero. A negative result
+/// becomes frame 0.
 #[derive(Debug, Clone, Copy, PartialEq)]
 pub enum PlaybackPosition {
     /// The time in seconds.
@@ -28,7 +28,7 @@ impl From<f64> for PlaybackPosition {
     }
 }
 
-/// A frame's number, or a count of frames: `Frames(6)..Frames(11)` is a region of 5 frames, and
+/// A frame index, or a number of frames: `Frames(6)..Frames(11)` is a region of 5 frames, and
 /// `6.0..11.0` one of 5 seconds. A bare integer is neither:
 ///
 /// ```compile_fail
@@ -56,13 +56,13 @@ impl From<Frames> for PlaybackPosition {
 pub enum EndPosition {
     /// The end of the audio: all frames for a slice, the slice's frames for a loop.
     EndOfAudio,
-    /// A given place.
+    /// A given position.
     Custom(PlaybackPosition),
 }
 
-/// A part of a sound, its end exclusive.
+/// A part of a sound; the end is exclusive.
 ///
-/// Ranges of seconds and of [`Frames`] turn into regions.
+/// Ranges of seconds and of [`Frames`] convert to regions.
 ///
 /// ```
 /// use cableowl::{EndPosition, Frames, PlaybackPosition, Region};

@@ -1,21 +1,21 @@
-//! The seven states, and what a block is told: docs/assurance/RULES.md, "States".
+//! The seven playback states and a block's signals: docs/assurance/RULES.md, "States".
 
 use crate::ffi;
 
-/// What a voice is doing.
+/// The playback state of a voice.
 #[derive(Debug, Clone, Copy, PartialEq, Eq, Hash)]
 pub enum PlaybackState {
     /// 0: it plays.
     Playing,
-    /// 1: it plays while the host fades it out, and is paused once a block says finished.
+    /// 1: it plays while the host fades it out, until a block says `finished`; then it is paused.
     Pausing,
-    /// 2: it is silent and stands still.
+    /// 2: it is silent and does not move.
     Paused,
-    /// 3: it is silent until a block brings the answer to its resume.
+    /// 3: it is silent until a block passes the answer to its resume.
     WaitingToResume,
     /// 4: it plays while the host fades it in.
     Resuming,
-    /// 5: it plays while the host fades it out, and is stopped once a block says finished.
+    /// 5: it plays while the host fades it out, until a block says `finished`; then it is stopped.
     Stopping,
     /// 6: it is silent for ever.
     Stopped,
@@ -33,24 +33,24 @@ impl PlaybackState {
         Self::Stopped,
     ];
 
-    /// The rules' number, 0 to 6.
+    /// Its number, 0 to 6.
     #[must_use]
     pub fn number(self) -> u32 {
         self as u32
     }
 
-    /// The state with this number, if one has it.
+    /// The state with this number, if there is one.
     #[must_use]
     pub fn from_number(number: u32) -> Option<Self> {
         Self::ALL.get(usize::try_from(number).ok()?).copied()
     }
 
-    /// The state that a voice's record has: the archive returns the numbers 0 to 6 alone.
+    /// The state in a voice's record; the archive returns only the numbers 0 to 6.
     pub(crate) fn of_voice(number: u32) -> Self {
         Self::from_number(number).unwrap_or(Self::Stopped)
     }
 
-    /// Whether a voice in this state moves on.
+    /// Whether a voice in this state advances.
     #[must_use]
     pub fn is_advancing(self) -> bool {
         matches!(
@@ -60,7 +60,7 @@ impl PlaybackState {
     }
 }
 
-/// What a start that waits is told by a block.
+/// A block's answer to a start that waits.
 #[derive(Debug, Clone, Copy, PartialEq, Eq, Hash, Default)]
 pub enum StartAnswer {
     /// Still waiting.
@@ -72,15 +72,15 @@ pub enum StartAnswer {
     Never,
 }
 
-/// What a block is told of the sound's own start: an answer, or the tick at which it is due and the
-/// tick now, on a counter of 32 bits that may wrap. The default is still waiting.
+/// A block's signal for the start of the sound: an answer, or the tick at which it is due with the
+/// current tick, on a 32-bit counter that may wrap. The default is still waiting.
 ///
-/// A due tick is reached where `now.wrapping_sub(due)` is below 2,147,483,648, half a turn: then the
-/// start is told [`Now`](StartAnswer::Now), and elsewhere [`Waiting`](StartAnswer::Waiting). So a
-/// tick due up to half a turn ahead is waited for, and **one due further ahead counts as reached
-/// already**; at 1,000 ticks a second half a turn is 24 days, 20 hours, 31 minutes and 23.648
-/// seconds. A start that has come stays so, though the tick goes on or back. Where a block is cut in
-/// two, both parts bring the same tick.
+/// If `now.wrapping_sub(due)` is below 2,147,483,648, half the range, the tick is reached and means
+/// [`Now`](StartAnswer::Now); otherwise it means [`Waiting`](StartAnswer::Waiting). So a tick that is due
+/// at most half the range ahead is waited for, and **one that is due further ahead counts as reached**.
+/// At 1,000 ticks per second half the range is 24 days, 20 hours, 31 minutes and 23.648 seconds. A start
+/// that has come stays, even if the tick goes back. If a block is cut in two, pass both parts the same
+/// tick.
 ///
 /// ```
 /// use cableowl::{Lanes, Settings, Signals, StartSignal, StaticSound};
@@ -104,13 +104,13 @@ pub enum StartSignal {
     Tick {
         /// The tick at which the sound starts.
         due: u32,
-        /// The tick now.
+        /// The current tick.
         now: u32,
     },
 }
 
 impl StartSignal {
-    /// The answer that the start is told.
+    /// The answer that it means.
     ///
     /// ```
     /// use cableowl::{StartAnswer, StartSignal};
@@ -141,7 +141,7 @@ impl From<StartAnswer> for StartSignal {
     }
 }
 
-/// What a block is told beside its lanes; the default is no signals.
+/// The signals of a block; the default is no signals.
 ///
 /// ```
 /// use cableowl::{Signals, StartAnswer};
@@ -156,7 +156,7 @@ pub struct Signals {
     pub finished: bool,
     /// An answer or a tick for the sound's own start; ignored once that has come.
     pub start: StartSignal,
-    /// The answer for a waiting resume; ignored where none waits.
+    /// The answer for a waiting resume; ignored if none waits.
     pub resume: StartAnswer,
 }
 
@@ -167,21 +167,21 @@ impl Signals {
         Self::default()
     }
 
-    /// Says whether the fade of a pause, resume or stop has ended.
+    /// Sets whether the fade of a pause, resume or stop has ended.
     #[must_use]
     pub fn finished(mut self, finished: bool) -> Self {
         self.finished = finished;
         self
     }
 
-    /// Answers the sound's own start, or says the tick at which it is due and the tick now.
+    /// Sets the answer to the sound's start, or the due tick and the current tick.
     #[must_use]
     pub fn start(mut self, start: impl Into<StartSignal>) -> Self {
         self.start = start.into();
         self
     }
 
-    /// Answers a waiting resume.
+    /// Sets the answer to a waiting resume.
     #[must_use]
     pub fn resume(mut self, resume: StartAnswer) -> Self {
         self.resume = resume;

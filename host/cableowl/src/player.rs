@@ -1,4 +1,4 @@
-//! A player: a voice with its own parameters, fades and tweens, by kira's words.
+//! A player: a voice with parameters, fades and tweens, under kira's names.
 
 mod block;
 mod command;
@@ -31,22 +31,20 @@ use crate::{
     Wraps, float_mode, refusal,
 };
 
-/// A voice with volume, rate, panning and fades of its own: what kira's users know, by kira's names,
-/// and no block size can be heard in it.
+/// A voice with volume, playback rate, panning and fades, under kira's names. Block sizes do not change
+/// its output. docs/guide/PLAYER.md is a guide to it.
 ///
-/// Volume, playback rate, panning and the fade of a pause, resume or stop are parameters, each led by
-/// [`Tween`]s. **A parameter's value is a function of how many frames have passed since its command,
-/// and a state changes at the very frame where its fade ends**, so the same commands at the same
-/// frames give the same samples, states and counts, bit for bit, however the host cuts time: outputs
-/// of any length, of 0 frames too.
+/// Volume, playback rate, panning and the fade of a pause, resume or stop are parameters that [`Tween`]s
+/// move. **A parameter's value depends only on the number of frames since its command, and a state
+/// changes at the frame in which its fade ends.** So the same commands at the same frames give the same
+/// samples, states and counts, bit for bit, for outputs of any length, also 0.
 ///
-/// **Commands are obeyed with the next frame, all of them, in the order in which they were given**, so
-/// a long block obeys what short ones obey. `seek_by(-1.0)` twice steps back two seconds; `resume` and
-/// then `pause` pauses. A parameter's tween starts from its value before that frame, and its last
-/// target counts. (kira keeps the last command of each kind and obeys the kinds in an order of its
-/// own: docs/DIFFERENCES.md.) 64 seeks can wait for one frame; one more is refused
-/// ([`Refusal::Queue`]), and nothing else is ever refused for room. What is bad is refused at once and
-/// changes nothing; what was accepted is not refused later.
+/// **Every command takes effect with the next frame, in the order in which they were given.**
+/// `seek_by(-1.0)` twice goes back two seconds; `resume` and then `pause` pauses. A parameter's tween
+/// starts from its value before that frame, and its last target counts. (kira keeps the last command of
+/// each kind and applies the kinds in an order of its own: docs/DIFFERENCES.md.) At most 64 seeks can
+/// wait for one frame; one more is refused ([`Refusal::Queue`]). A bad command is refused at once and
+/// changes nothing; an accepted command is not refused later.
 ///
 /// No call panics, waits or depends on the thread's float mode. Only [`Player::play`], `clone`,
 /// [`Player::to_bytes`] and [`Player::from_bytes`] allocate.
@@ -64,7 +62,7 @@ use crate::{
 /// let mut out = [0.0; 2 * 10_000];
 /// player.process(&sound, &mut out)?;
 /// player.pause(Duration::from_millis(250));
-/// player.mix(&sound, &mut out)?; // added to what stands there
+/// player.mix(&sound, &mut out)?; // adds to the samples in out
 /// assert_eq!(player.state(), PlaybackState::Pausing);
 /// player.process(&sound, &mut out)?;
 /// assert_eq!(player.state(), PlaybackState::Paused);
@@ -78,7 +76,7 @@ pub struct Player {
     output_rate: u32,
     /// The seconds of one output frame.
     time_step: f64,
-    /// The frames played, silent ones too.
+    /// The frames played, silent ones included.
     clock: u64,
     /// Tenths of a decibel.
     volume: Parameter<u16>,
@@ -86,17 +84,17 @@ pub struct Player {
     rate: Parameter<f64>,
     panning: Parameter<f64>,
     amplitudes: &'static Amplitudes,
-    /// What is obeyed with the next frame.
+    /// The commands that take effect with the next frame.
     queue: Queue,
-    /// The frame at which the sound's own start comes.
+    /// The frame at which the sound starts.
     starts_at: Option<u64>,
     counts: Processed,
     room: Room,
 }
 
 impl Player {
-    /// Plays a sound: kira's `play`. `output_rate` is the output's frames a second. The settings'
-    /// playback rate is speed and direction at once, as in kira.
+    /// Plays a sound: kira's `play`. `output_rate` is the output's frames per second. The settings'
+    /// playback rate is both speed and direction, as in kira.
     ///
     /// ```
     /// use cableowl::{Player, Settings};
@@ -111,7 +109,7 @@ impl Player {
     ///
     /// # Errors
     ///
-    /// Refusals 2 to 7, as [`StaticSound::new`]; then [`Refusal::OutputRate`] for an output rate of 0,
+    /// Refusals 2 to 7, as for [`StaticSound::new`]; then [`Refusal::OutputRate`] for an output rate of 0,
     /// and [`Refusal::TooFast`] for a playback rate that is too fast.
     #[doc(alias = "AudioManager")]
     pub fn play(settings: Settings, output_rate: u32, sound: &[f32]) -> Result<Self, Refusal> {
@@ -119,7 +117,7 @@ impl Player {
         Self::of(voice, settings.playback_rate, output_rate)
     }
 
-    /// A player of this voice, its parameters at rest.
+    /// A player of this voice whose parameters do not move.
     fn of(voice: StaticSound, rate: f64, output_rate: u32) -> Result<Self, Refusal> {
         if output_rate == 0 {
             return Err(Refusal::OutputRate);
@@ -144,8 +142,8 @@ impl Player {
         Ok(player)
     }
 
-    /// Fades the sound in from silence, before its first block: kira's setting of this name. The
-    /// state is `Playing` meanwhile, and the fade runs though the start waits.
+    /// Fades the sound in from silence, from its first frame on: kira's setting of this name. The state
+    /// is `Playing` meanwhile. The fade also runs while the start waits.
     #[must_use]
     pub fn fade_in_tween(mut self, tween: impl Into<Tween>) -> Self {
         self.fade_in(tween.into());
@@ -158,20 +156,20 @@ impl Player {
         self.fade.set(tenths(Level::FULL), self.clock, ramp);
     }
 
-    /// Fades out, then pauses: `Pausing`, and `Paused` from the frame on where the fade ends.
+    /// Fades out, then pauses: `Pausing`, and `Paused` from the frame in which the fade ends.
     pub fn pause(&mut self, tween: impl Into<Tween>) {
         let ramp = self.ramp(tween);
         self.queue.press(Press::Pause, ramp);
     }
 
-    /// Resumes and fades in: `Resuming`, and `Playing` from the frame on where the fade ends.
+    /// Resumes and fades in: `Resuming`, and `Playing` from the frame in which the fade ends.
     pub fn resume(&mut self, tween: impl Into<Tween>) {
         let ramp = self.ramp(tween);
         self.queue.press(Press::Resume, ramp);
     }
 
-    /// Fades out, then stops for ever: `Stopping`, and `Stopped` from the frame on where the fade
-    /// ends. A resume before that frame takes it back.
+    /// Fades out, then stops for ever: `Stopping`, and `Stopped` from the frame in which the fade ends. A
+    /// resume before that frame cancels it.
     pub fn stop(&mut self, tween: impl Into<Tween>) {
         let ramp = self.ramp(tween);
         self.queue.press(Press::Stop, ramp);
@@ -181,13 +179,13 @@ impl Player {
         tween.into().ramp(self.output_rate)
     }
 
-    /// Leads the playback rate to another value: the speed, and below 0 (minus zero too) backward. The
-    /// direction turns at the frame where the tween passes 0.
+    /// Moves the playback rate to another value: the speed, and the direction (backward below 0 and for
+    /// minus zero). The direction turns at the frame in which the tween passes 0.
     ///
     /// # Errors
     ///
-    /// [`Refusal::PlaybackRate`] where it is not finite, [`Refusal::TooFast`] where it is more than 256
-    /// frames of the sound a frame of output.
+    /// [`Refusal::PlaybackRate`] if it is not finite, [`Refusal::TooFast`] if it is more than 256 frames of
+    /// the sound per output frame.
     #[doc(alias = "PlaybackRate")]
     pub fn set_playback_rate(
         &mut self,
@@ -217,20 +215,20 @@ impl Player {
         }
     }
 
-    /// Leads the volume to another level, straight in decibels, rounded down to tenths.
+    /// Moves the volume to another level, in a straight line in decibels, rounded down to tenths.
     #[doc(alias = "Decibels")]
     pub fn set_volume(&mut self, volume: Level, tween: impl Into<Tween>) {
         let (volume, ramp) = (tenths(volume), self.ramp(tween));
         float_mode::plain(|| black_box(&mut self.volume).set(volume, self.clock, ramp));
     }
 
-    /// Leads the panning to another value: -1 is hard left, 0 the centre, 1 hard right, and beyond
-    /// them as at them. The gains are kira's: the square roots of the two parts, times the square root
-    /// of 2, and both 1 at the centre.
+    /// Moves the panning to another value: -1 is hard left, 0 the centre, 1 hard right; values beyond are
+    /// clamped. The gains are kira's: the square roots of the two parts times the square root of 2, and
+    /// both 1 at the centre.
     ///
     /// # Errors
     ///
-    /// [`Refusal::Panning`] where it is not finite.
+    /// [`Refusal::Panning`] if it is not finite.
     #[doc(alias = "Panning")]
     pub fn set_panning(&mut self, panning: f32, tween: impl Into<Tween>) -> Result<(), Refusal> {
         if !panning.is_finite() {
@@ -251,8 +249,8 @@ impl Player {
         self.queue.set_loop(&self.voice.state(), loop_region.into())
     }
 
-    /// Loops what a slot of a table holds, as [`Player::set_loop_region`]. What the table becomes
-    /// afterwards changes nothing here.
+    /// Loops the region in a slot of a table, as [`Player::set_loop_region`]. Later changes of the table
+    /// do not affect the player.
     ///
     /// ```
     /// use cableowl::{Hall, LoopTable, Player, Settings};
@@ -269,8 +267,8 @@ impl Player {
     ///
     /// # Errors
     ///
-    /// [`Refusal::LoopSlot`], [`Refusal::EmptySlot`]; then [`Refusal::LoopRegion`], since a table is
-    /// judged over all frames of the sound, a player's loop over its slice.
+    /// [`Refusal::LoopSlot`], [`Refusal::EmptySlot`]; then [`Refusal::LoopRegion`], since a player's loop
+    /// must lie inside its slice, a table's only inside the sound.
     pub fn take_loop(&mut self, table: &LoopTable, slot: usize) -> Result<(), Refusal> {
         self.set_loop_region(table.region(slot)?)
     }
@@ -284,8 +282,8 @@ impl Player {
     ///
     /// # Errors
     ///
-    /// [`Refusal::Seek`], judged from where the commands before it lead; [`Refusal::Queue`] where 64
-    /// seeks wait for the next frame.
+    /// [`Refusal::Seek`], checked from where the waiting commands lead; [`Refusal::Queue`] if 64 seeks
+    /// already wait for the next frame.
     pub fn seek_by(&mut self, seconds: f64) -> Result<(), Refusal> {
         self.queue.seek(&self.voice.state(), Seek::By(seconds))
     }
@@ -299,9 +297,8 @@ impl Player {
         self.queue.seek(&self.voice.state(), Seek::To(seconds))
     }
 
-    /// Starts a sound that waits ([`Settings::start_waits`](Settings::start_waits())) after this
-    /// delay, rounded to whole frames, a half up: kira's `StartTime::Delayed`. A later call takes its
-    /// place.
+    /// Starts a sound that waits ([`Settings::start_waits`](Settings::start_waits())) after this delay,
+    /// rounded to whole frames, a half up: kira's `StartTime::Delayed`. A later call replaces it.
     ///
     /// ```
     /// use std::time::Duration;
@@ -324,9 +321,9 @@ impl Player {
         self.starts_at = Some(self.clock.saturating_add(frames));
     }
 
-    /// Starts a sound that waits ([`Settings::start_waits`](Settings::start_waits())) at the first
-    /// frame whose tick has reached this one; a later call takes its place. When a tick is reached,
-    /// past the counter's wrap too, is [`StartSignal`](crate::StartSignal)'s rule.
+    /// Starts a sound that waits ([`Settings::start_waits`](Settings::start_waits())) at the first frame
+    /// whose tick has reached this one; [`StartSignal`](crate::StartSignal) says when that is. A later
+    /// call replaces it.
     ///
     /// ```
     /// use cableowl::{Player, Settings, Ticks};
@@ -350,11 +347,11 @@ impl Player {
         self.starts_at = frames.map(|frames| self.clock.saturating_add(frames));
     }
 
-    /// Does as the method of the command's name.
+    /// Calls the method of the command's name.
     ///
     /// # Errors
     ///
-    /// As that method.
+    /// As for that method.
     pub fn command(&mut self, command: Command) -> Result<(), Refusal> {
         match command {
             Command::Pause(tween) => self.pause(tween),
@@ -373,18 +370,18 @@ impl Player {
         Ok(())
     }
 
-    /// Plays as many frames as `out` has, interleaved, left then right, in place of what `out` holds.
-    /// Returns the counts of this call.
+    /// Plays as many frames as fit into `out`, interleaved, left then right, and overwrites it. Returns
+    /// the counts of this call.
     ///
     /// # Errors
     ///
-    /// Refusal 1 where the sound is not the one it was created with, by its length; then
-    /// [`Refusal::OddOutput`]. Nothing is changed or written.
+    /// Refusal 1 if the sound has another length than at creation; then [`Refusal::OddOutput`]. A refused
+    /// call changes and writes nothing.
     pub fn process(&mut self, sound: &[f32], out: &mut [f32]) -> Result<Processed, Refusal> {
         self.run(sound, out, Place::Out, &mut ())
     }
 
-    /// The same, added to what `out` holds.
+    /// The same, but adds to the samples in `out`.
     ///
     /// # Errors
     ///
@@ -393,13 +390,13 @@ impl Player {
         self.run(sound, out, Place::Mix, &mut ())
     }
 
-    /// What it is doing.
+    /// The playback state.
     #[must_use]
     pub fn state(&self) -> PlaybackState {
         self.voice.playback_state()
     }
 
-    /// The position heard, in seconds of the sound.
+    /// The position, in seconds of the sound.
     #[must_use]
     pub fn position(&self) -> f64 {
         let state = self.voice.state();
@@ -414,13 +411,13 @@ impl Player {
         self.counts
     }
 
-    /// How often its voice has gone round its loop, forward and backward.
+    /// How often its voice has wrapped round its loop, forward and backward.
     #[must_use]
     pub fn wraps(&self) -> Wraps {
         self.voice.wraps()
     }
 
-    /// The frames of output so far, silent ones too.
+    /// The output frames so far, silent ones included.
     #[must_use]
     pub fn frames(&self) -> u64 {
         self.clock
@@ -452,17 +449,18 @@ impl Player {
         &self.voice
     }
 
-    /// Gives the voice a state that was saved, and drops commands that are not obeyed yet. Volume,
-    /// rate and panning stay, and the direction is the rate's.
+    /// Sets the voice to a saved state and drops waiting commands. Volume, rate and panning stay, and the
+    /// rate gives the direction.
     ///
-    /// A voice's state does not say how far its fade was, so the fade begins again and takes the
-    /// default tween's 10 milliseconds: `Pausing` and `Stopping` from full level to silence, `Resuming`
-    /// from silence to full level; each ends as it would have. `Playing` is at full level, any other
-    /// state at silence. To go on from the very level, save the whole player ([`Player::to_bytes`]).
+    /// A voice's state does not contain the level of its fade, so the fade begins again with the default
+    /// tween's 10 milliseconds: `Pausing` and `Stopping` from full level to silence, `Resuming` from
+    /// silence to full level, and each ends in the state that it would have reached. `Playing` is at full
+    /// level, any other state at silence. To keep the exact level, save the whole player
+    /// ([`Player::to_bytes`]).
     ///
     /// # Errors
     ///
-    /// Refusal 1: as [`StaticSound::from_state`], and for a state of another sample rate.
+    /// Refusal 1: as for [`StaticSound::from_state`], and for a state of another sample rate.
     pub fn restore(&mut self, state: State, sound: &[f32]) -> Result<(), Refusal> {
         if state.sample_rate != self.voice.sample_rate() {
             return Err(Refusal::State);
@@ -486,7 +484,7 @@ impl Player {
     }
 }
 
-/// A level as a parameter has it.
+/// A level as a parameter's number.
 fn tenths(level: Level) -> u16 {
     level.tenths() as u16
 }

@@ -4,7 +4,7 @@ use std::{error::Error, fmt, hint::black_box};
 
 use crate::{ffi, float_mode};
 
-/// Which of a block's five lanes.
+/// One of a block's five lanes.
 #[derive(Debug, Clone, Copy, PartialEq, Eq, Hash)]
 pub enum LaneName {
     /// The fade's amplitudes.
@@ -31,11 +31,10 @@ impl fmt::Display for LaneName {
     }
 }
 
-/// Why a call was refused: its number, and a sentence to act on.
+/// Why a call was refused: a number, and a sentence to act on.
 ///
-/// Of 1 to 12 the lowest number wins over the whole input; 13 comes before 14; 15 to 18 are judged
-/// byte by byte. A refused call
-/// changes nothing.
+/// If several of 1 to 12 apply, the lowest is returned; 13 comes before 14; 15 to 18 are checked byte
+/// by byte. A refused call changes nothing.
 ///
 /// ```
 /// use cableowl::{Refusal, Settings, StaticSound};
@@ -48,7 +47,7 @@ impl fmt::Display for LaneName {
 #[derive(Debug, Clone, Copy, PartialEq, Eq, Hash)]
 #[non_exhaustive]
 pub enum Refusal {
-    /// 1: the state is not well formed, or the lent sound's length is not the recorded one.
+    /// 1: the state is not well formed, or the sound's length is not the one that it records.
     State,
     /// 2: the sample rate.
     SampleRate,
@@ -62,15 +61,15 @@ pub enum Refusal {
     LoopRegion,
     /// 7: the playback rate.
     PlaybackRate,
-    /// 8: the place a seek goes to.
+    /// 8: the target of a seek.
     Seek,
-    /// 9: the block's size, its lanes' lengths, or the room for it.
+    /// 9: the block's size, its lanes' lengths, or the space for it.
     Block,
     /// 10: the time step.
     TimeStep,
     /// 11: a number in a lane.
     Lane {
-        /// The lane of the first such number; of several in one frame, the first lane.
+        /// The lane of the first such number; if a frame has several, the first lane.
         lane: LaneName,
         /// Its frame in the block, from 0.
         frame: usize,
@@ -92,7 +91,7 @@ pub enum Refusal {
     Record,
     /// 18: bytes that end inside a record.
     Truncated,
-    /// 19: the room for a record.
+    /// 19: the space for a record.
     Room,
     /// 20: a slot of a loop table.
     LoopSlot,
@@ -102,31 +101,31 @@ pub enum Refusal {
     EmptySlot,
     /// 23: a version that the reader does not know.
     Version,
-    /// 24: a field of saved settings, or the length of their record.
+    /// 24: a field of saved settings or of a hall's loops, or the length of their record.
     SavedField,
     /// 25: a salvage's output.
     Output,
     /// 27: two copies of a loop table over sounds of different frame counts.
     OtherFrames,
-    /// 28: two copies of a loop table that have one number of changes for a hall and differ in its
+    /// 28: two copies of a loop table that have the same number of changes for a hall and different
     /// slots.
     TwoHalves,
-    /// 29: a player's seek, where 64 wait for the next frame already.
+    /// 29: a player's seek, when 64 already wait for the next frame.
     Queue,
-    /// A player's output rate: the number is 10, a time step's.
+    /// A player's output rate: number 10, as for a time step.
     OutputRate,
-    /// A player's panning: the number is 11, that of the gains.
+    /// A player's panning: number 11, as for gains.
     Panning,
-    /// A player's playback rate: the number is 12, an advance's.
+    /// A player's playback rate: number 12, as for an advance.
     TooFast,
-    /// A player's output: the number is 9, a block's.
+    /// A player's output: number 9, as for a block.
     OddOutput,
-    /// A level in decibels: the number is 13, a level's.
+    /// A level in decibels: number 13, as for a level.
     Decibels,
 }
 
 impl Refusal {
-    /// The rules' number, from 1.
+    /// Its number, from 1.
     #[must_use]
     pub fn number(self) -> u32 {
         match self {
@@ -161,7 +160,7 @@ impl Refusal {
         }
     }
 
-    /// All that name no place and that the archive gives, by number.
+    /// All that the archive returns and that have no fields, by number.
     pub(crate) const PLAIN: &[Self] = &[
         Self::State,
         Self::SampleRate,
@@ -190,8 +189,8 @@ impl Refusal {
         Self::TwoHalves,
     ];
 
-    /// The sentence of a number, for those who have only the number: from a log, or in C, where
-    /// `cableowl_refusal_text` returns the same. `None` where no refusal has the number.
+    /// The sentence for a number, for example from a log. `None` if no refusal has the number. In C,
+    /// `cableowl_refusal_text` returns the same.
     ///
     /// ```
     /// use cableowl::Refusal;
@@ -217,7 +216,7 @@ impl Refusal {
         }
     }
 
-    /// What the library's answer to a creation or a command set says: 0 is no refusal.
+    /// The refusal with the number that a creation or a command set returned; 0 is no refusal.
     pub(crate) fn check(number: u32) -> Result<(), Self> {
         if number == 0 {
             return Ok(());
@@ -227,12 +226,12 @@ impl Refusal {
         Err(*Self::PLAIN.iter().find(named).unwrap_or(&Self::State))
     }
 
-    /// The same of an answer whose numbers have 64 bits.
+    /// The same for a 64-bit number.
     pub(crate) fn check_word(number: u64) -> Result<(), Self> {
         Self::check(u32::try_from(number).unwrap_or(u32::MAX))
     }
 
-    /// The same of a block: refusals 11 and 12 are told their place, which is looked for only then.
+    /// The same for a block: for refusals 11 and 12 it also finds the frame and lane.
     pub(crate) fn check_block(
         number: u32,
         sample_rate: u32,
@@ -290,7 +289,7 @@ impl Refusal {
                 "a level is 0 to 600 tenths of a decibel below full level, or 601 for silence"
             }
             Self::Mark => {
-                "no record begins here: saved settings begin with the bytes 5E 71, a record of a trace with A5 1D"
+                "no record begins here: saved settings begin with the bytes 5E 71, a hall's loops with A7 4C, a record of a trace with A5 1D"
             }
             Self::Kind => {
                 "a record of a trace is of kind 1, a creation, 2, a command set, or 3, a block: salvage the trace, or read it with a newer reader"
@@ -302,13 +301,13 @@ impl Refusal {
                 "the bytes end inside the record: give the rest of it, then read again"
             }
             Self::Room => {
-                "the buffer is too short: saved settings have 25 bytes, or 26 with a pitch, a record of a trace at most 575"
+                "the buffer is too short: saved settings have 25 bytes, or 26 with a pitch, a hall's loops 666, a record of a trace at most 575"
             }
             Self::Version => {
                 "the record is of a version that this reader does not know: load it with a newer reader"
             }
             Self::SavedField => {
-                "saved settings need a loop that starts before it ends, a finite rate, a pitch of -24 to 24 (0 in version 1), and in bytes the length of their version, 21 or 22"
+                "saved settings need a loop that starts before it ends, a finite rate, a pitch of -24 to 24 (0 in version 1), and in bytes the length of their version, 21 or 22; a hall's loops must lie in their sound, a name has at most 64 bytes of UTF-8, and in bytes their length is 661 and their CRC right"
             }
             Self::Output => "the output of a salvage must be at least as long as the trace",
             Self::Ramp => {
@@ -355,7 +354,7 @@ impl fmt::Display for Refusal {
 
 impl Error for Refusal {}
 
-/// The first number that refusal 11 is given for.
+/// The first number to which refusal 11 applies.
 fn first_unlawful(lanes: ffi::Lanes) -> Refusal {
     let amplitudes = [
         (LaneName::Fade, lanes.fade),
@@ -378,17 +377,17 @@ fn first_unlawful(lanes: ffi::Lanes) -> Refusal {
         }
     };
     let places = (0..lanes.rate.len()).find_map(|frame| Some((unlawful(frame)?, frame)));
-    // There is one: the library gives 11 exactly then.
+    // There is one: the library returns 11 exactly then.
     let (lane, frame) = places.unwrap_or((LaneName::Rate, 0));
     Refusal::Lane { lane, frame }
 }
 
-/// The first frame that refusal 12 is given for.
+/// The first frame to which refusal 12 applies.
 fn first_too_far(sample_rate: u32, dt: f64, rate: &[f64]) -> usize {
     let too_far = |rate: &f64| too_far(sample_rate, dt, *rate);
-    // Hidden from the optimizer, so that no product is made before the mode is set.
+    // Hidden from the optimizer, so that no product is computed before the mode is set.
     let first = || black_box(black_box(rate).iter().position(too_far));
-    // There is one: the library gives 12 exactly then, by the same products in the same mode.
+    // There is one: the library returns 12 exactly then, by the same products in the same mode.
     float_mode::plain(first).unwrap_or_default()
 }
 

@@ -6,7 +6,7 @@ use crate::{Frame, PlaybackState, RecentFrame, Refusal, State, Wraps};
 
 /// What a saved state begins with.
 const MARK: [u8; 4] = *b"COwl";
-/// The version that is written; version 1, which has no wraps, is read too.
+/// The version that is written. Version 1, which has no wraps, can still be read.
 const VERSION: u8 = 2;
 const UNCOUNTED: u8 = 1;
 /// Bytes before the check, in version 2 and in version 1.
@@ -14,7 +14,7 @@ const BODY: usize = 152;
 const UNCOUNTED_BODY: usize = 144;
 const CHECK: usize = 4;
 
-/// The yes-or-no fields, a bit each.
+/// The flags, one bit each.
 const REVERSE: u8 = 1;
 const STARTED: u8 = 2;
 const PLAYING: u8 = 4;
@@ -22,21 +22,21 @@ const HAS_SLICE: u8 = 8;
 const HAS_LOOP: u8 = 16;
 const ALL_FLAGS: u8 = 31;
 
-/// Why bytes are no saved state or player; by its number refusal 1, and it turns into that.
+/// Why bytes are not a saved state or player. It converts to refusal 1.
 #[derive(Debug, Clone, Copy, PartialEq, Eq, Hash)]
 #[non_exhaustive]
 pub enum Unreadable {
     /// They do not begin with the mark.
     Mark,
-    /// They are of a version that this library does not read.
+    /// They have a version that this library cannot read.
     Version(u8),
     /// They are too few or too many for their version.
     Length,
-    /// Their check is not that of the bytes: something has changed on the way.
+    /// The check does not match: the bytes were changed.
     Check,
-    /// A byte has a value that the layout does not name, or a number is one that no player has.
+    /// A byte or a number has a value that no saved state or player has.
     Value,
-    /// They are of a player of another sound, by its length.
+    /// They belong to a sound of another length.
     Sound,
 }
 
@@ -80,7 +80,7 @@ impl From<Unreadable> for Refusal {
 impl State {
     /// The state as bytes, to be saved. Numbers are little-endian, floats by their bits.
     ///
-    /// | bytes | hold |
+    /// | bytes | contents |
     /// |---|---|
     /// | 0 to 3 | the mark: `43 4F 77 6C`, "COwl" |
     /// | 4 | the version: 2 |
@@ -90,17 +90,17 @@ impl State {
     /// | 8 to 11 | the sample rate |
     /// | 12 to 15 | the window's count |
     /// | 16 to 23 | all frames of the sound |
-    /// | 24 to 39 | the slice's start and end, 8 bytes each; 0 where none is given |
+    /// | 24 to 39 | the slice's start and end, 8 bytes each; 0 if there is none |
     /// | 40 to 47 | the position |
-    /// | 48 to 63 | the loop's start and end, 8 bytes each; 0 where none is given |
+    /// | 48 to 63 | the loop's start and end, 8 bytes each; 0 if there is none |
     /// | 64 to 71 | the held rate |
     /// | 72 to 79 | the fraction |
-    /// | 80 to 143 | the window's four entries, oldest first: left (4), right (4), frame number (8) |
+    /// | 80 to 143 | the window's four entries, oldest first: left (4), right (4), frame index (8) |
     /// | 144 to 151 | the wraps, forward and backward, 4 bytes each |
     /// | 152 to 155 | the check: CRC-32 of all bytes before it, as in zip and PNG |
     ///
-    /// Version 1 has no wraps, and its check at 144 to 147; it is read with both counts 0. A later
-    /// version adds fields before the check and raises the version; this layout stays readable.
+    /// Version 1 has no wraps and its check is at 144 to 147; it is read with both counts 0. A later
+    /// version will add fields before the check, and this layout will stay readable.
     ///
     /// ```
     /// use cableowl::{Settings, State, StaticSound};
@@ -156,8 +156,8 @@ impl State {
         bytes
     }
 
-    /// The state that these bytes are. Whether it is well formed, and of which sound, is judged by
-    /// [`StaticSound::from_state`](crate::StaticSound::from_state).
+    /// Reads a saved state. [`StaticSound::from_state`](crate::StaticSound::from_state) then checks
+    /// whether it is well formed and fits the sound.
     ///
     /// ```
     /// use cableowl::{Settings, State, StaticSound, Unreadable};
@@ -172,7 +172,7 @@ impl State {
     ///
     /// # Errors
     ///
-    /// Where the bytes are not what [`State::to_bytes`] writes or wrote in version 1, by refusal number 1 and the reason.
+    /// The reason, if the bytes are not what [`State::to_bytes`] writes or wrote in version 1.
     pub fn from_bytes(bytes: &[u8]) -> Result<Self, Unreadable> {
         let rest = bytes.strip_prefix(&MARK).ok_or(Unreadable::Mark)?;
         let (length, counted) = match rest.first() {
@@ -220,7 +220,7 @@ impl Reader<'_> {
         usize::try_from(self.double_word()?).ok()
     }
 
-    /// Two numbers; both are 0 where the region is not given.
+    /// Two numbers; both are 0 if there is no region.
     fn region(&mut self, given: bool) -> Option<Option<(usize, usize)>> {
         match (given, (self.number()?, self.number()?)) {
             (true, region) => Some(Some(region)),
@@ -239,7 +239,7 @@ impl Reader<'_> {
         })
     }
 
-    /// The counts, where they are there.
+    /// The counts, if the version has them.
     fn wraps(&mut self, counted: bool) -> Option<Wraps> {
         if !counted {
             return Some(Wraps::default());
@@ -250,7 +250,7 @@ impl Reader<'_> {
         })
     }
 
-    /// The state, from the byte after the version on; none where a byte means nothing.
+    /// The state, from the byte after the version on; `None` if a byte has no meaning.
     fn state(&mut self, counted: bool) -> Option<State> {
         let playback_state = PlaybackState::from_number(self.byte()?.into())?;
         let flags = self.byte()?;
@@ -282,7 +282,7 @@ impl Reader<'_> {
     }
 }
 
-/// The check of zip, PNG and Ethernet: polynomial 0x04C11DB7, bits turned round.
+/// The check of zip, PNG and Ethernet: polynomial 0x04C11DB7, bits reversed.
 pub fn crc_32(bytes: &[u8]) -> u32 {
     let shifted = |crc: u32, _| (crc >> 1) ^ (0xedb8_8320 * (crc & 1));
     let with_byte = |crc: u32, byte: &u8| (0..8).fold(crc ^ u32::from(*byte), shifted);

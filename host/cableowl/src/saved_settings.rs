@@ -23,7 +23,7 @@ impl SettingsVersion {
     }
 }
 
-/// What a tutor saves of a sound.
+/// The settings that a tutor saves for a sound.
 ///
 /// ```
 /// use cableowl::{SavedSettings, SettingsVersion, StaticSound};
@@ -56,7 +56,7 @@ pub struct SavedSettings {
     pub reverse: bool,
     /// The rate before the pitch.
     pub playback_rate: f64,
-    /// Whole semitones, -24 to 24; version 1 takes 0 alone.
+    /// Whole semitones, -24 to 24; version 1 stores only 0.
     #[doc(alias = "Semitones")]
     pub pitch: i8,
 }
@@ -74,7 +74,8 @@ impl Default for SavedSettings {
 }
 
 impl SavedSettings {
-    /// Writes a record at the buffer's start and tells its bytes; the rest of the buffer stays.
+    /// Writes a record at the buffer's start and returns its length; the rest of the buffer does not
+    /// change.
     ///
     /// # Errors
     ///
@@ -88,7 +89,7 @@ impl SavedSettings {
         Ok(version.size())
     }
 
-    /// Reads the record that the bytes begin with, and its version; what follows it is not read.
+    /// Reads the record at the beginning of the bytes, and its version; it ignores what follows.
     /// A record of version 1 has pitch 0.
     ///
     /// # Errors
@@ -104,7 +105,7 @@ impl SavedSettings {
             1 => SettingsVersion::First,
             _ => SettingsVersion::Second,
         };
-        // A loaded number has the bytes of its field.
+        // A loaded number fits its field.
         let number = |word: u64| word as u32;
         let loaded = Self {
             start: number(saved.start),
@@ -117,8 +118,8 @@ impl SavedSettings {
         Ok((loaded, version))
     }
 
-    /// What creation is told: all of a sound of this sample rate, start and loop in frames, and the
-    /// rate times the ratio of the pitch, rounded once.
+    /// The settings for creation: the whole sound of this sample rate, start and loop in frames, and
+    /// the rate times the ratio of the pitch, rounded once.
     #[must_use]
     pub fn settings(&self, sample_rate: u32) -> Settings {
         let settings = float_mode::plain(|| ffi::settings_of(&self.words(), sample_rate));

@@ -2,8 +2,8 @@
 
 use crate::{PlaybackPosition, Region, ffi};
 
-/// How a voice is created. Whatever is not said: all of the sound from its first frame, forward, no
-/// loop, at once.
+/// How to create a voice. The defaults: the whole sound from its first frame, forward, no loop, at
+/// once.
 ///
 /// ```
 /// use cableowl::{Frames, Settings, StaticSound};
@@ -19,7 +19,7 @@ use crate::{PlaybackPosition, Region, ffi};
 #[derive(Debug, Clone, Copy, PartialEq)]
 #[non_exhaustive]
 pub struct Settings {
-    /// The sample rate of the sound, in frames a second.
+    /// The sample rate of the sound, in frames per second.
     pub sample_rate: u32,
     /// The part of the sound to play, if not all.
     pub slice: Option<Region>,
@@ -29,7 +29,7 @@ pub struct Settings {
     pub loop_region: Option<Region>,
     /// Whether to play in reverse.
     pub reverse: bool,
-    /// The held rate: its sign gives the direction, and **it does not change the speed** (see
+    /// The held rate: its sign gives the direction. **It does not change the speed** (see
     /// [`Settings::playback_rate`](Settings::playback_rate())).
     pub playback_rate: f64,
     /// Whether the start waits for an answer or a tick (see [`Signals::start`](crate::Signals::start)).
@@ -37,7 +37,7 @@ pub struct Settings {
 }
 
 impl Settings {
-    /// All of a sound of this sample rate, from its first frame, forward, at once.
+    /// The whole sound of this sample rate, from its first frame, forward, at once.
     #[must_use]
     pub fn new(sample_rate: u32) -> Self {
         Self {
@@ -51,7 +51,7 @@ impl Settings {
         }
     }
 
-    /// Plays this part of the sound alone.
+    /// Plays only this part of the sound.
     #[must_use]
     pub fn slice(mut self, slice: impl Into<Region>) -> Self {
         self.slice = Some(slice.into());
@@ -72,18 +72,18 @@ impl Settings {
         self
     }
 
-    /// Plays in reverse, or not.
+    /// Sets whether to play in reverse.
     #[must_use]
     pub fn reverse(mut self, reverse: bool) -> Self {
         self.reverse = reverse;
         self
     }
 
-    /// Sets the held rate, of which the voice takes the direction alone: below 0 it plays backward.
+    /// Sets the held rate. The voice uses only its sign: below 0 it plays backward.
     ///
-    /// **The speed is not this number but the rate lane's**, block by block
-    /// ([`BlockLanes::rate`](crate::BlockLanes::rate)). In kira one parameter is both; here its tween
-    /// stays with the host, which gives the lane the magnitude and the voice the sign.
+    /// **The speed comes from the rate lane**, not from this number
+    /// ([`BlockLanes::rate`](crate::BlockLanes::rate)). In kira one parameter is both. Here the host has
+    /// the tween: it passes the magnitude in the lane and the sign to the voice.
     ///
     /// ```
     /// use cableowl::{Lanes, Settings, Signals, StaticSound};
@@ -105,7 +105,7 @@ impl Settings {
         self
     }
 
-    /// Lets the start wait for an answer, or not: kira's `start_time`, where it is not `Immediate`. A
+    /// Sets whether the start waits for an answer: kira's `start_time` other than `Immediate`. A
     /// player starts it by [`Player::start_after`](crate::Player::start_after) or
     /// [`Player::start_at_tick`](crate::Player::start_at_tick).
     #[doc(alias = "start_time")]

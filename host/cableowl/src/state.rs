@@ -1,4 +1,4 @@
-//! A voice's whole state, to save and to give back: docs/assurance/RULES.md, "Well formed".
+//! A voice's whole state, to save and restore: docs/assurance/RULES.md, "Well formed".
 
 use crate::{PlaybackState, ffi};
 
@@ -11,38 +11,36 @@ pub struct Frame {
     pub right: f32,
 }
 
-/// An entry of the window of four: a frame and its number.
+/// An entry of the window of four: a frame and its frame index.
 #[derive(Debug, Clone, Copy, PartialEq, Default)]
 pub struct RecentFrame {
     /// The frame.
     pub frame: Frame,
-    /// Its number in the slice or sound.
+    /// The position that it had in the slice.
     pub frame_index: usize,
 }
 
-/// How often a voice has gone round its loop: its steps that took the wrap, forward and backward.
+/// How often a voice has wrapped round its loop, forward and backward.
 ///
-/// One for each such step, however many lengths it wraps; also where it began outside the loop, as
-/// after a loop command. Creation's own three steps count, seeks do not, and no command clears a
-/// count: a host that wants the rounds of an evening, or of a loop, takes the difference of two
-/// readings. Each count stands still at 4,294,967,295. The direction is the position's: a sound in
-/// reverse at rate 1 counts backward.
+/// A step that wraps counts once, however many loop lengths it covers, also from outside the loop (as
+/// after a loop command). Creation's three steps count, seeks do not, and no command clears a count. To
+/// count the wraps of an evening or of one loop, take the difference of two readings. A count stays at
+/// 4,294,967,295. The direction is the one in which the position moves: a sound in reverse at rate 1
+/// counts backward.
 ///
-/// What a difference means: in a block of a voice that plays inside its loop of `l` frames, forward,
-/// the position after it is the one before, plus the block's steps, less `l` times the wraps
-/// (backward: less the steps, plus `l` times the wraps), as long as the count has not reached its
-/// limit.
+/// In a block of a voice that plays inside its loop of `l` frames, as long as the count has not reached
+/// its limit: position after = position before + steps - `l` * wraps (backward: - steps + `l` * wraps).
 #[derive(Debug, Clone, Copy, PartialEq, Eq, Hash, Default)]
 #[non_exhaustive]
 pub struct Wraps {
-    /// Forward steps that took the wrap.
+    /// Forward steps that wrapped.
     pub forward: u32,
-    /// Backward steps that took the wrap.
+    /// Backward steps that wrapped.
     pub backward: u32,
 }
 
-/// Everything a voice is between two calls. [`StaticSound::state`](crate::StaticSound::state) reads
-/// it out, [`StaticSound::from_state`](crate::StaticSound::from_state) judges it and takes it back;
+/// The whole state of a voice between two calls. [`StaticSound::state`](crate::StaticSound::state)
+/// returns it, [`StaticSound::from_state`](crate::StaticSound::from_state) checks and restores it;
 /// [`State::to_bytes`] and [`State::from_bytes`] save it. The default is the blank state, which no
 /// voice has.
 #[derive(Debug, Clone, Copy, PartialEq)]
@@ -50,37 +48,37 @@ pub struct Wraps {
 pub struct State {
     /// The sample rate of the sound.
     pub sample_rate: u32,
-    /// All frames of the sound, the slice aside.
+    /// The number of frames of the whole sound.
     pub num_frames: usize,
-    /// The slice, its end exclusive.
+    /// The slice; the end is exclusive.
     pub slice: Option<(usize, usize)>,
     /// Whether the sound plays in reverse.
     pub reverse: bool,
     /// The held rate.
     pub playback_rate: f64,
-    /// Whether the sound's own start has come.
+    /// Whether the sound has started.
     pub started: bool,
-    /// Which of the seven states.
+    /// The playback state.
     pub playback_state: PlaybackState,
-    /// How far the voice is between two frames, from 0 up to 1.
+    /// The position between two frames, at least 0 and below 1.
     pub fractional_position: f64,
-    /// The frame that the window takes next, counted from the slice's start.
+    /// The index of the frame that the next update pushes, counted from the slice's start.
     pub position: usize,
-    /// The loop, its end exclusive, counted from the slice's start.
+    /// The loop, counted from the slice's start; the end is exclusive.
     pub loop_region: Option<(usize, usize)>,
-    /// Whether the position still moves: it has not run off an end.
+    /// Whether the position still moves: it has not passed the sound's end.
     pub playing: bool,
-    /// The window of four, oldest first; the second is the one heard.
+    /// The window of four, oldest first. The second entry is the one that is heard.
     pub window: [RecentFrame; 4],
-    /// The window's count: how many frames may still be heard once the position has run off.
+    /// The window's count: how many more pushes without a frame until the window is empty.
     pub time_until_empty: u32,
-    /// How often the loop was wrapped; any two counts are well formed.
+    /// The loop wraps; any two counts are well formed.
     pub wraps: Wraps,
 }
 
 impl State {
-    /// Whether the position moves backward: where the held rate's sign bit is set, turned round by
-    /// `reverse`.
+    /// Whether the position moves backward: if the held rate's sign bit is set; `reverse` turns it
+    /// round.
     #[must_use]
     pub fn is_backward(&self) -> bool {
         self.playback_rate.is_sign_negative() != self.reverse
@@ -109,7 +107,7 @@ impl Default for State {
     }
 }
 
-/// An ABI's region: whether it is there, its start, its end.
+/// A region in C: whether it is given, its start, its end.
 fn flagged(region: Option<(usize, usize)>) -> (u32, u64, u64) {
     region.map_or((0, 0, 0), |(start, end)| (1, start as u64, end as u64))
 }

@@ -9,37 +9,37 @@ use crate::{
 #[derive(Debug, Clone, Copy, PartialEq, Eq, Hash)]
 #[non_exhaustive]
 pub struct Processed {
-    /// How many frames of the sound it stepped over.
+    /// How many frames the transport stepped.
     pub steps: u64,
-    /// The lowest count of the window of four that was read, 0 to 4; 4 for a block of 0 frames and for
-    /// a silent one (not started, or paused).
+    /// The lowest window count that was read, 0 to 4; 4 for a block of 0 frames and for a silent block
+    /// (not started, or paused).
     ///
-    /// A monitor that must tell a sound's own end from a gap goes by it. 4: at every read of this block
-    /// the newest entry was a frame of the sound: no tail had begun. t below 4: at one of its reads 4 - t
-    /// pushes had been made without a frame (0: at least four), since the sound had ended: what is
-    /// silent is its tail.
+    /// With it a monitor can tell the end of a sound from a gap. 4 means that at every read of this
+    /// block the newest entry was a frame of the sound. A count t below 4 means that at one of its reads
+    /// 4 - t pushes had been made without a frame (0: at least four), because the sound had ended: the
+    /// silence is the sound's end.
     ///
-    /// For a block cut in two it is the smaller of the two, unless the voice had stopped by the cut:
-    /// over a sound of one frame, three frames report 0, but two and then one report 1 and 4.
+    /// For a block cut in two it is the smaller of the two counts, unless the voice had stopped by the
+    /// cut: over a sound of one frame, three frames report 0, but two and then one report 1 and 4.
     pub lowest_count: u32,
     /// Of the steps, those backward.
     pub steps_back: u64,
-    /// How its frames were spent.
+    /// How many of its frames were played, paused or silent.
     pub usage: Usage,
 }
 
-/// How the frames of a block were spent: each is played, paused or silent.
+/// How many frames of a block were played, paused or silent.
 ///
-/// A [`Player`](crate::Player) counts by the frame, so the sums do not depend on how time is cut. A
-/// bare voice that runs off its sound goes on to its block's end (docs/assurance/RULES.md, "Creation, commands,
+/// A [`Player`](crate::Player) counts frame by frame, so the sums do not depend on block sizes. A voice
+/// itself goes on to its block's end when the sound ends (docs/assurance/RULES.md, "Creation, commands,
 /// block"), and all frames of that block count as played.
 #[derive(Debug, Clone, Copy, PartialEq, Eq, Hash, Default)]
 pub struct Usage {
-    /// Frames in which the sound played, those of fades too.
+    /// Frames in which the sound played, fades included.
     pub played: u64,
     /// Frames in which it was paused, or waited to resume.
     pub paused: u64,
-    /// Frames before the sound's own start, and after the voice has stopped.
+    /// Frames before the sound started, and after the voice has stopped.
     pub silent: u64,
     /// Of the played frames, those at a rate of 0.
     pub still: u64,
@@ -52,14 +52,14 @@ impl Usage {
         match PlaybackState::of_voice(state.state) {
             _ if state.started == 0 => usage.silent = frames,
             PlaybackState::Paused | PlaybackState::WaitingToResume => usage.paused = frames,
-            // With a step it stopped in this block: it ran off its sound.
+            // With a step, it stopped in this block because its sound ended.
             PlaybackState::Stopped if steps == 0 => usage.silent = frames,
             _ => (usage.played, usage.still) = (frames, still),
         }
         usage
     }
 
-    /// Of two parts, one after the other.
+    /// The sum of two parts, one after the other.
     fn and(self, next: Self) -> Self {
         Self {
             played: self.played.saturating_add(next.played),
@@ -84,7 +84,7 @@ impl Processed {
         },
     };
 
-    /// What an accepted block of so many frames reports, `still` of them at a rate of 0, by the state
+    /// What an accepted block of this many frames reports, `still` of them at a rate of 0, by the state
     /// after it.
     pub(crate) fn of_block(
         state: &ffi::State,
@@ -102,7 +102,7 @@ impl Processed {
         }
     }
 
-    /// Of two parts, one after the other.
+    /// The sum of two parts, one after the other.
     pub(crate) fn and(self, next: Self) -> Self {
         Self {
             steps: self.steps.saturating_add(next.steps),
@@ -115,8 +115,8 @@ impl Processed {
 
 /// A voice: one sound being played.
 ///
-/// It owns its state alone. The sound, interleaved samples, left then right, is lent to each call,
-/// and must be the same each time. A refused call leaves the voice as it was and writes nothing.
+/// It owns only its state. Each call borrows the sound, interleaved samples, left then right, which must
+/// be the same each time. A refused call changes no state and writes nothing.
 #[derive(Clone)]
 pub struct StaticSound {
     state: ffi::State,
@@ -146,8 +146,7 @@ impl StaticSound {
         })
     }
 
-    /// Obeys a command set, an empty one too, and reports the position in seconds that was heard
-    /// before it.
+    /// Applies a command set, which may be empty, and returns the position in seconds before it.
     ///
     /// ```
     /// use cableowl::{Commands, PlaybackState, Settings, StaticSound};
@@ -175,8 +174,8 @@ impl StaticSound {
         Ok(commanded.position)
     }
 
-    /// Reads a slot of a loop table and sets that loop by a command set of its own; reports the
-    /// position as every command set does. What the table becomes afterwards changes nothing here.
+    /// Reads a slot of a loop table and sets that loop by a command set. Returns the position, as every
+    /// command set does. Later changes of the table do not affect the voice.
     ///
     /// ```
     /// use cableowl::{Hall, LoopTable, Settings, StaticSound};
@@ -193,8 +192,8 @@ impl StaticSound {
     ///
     /// # Errors
     ///
-    /// The table's, refusals 1, 20 and 22; then the command set's, 1 and 6: a table is judged over
-    /// all frames of the sound, a voice's loop over its slice.
+    /// Refusals 1, 20 and 22 of the table; then 1 and 6 of the command set, since a voice's loop must lie
+    /// inside its slice, a table's only inside the sound.
     pub fn take_loop(
         &mut self,
         sound: &[f32],
@@ -208,10 +207,10 @@ impl StaticSound {
         Ok(commanded.position)
     }
 
-    /// Plays a block into `out`, two samples a frame. `dt` is the seconds of one output frame.
+    /// Plays a block into `out`, two samples per frame. `dt` is the seconds of one output frame.
     ///
-    /// Subnormal samples are played as they are, whatever the thread's float mode, and are slow on
-    /// some processors (docs/performance/BENCHMARK.md): clear them when a sound is loaded, if it has any.
+    /// Subnormal samples are played as they are, in every float mode of the thread. They are slow on some
+    /// processors (docs/performance/BENCHMARK.md), so clear them when you load a sound.
     ///
     /// ```
     /// use cableowl::{Lanes, PlaybackState, Settings, Signals, StaticSound};
@@ -244,10 +243,10 @@ impl StaticSound {
         self.take(answer, dt, lanes, still)
     }
 
-    /// Plays a block into a longer buffer from frame `from` on; every other sample stays.
+    /// Plays a block into a longer buffer from frame `from` on and changes no other sample.
     ///
-    /// It replaces what stands there and does not add to it: a host that mixes voices plays each
-    /// into a buffer of its own and adds.
+    /// It replaces the samples there and does not add to them. To mix voices, play each into a buffer of
+    /// its own and add.
     ///
     /// ```
     /// use cableowl::{Lanes, Settings, Signals, StaticSound};
@@ -281,8 +280,8 @@ impl StaticSound {
         self.take(answer, dt, lanes, still)
     }
 
-    /// The part of the lent samples that the voice plays: its slice's, or all. Empty only where
-    /// the voice and the sound would be refused with 1.
+    /// The part of the sound's samples that the voice plays: its slice, or all. It is empty only if the
+    /// sound has another length than the voice records (refusal 1).
     ///
     /// ```
     /// use cableowl::{Frames, Settings, StaticSound};
@@ -306,14 +305,14 @@ impl StaticSound {
             .unwrap_or(&sound[..0])
     }
 
-    /// What the voice is doing.
+    /// The playback state.
     #[must_use]
     pub fn playback_state(&self) -> PlaybackState {
         PlaybackState::of_voice(self.state.state)
     }
 
-    /// Whether the sound has the recorded length. A voice's state is well formed, so this is all that
-    /// refusal 1 asks.
+    /// Whether the sound has the recorded length. A voice's state is well formed, so refusal 1 depends
+    /// only on this.
     pub(crate) fn is_of(&self, sound: &[f32]) -> bool {
         sound.len().is_multiple_of(2) && self.state.num_frames == sound.len() as u64 / 2
     }
@@ -333,8 +332,7 @@ impl StaticSound {
         self.playback_state() == PlaybackState::Stopped
     }
 
-    /// How often the voice has gone round its loop, forward and backward: its steps that took the
-    /// wrap, creation's own three among them. [`Wraps`] says what is counted.
+    /// How often the voice has wrapped round its loop, forward and backward. [`Wraps`] says what counts.
     ///
     /// ```
     /// use cableowl::{Frames, Lanes, Settings, Signals, StaticSound};
@@ -353,7 +351,7 @@ impl StaticSound {
         self.state().wraps
     }
 
-    /// Everything the voice is, to save it or to look at it.
+    /// The whole state of the voice, to save or to read it.
     ///
     /// ```
     /// use cableowl::{Settings, StaticSound};
@@ -391,7 +389,7 @@ impl StaticSound {
         let voice = Self {
             state: state.into(),
         };
-        // A stretch is empty only where it is refused, since every sound has a frame.
+        // A stretch is empty only if it is refused, since every sound has a frame.
         match voice.stretch(sound).is_empty() {
             true => Err(Refusal::State),
             false => Ok(voice),

@@ -1,16 +1,15 @@
-//! The frame in which a voice runs off its sound.
+//! Finds the frame in which a voice reaches the end of its sound.
 
 use std::ops::Range;
 
 use crate::{Processed, Refusal, StaticSound};
 
-/// Plays a block of so many frames by `play`, or as many of them as there are until the voice runs off
-/// its sound: **it ends with the frame in which the voice stops**, since what a voice does after that
-/// depends on where its block ends (docs/assurance/RULES.md, "Creation, commands, block"). Returns the frames
-/// played and their counts.
+/// Plays a block of this many frames by `play`, or fewer if the sound ends: **it ends with the frame in
+/// which the voice stops**, because what a voice does after that depends on where its block ends
+/// (docs/assurance/RULES.md, "Creation, commands, block"). Returns the frames played and their counts.
 ///
-/// `play` plays a part of the block. Where the voice stops, parts are played more than once; they
-/// sound the same each time.
+/// `play` plays a part of the block. If the voice stops, parts are played more than once, with the same
+/// result each time.
 pub fn until_it_stops(
     voice: &mut StaticSound,
     frames: usize,
@@ -18,7 +17,7 @@ pub fn until_it_stops(
 ) -> Result<(usize, Processed), Refusal> {
     let mut before = voice.clone();
     let all = play(0..frames, voice)?;
-    // Without a step nothing ran off: it was silent, or has stopped by its signals.
+    // Without a step the sound did not end here: the block was silent, or its signals stopped the voice.
     if !voice.finished() || all.steps == 0 {
         return Ok((frames, all));
     }

@@ -2,27 +2,27 @@
 //! box's own log is compared with it wherever both have an edge.
 
 mod align;
+mod evenings;
 pub mod folder;
 mod page;
+mod words;
 
 use std::{
     ops::Range,
     path::{Path, PathBuf},
 };
 
-use cableowl::PlaybackState;
-
 use crate::{
-    course::{Join, Series},
-    explain,
+    course::{Join, STRETCHES, Series},
     fault::{Fault, Result},
     input::{FileKind, Input},
     log::{Form, Log},
     out::{self, Fresh, Out, free_for_a_page},
     plot::grouped,
-    report::not_an_input,
+    report::files::not_an_input,
 };
 use align::{Pair, Part, Segment, What, Why};
+use words::{put_text, sentence};
 
 /// How many places that differ are listed.
 const LISTED: usize = 5;
@@ -141,7 +141,7 @@ impl Found {
             only_moves: true,
             clears: true,
             apart: false,
-            gaps: Series::new(1),
+            gaps: Series::new(1, STRETCHES),
             stops: Vec::new(),
         }
     }
@@ -166,7 +166,10 @@ impl Found {
         self.seconds += segment.seconds;
         self.sample_rate = segment.sample_rate;
         self.looped |= segment.looped;
-        if !rule.ran_off {
+        // A voice that has stopped does not creep, and the steps of the block in which it stops depend on
+        // the cut.
+        let stopped = rule.last.is_some_and(|block| block.state == 6);
+        if !(stopped || rule.ran_off || said.ran_off) {
             let lost = i128::from(rule.steps) - i128::from(said.steps);
             self.creep = self.creep.saturating_add(lost);
             self.clears &= is_cleared(segment);
@@ -231,7 +234,7 @@ pub fn audit(
         not_an_input(path, &inputs)?;
         free_for_a_page(path)?;
     }
-    let (input, log) = opened(trace, log).map_err(|fault| match fault {
+    let (input, log) = opened(trace, log, false).map_err(|fault| match fault {
         Fault::Refused(words) => Fault::Unknown(format!("{words}: nothing is said of the box")),
         other => other,
     })?;
@@ -261,8 +264,9 @@ pub fn audit(
 }
 
 /// The trace and the log, each of its own kind as far as their first bytes tell.
-fn opened(trace: &Path, log: &Path) -> Result<(Input, Log)> {
-    let mut files = (Input::open(trace)?, Input::open(log)?);
+fn opened(trace: &Path, log: &Path, of_many: bool) -> Result<(Input, Log)> {
+    let open = |path| Ok(Input::open(path)?.without_progress(of_many));
+    let mut files = (open(trace)?, open(log)?);
     let kinds = (files.0.kind()?, files.1.kind()?);
     if kinds == (FileKind::Log, FileKind::Trace) {
         let (first, second) = (out::shown(trace), out::shown(log));
@@ -343,203 +347,4 @@ fn csv_row(found: &Found, segment: &Segment, same: bool) -> String {
         u8::from(same).to_string(),
     ];
     cells.join(",") + "\n"
-}
-
-/// A part as it is shown beside another: the words of a log's line.
-fn shown(part: &Part, form: Form) -> String {
-    let (number, frames) = (part.number, part.frames);
-    let Some(last) = part.last else {
-        let refusal = part.refusal.unwrap_or_default();
-        return format!("block={number} refused={refusal}");
-    };
-    let (steps, position) = (part.steps, last.position);
-    let state = state_word(last.state);
-    let mut words =
-        format!("block={number} frames={frames} steps={steps} state={state} position={position}");
-    if let Some(refusal) = part.refusal {
-        words += &format!(" refused={refusal}");
-    }
-    let (Some(more), true) = (last.more, form != Form::First) else {
-        return words;
-    };
-    let lowest = part.lowest.unwrap_or(4);
-    let (forward, backward, started) = (more.forward, more.backward, u8::from(more.started));
-    words += &format!(" lowest={lowest} forward={forward} backward={backward} started={started}");
-    if let (Some((usage, back)), Some(third), Form::Third) = (part.spent, more.third, form) {
-        let (played, paused, silent, still) =
-            (usage.played, usage.paused, usage.silent, usage.still);
-        let ((start, end), direction, ended) = (
-            third.loop_region,
-            u8::from(third.is_backward),
-            u8::from(third.ended),
-        );
-        words += &format!(" played={played} paused={paused} silent={silent} still={still}");
-        words += &format!(" loop_start={start} loop_end={end} direction={direction}");
-        words += &format!(" steps_back={back} ended={ended}");
-    }
-    words
-}
-
-/// A state's name as one word.
-fn state_word(number: u8) -> String {
-    let state = PlaybackState::from_number(number.into());
-    state.map_or("unknown".into(), explain::state_word)
-}
-
-/// Seconds for people.
-fn span(seconds: f64) -> String {
-    match seconds.abs() {
-        1.0.. => format!("{seconds:.1} s"),
-        0.01.. => format!("{seconds:.2} s"),
-        _ => format!("{seconds:.4} s"),
-    }
-}
-
-/// The seconds of the sound that the box is behind; below 0 it is ahead.
-fn behind_seconds(found: &Found) -> f64 {
-    match found.sample_rate {
-        0 => 0.0,
-        rate => found.creep as f64 / f64::from(rate),
-    }
-}
-
-/// How much later the sound is after an hour.
-fn hourly(found: &Found) -> Option<f64> {
-    (found.seconds > 0.0).then(|| behind_seconds(found) * 3_600.0 / found.seconds)
-}
-
-fn behind(found: &Found) -> String {
-    let frames = grouped(u64::try_from(found.creep.unsigned_abs()).unwrap_or(u64::MAX));
-    let seconds = span(behind_seconds(found).abs());
-    match found.creep {
-        0 => "neither behind nor ahead".into(),
-        1.. => format!("{frames} frames of the sound behind, {seconds}"),
-        _ => format!("{frames} frames of the sound ahead, {seconds}"),
-    }
-}
-
-fn an_hour(hourly: f64) -> String {
-    let way = if hourly < 0.0 { "earlier" } else { "later" };
-    format!("{} {way} after an hour", span(hourly.abs()))
-}
-
-/// What was found, in a sentence.
-fn sentence(found: &Found) -> String {
-    let (trace, log) = (&found.trace, &found.log);
-    match (found.verdict(), found.first.first()) {
-        (Verdict::Differs, Some(first)) => format!("{log}: {}", difference(found, first)),
-        (Verdict::Agrees, _) => {
-            let compared = compared(found);
-            format!("{log} says what the rule gives for {trace}, {compared}")
-        }
-        _ => {
-            let stops: Vec<String> = found.stops.iter().map(Stop::words).collect();
-            match (stops.is_empty(), found.places) {
-                (true, _) => format!(
-                    "{trace} has no block and {log} has no line: nothing is said of the box"
-                ),
-                (false, 0) => format!("{trace} and {log}: {}", stops.join("; ")),
-                (false, _) => format!(
-                    "{trace} and {log}: {}; what was compared agrees, {}",
-                    stops.join("; "),
-                    compared(found)
-                ),
-            }
-        }
-    }
-}
-
-/// What was compared, in words.
-fn compared(found: &Found) -> String {
-    let (blocks, lines) = (grouped(found.blocks), grouped(found.lines));
-    let seconds = span(found.seconds);
-    match found.places == found.blocks && found.places == found.lines {
-        true => format!(
-            "block by block: {}, {seconds}",
-            count(found.places, "block")
-        ),
-        false => format!(
-            "at all {} where a block of the one and a line of the other end together ({blocks} blocks, {lines} lines, {seconds})",
-            count(found.places, "frame")
-        ),
-    }
-}
-
-fn count(number: u64, name: &str) -> String {
-    let plural = if number == 1 { "" } else { "s" };
-    format!("{} {name}{plural}", grouped(number))
-}
-
-/// The difference, as a person at the desk would say it.
-fn difference(found: &Found, first: &Differs) -> String {
-    let block = grouped(first.segment.said.first);
-    let place = format!(
-        "first at block {block}, {} into the evening",
-        span(first.at)
-    );
-    let creeps = found.only_moves && found.creep != 0;
-    if let (true, Some(hourly)) = (creeps, hourly(found)) {
-        let sound = if found.looped { "loop" } else { "sound" };
-        let cause = match found.clears && found.creep > 0 {
-            true => "; a player that clears its fraction at block edges does this",
-            false => "",
-        };
-        return format!("the {sound} creeps: {}; {place}{cause}", an_hour(hourly));
-    }
-    format!("{} differs, {place}", first.what.name())
-}
-
-fn put_text(found: &Found, out: &mut Out<'_>) -> Result<()> {
-    let mark = match found.verdict() {
-        Verdict::Agrees => "AGREES",
-        Verdict::Differs => "DIFFERS",
-        Verdict::Unknown => "UNKNOWN",
-    };
-    out.put(format!("{mark}: {}\n", sentence(found)))?;
-    let Some(first) = found.first.first() else {
-        return Ok(());
-    };
-    for (name, part) in [
-        ("the rule", &first.segment.rule),
-        ("the box ", &first.segment.said),
-    ] {
-        out.put(format!("  {name}  {}\n", shown(part, found.form)))?;
-    }
-    out.put("     block       steps: rule     box       place: rule     box       creep\n")?;
-    for differs in &found.first {
-        let cells = |part: &Part| match part.last {
-            Some(block) => (part.steps.to_string(), block.position.to_string()),
-            None => (
-                format!("({})", part.refusal.unwrap_or_default()),
-                "-".into(),
-            ),
-        };
-        let (rule, said) = (cells(&differs.segment.rule), cells(&differs.segment.said));
-        out.put(format!(
-            "{:>10} {:>17} {:>7} {:>17} {:>7} {:>11}\n",
-            grouped(differs.segment.said.number),
-            rule.0,
-            said.0,
-            rule.1,
-            said.1,
-            differs.creep
-        ))?;
-    }
-    let more = found.differing - found.first.len() as u64;
-    if more > 0 {
-        out.put(format!(
-            "  and {} more; --csv has all of them\n",
-            count(more, "place")
-        ))?;
-    }
-    out.put(format!(
-        "  after {}, {}, the box is {}\n",
-        count(found.blocks, "block"),
-        span(found.seconds),
-        behind(found)
-    ))?;
-    for stop in &found.stops {
-        out.put(format!("  {}\n", stop.words()))?;
-    }
-    Ok(())
 }

@@ -38,13 +38,16 @@ fn completes(kind: Kind) -> Completes {
         Kind::OneOf(words) => Completes::Words(words.iter().map(|w| (*w).into()).collect()),
         Kind::Verb => Completes::Words(first_words().iter().map(|w| (*w).into()).collect()),
         Kind::Meaning => Completes::Words(explain::words()),
-        Kind::Number(..) | Kind::Decimal | Kind::Place | Kind::Part | Kind::Pattern => {
-            Completes::Nothing
-        }
+        Kind::Number(..)
+        | Kind::Decimal
+        | Kind::Place
+        | Kind::Part
+        | Kind::Pattern
+        | Kind::Name => Completes::Nothing,
     }
 }
 
-/// First words that a second must follow, each once.
+/// First words that need a second word, each once.
 fn two_words() -> impl Iterator<Item = (&'static str, Vec<&'static str>)> {
     let firsts = first_words().into_iter();
     firsts
@@ -73,7 +76,7 @@ fn bash() -> String {
     text += "_cableowl() {\n";
     text += "    local cur=${COMP_WORDS[COMP_CWORD]} prev=${COMP_WORDS[COMP_CWORD-1]} verb=${COMP_WORDS[1]}\n";
     text += "    COMPREPLY=()\n";
-    // bash parts a word at '='.
+    // bash splits a word at '='.
     text += "    if [[ $cur == = ]]; then cur=; elif [[ $prev == = ]]; then prev=${COMP_WORDS[COMP_CWORD-2]}; fi\n";
     text += &format!(
         "    if ((COMP_CWORD == 1)); then\n        mapfile -t COMPREPLY < <(compgen -W '{} --help --version' -- \"$cur\")\n        return\n    fi\n",
@@ -183,7 +186,7 @@ fn zsh_words(kind: Kind) -> String {
     }
 }
 
-/// Within single quotes, where a colon parts.
+/// Escapes text for single quotes, where a colon separates.
 fn zsh_quoted(text: &str) -> String {
     text.replace('\'', "'\\''").replace(':', "\\:")
 }

@@ -2,11 +2,8 @@
 
 use crate::figures::{REFUSALS, Told};
 
-/// How many stretches are held; where there are more, neighbours are joined.
+/// How many stretches are enough for one evening on a page.
 pub const STRETCHES: usize = 480;
-
-/// How many loops are held.
-const LOOPS: usize = 200;
 
 /// The refusals' rows: each of `REFUSALS`, and all others.
 pub const ROWS: usize = REFUSALS.len() + 1;
@@ -18,20 +15,23 @@ pub struct Series<T> {
     pub width: u64,
     /// The stretches.
     pub held: Vec<T>,
+    /// How many are held; where there are more, neighbours are joined.
+    most: usize,
 }
 
 impl<T: Default + Join> Series<T> {
-    /// Begins with stretches of so many frames.
-    pub fn new(width: u64) -> Self {
+    /// Begins with stretches of so many frames, and holds at most so many.
+    pub fn new(width: u64, most: usize) -> Self {
         Self {
             width: width.max(1),
             held: Vec::new(),
+            most: most.max(1),
         }
     }
 
     /// The stretch of this frame.
     pub fn at(&mut self, clock: u64) -> Option<&mut T> {
-        while clock / self.width >= STRETCHES as u64 {
+        while clock / self.width >= self.most as u64 {
             self.halve();
         }
         let index = (clock / self.width) as usize;
@@ -43,7 +43,7 @@ impl<T: Default + Join> Series<T> {
 
     fn halve(&mut self) {
         self.width = self.width.saturating_mul(2);
-        let mut joined = Vec::with_capacity(STRETCHES);
+        let mut joined = Vec::with_capacity(self.most);
         let mut held = std::mem::take(&mut self.held).into_iter();
         while let Some(mut first) = held.next() {
             if let Some(second) = held.next() {
@@ -142,15 +142,17 @@ pub struct Course {
     /// The highest place.
     pub highest: u64,
     last: Option<u64>,
+    most_loops: usize,
 }
 
 impl Course {
-    /// Nothing yet; a box of so many frames a second.
-    pub fn new(rate: u32) -> Self {
+    /// Nothing yet; a box of so many frames a second, and at most so many stretches.
+    pub fn new(rate: u32, stretches: usize) -> Self {
         Self {
-            stretches: Series::new(1),
-            rounds: Series::new(60 * u64::from(rate)),
+            stretches: Series::new(1, stretches),
+            rounds: Series::new(60 * u64::from(rate), stretches / 4),
             loops: Vec::new(),
+            most_loops: stretches / 2,
             frames: 0,
             highest: 0,
             last: None,
@@ -203,7 +205,7 @@ impl Course {
             return;
         }
         if let Some(length) = told.length
-            && self.loops.len() < LOOPS
+            && self.loops.len() < self.most_loops
         {
             self.loops.push(Loop {
                 from: told.clock,

@@ -6,7 +6,7 @@ use cableowl::{PlaybackState, Refusal};
 
 use crate::{fault::Result, out::Out};
 
-/// What is to be explained.
+/// What to explain.
 #[derive(Debug, Clone, Copy, PartialEq, Eq)]
 pub enum Meaning {
     /// A number, whatever it counts.
@@ -52,7 +52,7 @@ impl Meaning {
     }
 }
 
-/// What a refusal's number says to a person.
+/// What a refusal's number means.
 struct Explained {
     number: u32,
     about: &'static str,
@@ -74,7 +74,7 @@ const fn explained(
     }
 }
 
-const READING: &str = "reading a trace, or saved settings";
+const READING: &str = "reading a trace, saved settings, or a hall's loops";
 const TRACE: &str = "reading or writing a trace";
 
 /// All refusals.
@@ -83,7 +83,7 @@ const REFUSALS: [Explained; 28] = [
         1,
         "a state or a sound that does not fit",
         "a command or a block",
-        "Give each call the sound that the voice was created with. In a replay no voice was there when the block came: the trace begins too late, or its creation was refused",
+        "Give each call the sound that the voice was created with. In a replay there was no voice yet: the trace begins too late, or its creation was refused",
     ),
     explained(
         2,
@@ -125,7 +125,7 @@ const REFUSALS: [Explained; 28] = [
         8,
         "a seek",
         "a command",
-        "Look at what computes the place to seek to: it is infinite, not a number, or far behind the end of any sound",
+        "Look at what computes the target of the seek: it is infinite, not a number, or far after the end of any sound",
     ),
     explained(
         9,
@@ -190,8 +190,8 @@ const REFUSALS: [Explained; 28] = [
     explained(
         19,
         "a buffer that is too short",
-        "writing a trace, or saved settings",
-        "Give a buffer of 575 bytes for a record of a trace, or 26 for saved settings",
+        "writing a trace, saved settings, or a hall's loops",
+        "Give a buffer of 575 bytes for a record of a trace, 26 for saved settings, or 666 for a hall's loops",
     ),
     explained(
         20,
@@ -213,15 +213,15 @@ const REFUSALS: [Explained; 28] = [
     ),
     explained(
         23,
-        "the version of saved settings",
-        "reading saved settings",
-        "Read them with a newer version, or save them again with 'cableowl settings save --format 1'",
+        "the version of saved settings, or of a hall's loops",
+        "reading saved settings, or a hall's loops",
+        "Read them with a newer version, or save settings again with 'cableowl settings save --format 1'",
     ),
     explained(
         24,
-        "a field of saved settings",
-        "reading or writing saved settings",
-        "In reading, the bytes are damaged: save the settings again. In writing, mend the loop, the rate or the pitch",
+        "a field of saved settings, or of a hall's loops",
+        "reading or writing saved settings, or a hall's loops",
+        "In reading, the bytes are damaged: save the settings again, or copy the hall's file again from its own box. In writing, correct the loop, the rate, the pitch or the name",
     ),
     explained(
         25,
@@ -245,7 +245,7 @@ const REFUSALS: [Explained; 28] = [
         29,
         "a seek too many",
         "a command to a player",
-        "Play a frame before the next seek: a player keeps 64 seeks and loop commands until then",
+        "Play a frame before the next seek: at most 64 seeks can wait for it",
     ),
 ];
 
@@ -288,7 +288,7 @@ fn state_says(state: PlaybackState) -> (&'static str, &'static str) {
     match state {
         PlaybackState::Playing => (
             "the voice plays",
-            "Nothing. Where it has no steps its rate is 0 or very low, or its start has not come",
+            "Nothing. If it makes no steps, its rate is 0 or very low, or it has not started yet",
         ),
         PlaybackState::Pausing => (
             "the voice was paused and still plays while it fades out",
@@ -325,7 +325,7 @@ pub fn words() -> Vec<String> {
     numbers.chain(states).collect()
 }
 
-/// Explains what is asked for; everything where nothing is.
+/// Explains what is asked for, or everything.
 pub fn explain(asked: &[Meaning], out: &mut Out<'_>) -> Result<()> {
     let mut parts = Vec::new();
     for meaning in asked {

@@ -1,27 +1,27 @@
-//! Why a run ended without what it was asked for: one sentence, and the exit status.
+//! Why a run failed: one sentence, and the exit status.
 
 use std::{fmt, io};
 
-/// A run that broke off.
+/// Why a run failed.
 #[derive(Debug)]
 pub enum Fault {
-    /// The words of the command line mean nothing: exit 2.
+    /// The command line is wrong: exit 2.
     Usage(String),
     /// A file is not what it should be, or cannot be read or written: exit 1.
     Refused(String),
-    /// An audit can say nothing of the box: exit 3.
+    /// An audit is UNKNOWN: exit 3.
     Unknown(String),
-    /// The same, and its sentence stands in the output already.
+    /// The same, with its sentence already in the output.
     Unsaid,
-    /// Who read the output has gone: nothing is said.
+    /// The reader of the output has closed the pipe: no message.
     Closed,
 }
 
-/// What a part of a run comes to.
+/// The result of a part of a run.
 pub type Result<T> = std::result::Result<T, Fault>;
 
 impl Fault {
-    /// The words are wrong.
+    /// The command line is wrong.
     pub fn usage(words: impl Into<String>) -> Self {
         Self::Usage(words.into())
     }
@@ -60,7 +60,7 @@ impl fmt::Display for Fault {
     }
 }
 
-/// What the system says of a file, without its number.
+/// The system's message about a file, without its number.
 pub fn reason(error: &io::Error) -> String {
     let words = error.to_string();
     let bare = words.split(" (os error").next().unwrap_or(&words);

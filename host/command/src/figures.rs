@@ -319,8 +319,12 @@ pub const QUANTILES: [(&str, usize); 5] = [
 pub fn quantile(numbers: &[u64], hundredths: usize) -> Option<u64> {
     let mut sorted = numbers.to_vec();
     sorted.sort_unstable();
-    let rank = (sorted.len() * hundredths).div_ceil(100).max(1);
-    sorted.get(rank - 1).copied()
+    sorted.get(rank(sorted.len(), hundredths)).copied()
+}
+
+/// Where among so many sorted numbers the quantile stands.
+pub fn rank(count: usize, hundredths: usize) -> usize {
+    (count * hundredths).div_ceil(100).max(1) - 1
 }
 
 #[cfg(test)]

@@ -50,7 +50,7 @@ pub fn of(verb: &'static Verb) -> String {
     text
 }
 
-/// How a verb is called, a line or more for each way; no line ends inside brackets.
+/// The usage of a verb, at least one line per form; no line ends inside brackets.
 fn synopsis(verb: &Verb, first: usize, others: usize) -> String {
     const HELD: &str = "\u{a0}";
     let held = |way: &String| {
@@ -69,7 +69,7 @@ fn synopsis(verb: &Verb, first: usize, others: usize) -> String {
     ways.collect::<String>().replace(HELD, " ")
 }
 
-/// Names on the left, what is said of them on the right.
+/// Names on the left, their descriptions on the right.
 fn columns(rows: impl Iterator<Item = (String, &'static str)>) -> String {
     let rows: Vec<(String, &str)> = rows.collect();
     let widest = rows.iter().map(|(name, _)| name.len()).max().unwrap_or(0);
@@ -82,7 +82,7 @@ fn columns(rows: impl Iterator<Item = (String, &'static str)>) -> String {
     text
 }
 
-/// A paragraph in lines, the first and the others indented by so many spaces.
+/// A paragraph in lines, with the indents of the first line and of the others.
 fn lines(text: &str, first: usize, others: usize) -> String {
     let mut told = String::new();
     let mut line = " ".repeat(first);

@@ -120,6 +120,12 @@ impl Input {
         }
     }
 
+    /// Says nothing of how far the reading is, where it is one of many files.
+    pub fn without_progress(mut self, one_of_many: bool) -> Self {
+        self.progress.terminal &= !one_of_many;
+        self
+    }
+
     /// Looks at its first bytes, and says what it is; nothing is taken from it.
     pub fn kind(&mut self) -> Result<FileKind> {
         let mut first = Vec::new();

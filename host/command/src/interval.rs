@@ -1,5 +1,6 @@
 //! Shares of sessions with an interval of 95 percent, and the difference of two: Wilson's score
-//! interval (1927), and Newcombe's for a difference (1998, his method 10).
+//! interval (1927), and for a difference the one that is made of two of Wilson's (R. G. Newcombe,
+//! Statistics in Medicine 17, 1998: 857 to 872 for one share, 873 to 890 for a difference, method 10).
 
 /// The two-sided 95 percent point of the normal distribution.
 const Z: f64 = 1.959_964;
@@ -73,6 +74,10 @@ impl Share {
 }
 
 #[cfg(test)]
+#[path = "../tests/people/exact.rs"]
+mod exact;
+
+#[cfg(test)]
 mod tests {
     use super::*;
 
@@ -85,9 +90,10 @@ mod tests {
         (format!("{low:.4}"), format!("{high:.4}"))
     }
 
-    /// Newcombe, Statistics in Medicine 17 (1998), 857 to 872, table I, method 3.
+    /// The numbers were worked out with exact fractions in two ways: by the closed form, its root to 40
+    /// digits, and by halving down to the roots.
     #[test]
-    fn wilson_s_intervals_are_the_published_ones() {
+    fn wilson_s_intervals_are_those_of_two_other_computations() {
         for (of, all, low, high) in [
             (81, 263, "0.2553", "0.3662"),
             (15, 148, "0.0624", "0.1605"),
@@ -99,9 +105,9 @@ mod tests {
         }
     }
 
-    /// The same, 873 to 890, table II, method 10.
+    /// The same.
     #[test]
-    fn newcombe_s_differences_are_the_published_ones() {
+    fn newcombe_s_differences_are_those_of_two_other_computations() {
         for (later, earlier, low, high) in [
             ((56, 70), (48, 80), "0.0524", "0.3339"),
             ((9, 10), (3, 10), "0.1705", "0.8090"),
@@ -118,25 +124,32 @@ mod tests {
         }
     }
 
-    /// The ends are the roots of (p - of/all)^2 = z^2 p (1 - p) / all: in whole numbers, with p in
-    /// thousand millionths and z in millionths, the sign changes there.
+    fn is_near(told: f64, exact: i128, what: &str) {
+        let apart = told - exact as f64 / exact::ONE as f64;
+        assert!(apart.abs() < 5e-9, "{what}: {told} {exact}");
+    }
+
     #[test]
-    fn the_ends_are_the_roots_in_exact_fractions() {
-        let (one, million) = (1_000_000_000_i128, 1_000_000_i128);
+    fn the_ends_are_the_roots_in_whole_numbers() {
         for all in [1_u64, 2, 3, 7, 30, 100, 299, 1_000] {
             for of in 0..=all {
-                let (k, n) = (i128::from(of), i128::from(all));
-                let sign = |p: i128| {
-                    let apart = (n * p - k * one) * million;
-                    let wide = 1_959_964_i128.pow(2) * n * p * (one - p);
-                    (apart / 1_000 * (apart / 1_000) * million - wide).signum()
-                };
                 let Estimate { low, high, .. } = share(of, all).estimate().expect("one");
-                for end in [low, high] {
-                    let p = (end * one as f64).round() as i128;
-                    let (below, above) = (sign((p - 40).max(0)), sign((p + 40).min(one)));
-                    let touches = end == 0.0 || end == 1.0;
-                    assert!(touches || below * above <= 0, "{of} of {all}: {end}");
+                let (exact_low, exact_high) = exact::wilson((of, all));
+                is_near(low, exact_low, &format!("{of} of {all}"));
+                is_near(high, exact_high, &format!("{of} of {all}"));
+            }
+        }
+    }
+
+    #[test]
+    fn differences_are_those_in_whole_numbers() {
+        for (n, m) in [(1, 1), (7, 3), (30, 30), (100, 29)] {
+            for (k, j) in (0..=n).flat_map(|k| (0..=m).map(move |j| (k, j))) {
+                let rise = Share::rise(share(k, n), share(j, m)).expect("both");
+                let (value, low, high) = exact::newcombe((k, n), (j, m));
+                let what = format!("{k} of {n}, {j} of {m}");
+                for (told, exact) in [(rise.value, value), (rise.low, low), (rise.high, high)] {
+                    is_near(told, exact, &what);
                 }
             }
         }

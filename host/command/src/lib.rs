@@ -4,17 +4,16 @@
 #![warn(missing_docs)]
 
 mod audit;
-mod by_group;
 mod completions;
 mod course;
 mod explain;
 mod fault;
 mod figures;
-mod group;
 mod help;
 mod input;
 mod interval;
 mod log;
+mod loops;
 mod man;
 mod out;
 mod page;
@@ -24,9 +23,11 @@ mod report;
 mod salvage;
 mod settings;
 mod summary;
+mod table;
 mod verbs;
 mod version;
 mod words;
+mod workers;
 
 use std::{ffi::OsString, io::Write};
 
@@ -88,25 +89,10 @@ fn obey(words: &[OsString], out: &mut Out<'_>, complain: &mut dyn FnMut(&Fault))
         Asked::Salvage { trace, to } => salvage::salvage(&trace, &to, out).map(|()| true),
         Asked::ShowSettings { file, rate } => settings::show(&file, rate, out).map(|()| true),
         Asked::SaveSettings { save, to } => settings::save(&save, &to, out).map(|()| true),
-        Asked::Report {
-            files,
-            rate,
-            sound_rate,
-            csv,
-            page,
-        } => {
-            let rates = report::Rates {
-                device: rate,
-                sound: sound_rate,
-            };
-            report::report(&files, rates, csv, page.as_deref(), out, complain)
-        }
-        Asked::ReportGroups {
-            files,
-            by,
-            rate,
-            csv,
-        } => by_group::report(&files, &by, rate, csv, out, complain),
+        Asked::ShowLoops { folder, rate } => loops::show(&folder, rate, out, complain),
+        Asked::ChangeLoops(change) => loops::change(&change, out, complain),
+        Asked::MergeLoops { copies, rate } => loops::merge(&copies, rate, out).map(|()| true),
+        Asked::Report(request) => report::report(&request, out, complain),
         Asked::AuditFolders { folders, csv, page } => {
             audit::folder::audit(&folders, csv, page.as_deref(), out)
         }

@@ -1,5 +1,5 @@
-//! A log, line by line: what a box said of one voice, one line a block or callback (docs/guide/TOOLS.md has
-//! the three forms). Any bytes are taken; what is no log is told in one sentence with its line.
+//! Reads a log line by line: one line per block or callback of a voice (docs/guide/TOOLS.md has the three
+//! forms). It accepts any bytes; for bytes that are not a log, one sentence names the line.
 
 use std::{fmt, io::Read};
 
@@ -12,9 +12,9 @@ use crate::{fault::Result, input::Input};
 pub enum Form {
     /// The lines that replay prints.
     First,
-    /// `log=2`, then lines that tell more: the form of older boxes.
+    /// `log=2`, then lines with more words: the form of older boxes.
     Second,
-    /// `log=3`, then lines that also say what their frames were spent on.
+    /// `log=3`, then lines that also count played, paused and silent frames.
     Third,
 }
 
@@ -40,7 +40,7 @@ pub enum Line {
         number: u64,
         /// The refusal's.
         refusal: u8,
-        /// What came before it; form 1 does not say it.
+        /// What came before it; form 1 does not contain it.
         before: Option<Before>,
     },
     /// A record that the reader refused, where the run ended.
@@ -59,58 +59,58 @@ pub struct Block {
     pub number: u64,
     /// Its frames.
     pub frames: u64,
-    /// The frames of the sound that it stepped over.
+    /// Its steps.
     pub steps: u64,
     /// The state after it, 0 to 6.
     pub state: u8,
-    /// The place after it.
+    /// The position after it.
     pub position: u64,
-    /// What the forms 2 and 3 say besides.
+    /// What forms 2 and 3 add.
     pub more: Option<More>,
 }
 
-/// What the forms 2 and 3 say of an accepted block.
+/// What forms 2 and 3 add for an accepted block.
 #[derive(Debug, Clone, Copy, PartialEq, Eq)]
 pub struct More {
     /// The lowest window count that it read, 0 to 4.
     pub lowest: u8,
-    /// The voice's turns forward so far.
+    /// The voice's forward wraps so far.
     pub forward: u32,
-    /// The voice's turns backward so far.
+    /// The voice's backward wraps so far.
     pub backward: u32,
-    /// Whether the sound's own start has come.
+    /// Whether the sound has started.
     pub started: bool,
-    /// What form 3 says besides.
+    /// What form 3 adds.
     pub third: Option<Third>,
     /// What came before it.
     pub before: Before,
 }
 
-/// What form 3 alone says of an accepted block.
+/// What only form 3 has for an accepted block.
 #[derive(Debug, Clone, Copy, PartialEq, Eq)]
 pub struct Third {
-    /// What its frames were spent on.
+    /// How many frames were played, paused or silent.
     pub usage: Usage,
-    /// The loop after it, its end exclusive; 0 and 0 where there is none.
+    /// The loop after it, end exclusive; 0 and 0 if there is none.
     pub loop_region: (u64, u64),
     /// Whether the voice moves backward after it.
     pub is_backward: bool,
     /// Of the steps, those backward.
     pub steps_back: u64,
-    /// Whether the position has run off the sound.
+    /// Whether the position has passed the end of the sound.
     pub ended: bool,
 }
 
-/// What was done to the voice between the line before and this one.
+/// What was done to the voice since the previous line.
 #[derive(Debug, Clone, Copy, PartialEq, Eq)]
 pub struct Before {
     /// Voices created.
     pub created: u64,
-    /// Seeks obeyed.
+    /// Seeks.
     pub seeks: u64,
-    /// Of both, those that started over.
+    /// Of both, those that restarted the sound.
     pub restarts: u64,
-    /// Pauses obeyed; form 3 alone.
+    /// Pauses; only in form 3.
     pub pauses: Option<u64>,
 }
 
@@ -169,7 +169,7 @@ pub fn parse(text: &[u8], form: Form) -> std::result::Result<Line, Wrong> {
     }))
 }
 
-/// Why a line is none, and at which of its bytes, from 1.
+/// Why a line is not valid, and at which of its bytes, from 1.
 #[derive(Debug, Clone, PartialEq, Eq)]
 pub struct Wrong {
     column: usize,
@@ -204,19 +204,19 @@ impl Words<'_> {
         }
     }
 
-    /// A word, and after it a number in decimal, of this size at most.
+    /// A word, then a decimal number up to this limit.
     fn number(&mut self, word: &[u8], most: u64) -> std::result::Result<u64, Wrong> {
-        let named = String::from_utf8_lossy(word.trim_ascii_start()).into_owned();
+        let named = || String::from_utf8_lossy(word.trim_ascii_start());
         if !self.next_is(word) {
-            return Err(self.wrong(format!("'{named}' must stand here")));
+            return Err(self.wrong(format!("'{}' must stand here", named())));
         }
         self.at += word.len();
         let length = self.rest().iter().take_while(|byte| byte.is_ascii_digit());
         let digits = self.rest().get(..length.count()).unwrap_or_default();
         let number = match digits {
-            [] => return Err(self.wrong(format!("'{named}' has no number"))),
+            [] => return Err(self.wrong(format!("'{}' has no number", named()))),
             [b'0', _, ..] => {
-                return Err(self.wrong(format!("the number of '{named}' begins with 0")));
+                return Err(self.wrong(format!("the number of '{}' begins with 0", named())));
             }
             _ => std::str::from_utf8(digits)
                 .ok()
@@ -224,13 +224,14 @@ impl Words<'_> {
                 .filter(|number| *number <= most),
         };
         let Some(number) = number else {
+            let named = named();
             return Err(self.wrong(format!("the number of '{named}' is above {most}")));
         };
         self.at += digits.len();
         Ok(number)
     }
 
-    /// What form 3 says of a block of so many frames and steps.
+    /// What form 3 adds for a block of this many frames and steps.
     fn third(&mut self, frames: u64, steps: u64) -> std::result::Result<Third, Wrong> {
         let usage = Usage {
             played: self.number(b" played=", frames)?,
@@ -292,7 +293,7 @@ pub struct Log {
     from: usize,
     until: usize,
     ended: bool,
-    /// The first line that is not read yet, from 1, and its first byte.
+    /// The next line, from 1, and its first byte.
     line: u64,
     place: u64,
     blocks: u64,
@@ -344,7 +345,7 @@ impl Log {
         self.form
     }
 
-    /// Its name, as it may be told.
+    /// Its name, safe to print.
     pub fn name(&self) -> &str {
         self.input.name()
     }
@@ -364,7 +365,7 @@ impl Log {
         Ok(Some(line))
     }
 
-    /// A line must follow from those before it.
+    /// Checks that a line follows from those before it.
     fn follows(&mut self, line: &Line) -> std::result::Result<(), String> {
         if self.broken {
             return Err("a line after the one where the run ended".into());
@@ -389,7 +390,7 @@ impl Log {
         self.counts_follow(line)
     }
 
-    /// Of one voice no count falls.
+    /// Checks that no count of a voice falls.
     fn counts_follow(&mut self, line: &Line) -> std::result::Result<(), String> {
         let before = match line {
             Line::Block(Block { more: Some(m), .. }) => Some(m.before),
@@ -415,7 +416,7 @@ impl Log {
         self.room.get(self.from..self.until).unwrap_or_default()
     }
 
-    /// Moves what is held to the front, and reads until a longest line is held or the input ends.
+    /// Moves the unread bytes to the front, and reads until a longest line fits or the input ends.
     fn fill(&mut self) -> Result<()> {
         self.room.copy_within(self.from..self.until, 0);
         (self.from, self.until) = (0, self.until - self.from);
@@ -466,7 +467,7 @@ impl Log {
     }
 }
 
-/// Whether bytes without a line feed may be what a power loss left of a line.
+/// Whether bytes without a line feed can be an incomplete line after a power loss.
 fn begins_a_line(bytes: &[u8], is_first: bool) -> bool {
     let begins = |word: &[u8]| bytes.starts_with(word) || word.starts_with(bytes);
     begins(b"block=") || begins(b"refused=") || is_first && begins(b"log=")

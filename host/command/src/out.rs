@@ -1,4 +1,4 @@
-//! Where a run writes: standard output, and files that stand under their name only once they are whole.
+//! Where a run writes: standard output, and files that get their name only when they are complete.
 
 use std::{
     ffi::OsString,
@@ -11,7 +11,7 @@ use std::{
 
 use crate::fault::{Fault, Result, reason};
 
-/// Standard output. Once its reader has gone, what is written goes nowhere and nothing is said.
+/// Standard output. If its reader has closed the pipe, writes are dropped without a message.
 pub struct Out<'a> {
     to: BufWriter<Box<dyn Write + 'a>>,
     closed: bool,
@@ -26,7 +26,7 @@ impl<'a> Out<'a> {
         }
     }
 
-    /// Whether the reader has gone.
+    /// Whether the reader has closed the pipe.
     pub fn closed(&self) -> bool {
         self.closed
     }
@@ -40,7 +40,7 @@ impl<'a> Out<'a> {
         self.settle(written)
     }
 
-    /// Writes what is still held.
+    /// Writes what is still buffered.
     pub fn flush(&mut self) -> Result<()> {
         if self.closed {
             return Ok(());
@@ -60,8 +60,8 @@ impl<'a> Out<'a> {
     }
 }
 
-/// A file that is being written under a name of its own beside the one it will have; dropped
-/// before that, it is removed.
+/// A file that is written under a temporary name in the same folder. It is removed if it is dropped
+/// before it gets its name.
 pub struct Fresh {
     path: PathBuf,
     beside: PathBuf,
@@ -99,17 +99,17 @@ impl Fresh {
             .map_err(|error| unwritten(&self.path, &error))
     }
 
-    /// The file takes its name, in place of what has it.
+    /// Gives the file its name and replaces an existing file.
     pub fn replace(mut self) -> Result<()> {
         self.whole()?;
         fs::rename(&self.beside, &self.path).map_err(|error| unwritten(&self.path, &error))
     }
 
-    /// The file takes its name, if nothing has it.
+    /// Gives the file its name, if no file has it.
     pub fn keep(mut self) -> Result<()> {
         self.whole()?;
-        // A second name is refused where one stands, at once and by the system; where a disk has no
-        // second names, the name is looked for first.
+        // The system refuses a hard link to an existing name. If a disk has no hard links, check the
+        // name first.
         match fs::hard_link(&self.beside, &self.path) {
             Ok(()) => Ok(()),
             Err(error) if error.kind() == io::ErrorKind::AlreadyExists => Err(taken(&self.path)),
@@ -153,10 +153,10 @@ fn taken(path: &Path) -> Fault {
     ))
 }
 
-/// What each page begins with, so that a page may be made again in its place.
+/// The beginning of each page, so that a page can be replaced by a newer one.
 pub const PAGE_MARK: &str = "<!DOCTYPE html>\n<!-- cableowl -->\n";
 
-/// A page may stand here: nothing does, or an earlier page.
+/// Checks that the name is free or an earlier page.
 pub fn free_for_a_page(path: &Path) -> Result<()> {
     let Ok(metadata) = fs::metadata(path) else {
         return Ok(());
@@ -178,7 +178,7 @@ pub fn free_for_a_page(path: &Path) -> Result<()> {
     }
 }
 
-/// Whether two files are one.
+/// Whether two paths are the same file.
 pub fn same(a: &Metadata, b: &Metadata) -> bool {
     (a.dev(), a.ino()) == (b.dev(), b.ino())
 }
@@ -191,7 +191,7 @@ fn unwritten(path: &Path, error: &io::Error) -> Fault {
     ))
 }
 
-/// A name as it may be told: on one line, whatever it holds.
+/// A name that is safe to print: on one line, whatever it contains.
 pub fn shown(path: &Path) -> String {
     let escaped = |letter: char| match letter.is_control() {
         true => letter.escape_default().collect::<String>(),

@@ -1,167 +1,282 @@
-//! Plots as SVG, drawn by hand: axes with round numbers, and what stands between them.
+//! Plots as SVG, drawn by hand: panels one above the other over one axis of time. All numbers are whole
+//! and a line is written by its steps, so that hundreds of plots fit on a page.
 
-use std::fmt::Write as _;
+use std::fmt::{self, Write as _};
 
-/// A plot's size in the page's units, and what is left free around it.
-const WIDTH: f64 = 720.0;
-const LEFT: f64 = 78.0;
-const RIGHT: f64 = 16.0;
-const TOP: f64 = 12.0;
-const BOTTOM: f64 = 38.0;
+/// A plot's width in its own units, and what is left free left and right of the panels, above each for
+/// its caption, and below all for the time.
+const WIDTH: i64 = 1_440;
+const LEFT: i64 = 160;
+const RIGHT: i64 = 32;
+const CAPTION: i64 = 84;
+const BOTTOM: i64 = 76;
 
 /// No axis has more marks.
 const MARKS: u32 = 40;
 
-/// A plot over time.
+/// Panels over one axis of time.
 pub struct Plot {
-    height: f64,
     seconds: f64,
-    from: f64,
+    /// The current panel: its upper and its lower edge, and the numbers there.
+    top: i64,
+    base: i64,
     until: f64,
+    from: f64,
     drawn: String,
 }
 
 impl Plot {
-    /// A plot of so many seconds, with numbers from one to another.
-    pub fn new(height: f64, seconds: f64, from: f64, until: f64) -> Self {
+    /// A plot of so many seconds, without a panel.
+    pub fn new(seconds: f64) -> Self {
         Self {
-            height,
             seconds: match seconds.is_finite() && seconds > 0.0 {
                 true => seconds,
                 false => 1.0,
             },
-            from,
-            until: if until > from { until } else { from + 1.0 },
+            top: 0,
+            base: 0,
+            until: 1.0,
+            from: 0.0,
             drawn: String::new(),
         }
     }
 
+    /// A panel below the last one, with numbers from one to another.
+    pub fn panel(&mut self, caption: &str, height: i64, from: f64, until: f64) {
+        self.top = self.base + CAPTION;
+        self.base = self.top + height;
+        (self.from, self.until) = (from, if until > from { until } else { from + 1.0 });
+        let (y, caption) = (self.top - 18, escaped(caption));
+        self.put(&format!(
+            "<text class=caption x={LEFT} y={y}>{caption}</text>"
+        ));
+    }
+
     /// Where a time stands.
-    pub fn x(&self, seconds: f64) -> f64 {
-        LEFT + (WIDTH - LEFT - RIGHT) * (seconds / self.seconds).clamp(0.0, 1.0)
+    pub fn x(&self, seconds: f64) -> i64 {
+        let part = (seconds / self.seconds).clamp(0.0, 1.0);
+        LEFT + ((WIDTH - LEFT - RIGHT) as f64 * part).round() as i64
     }
 
     /// Where a number stands.
-    pub fn y(&self, number: f64) -> f64 {
+    pub fn y(&self, number: f64) -> i64 {
         let part = ((number - self.from) / (self.until - self.from)).clamp(0.0, 1.0);
-        self.height - BOTTOM - (self.height - TOP - BOTTOM) * part
+        self.base - ((self.base - self.top) as f64 * part).round() as i64
     }
 
-    /// Puts an element as it stands.
-    pub fn put(&mut self, element: &str) {
+    fn put(&mut self, element: &str) {
         self.drawn.push_str(element);
         self.drawn.push('\n');
     }
 
-    /// A filled part: from time to time, from number to number.
-    pub fn area(&mut self, class: &str, times: (f64, f64), numbers: (f64, f64), says: &str) {
-        let (x, right) = (self.x(times.0), self.x(times.1));
-        let (y, bottom) = (self.y(numbers.1), self.y(numbers.0));
-        let (width, height) = ((right - x).max(0.8), (bottom - y).max(0.8));
+    /// A filled part with a name.
+    pub fn area(&mut self, class: &str, (times, numbers): Area, says: &str) {
+        let (x, y, width, height) = self.sides(times, numbers);
         let title = title(says);
-        let element = format!(
-            r#"<rect class="{class}" x="{x:.1}" y="{y:.1}" width="{width:.1}" height="{height:.1}">{title}</rect>"#
-        );
-        self.put(&element);
+        self.put(&format!(
+            "<rect class={class} x={x} y={y} width={width} height={height}>{title}</rect>"
+        ));
     }
 
-    /// A dot.
-    pub fn dot(&mut self, class: &str, seconds: f64, number: f64, radius: f64, says: &str) {
-        let (x, y) = (self.x(seconds), self.y(number));
-        let title = title(says);
-        let element = format!(
-            r#"<circle class="{class}" cx="{x:.1}" cy="{y:.1}" r="{radius:.1}">{title}</circle>"#
-        );
-        self.put(&element);
+    /// Filled parts of one kind without names.
+    pub fn areas(&mut self, class: &str, areas: &[Area]) {
+        let mut pen = Pen::default();
+        for (times, numbers) in areas {
+            let (x, y, width, height) = self.sides(*times, *numbers);
+            pen.go(x, y);
+            for (x, y) in [
+                (x + width, y),
+                (x + width, y + height),
+                (x, y + height),
+                (x, y),
+            ] {
+                pen.draw(x, y);
+            }
+        }
+        self.path(class, &pen);
+    }
+
+    fn sides(&self, times: (f64, f64), numbers: (f64, f64)) -> (i64, i64, i64, i64) {
+        let (x, y) = (self.x(times.0), self.y(numbers.1));
+        let (right, bottom) = (self.x(times.1), self.y(numbers.0));
+        (x, y, (right - x).max(2), (bottom - y).max(2))
+    }
+
+    /// Dots of one size: the class has the width of its stroke.
+    pub fn dots(&mut self, class: &str, dots: &[(f64, f64)]) {
+        let mut pen = Pen::default();
+        for (seconds, number) in dots {
+            pen.dot(self.x(*seconds), self.y(*number));
+        }
+        self.path(class, &pen);
+    }
+
+    /// What a pen drew.
+    pub fn path(&mut self, class: &str, pen: &Pen) {
+        if !pen.drawn.is_empty() {
+            self.put(&format!("<path class={class} d=\"{pen}\"/>"));
+        }
+    }
+
+    /// A label at a time and a number.
+    pub fn label(&mut self, seconds: f64, number: f64, says: &str) {
+        let (x, y, says) = (self.x(seconds) + 10, self.y(number) - 10, escaped(says));
+        self.put(&format!("<text class=label x={x} y={y}>{says}</text>"));
     }
 
     /// A line upward at a time.
     pub fn mark(&mut self, class: &str, seconds: f64, says: &str) {
-        let (x, top, base) = (self.x(seconds), TOP, self.height - BOTTOM);
-        let title = title(says);
-        let element = format!(
-            r#"<line class="{class}" x1="{x:.1}" x2="{x:.1}" y1="{top:.1}" y2="{base:.1}">{title}</line>"#
-        );
-        self.put(&element);
-    }
-
-    /// A row's name, left of the plot.
-    pub fn name_row(&mut self, number: f64, name: &str) {
-        let (x, y) = (LEFT - 8.0, self.y(number) + 4.0);
-        let name = escaped(name);
-        let element =
-            format!(r#"<text class="tick" x="{x:.1}" y="{y:.1}" text-anchor="end">{name}</text>"#);
-        self.put(&element);
+        let (x, top, base, title) = (self.x(seconds), self.top, self.base, title(says));
+        self.put(&format!(
+            "<path class={class} d=\"M{x} {top}V{base}\">{title}</path>"
+        ));
     }
 
     /// The numbers' axis: lines at round numbers.
     pub fn numbers(&mut self) {
-        let step = round_step(self.until - self.from, self.height / 40.0, 1.0);
+        let step = round_step(self.until - self.from, self.marks(), 1.0);
         let first = (self.from / step).ceil();
-        for number in (0..MARKS).map(|index| (first + f64::from(index)) * step) {
-            if number > self.until {
-                break;
-            }
-            self.grid(number, &grouped_signed(number));
-        }
+        let marks = (0..MARKS).map(|index| (first + f64::from(index)) * step);
+        let marks = marks.take_while(|number| *number <= self.until);
+        let marks: Vec<_> = marks
+            .map(|number| (number, grouped_signed(number)))
+            .collect();
+        self.rows(&marks);
     }
 
     /// The numbers' axis in seconds, where so many are a second.
     pub fn seconds(&mut self, rate: f64) {
         let (from, until) = (self.from / rate, self.until / rate);
-        let step = time_step(until - from).max(round_step(until - from, self.height / 40.0, 0.0));
+        let step = time_step(until - from).max(round_step(until - from, self.marks(), 0.0));
         let first = (from / step).ceil();
-        for seconds in (0..MARKS).map(|index| (first + f64::from(index)) * step) {
-            if seconds > until {
-                break;
-            }
-            let name = match until < 60.0 && step >= 1.0 {
-                true => format!("{seconds} s"),
-                false => time(seconds, step),
-            };
-            self.grid(seconds * rate, &name);
+        let marks = (0..MARKS).map(|index| (first + f64::from(index)) * step);
+        let marks = marks.take_while(|seconds| *seconds <= until);
+        let name = |seconds: f64| match until < 60.0 && step >= 1.0 {
+            true => format!("{seconds} s"),
+            false => time(seconds, step),
+        };
+        let marks: Vec<_> = marks
+            .map(|seconds| (seconds * rate, name(seconds)))
+            .collect();
+        self.rows(&marks);
+    }
+
+    /// About so many marks fit beside the panel.
+    fn marks(&self) -> f64 {
+        (self.base - self.top) as f64 / 80.0
+    }
+
+    /// Lines across at some numbers, with their names on the left.
+    pub fn rows(&mut self, marks: &[(f64, String)]) {
+        let (mut lines, mut names) = (String::new(), String::new());
+        for (number, name) in marks {
+            let (y, name) = (self.y(*number), escaped(name));
+            let (right, below) = (WIDTH - RIGHT, y + 8);
+            let _ = write!(lines, "M{LEFT} {y}H{right}");
+            let _ = write!(names, "<text y={below}>{name}</text>");
         }
+        self.put(&format!("<path class=grid d=\"{lines}\"/>"));
+        // The style has their place across: left of the panels.
+        self.put(&format!("<g class=y>{names}</g>"));
     }
 
-    /// A line across at a number, with its name.
-    fn grid(&mut self, number: f64, name: &str) {
-        let (y, right) = (self.y(number), WIDTH - RIGHT);
-        let line =
-            format!(r#"<line class="grid" x1="{LEFT}" x2="{right}" y1="{y:.1}" y2="{y:.1}"/>"#);
-        self.put(&line);
-        self.name_row(number, name);
-    }
-
-    /// The whole plot, with its time's axis.
+    /// The whole plot, with its axis of time.
     pub fn done(mut self, says: &str) -> String {
-        let base = self.height - BOTTOM;
-        let right = WIDTH - RIGHT;
-        let axis = format!(
-            r#"<line class="axis" x1="{LEFT}" x2="{right}" y1="{base:.1}" y2="{base:.1}"/>"#
-        );
-        self.put(&axis);
+        let (base, right) = (self.base, WIDTH - RIGHT);
         let step = time_step(self.seconds);
+        let (mut lines, mut names) = (format!("M{LEFT} {base}H{right}"), String::new());
         for at in (0..MARKS).map(|index| f64::from(index) * step) {
             if at > self.seconds * 1.000_001 {
                 break;
             }
-            let (x, tick, below) = (self.x(at), base + 5.0, base + 25.0);
-            let anchor = if x > right - 36.0 { "end" } else { "middle" };
-            let time = time(at, step);
-            let mark = format!(
-                r#"<line class="axis" x1="{x:.1}" x2="{x:.1}" y1="{base:.1}" y2="{tick:.1}"/><text class="tick" x="{x:.1}" y="{below:.1}" text-anchor="{anchor}">{time}</text>"#
-            );
-            self.put(&mark);
+            let (x, time) = (self.x(at), time(at, step));
+            let _ = write!(lines, "M{x} {base}v10");
+            let end = if x > right - 72 { " class=end" } else { "" };
+            let _ = write!(names, "<text{end} x={x}>{time}</text>");
         }
-        let (height, says) = (self.height, escaped(says));
-        let mut plot = String::from("<div class=\"scroll\">\n");
-        plot += &format!(
-            r#"<svg viewBox="0 0 {WIDTH} {height}" role="img" aria-label="{says}" xmlns="http://www.w3.org/2000/svg">"#
-        );
-        plot.push('\n');
-        plot.push_str(&self.drawn);
-        plot.push_str("</svg></div>\n");
-        plot
+        let below = base + 54;
+        self.put(&format!("<path class=axis d=\"{lines}\"/>"));
+        self.put(&format!(
+            "<g class=x transform=\"translate(0 {below})\">{names}</g>"
+        ));
+        let (height, says) = (base + BOTTOM, escaped(says));
+        format!(
+            "<svg viewBox=\"0 0 {WIDTH} {height}\" role=img aria-label=\"{says}\">\n{}</svg>\n",
+            self.drawn
+        )
+    }
+}
+
+/// A part of a panel: from time to time, from number to number.
+pub type Area = ((f64, f64), (f64, f64));
+
+/// Lines, each written by the steps from where the last one ended.
+#[derive(Default)]
+pub struct Pen {
+    drawn: String,
+    at: (i64, i64),
+    /// Where the next line begins, if it is not where the last one ended.
+    begin: Option<(i64, i64)>,
+    /// Where in the text the last line is written, if it is level, and its length.
+    level: Option<(usize, i64)>,
+}
+
+impl Pen {
+    /// The next line begins here.
+    pub fn go(&mut self, x: i64, y: i64) {
+        self.begin = Some((x, y));
+    }
+
+    /// A line to here.
+    pub fn draw(&mut self, x: i64, y: i64) {
+        if let Some(begin) = self.begin.take()
+            && (self.drawn.is_empty() || begin != self.at)
+        {
+            let (x, y) = self.step(begin);
+            let _ = write!(self.drawn, "m{x}{}", signed(y));
+            self.level = None;
+        }
+        let _ = match self.step((x, y)) {
+            (0, y) => write!(self.drawn, "v{y}"),
+            (x, 0) if x > 0 => return self.level(x),
+            (x, 0) => write!(self.drawn, "h{x}"),
+            (x, y) => write!(self.drawn, "l{x}{}", signed(y)),
+        };
+        self.level = None;
+    }
+
+    /// A level line to the right; one after another is one line.
+    fn level(&mut self, length: i64) {
+        let (from, before) = self.level.unwrap_or((self.drawn.len(), 0));
+        self.drawn.truncate(from);
+        self.level = Some((from, before + length));
+        let _ = write!(self.drawn, "h{}", before + length);
+    }
+
+    /// A dot here: a line of no length, whose round ends are drawn.
+    pub fn dot(&mut self, x: i64, y: i64) {
+        self.go(x, y);
+        self.draw(x, y);
+    }
+
+    fn step(&mut self, to: (i64, i64)) -> (i64, i64) {
+        let step = (to.0 - self.at.0, to.1 - self.at.1);
+        self.at = to;
+        step
+    }
+}
+
+impl fmt::Display for Pen {
+    fn fmt(&self, f: &mut fmt::Formatter<'_>) -> fmt::Result {
+        f.write_str(&self.drawn)
+    }
+}
+
+/// A second number of a pair: a minus sign parts it from the first.
+fn signed(number: i64) -> String {
+    match number < 0 {
+        true => number.to_string(),
+        false => format!(" {number}"),
     }
 }
 
@@ -173,7 +288,7 @@ fn title(says: &str) -> String {
 }
 
 /// A round step: 1, 2 or 5 times a power of ten, so that about so many fit.
-fn round_step(range: f64, many: f64, least: f64) -> f64 {
+pub fn round_step(range: f64, many: f64, least: f64) -> f64 {
     let rough = (range / many).max(f64::MIN_POSITIVE);
     let power = 10f64.powf(rough.log10().floor());
     let step = [1.0, 2.0, 5.0, 10.0].into_iter().map(|k| k * power);
@@ -288,6 +403,22 @@ mod tests {
     }
 
     #[test]
+    fn lines_are_written_by_their_steps() {
+        let mut pen = Pen::default();
+        pen.go(10, 20);
+        pen.draw(13, 16);
+        pen.go(13, 16);
+        pen.draw(13, 20);
+        pen.go(20, 20);
+        pen.draw(25, 20);
+        pen.draw(29, 20);
+        pen.draw(25, 20);
+        pen.draw(26, 20);
+        pen.dot(1, 30);
+        assert_eq!(pen.drawn, "m10 20l3-4v4m7 0h9h-4h1m-25 10v0");
+    }
+
+    #[test]
     fn any_size_is_drawn() {
         for seconds in [
             0.0,
@@ -302,7 +433,8 @@ mod tests {
             f64::NAN,
         ] {
             for until in [0.0, 1.0, 1e19] {
-                let mut plot = Plot::new(200.0, seconds, 0.0, until);
+                let mut plot = Plot::new(seconds);
+                plot.panel("p", 400, 0.0, until);
                 plot.numbers();
                 plot.seconds(48_000.0);
                 assert!(plot.done("p").len() < 1_000_000, "{seconds} {until}");

@@ -1,4 +1,4 @@
-//! `cableowl replay`: a trace played again, one line a block.
+//! `cableowl replay`: plays a trace again, one line per block.
 
 use std::path::Path;
 
@@ -54,14 +54,14 @@ impl Run {
         let (frames, answer) = match *line {
             Line::Block { frames, .. } => (frames as usize, Ok(self.replay.counts())),
             Line::RefusedBlock { refusal, .. } => (0, Err(refusal)),
-            // Played again, every record was read.
+            // In a replay every record was read.
             Line::Refused(refused) => (0, Err(refused.refusal)),
         };
         self.log.block(frames, self.replay.voice(), answer)
     }
 }
 
-/// A record that cannot be read, as a fault.
+/// The fault for a record that cannot be read.
 pub fn fault(input: &Input, error: &TraceError) -> Fault {
     match error {
         TraceError::Io(error) => input.unread(error),
@@ -127,7 +127,7 @@ fn third(mut reader: TraceReader<&mut Input>, out: &mut Out<'_>) -> Result<Optio
     Ok(None)
 }
 
-/// A refusal's number, as a log has it.
+/// A refusal's number, as in a log.
 pub fn number(refusal: Refusal) -> u8 {
     u8::try_from(refusal.number()).unwrap_or(u8::MAX)
 }

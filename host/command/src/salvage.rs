@@ -9,8 +9,8 @@ use crate::{
     plot::counted,
 };
 
-/// Copies what is complete, if anything is. The new file stands under its name only once it is whole, and takes no
-/// other file's place: so the trace itself cannot be overwritten, whatever name leads to it.
+/// Copies the complete records. The new file gets its name only when it is complete, and it replaces no other file. So
+/// the trace itself cannot be overwritten, whatever name leads to it.
 pub fn salvage(trace: &Path, to: &Path, out: &mut Out<'_>) -> Result<()> {
     free(to)?;
     let mut input = Input::open(trace)?;

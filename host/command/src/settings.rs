@@ -1,4 +1,4 @@
-//! `cableowl settings`: saved settings shown in words, and saved from words.
+//! `cableowl settings`: shows saved settings in words, and saves settings.
 
 use std::{io::Read, path::Path};
 
@@ -14,12 +14,12 @@ use crate::{
 /// The longest record.
 const LONGEST: usize = SettingsVersion::Second.size();
 
-/// Shows saved settings, for a sound of so many frames a second.
+/// Shows saved settings, for a sound of this many frames per second.
 pub fn show(file: &Path, rate: u32, out: &mut Out<'_>) -> Result<()> {
     let mut input = Input::open(file)?;
     input.kind()?;
     input.must_be(&[FileKind::Settings], "saved settings")?;
-    // One byte more tells whether any follow; the rest is not read.
+    // One byte more shows whether any follow; the rest is not read.
     let mut bytes = Vec::new();
     let read = (&mut input)
         .take(LONGEST as u64 + 1)
@@ -113,7 +113,7 @@ fn counted_semitones(pitch: i8) -> String {
     }
 }
 
-/// A place in a sound, with its unit.
+/// A position in a sound, with its unit.
 #[derive(Debug, Clone, Copy, PartialEq)]
 pub enum Place {
     /// In seconds.
@@ -136,7 +136,7 @@ impl Place {
     }
 
     /// Its frame, by docs/assurance/RULES.md, "Seconds to frames", if a record can hold it.
-    fn frame(self, rate: u32) -> Result<u32> {
+    pub fn frame(self, rate: u32) -> Result<u32> {
         match self {
             Self::Frames(frame) => Ok(frame),
             Self::Seconds(seconds) => {
@@ -153,7 +153,7 @@ impl Place {
     }
 }
 
-/// A part of a sound, its end exclusive.
+/// A part of a sound, end exclusive.
 #[derive(Debug, Clone, Copy, PartialEq)]
 pub struct Part {
     start: Place,
@@ -184,7 +184,7 @@ pub struct Save {
     pub speed: f64,
     /// The pitch.
     pub pitch: i8,
-    /// Frames a second of the sound.
+    /// The sound's frames per second.
     pub rate: u32,
     /// Whether the record is of version 1.
     pub first: bool,
@@ -223,7 +223,7 @@ pub fn save(save: &Save, to: &Path, out: &mut Out<'_>) -> Result<()> {
     out.put(format!("{:<20}{}\n", "written to", shown(to)))
 }
 
-/// The byte that a refusal is given for: docs/formats/SETTINGS.md has the layout.
+/// The byte to which a refusal applies: docs/formats/SETTINGS.md has the layout.
 fn place(bytes: &[u8], refusal: Refusal) -> usize {
     let number = |from: usize| {
         let bytes = bytes

@@ -16,7 +16,7 @@ use crate::{
     replay::{Run, fault},
 };
 
-/// Tells what happened in a trace.
+/// Prints what happened in a trace.
 pub fn summary(trace: &Path, out: &mut Out<'_>) -> Result<()> {
     let mut input = Input::open(trace)?;
     input.kind()?;
@@ -57,14 +57,14 @@ struct Refused {
     at: f64,
 }
 
-/// What was told so far.
+/// What was printed so far.
 struct Teller {
     run: Run,
     blocks: u64,
     all_refused: u64,
     seconds: f64,
     state: Option<PlaybackState>,
-    /// The speed that was told, and the last one with the time of its first block.
+    /// The speed that was printed, and the last one with the time of its first block.
     speeds: (f64, f64, f64),
     refused: Option<Refused>,
 }
@@ -190,7 +190,7 @@ impl Teller {
         }
     }
 
-    /// A speed is told once two blocks have it: not each step of a slow change.
+    /// A speed is printed once two blocks have it, so not for each step of a slow change.
     fn speed(&mut self, block: &Block, out: &mut Out<'_>) -> Result<()> {
         let (told, last, since) = self.speeds;
         if block.rate != last {
@@ -259,7 +259,7 @@ fn looped((start, end): (usize, usize), state: &State) -> String {
     )
 }
 
-/// What a command set did, in the order in which it is obeyed.
+/// What a command set did, in the order in which it is applied.
 fn obeyed(commands: &Commands, before: &State, after: &State) -> String {
     let mut parts = Vec::new();
     if is_backward(before) != is_backward(after) {

@@ -15,9 +15,9 @@ pub struct Verb {
     pub about: &'static [&'static str],
     /// Its options, beside `--help`.
     pub options: &'static [Opt],
-    /// The words that it takes.
+    /// Its arguments.
     pub arguments: &'static [Argument],
-    /// Folders that it takes in place of them.
+    /// Folders that it accepts instead.
     pub folders: Option<Argument>,
     /// Examples: the words after `cableowl`, and what they do.
     pub examples: &'static [(&'static str, &'static str)],
@@ -35,19 +35,19 @@ pub struct Opt {
     pub says: &'static str,
 }
 
-/// A word that a verb takes.
+/// An argument of a verb.
 pub struct Argument {
     /// Its name.
     pub name: &'static str,
     /// Its kind.
     pub kind: Kind,
-    /// How many are taken.
+    /// How many it accepts.
     pub many: Many,
     /// What it is.
     pub says: &'static str,
 }
 
-/// How many words an argument takes; only the last argument of a verb may take other than one.
+/// How many words an argument accepts; only the last argument of a verb accepts more or fewer than one.
 #[derive(Debug, Clone, Copy, PartialEq, Eq)]
 pub enum Many {
     /// Exactly one.
@@ -75,10 +75,12 @@ pub enum Kind {
     Number(i64, i64),
     /// A finite number.
     Decimal,
-    /// A place in a sound.
+    /// A position in a sound.
     Place,
     /// A part of a sound.
     Part,
+    /// A name for people.
+    Name,
     /// A verb of this table.
     Verb,
     /// A refusal's number, or a state.
@@ -86,7 +88,7 @@ pub enum Kind {
 }
 
 impl Kind {
-    /// What a word of this kind must be, if the parser judges it.
+    /// What a word of this kind must be, if the parser checks it.
     pub fn must_be(self) -> Option<String> {
         match self {
             Self::OneOf(words) => Some(list(words, "or")),
@@ -98,6 +100,7 @@ impl Kind {
             Self::Part => Some(
                 "a part of the sound: two places with .. between them, such as 6.2s..10.9s".into(),
             ),
+            Self::Name => Some("a name of at most 64 bytes of UTF-8".into()),
             Self::Meaning => Some(format!(
                 "a refusal's number ({}), a state's (0 to 6), or a state's name",
                 explain::numbers()
@@ -126,7 +129,7 @@ const PLAIN: &[(u8, &str)] = &[DONE, REFUSED, USAGE];
 
 const CSV: &str = "Print comma separated values, for a spreadsheet or for R.";
 
-/// What `--help` says, for every verb.
+/// The description of `--help`, for every verb.
 pub const HELP: Opt = Opt {
     name: "--help",
     value: None,
@@ -136,7 +139,7 @@ pub const HELP: Opt = Opt {
 /// What the command is for, in one line.
 pub const PURPOSE: &str = "what happened at a listening box";
 
-/// What is said of the whole command.
+/// The description of the whole command.
 pub const ABOUT: &[&str] = &[
     "A trace is an evening recorded by the box: everything that the host asked of one voice. A log is what the box, or replay, says of it: one line for each block. docs/guide/TOOLS.md shows each verb at work.",
     "A file named - is standard input. An option may be written --rate 44100 or --rate=44100, before or after the files; after -- every word is a file.",
@@ -315,12 +318,96 @@ pub const VERBS: &[Verb] = &[
         ],
     },
     Verb {
+        name: "loops show",
+        says: "show the loops of two halls: each slot in frames and seconds, with its name",
+        about: &[
+            "The folder holds hall A's loops in hall-a.loops and hall B's in hall-b.loops. A file that is refused is named with its number, and the other hall's loops are shown.",
+        ],
+        options: &[LOOP_RATE],
+        arguments: &[LOOPS],
+        folders: None,
+        examples: &[(
+            "loops show --rate 44100 loops",
+            "Show the loops of a sound of 44,100 frames a second.",
+        )],
+        statuses: PLAIN,
+    },
+    Verb {
+        name: "loops set",
+        says: "put a loop into a slot of a hall",
+        about: &[
+            "Writes the hall's file, beside its place and then renamed, and shows the folder. Hall A writes slots 0 to 7, hall B slots 8 to 15.",
+            "A hall's file has one writer. Run this at the hall's own box while no program there has the loops open: a box that runs does not read its own file again.",
+        ],
+        options: &[
+            LOOP_HALL,
+            Opt {
+                name: "--name",
+                value: Some(("NAME", Kind::Name)),
+                says: "The slot's name, at most 64 bytes of UTF-8. Without this option it has none.",
+            },
+            LOOP_FRAMES,
+            LOOP_RATE,
+        ],
+        arguments: &[
+            LOOPS,
+            SLOT,
+            Argument {
+                name: "START",
+                kind: Kind::Place,
+                many: Many::One,
+                says: "The loop's first frame, such as 6.2s or 273420f.",
+            },
+            Argument {
+                name: "END",
+                kind: Kind::Place,
+                many: Many::One,
+                says: "The loop's end, which is not part of it.",
+            },
+        ],
+        folders: None,
+        examples: &[(
+            "loops set --hall A --name greeting --rate 44100 loops 0 6.2s 10.9s",
+            "Put a sentence into hall A's first slot.",
+        )],
+        statuses: PLAIN,
+    },
+    Verb {
+        name: "loops clear",
+        says: "empty a slot of a hall",
+        about: &[
+            "Writes the hall's file and shows the folder, as 'loops set' does, with the same rule: one writer a file.",
+        ],
+        options: &[LOOP_HALL, LOOP_FRAMES, LOOP_RATE],
+        arguments: &[LOOPS, SLOT],
+        folders: None,
+        examples: &[("loops clear --hall B loops 8", "Empty hall B's first slot.")],
+        statuses: PLAIN,
+    },
+    Verb {
+        name: "loops merge",
+        says: "show the newest loops among copies of a folder, and which copy has them",
+        about: &[
+            "Of each hall the file with the most writes and clears is the newest. If two copies have the same number and differ, nothing is chosen: it says so, with refusal 28. Nothing is written. A hall that lost its file, or has an old one, gets the newest back when its hall-a.loops or hall-b.loops is copied to its own folder before its box starts.",
+        ],
+        options: &[LOOP_RATE],
+        arguments: &[Argument {
+            name: "COPY",
+            kind: Kind::Folder,
+            many: Many::Several,
+            says: "Copies of the folder.",
+        }],
+        folders: None,
+        examples: &[("loops merge loops backup", "Show the newest of two copies.")],
+        statuses: PLAIN,
+    },
+    Verb {
         name: "report",
         says: "the figures of one evening or of many, and a page with plots",
         about: &[
-            "Reads logs and traces: minutes played, paused and silent, times round the loop, seeks, refused blocks. With several files it prints one row for each, the total and five quantiles.",
+            "Reads logs and traces: minutes played, paused and silent, times round the loop, seeks, refused blocks. With several files it prints one row for each, the total and five quantiles. A folder stands for its files NAME.log.",
             "A damaged file is named on standard error and left out. A file that is given twice is named there too, and counts twice.",
-            "With --by or --groups it prints the figures of groups instead, and what changed from one group to the next, with intervals of 95 percent. FILE may then be a folder, which stands for its files NAME.log.",
+            "With --by or --groups it prints the figures of groups instead, and what changed from one group to the next, with intervals of 95 percent.",
         ],
         options: &[
             Opt {
@@ -363,7 +450,7 @@ pub const VERBS: &[Verb] = &[
             name: "FILE",
             kind: Kind::File,
             many: Many::Several,
-            says: "Logs or traces.",
+            says: "Logs or traces, or folders of logs.",
         }],
         folders: None,
         examples: &[
@@ -391,13 +478,13 @@ pub const VERBS: &[Verb] = &[
         says: "did this box play as proved? the first block that differs, and the creep",
         about: &[
             "Plays the trace with the proved player and compares the box's own log with it, at each frame where both have an edge. Where the two cannot be compared, or the trace is damaged, it says so and says nothing of the box.",
-            "Of folders it compares every NAME.trace with the NAME.log beside it, and prints a row for each box.",
+            "Of folders it compares every NAME.trace with the NAME.log beside it, and prints a row for each evening, the share that differs, and how the creep is distributed.",
         ],
         options: &[
             Opt {
                 name: "--csv",
                 value: None,
-                says: "Print comma separated values: a row for each block, or for each box of a folder.",
+                says: "Print comma separated values: a row for each block, or for each evening of a folder.",
             },
             Opt {
                 name: "--html",
@@ -432,7 +519,7 @@ pub const VERBS: &[Verb] = &[
             ),
             (
                 "audit --html week.html week",
-                "Say it of every box of a week, and write a page.",
+                "Say it of every evening of a week, and write a page.",
             ),
         ],
         statuses: &[
@@ -520,15 +607,47 @@ pub const VERBS: &[Verb] = &[
     },
 ];
 
+const LOOPS: Argument = Argument {
+    name: "FOLDER",
+    kind: Kind::Folder,
+    many: Many::One,
+    says: "The folder of the loops.",
+};
+
+const SLOT: Argument = Argument {
+    name: "SLOT",
+    kind: Kind::Number(0, 15),
+    many: Many::One,
+    says: "The slot, 0 to 15.",
+};
+
+const LOOP_HALL: Opt = Opt {
+    name: "--hall",
+    value: Some(("HALL", Kind::OneOf(&["A", "B"]))),
+    says: "The hall that makes the change. It must be given.",
+};
+
+const LOOP_FRAMES: Opt = Opt {
+    name: "--frames",
+    value: Some(("N", Kind::Number(1, 16_777_216))),
+    says: "The sound's frames. Needed if the folder has no loops yet.",
+};
+
+const LOOP_RATE: Opt = Opt {
+    name: "--rate",
+    value: Some(("HZ", HZ)),
+    says: "The sound's frames a second, 48000 if not given.",
+};
+
 const VERB: Argument = Argument {
     name: "VERB",
     kind: Kind::Verb,
     many: Many::Any,
-    says: "A verb. 'settings show' and 'settings save' are two words.",
+    says: "A verb. Those of settings and loops are two words, such as 'settings show'.",
 };
 
 impl Verb {
-    /// How it is called, in each of its ways: `cableowl replay [--log FORM] TRACE`.
+    /// Its usage, one line per form: `cableowl replay [--log FORM] TRACE`.
     pub fn synopses(&self) -> Vec<String> {
         let mut ways = vec![self.synopsis(self.arguments)];
         if let Some(folders) = &self.folders {
@@ -552,7 +671,7 @@ impl Verb {
         line
     }
 
-    /// The words that it takes, in each of its ways.
+    /// Its arguments, for each form.
     pub fn all_arguments(&'static self) -> impl Iterator<Item = &'static Argument> {
         self.arguments.iter().chain(&self.folders)
     }

@@ -2,8 +2,8 @@
 
 use std::env::consts::ARCH;
 
-/// The version, the commit, the C interface of the archive that is linked, and the processor. A commit is known where
-/// the program was made by `make dist`.
+/// The version, the commit, the C interface of the archive that is linked, and the processor. The commit is known if
+/// `make dist` made the program.
 pub fn line() -> String {
     let version = env!("CARGO_PKG_VERSION");
     let commit = option_env!("CABLEOWL_COMMIT").map_or_else(

@@ -6,14 +6,19 @@ use std::{
     slice,
 };
 
+use cableowl::Hall;
+
 use crate::{
-    by_group,
     completions::Shell,
     explain::Meaning,
     fault::{Fault, Result},
-    group::{By, Pattern},
     log::Form,
+    loops::{Change, Loop},
     out::shown,
+    report::{
+        Rates, Request,
+        grouping::{self, By, Pattern},
+    },
     settings::{Part, Place, Save},
     verbs::{self, Argument, HELP, Kind, Many, Opt, VERBS, Verb, list},
 };
@@ -64,35 +69,29 @@ pub enum Asked {
         /// Where they go.
         to: PathBuf,
     },
-    /// The figures of evenings.
-    Report {
-        /// Their logs and traces.
-        files: Vec<PathBuf>,
-        /// Frames a second of the box.
+    /// The loops of a folder shown.
+    ShowLoops {
+        /// The folder.
+        folder: PathBuf,
+        /// Frames a second of the sound.
         rate: u32,
-        /// Frames a second of the sound, where they are given.
-        sound_rate: Option<u32>,
-        /// Told as comma separated values.
-        csv: bool,
-        /// Where the page goes.
-        page: Option<PathBuf>,
     },
-    /// The figures of groups of evenings.
-    ReportGroups {
-        /// Their logs and traces, or folders of logs.
-        files: Vec<PathBuf>,
-        /// How they are grouped.
-        by: by_group::Asked,
-        /// Frames a second of the box.
+    /// A slot of a folder's loops changed.
+    ChangeLoops(Change),
+    /// Copies of loops merged.
+    MergeLoops {
+        /// Their folders.
+        copies: Vec<PathBuf>,
+        /// Frames a second of the sound.
         rate: u32,
-        /// Told as comma separated values.
-        csv: bool,
     },
+    /// The figures of evenings, or of groups of them.
+    Report(Request),
     /// Every log in some folders compared with its trace.
     AuditFolders {
         /// The folders.
         folders: Vec<PathBuf>,
-        /// Told as comma separated values, a row for each box.
+        /// Told as comma separated values, a row for each evening.
         csv: bool,
         /// Where the page goes.
         page: Option<PathBuf>,
@@ -216,6 +215,10 @@ impl Given {
     fn value(&self, name: &str) -> Option<&OsStr> {
         let found = self.options.iter().find(|(option, _)| option.name == name);
         found.map(|(_, value)| value.as_os_str())
+    }
+
+    fn text(&self, name: &str) -> Option<&str> {
+        self.value(name).and_then(OsStr::to_str)
     }
 
     /// Each word with the kind that it must be of, and the name of what it is.
@@ -344,21 +347,26 @@ impl Given {
                 save: self.save(rate),
                 to: self.path(0),
             },
-            "report" => match self.group_by()? {
-                Some(by) => Asked::ReportGroups {
-                    files: self.paths(),
-                    by,
-                    rate,
-                    csv: self.has("--csv"),
-                },
-                None => Asked::Report {
-                    rate,
-                    sound_rate: self.rate("--sound-rate"),
-                    csv: self.has("--csv"),
-                    page: page(),
-                    files: self.paths(),
-                },
+            "loops show" => Asked::ShowLoops {
+                folder: self.path(0),
+                rate,
             },
+            "loops set" => Asked::ChangeLoops(self.change(rate, self.given())?),
+            "loops clear" => Asked::ChangeLoops(self.change(rate, None)?),
+            "loops merge" => Asked::MergeLoops {
+                copies: self.paths(),
+                rate,
+            },
+            "report" => Asked::Report(Request {
+                files: self.paths(),
+                rates: Rates {
+                    device: rate,
+                    sound: self.rate("--sound-rate"),
+                },
+                by: self.group_by()?,
+                csv: self.has("--csv"),
+                page: page(),
+            }),
             "audit" if self.are_folders() => Asked::AuditFolders {
                 folders: self.paths(),
                 csv: self.has("--csv"),
@@ -390,7 +398,7 @@ impl Given {
     }
 
     /// How files are to be grouped, if they are.
-    fn group_by(&self) -> Result<Option<by_group::Asked>> {
+    fn group_by(&self) -> Result<Option<grouping::Asked>> {
         let by = match self.value("--by").and_then(OsStr::to_str) {
             None => None,
             Some("box") => Some(By::Box),
@@ -400,25 +408,56 @@ impl Given {
         let asked = match (by, self.value("--groups")) {
             (None, _) if self.has("--name") => return Err(Fault::usage("--name goes with --by")),
             (None, None) => return Ok(None),
-            (None, Some(table)) => by_group::Asked::Table(table.into()),
+            (None, Some(table)) => grouping::Asked::Table(table.into()),
             (Some(_), Some(_)) => return Err(Fault::usage("give --by or --groups, not both")),
             (Some(by), None) => {
                 let name = self.value("--name").unwrap_or(OsStr::new("{box}_{date}"));
                 let pattern = Pattern::read(&name.to_string_lossy());
                 let pattern = pattern.map_err(|words| Fault::usage(format!("--name: {words}")))?;
-                by_group::Asked::Named(by, pattern)
+                grouping::Asked::Named(by, pattern)
             }
         };
-        for option in ["--html", "--sound-rate"] {
-            if self.has(option) {
-                return Err(Fault::usage(format!("a report by groups has no {option}")));
-            }
-        }
         Ok(Some(asked))
     }
 
+    /// The loop that a slot is to get.
+    fn given(&self) -> Option<Loop> {
+        let place = |index: usize| Place::read(self.words.get(index)?.to_str()?);
+        Some(Loop {
+            start: place(2)?,
+            end: place(3)?,
+            name: self.text("--name").unwrap_or_default().to_owned(),
+        })
+    }
+
+    /// A change of a slot by a hall.
+    fn change(&self, rate: u32, loops: Option<Loop>) -> Result<Change> {
+        let hall = match self.text("--hall") {
+            Some("A") => Hall::A,
+            Some(_) => Hall::B,
+            None => {
+                return Err(Fault::usage(format!(
+                    "{} needs --hall A or --hall B",
+                    self.verb.name
+                )));
+            }
+        };
+        let slot = self
+            .words
+            .get(1)
+            .and_then(|word| word.to_str()?.parse().ok());
+        Ok(Change {
+            folder: self.path(0),
+            hall,
+            slot: slot.unwrap_or_default(),
+            loops,
+            frames: self.number("--frames").map(|frames| frames as u64),
+            rate,
+        })
+    }
+
     fn save(&self, rate: u32) -> Save {
-        let text = |name| self.value(name).and_then(OsStr::to_str);
+        let text = |name| self.text(name);
         Save {
             start: text("--start").and_then(Place::read),
             looped: text("--loop").and_then(Part::read),
@@ -455,6 +494,7 @@ fn is_of(kind: Kind, name: &str, word: &OsStr) -> Result<()> {
         Kind::Decimal => text.and_then(decimal).is_some(),
         Kind::Place => text.and_then(Place::read).is_some(),
         Kind::Part => text.and_then(Part::read).is_some(),
+        Kind::Name => text.is_some_and(|text| text.len() <= 64),
         Kind::Meaning => Meaning::read(word).is_some(),
     };
     if good {
@@ -486,13 +526,16 @@ mod tests {
 
     #[test]
     fn words_are_read_in_any_order() {
-        let report = Asked::Report {
+        let report = Asked::Report(Request {
             files: vec!["a".into(), "-".into(), "--csv".into()],
-            rate: 44_100,
-            sound_rate: None,
+            rates: Rates {
+                device: 44_100,
+                sound: None,
+            },
+            by: None,
             csv: true,
             page: Some("p".into()),
-        };
+        });
         for words in [
             "report --csv --rate 44100 --html p a - -- --csv",
             "report --html=p a --rate=44100 - --csv -- --csv",
@@ -515,8 +558,7 @@ mod tests {
 
     #[test]
     fn wrong_words_are_told() {
-        let all =
-            "replay, salvage, settings, report, audit, explain, help, version, man or completions";
+        let all = "replay, salvage, settings, loops, report, audit, explain, help, version, man or completions";
         for (words, told) in [
             ("", &*format!("say what to do: {all}")),
             (
@@ -543,7 +585,10 @@ mod tests {
                 "settings show",
                 "settings show needs FILE: the saved settings",
             ),
-            ("report", "report needs FILE: logs or traces"),
+            (
+                "report",
+                "report needs FILE: logs or traces, or folders of logs",
+            ),
             ("report - -", "standard input, '-', can be read only once"),
             (
                 "report --groups - -",
@@ -567,10 +612,6 @@ mod tests {
             (
                 "report --by box --groups t a",
                 "give --by or --groups, not both",
-            ),
-            (
-                "report --by day --html p a",
-                "a report by groups has no --html",
             ),
             (
                 "report --html - a",

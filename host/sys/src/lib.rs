@@ -523,6 +523,39 @@ pub fn settings_of(saved: &SavedSettings, sample_rate: u32) -> Settings {
     unsafe { cableowl_settings_of(saved, sample_rate) }
 }
 
+/// A hall's half of a loop table: nineteen words.
+#[repr(C)]
+#[derive(Debug, Clone, Copy, Default, PartialEq, Eq)]
+pub struct LoopHalf {
+    pub hall: u64,
+    pub num_frames: u64,
+    pub changes: u64,
+    pub slots: [LoopSlot; 8],
+}
+
+unsafe extern "C" {
+    pub fn cableowl_store_half(
+        half: *const LoopHalf,
+        names: *const u8,
+        names_len: usize,
+        buffer: *mut u8,
+        buffer_len: usize,
+    ) -> u32;
+
+    pub fn cableowl_load_half(bytes: *const u8, bytes_len: usize, half: *mut LoopHalf) -> u32;
+}
+
+#[inline]
+pub fn store_half(half: &LoopHalf, names: &[u8], buffer: &mut [u8]) -> u32 {
+    let (room, size) = (buffer.as_mut_ptr(), buffer.len());
+    unsafe { cableowl_store_half(half, names.as_ptr(), names.len(), room, size) }
+}
+
+#[inline]
+pub fn load_half(bytes: &[u8], half: &mut LoopHalf) -> u32 {
+    unsafe { cableowl_load_half(bytes.as_ptr(), bytes.len(), half) }
+}
+
 /// A record of a trace: its kind and its numbers in the order of docs/formats/TRACE.md.
 #[repr(C)]
 #[derive(Debug, Clone, Copy, PartialEq, Eq)]

@@ -1,5 +1,5 @@
-//! The student of the examples: what happens at which second of the evening, to which lesson, and how
-//! the host cuts time.
+//! The student of the examples: what happens at which second of the evening, to which lesson, and the
+//! host's block sizes.
 
 use std::{
     fmt,
@@ -9,7 +9,7 @@ use std::{
 use cableowl::{MAX_BLOCK_FRAMES, Player, Refusal, Tween};
 use random::Random;
 
-/// Frames a second of the lesson, and of the box's audio device.
+/// Frames per second of the lesson, and of the box's audio device.
 pub const LESSON_RATE: u32 = 44_100;
 pub const DEVICE_RATE: u32 = 48_000;
 
@@ -48,7 +48,7 @@ impl fmt::Display for Act {
 }
 
 impl Act {
-    /// Tells a player.
+    /// Passes it to a player.
     pub fn tell(&self, player: &mut Player) -> Result<(), Refusal> {
         match *self {
             Self::Loop(start, end) => player.set_loop_region(start..end)?,
@@ -80,7 +80,7 @@ pub const SCRIPT: [(u32, Act); 9] = [
     (298, Act::Stop),
 ];
 
-/// How the host cuts time.
+/// How the host chooses block sizes.
 #[derive(Clone)]
 pub enum Blocks {
     Of(usize),
@@ -96,13 +96,13 @@ impl Blocks {
     }
 }
 
-/// One sample more in a digest of samples, bit for bit.
+/// Adds a sample's bits to a digest.
 pub fn digested(digest: u64, sample: &f32) -> u64 {
     let mixed = (digest ^ u64::from(sample.to_bits())).wrapping_mul(0x9e37_79b9_7f4a_7c15);
     mixed ^ (mixed >> 32)
 }
 
-/// A lesson of so many frames, which goes up and down like speech: two triangle waves under syllables.
+/// A lesson of this many frames that rises and falls like speech: two triangle waves under syllables.
 pub fn lesson(frames: usize) -> Vec<f32> {
     let triangle = |clock: u64, hertz: u64| {
         let phase = (clock * hertz % u64::from(LESSON_RATE)) as f32 / LESSON_RATE as f32;
@@ -117,7 +117,7 @@ pub fn lesson(frames: usize) -> Vec<f32> {
         .collect()
 }
 
-/// Says how far a step is, every two seconds that it takes.
+/// Prints progress every two seconds.
 pub struct Progress<'a> {
     name: &'a str,
     said: Instant,
@@ -129,7 +129,7 @@ impl<'a> Progress<'a> {
         Self { name, said }
     }
 
-    /// So many frames of the evening are over.
+    /// This many frames of the evening are done.
     pub fn at(&mut self, frames: u64) {
         if self.said.elapsed() > Duration::from_secs(2) {
             self.said = Instant::now();

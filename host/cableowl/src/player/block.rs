@@ -1,4 +1,4 @@
-//! One block of a player: what its voice is given, where the frames go, who learns of it, and the frame in which it stops.
+//! One block of a player: the input of its voice, where the frames go, who records it, and the frame in which it stops.
 
 use std::ops::Range;
 
@@ -10,18 +10,18 @@ use crate::{
 /// Where a call's frames go.
 #[derive(Debug, Clone, Copy)]
 pub enum Place {
-    /// In place of what stands in the output.
+    /// They replace the output.
     Out,
-    /// Added to it.
+    /// They are added to the output.
     Mix,
 }
 
-/// Who learns what a player's voice is told and given.
+/// Gets the commands and blocks of a player's voice.
 pub trait Watch {
-    /// Whether a block must be one that a record can hold; then `played` is called.
+    /// Whether each block must fit into a record; then `played` is called.
     const RECORDS: bool = false;
 
-    /// The voice was told these.
+    /// The voice got these commands.
     fn told(&mut self, _: Commands) {}
 
     /// The voice, as it is now, played this block.
@@ -31,7 +31,7 @@ pub trait Watch {
 /// Nobody.
 impl Watch for () {}
 
-/// What a voice is given for a block.
+/// The input of a voice for a block.
 #[derive(Debug, Clone, Copy)]
 pub struct Given<'a> {
     pub sound: &'a [f32],
@@ -45,8 +45,8 @@ pub struct Given<'a> {
 }
 
 impl Given<'_> {
-    /// Plays a part of the block into its place of the block's output; the part at its beginning
-    /// takes the signals.
+    /// Plays a part of the block into the same part of the output. The part at the beginning gets the
+    /// signals.
     pub fn play(
         &self,
         part: Range<usize>,
@@ -58,7 +58,7 @@ impl Given<'_> {
             0 => self.signals,
             _ => Signals::new(),
         };
-        // The output has room for the block: its caller cut it so.
+        // The caller cut the block so that it fits into the output.
         let out = out
             .get_mut(2 * part.start..2 * part.end)
             .unwrap_or_default();
@@ -88,8 +88,8 @@ impl Given<'_> {
             .block(self.time_step, self.signals)
     }
 
-    /// Plays the whole block, or as much of it as there is until the voice runs off its sound's end.
-    /// Returns the frames played and their counts.
+    /// Plays the block up to the frame in which the sound ends, or all of it. Returns the frames played
+    /// and their counts.
     pub fn play_all(
         &self,
         frames: usize,

@@ -1,19 +1,19 @@
-//! One command to a player, as a value that goes through a channel; and how commands are judged.
+//! One command to a player, as a value for a channel; and the checks of commands.
 
 use std::{hint::black_box, time::Duration};
 
 use crate::{EndPosition, Level, PlaybackPosition, Refusal, Region, State, Tween, float_mode};
 
-/// A counter of 32 bits that wraps, as the host reads it now, and how fast it counts.
+/// The host's 32-bit tick counter, which wraps: its current value and its speed.
 #[derive(Debug, Clone, Copy, PartialEq, Eq, Hash)]
 pub struct Ticks {
     /// The tick of the next frame.
     pub now: u32,
-    /// Ticks a second, counted on with the player's frames; with 0 the counter stands.
+    /// Ticks per second. The player advances the counter with its frames; with 0 it stays.
     pub per_second: u32,
 }
 
-/// One command to a [`Player`](crate::Player), for a host whose commands come through a channel:
+/// One command to a [`Player`](crate::Player), for a host that sends commands through a channel.
 /// [`Player::command`](crate::Player::command) calls the method of the same name.
 #[derive(Debug, Clone, Copy, PartialEq)]
 #[non_exhaustive]
@@ -51,10 +51,10 @@ pub enum Seek {
     To(f64),
 }
 
-/// Places are below this frame number: docs/assurance/RULES.md, "Seconds to frames".
+/// Positions are below this frame index: docs/assurance/RULES.md, "Seconds to frames".
 const FRAME_LIMIT: f64 = 4_294_967_296.0;
 
-/// A loop in frames, or refusal 6 as the voice would give it.
+/// A loop in frames, or refusal 6 as the voice would return it.
 pub fn frames_of(state: &State, region: Region) -> Result<(u64, u64), Refusal> {
     let frames = state
         .slice
@@ -63,7 +63,7 @@ pub fn frames_of(state: &State, region: Region) -> Result<(u64, u64), Refusal> {
         PlaybackPosition::Samples(samples) => Some(samples as u64),
         PlaybackPosition::Seconds(seconds) if seconds.is_finite() => {
             let rate = f64::from(state.sample_rate);
-            // Below 0 it is 0.
+            // Negative results become 0.
             let frame = |seconds: f64| (seconds * rate).min(FRAME_LIMIT).round() as u64;
             Some(float_mode::plain(|| black_box(frame(black_box(seconds)))))
         }
@@ -79,8 +79,8 @@ pub fn frames_of(state: &State, region: Region) -> Result<(u64, u64), Refusal> {
     }
 }
 
-/// The frame that a seek from this position asks for, or refusal 8 as the voice would give it. In
-/// the float mode of the thread.
+/// The target frame of a seek from this position, or refusal 8 as the voice would return it. In the
+/// float mode of the thread.
 pub fn judge_seek(sample_rate: u32, position: u64, seek: Seek) -> Result<u64, Refusal> {
     let rate = f64::from(sample_rate);
     let (seconds, product) = match seek {
@@ -88,7 +88,7 @@ pub fn judge_seek(sample_rate: u32, position: u64, seek: Seek) -> Result<u64, Re
         Seek::To(seconds) => (seconds, seconds * rate),
     };
     match seconds.is_finite() && product < FRAME_LIMIT {
-        // Below 0 it is 0.
+        // Negative results become 0.
         true => Ok(product as u64),
         false => Err(Refusal::Seek),
     }

@@ -1,14 +1,14 @@
-//! The curves of tweens. Only sums, products and quotients, each rounded once: the same bits on every
-//! processor, which a library's `pow` does not promise.
+//! The curves of tweens. They use only sums, products and quotients, each rounded once, so they give the
+//! same bits on every processor; a library's `pow` does not promise that.
 
 use std::hint::black_box;
 
 use crate::float_mode;
 
-/// The curve of a [`Tween`](crate::Tween): kira's `Easing`, by kira's names.
+/// The curve of a [`Tween`](crate::Tween): kira's `Easing`, with kira's names.
 ///
-/// A curve turns the part of the time that has passed into the part of the way that is done. Both go
-/// from 0 to 1, and a value never leaves them: a power of 0 or below, or NaN, is at the end at once.
+/// A curve maps the part of the time that has passed to the part of the way that is done, both from 0 to
+/// 1. With a power of 0 or below, or NaN, it is at the end at once.
 ///
 /// ```
 /// use std::time::Duration;
@@ -75,7 +75,7 @@ impl Easing {
             Self::OutPowf(power) => 1.0 - powf(1.0 - x, power),
             Self::InOutPowf(power) => in_out(x, |x| powf(x, power)),
         };
-        // A power of 0 or below is past an end, or no number.
+        // A power of 0 or below gives a value past an end, or NaN.
         match way {
             _ if self.is_at_once() => 1.0,
             _ if way < 0.0 => 0.0,

@@ -1,4 +1,4 @@
-//! How a player plays: calls of any length, cut into blocks where its voice must be told something.
+//! How a player plays: it cuts calls of any length into blocks where its voice needs a signal or command.
 
 use std::hint::black_box;
 
@@ -25,7 +25,7 @@ impl Player {
         float_mode::plain(|| black_box(self).cut(sound, black_box(out), place, watch))
     }
 
-    /// Judges a call, obeys what is to be heard with its first frame, and plays block after block.
+    /// Checks a call, applies the waiting commands before its first frame, and plays block after block.
     #[inline(never)]
     fn cut<W: Watch>(
         &mut self,
@@ -51,15 +51,15 @@ impl Player {
         Ok(counts)
     }
 
-    /// Tells the voice what is queued, set after set, and turns it round where the rate of the next
-    /// frame has.
+    /// Passes the waiting commands to the voice, set after set, and turns its direction if the sign of the
+    /// next frame's rate has changed.
     fn obey<W: Watch>(&mut self, sound: &[f32], watch: &mut W) -> Result<(), Refusal> {
         let rate = self.rate.at(self.clock);
         let turns = rate.is_sign_negative() != self.voice.playback_rate().is_sign_negative();
         if !turns && self.queue.is_empty() {
             return Ok(());
         }
-        // Nothing in a row of commands depends on the direction: the first set turns it.
+        // No waiting command depends on the direction, so the first set turns it.
         let mut turn = turns.then_some(rate);
         for mut commands in self.queue.sets() {
             commands.playback_rate = turn.take();
@@ -79,7 +79,7 @@ impl Player {
         Ok(())
     }
 
-    /// Plays one block at the beginning of `out`: told are its frames and its counts.
+    /// Plays one block at the beginning of `out`. Returns its frames and its counts.
     fn block<W: Watch>(
         &mut self,
         sound: &[f32],
@@ -145,7 +145,7 @@ impl Player {
         Ok((frames, counts))
     }
 
-    /// How many of the next frames, at most so many, have the same numbers in every lane.
+    /// How many of the next frames, up to this many, have the same numbers in every lane.
     fn constant_frames(&self, most: usize) -> usize {
         let levels = self.fade.ends().max(self.volume.ends());
         if self.clock >= levels.max(self.rate.ends()).max(self.panning.ends()) {
@@ -162,7 +162,7 @@ impl Player {
     }
 }
 
-/// So many frames from the clock on, but none past a change that is still to come.
+/// This many frames from the clock on, but none after the next change.
 fn until(clock: u64, change: Option<u64>, frames: usize) -> usize {
     let to_go = change.and_then(|change| change.checked_sub(clock));
     match to_go.and_then(|to_go| usize::try_from(to_go).ok()) {
@@ -171,7 +171,7 @@ fn until(clock: u64, change: Option<u64>, frames: usize) -> usize {
     }
 }
 
-/// How many frames from the first on go its way.
+/// How many frames, from the first on, have its direction.
 fn one_direction(rate: Lane<f64>) -> usize {
     match rate {
         Lane::Constant(_) => usize::MAX,

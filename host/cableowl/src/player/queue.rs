@@ -1,4 +1,4 @@
-//! What a player is told between two frames, in the order in which it was told.
+//! The commands that a player gets between two frames, in their order.
 
 use std::hint::black_box;
 
@@ -29,22 +29,22 @@ pub struct Step {
 /// The pauses, resumes and stops between two frames.
 #[derive(Debug, Clone, Copy, PartialEq)]
 pub struct Presses {
-    /// How many of the seeks were told before the first of them.
+    /// How many of the seeks came before the first of them.
     pub after_seeks: usize,
     pub last: Press,
     pub fade: Ramp,
 }
 
-/// A row of commands, shortened to what decides its outcome:
+/// A list of commands, reduced to what decides its outcome:
 ///
-/// - A loop command sets the loop, which only seeks and frames read. So of those between two seeks
-///   the last counts.
-/// - A pause, resume or stop sets the state and the fade, unless the voice has stopped. A seek asks
-///   of the state only whether it advances, which it does after any of the three. So the row ends as
-///   if the last of them stood in the place of the first.
+/// - A loop command sets the loop, which only seeks and frames read. So only the last loop command
+///   between two seeks counts.
+/// - A pause, resume or stop sets the state and the fade, unless the voice has stopped. A seek only
+///   asks whether the state advances, which it does after any of the three. So the last of them at the
+///   place of the first gives the same outcome.
 ///
-/// What is left is at most 64 seeks, 65 loop commands and one press. The tests compare it with every
-/// command obeyed by itself (`tests/player/order.rs`).
+/// This leaves at most 64 seeks, 65 loop commands and one of pause, resume and stop. The tests compare
+/// it with applying each command by itself (`tests/player/order.rs`).
 #[derive(Debug, Clone)]
 pub struct Queue {
     steps: Box<[Step; MAX_SEEKS]>,
@@ -99,7 +99,7 @@ impl Queue {
         });
     }
 
-    /// The presses of a saved player.
+    /// The pauses, resumes and stops of a saved player.
     pub fn set_presses(&mut self, presses: Option<Presses>) {
         self.presses = presses;
     }
@@ -114,7 +114,7 @@ impl Queue {
         self.loop_region = LoopCommand::Clear;
     }
 
-    /// Judges a seek as the voice will when it has obeyed what is queued before it.
+    /// Checks a seek as the voice will after the commands that wait before it.
     pub fn seek(&mut self, state: &State, seek: Seek) -> Result<(), Refusal> {
         float_mode::plain(|| black_box(&*self).judge(state, black_box(seek)))?;
         let step = self.steps.get_mut(self.seeks).ok_or(Refusal::Queue)?;
@@ -144,7 +144,7 @@ impl Queue {
         judge_seek(state.sample_rate, position, seek).map(|_| ())
     }
 
-    /// The command sets to obey, one after the other; the last may be empty.
+    /// The command sets to apply, one after the other; the last may be empty.
     pub fn sets(&self) -> impl Iterator<Item = Commands> {
         (0..=self.seeks).map(|number| {
             let mut commands = match self.steps().get(number) {

@@ -1,4 +1,4 @@
-//! A player that is recorded as it plays: its constant stretches become the records of a trace.
+//! A player that is recorded while it plays: each run of constant lanes becomes a record of a trace.
 
 use super::{
     Command, Player, Tween,
@@ -9,20 +9,19 @@ use crate::{
     trace::{Block, Line, Record, Recorded, ShortSound, Tape},
 };
 
-/// A [`Player`] over a sound of at most 64 frames that plays and is recorded in one go, into a lent
-/// buffer (docs/formats/TRACE.md).
+/// A [`Player`] over a sound of at most 64 frames that records what it plays, into a borrowed buffer
+/// (docs/formats/TRACE.md).
 ///
-/// It plays as an unrecorded one does, bit for bit. A record holds constant lanes and at most 1,024
-/// frames, so the player cuts its blocks where a lane changes: a fade is a record for each of its
-/// levels, a rate in motion one for each frame. Each record is told by its [`Line`], and the trace,
-/// played again, prints the same lines ([`trace::lines`](crate::trace::lines())).
+/// It plays as an unrecorded player does, bit for bit. A record has constant lanes and at most 1,024
+/// frames, so the player cuts its blocks where a lane changes: a fade is one record per level, a moving
+/// rate one per frame. Each record has its [`Line`], and the trace, played again, prints the same lines
+/// ([`trace::lines`](crate::trace::lines())).
 ///
-/// As with a [`Recorder`](crate::trace::Recorder), **what the buffer holds is the evening up to the
-/// first record that it could not hold**: the player plays on, it and every later call say why
-/// ([`Recorded::recorded`]), and nothing more is written. A call of n frames needs at most 42 bytes a
-/// frame, 52 for each turn of the direction, 52 for each seek before it and 52 for its other commands
-/// together; a host that records for long keeps [`RecordedPlayer::bytes`] and calls
-/// [`RecordedPlayer::clear`] in time.
+/// As with a [`Recorder`](crate::trace::Recorder), **the buffer contains the evening up to the first
+/// record that did not fit**. After that the player keeps playing and writes no more, and every call
+/// says why ([`Recorded::recorded`]). A call of n frames needs at most 42 bytes per frame, 52 for each
+/// change of direction, 52 for each seek before it and 52 for its other commands together. To record for
+/// long, save [`RecordedPlayer::bytes`] and call [`RecordedPlayer::clear`] in time.
 ///
 /// ```
 /// use cableowl::{Command, Frames, RecordedPlayer, Settings, Tween, trace::lines};
@@ -52,7 +51,7 @@ impl<'a> RecordedPlayer<'a> {
     /// # Errors
     ///
     /// As [`Player::play`]; then [`Refusal::Record`] for a sound of more than 64 frames, and
-    /// [`Refusal::Room`] where the buffer has no room for the creation.
+    /// [`Refusal::Room`] if the buffer is too short for the creation.
     pub fn play(
         settings: Settings,
         output_rate: u32,
@@ -78,7 +77,7 @@ impl<'a> RecordedPlayer<'a> {
         self
     }
 
-    /// As [`Player::command`]; recorded with the next frame, where the voice is told.
+    /// As [`Player::command`]; recorded with the next frame, when the voice gets it.
     ///
     /// # Errors
     ///
@@ -113,26 +112,25 @@ impl<'a> RecordedPlayer<'a> {
         &self.player
     }
 
-    /// Ends the recording: the player, to be played on unrecorded.
+    /// Ends the recording and returns the player.
     #[must_use]
     pub fn into_player(self) -> Player {
         self.player
     }
 
-    /// The records that the buffer holds.
+    /// The records in the buffer.
     #[must_use]
     pub fn bytes(&self) -> &[u8] {
         self.tape.bytes()
     }
 
-    /// The bytes that the buffer still has room for.
+    /// The free bytes in the buffer.
     #[must_use]
     pub fn room(&self) -> usize {
         self.tape.room()
     }
 
-    /// Empties the buffer, once the host has kept its records: what is recorded next goes on with the
-    /// same trace.
+    /// Empties the buffer after the host has saved its records; the same trace continues.
     pub fn clear(&mut self) {
         self.tape.clear();
     }

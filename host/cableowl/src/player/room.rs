@@ -1,4 +1,4 @@
-//! What a player's blocks are made with: the table of levels, the gains of a panning, room for lanes and frames.
+//! What a player needs for its blocks: the table of levels, the gains of a panning, buffers for lanes and frames.
 
 use std::{f32::consts::SQRT_2, fmt, sync::OnceLock};
 
@@ -12,7 +12,7 @@ pub fn amplitudes() -> &'static Amplitudes {
     static TABLE: OnceLock<Amplitudes> = OnceLock::new();
     TABLE.get_or_init(|| {
         let mut table = [0.0; 602];
-        // A frame for each level, so each has its own; never refused.
+        // One frame per level; never refused.
         let _ = fade_ramp(Level::FULL, Level::SILENCE, &mut table);
         table
     })
@@ -47,7 +47,7 @@ pub fn gain_lanes<'a>(
     }
 }
 
-/// Room for a block's lanes and frames, made once.
+/// Buffers for a block's lanes and frames, allocated once.
 pub struct Room {
     pub lanes: Lanes,
     pub fade: Vec<f32>,
@@ -75,19 +75,19 @@ impl Room {
     }
 }
 
-/// The first numbers of a lane's room, so many as a block has frames, which is never more than it has.
+/// The first numbers of a lane's buffer, one per frame of a block, which never has more frames.
 pub fn first<N>(room: &mut [N], frames: usize) -> &mut [N] {
     room.get_mut(..frames).unwrap_or_default()
 }
 
-/// A clone has as much room; nothing in it lasts from block to block.
+/// A clone has buffers of the same size; their contents do not last from block to block.
 impl Clone for Room {
     fn clone(&self) -> Self {
         Self::new()
     }
 }
 
-/// What lies in it is of the last block.
+/// Its contents belong to the last block.
 impl fmt::Debug for Room {
     fn fmt(&self, f: &mut fmt::Formatter<'_>) -> fmt::Result {
         f.write_str("Room")

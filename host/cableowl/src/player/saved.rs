@@ -21,21 +21,20 @@ const HEAD: usize = 9;
 /// The bytes of a state.
 const STATE: usize = 156;
 const CHECK: usize = 4;
-/// The frames that a saved player can have played, so that no sum of two frame numbers overflows.
+/// The largest clock of a saved player, so that no sum of two frame counts overflows.
 const MOST_PLAYED: u64 = 1 << 62;
 
 impl Player {
     /// The whole player as bytes: its voice, its parameters and their tweens, its clock and counts,
-    /// and the commands that are not obeyed yet. [`Player::from_bytes`] makes the same player of them,
-    /// bit for bit.
+    /// and the waiting commands. [`Player::from_bytes`] makes the same player again, bit for bit.
     ///
-    /// Numbers are little-endian, floats by their bits, a yes or no one byte.
+    /// Numbers are little-endian, floats by their bits, flags one byte.
     ///
-    /// | bytes | hold |
+    /// | bytes | contents |
     /// |---|---|
     /// | 4 | the mark: `43 4F 77 50`, "COwP" |
     /// | 1 | the version: 1 |
-    /// | 4 | how many bytes there are in all |
+    /// | 4 | the number of all bytes |
     /// | 156 | the voice, as [`State::to_bytes`] |
     /// | 4, 8 | the output rate; the frames played |
     /// | 9 | whether a start is set, its frame (0 if not) |
@@ -116,12 +115,12 @@ impl Player {
         bytes
     }
 
-    /// The player that these bytes are, over the sound it was created with.
+    /// Loads a saved player, over the sound with which it was created.
     ///
     /// # Errors
     ///
-    /// Where [`Player::to_bytes`] cannot have written them, by refusal number 1 and the reason; and
-    /// [`Unreadable::Sound`] for a sound of another length.
+    /// The reason, if [`Player::to_bytes`] cannot have written the bytes; [`Unreadable::Sound`] for a sound
+    /// of another length.
     pub fn from_bytes(bytes: &[u8], sound: &[f32]) -> Result<Self, Unreadable> {
         let rest = bytes.strip_prefix(&MARK).ok_or(Unreadable::Mark)?;
         match rest.first() {
@@ -155,7 +154,7 @@ impl Player {
     }
 }
 
-/// A level as a parameter has it.
+/// A level as a parameter's number.
 fn level(number: u64) -> Option<u16> {
     let lawful = |tenths: &u16| Level::new(u32::from(*tenths)).is_ok();
     u16::try_from(number).ok().filter(lawful)
@@ -223,7 +222,7 @@ fn put_loop(bytes: &mut Vec<u8>, command: LoopCommand) {
 }
 
 impl Player {
-    /// Queues a loop command that was saved; none where it is not lawful.
+    /// Queues a saved loop command; `None` if it is not valid.
     fn queue_loop(&mut self, state: &State, command: LoopCommand) -> Option<()> {
         match command {
             LoopCommand::Keep => {}
@@ -234,7 +233,7 @@ impl Player {
     }
 }
 
-/// None where the bytes end, or one means nothing.
+/// `None` if the bytes end, or one has no meaning.
 impl Reader<'_> {
     fn player(&mut self, voice: StaticSound, state: &State) -> Option<Player> {
         let output_rate = self.word()?;

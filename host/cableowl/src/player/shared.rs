@@ -7,12 +7,11 @@ use std::{
 
 use crate::{Player, Processed, Refusal, Settings, Tween, Unreadable};
 
-/// A [`Player`] bound to a shared sound: one value to send to the audio thread. It is a player by
-/// `Deref`, for the commands; its own [`process`](SharedPlayer::process()) and
-/// [`mix`](SharedPlayer::mix()) need no sound.
+/// A [`Player`] with a shared sound: one value to send to the audio thread. It derefs to [`Player`] for
+/// the commands; its own [`process`](SharedPlayer::process()) and [`mix`](SharedPlayer::mix()) need no
+/// sound.
 ///
-/// The sound is freed with the last value that holds it: a host that keeps an `Arc` of its own frees
-/// it outside the audio thread.
+/// The last `Arc` frees the sound. Keep an `Arc` of your own to free it outside the audio thread.
 ///
 /// ```
 /// use std::{sync::Arc, thread};

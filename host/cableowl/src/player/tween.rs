@@ -1,18 +1,17 @@
-//! Tweens, and the parameters that they lead: a number for each frame, by how many frames have
-//! passed since the command, and by nothing else.
+//! Tweens and the parameters that they move. The value of a frame depends only on the number of frames
+//! since the command.
 
 use std::time::Duration;
 
 use super::easing::Easing;
 use crate::Lane;
 
-/// How a parameter goes to its new value: kira's `Tween`. The default is a straight line over 10
-/// milliseconds, at once.
+/// How a parameter moves to its new value: kira's `Tween`. The default is a straight line over 10
+/// milliseconds, without a delay.
 ///
-/// A tween of n frames is over with the n-th frame after its start, which has the new value; frame i
-/// before it, from 1, is i / n of the time, and the [`Easing`] says how much of the way that is. One of
-/// 0 frames is as one of 1: the next frame has the new value. How the host cuts time into blocks does
-/// not matter.
+/// In a tween of n frames, frame i (counted from 1) is at i / n of the time, and the [`Easing`] says how
+/// much of the way that is. Frame n has the new value. A tween of 0 frames is like one of 1: the next
+/// frame has the new value. Block sizes do not matter.
 ///
 /// ```
 /// use std::time::Duration;
@@ -33,18 +32,18 @@ pub struct Tween {
     pub duration: Duration,
     /// The curve.
     pub easing: Easing,
-    /// How long the parameter keeps its old value first: kira's `start_time`, where it is
-    /// `StartTime::Delayed`. Rounded as the duration is.
+    /// How long the parameter keeps its old value first: kira's `start_time` with `StartTime::Delayed`.
+    /// It is rounded like the duration.
     #[doc(alias = "start_time")]
     #[doc(alias = "Delayed")]
     pub delay: Duration,
 }
 
 impl Tween {
-    /// No time at all: the next frame has the new value.
+    /// No duration: the next frame has the new value.
     pub const AT_ONCE: Self = Self::from_millis(0);
 
-    /// A tween of so many milliseconds.
+    /// A tween of this many milliseconds.
     #[must_use]
     pub const fn from_millis(millis: u64) -> Self {
         Self {
@@ -54,14 +53,14 @@ impl Tween {
         }
     }
 
-    /// With this curve.
+    /// Sets the curve.
     #[must_use]
     pub const fn easing(mut self, easing: Easing) -> Self {
         self.easing = easing;
         self
     }
 
-    /// Starting after this delay.
+    /// Sets the delay.
     #[must_use]
     pub const fn delayed(mut self, delay: Duration) -> Self {
         self.delay = delay;
@@ -78,7 +77,7 @@ impl Tween {
     }
 }
 
-/// The most frames of a duration: 186 years at 48 kHz.
+/// The largest duration in frames: 186 years at 48 kHz.
 pub const MOST_FRAMES: u64 = 1 << 48;
 
 /// A duration in frames of output, a half up.
@@ -112,9 +111,9 @@ pub struct Ramp {
     pub easing: Easing,
 }
 
-/// What a tween can lead.
+/// A value that a tween can move.
 pub trait Tweenable: Copy {
-    /// The value `passed` of `frames` frames on the straight way from `from` to `to`,
+    /// The value after `passed` of `frames` frames on the straight line from `from` to `to`,
     /// 0 < passed < frames.
     fn between(from: Self, to: Self, passed: u64, frames: u64) -> Self;
 
@@ -122,8 +121,8 @@ pub trait Tweenable: Copy {
     fn part(from: Self, to: Self, way: f64) -> Self;
 }
 
-/// Tenths of a decibel, rounded down as a ramp's are (`crates/decibels`): the tween is the ramp of
-/// one frame more, without its first, which is the level that it comes from.
+/// Tenths of a decibel, rounded down like a ramp's (`crates/decibels`): the tween is the ramp of one
+/// frame more, without the first frame, which has the old level.
 impl Tweenable for u16 {
     fn between(from: Self, to: Self, passed: u64, frames: u64) -> Self {
         (weighted(from, to, passed, frames) / frames) as Self
@@ -141,7 +140,7 @@ fn weighted(from: u16, to: u16, passed: u64, frames: u64) -> u64 {
     u64::from(from) * (frames - passed) + u64::from(to) * passed
 }
 
-/// Rates and pannings, never past either end: what is accepted at both is accepted between them.
+/// Rates and pannings, never past either end: what is accepted at both ends is accepted in between.
 impl Tweenable for f64 {
     fn between(from: Self, to: Self, passed: u64, frames: u64) -> Self {
         part_way(from, to, passed as Self / frames as Self)
@@ -161,7 +160,7 @@ fn part_way(from: f64, to: f64, way: f64) -> f64 {
     if value > high { high } else { value }
 }
 
-/// A number that tweens lead. Frames are counted from the player's first.
+/// A number that tweens move. Frames are counted from the player's first.
 #[derive(Debug, Clone, Copy, PartialEq)]
 pub struct Parameter<T> {
     pub from: T,
@@ -184,7 +183,7 @@ impl<T: Tweenable> Parameter<T> {
         }
     }
 
-    /// Leads it from where it is before this frame to another value.
+    /// Moves it from its value before this frame to another value.
     pub fn set(&mut self, to: T, frame: u64, ramp: Ramp) {
         *self = Self {
             from: self.before(frame),
@@ -200,12 +199,12 @@ impl<T: Tweenable> Parameter<T> {
         self.after(frame.saturating_add(1).saturating_sub(self.starts))
     }
 
-    /// The value before a frame: where a command finds it.
+    /// The value before a frame, from which a new tween starts.
     pub fn before(&self, frame: u64) -> T {
         self.after(frame.saturating_sub(self.starts))
     }
 
-    /// The value once so many frames of the tween have been given theirs.
+    /// The value after this many frames of the tween.
     fn after(&self, passed: u64) -> T {
         match (passed, self.easing) {
             (0, _) => self.from,
@@ -240,7 +239,7 @@ impl<T: Tweenable> Parameter<T> {
         }
     }
 
-    /// The value of all these frames, if it rests.
+    /// The value of all these frames, if it does not move.
     fn at_rest(&self, frame: u64, frames: usize) -> Option<T> {
         match frame {
             _ if frame >= self.ends() => Some(self.to),
@@ -265,8 +264,8 @@ fn first_of<N>(lane: &mut [N], count: u64) -> (&mut [N], &mut [N]) {
 }
 
 impl Parameter<u16> {
-    /// The lane of the frames from `frame` on, as many as `lane` has: one number where it rests, else
-    /// one for each. It computes a run of equal levels at once, with one division; where runs are
+    /// The lane of the frames from `frame` on, as many as `lane` has: one number if it does not move,
+    /// otherwise one for each. It computes a run of equal levels at once, with one division; where runs are
     /// short, it steps from frame to frame without one.
     pub fn lane<'a>(
         &self,
@@ -305,7 +304,7 @@ impl Parameter<u16> {
         i64::from(self.to) - i64::from(self.from)
     }
 
-    /// The level of a frame on the way, and what its division leaves: the next frame's dividend is
+    /// The level of a frame on the way, and the remainder of its division. The next frame's dividend is
     /// larger by `change`.
     fn divided(&self, passed: u64) -> (u64, u64) {
         let sum = weighted(self.from, self.to, passed, self.frames);
@@ -345,8 +344,8 @@ impl Parameter<u16> {
 }
 
 impl Parameter<f64> {
-    /// The lane of the frames from `frame` on, as many as `lane` has: one number where it rests, else
-    /// one for each. The loop is written so that it vectorises.
+    /// The lane of the frames from `frame` on, as many as `lane` has: one number if it does not move,
+    /// otherwise one for each. The loop is written so that it vectorises.
     pub fn lane<'a>(&self, frame: u64, lane: &'a mut [f64]) -> Lane<'a, f64> {
         if let Some(number) = self.at_rest(frame, lane.len()) {
             return Lane::Constant(number);

@@ -1,12 +1,12 @@
-//! The line of a block: what a replayed trace prints, and what a host logs.
+//! The line of a block: what a replay prints, and what a host logs.
 
 use std::fmt;
 
 use super::Refused;
 use crate::{PlaybackState, Processed, Refusal, StaticSound};
 
-/// What is printed of a block, or of a record that is refused. `Display` writes it without the line
-/// feed that ends it in a log.
+/// The line of a block, or of a refused record. `Display` writes it without the line feed that ends it
+/// in a log.
 ///
 /// ```
 /// use cableowl::{Lanes, Refusal, Settings, Signals, StaticSound, trace::Line};
@@ -30,16 +30,16 @@ pub enum Line {
         block: u64,
         /// Its frames.
         frames: u64,
-        /// The frames of the sound that it stepped over.
+        /// Its steps.
         steps: u64,
         /// The state after it.
         state: PlaybackState,
-        /// The frame that the window takes next.
+        /// The position after it.
         position: u64,
     },
     /// A block that the voice refuses.
     RefusedBlock {
-        /// Its number, from 1: refused blocks are counted too.
+        /// Its number, from 1; refused blocks are counted too.
         block: u64,
         /// Why.
         refusal: Refusal,
@@ -49,7 +49,7 @@ pub enum Line {
 }
 
 impl Line {
-    /// The line of a block with this number, from the voice after it and its answer.
+    /// The line of a block with this number, from the voice after it and its result.
     #[must_use]
     pub fn of_block(
         block: u64,

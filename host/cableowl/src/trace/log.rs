@@ -1,29 +1,29 @@
-//! A log of form 3: what a box says of a voice, one line a block or callback (docs/guide/TOOLS.md).
+//! A log of form 3: one line per block or callback of a voice (docs/guide/TOOLS.md).
 
 use std::fmt;
 
 use super::Line;
 use crate::{Commands, Processed, Refusal, State, StaticSound, Usage};
 
-/// The line that a log of form 3 begins with.
+/// The first line of a log of form 3.
 pub const LOG_HEAD: &str = "log=3";
 
-/// What happened to a voice since the line before.
+/// What happened to a voice since the previous line.
 #[derive(Debug, Clone, Copy, PartialEq, Eq, Hash, Default)]
 pub struct Since {
     /// Voices created.
     pub created: u64,
-    /// Seeks obeyed: each `seek_by` and each `seek_to`.
+    /// Seeks: each `seek_by` and each `seek_to`.
     pub seeks: u64,
-    /// Restarts by hand: a voice created in place of an earlier one, or a `seek_to` that leaves the
-    /// place behind where it was (ahead of it, where the voice plays backward).
+    /// Restarts by hand: a voice created after an earlier one, or a `seek_to` that goes back against the
+    /// playing direction.
     pub restarts: u64,
-    /// Pauses obeyed.
+    /// Pauses.
     pub pauses: u64,
 }
 
-/// Makes the lines of a log of form 3. The host says what happens between two blocks; each line says
-/// what its block's frames were spent on.
+/// Makes the lines of a log of form 3. The host reports what happens between two blocks; each line
+/// counts the played, paused and silent frames of its block.
 ///
 /// Every figure that `cableowl report` takes from the lines of a [`Player`](crate::Player) is the same
 /// for callbacks of any length.
@@ -77,18 +77,18 @@ impl Log {
         self.begun = true;
     }
 
-    /// A seek was obeyed, and whether the student started over by it.
+    /// A seek was applied, and whether the student restarted the sound with it.
     pub fn seeked(&mut self, restart: bool) {
         raise(&mut self.since.seeks, 1);
         raise(&mut self.since.restarts, restart.into());
     }
 
-    /// A pause was obeyed.
+    /// A pause was applied.
     pub fn paused(&mut self) {
         raise(&mut self.since.pauses, 1);
     }
 
-    /// A command set was obeyed: the voice's states before it and after it.
+    /// A command set was applied: the voice's states before and after it.
     pub fn commanded(&mut self, commands: &Commands, before: &State, after: &State) {
         if commands.pause {
             self.paused();
@@ -105,8 +105,8 @@ impl Log {
         }
     }
 
-    /// The line of the next block or callback: its frames, the voice after it, and its answer. Without
-    /// a voice every number is 0.
+    /// The line of the next block or callback, from its frames, the voice after it, and its result.
+    /// Without a voice every number is 0.
     pub fn block(
         &mut self,
         frames: usize,
@@ -158,23 +158,23 @@ pub struct LogLine {
     pub line: Line,
     /// The lowest window count that the block read.
     pub lowest: u32,
-    /// The voice's turns of its loop so far, forward.
+    /// The voice's loop wraps so far, forward.
     pub forward: u32,
     /// The same, backward.
     pub backward: u32,
-    /// Whether the sound's own start has come.
+    /// Whether the sound has started.
     pub started: bool,
-    /// How the block's frames were spent.
+    /// How many of the block's frames were played, paused or silent.
     pub usage: Usage,
-    /// The loop after the block, its end exclusive; 0 and 0 where there is none.
+    /// The loop after the block, end exclusive; 0 and 0 if there is none.
     pub loop_region: (usize, usize),
     /// Whether the voice moves backward after the block.
     pub is_backward: bool,
     /// Of the block's steps, those backward.
     pub steps_back: u64,
-    /// Whether the position has run off the sound.
+    /// Whether the position has passed the end of the sound.
     pub ended: bool,
-    /// What happened since the line before.
+    /// What happened since the previous line.
     pub since: Since,
 }
 
@@ -200,7 +200,7 @@ impl fmt::Display for LogLine {
 }
 
 impl LogLine {
-    /// What the line of an accepted block says of the voice, after the words of form 1.
+    /// What the line of an accepted block contains after the words of form 1.
     fn voice(&self, f: &mut fmt::Formatter<'_>) -> fmt::Result {
         let (lowest, forward, backward) = (self.lowest, self.forward, self.backward);
         let [started, direction, ended] =

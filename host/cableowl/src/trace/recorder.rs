@@ -1,34 +1,33 @@
-//! A voice that is recorded as it plays.
+//! A voice that is recorded while it plays.
 
 use super::{Block, Line, Record, ShortSound, Tape};
 use crate::{BlockLanes, Commands, LoopTable, Processed, Refusal, Settings, Signals, StaticSound};
 
-/// What a recorded call answers.
+/// The result of a recorded call.
 #[derive(Debug, Clone, Copy, PartialEq)]
 #[must_use]
 pub struct Recorded<T> {
-    /// The voice's own answer: recording never changes it.
+    /// The voice's own result; recording never changes it.
     pub answer: Result<T, Refusal>,
-    /// Whether the trace holds the call: [`Refusal::Record`] where no record can, [`Refusal::Room`]
-    /// where the buffer was full, and the same for every call after that.
+    /// Whether the trace contains the call: [`Refusal::Record`] if no record can, [`Refusal::Room`] if the
+    /// buffer was full, and the same for every call after that.
     pub recorded: Result<(), Refusal>,
 }
 
-/// A voice that plays and is recorded in one go, into a lent buffer.
+/// A voice that is recorded while it plays, into a borrowed buffer.
 ///
-/// It plays as an unrecorded voice does, call for call and bit for bit. **What the buffer holds is
-/// the evening up to the first call that it could not hold**: that call is played all the same, it
-/// and every later call say why ([`Recorded::recorded`]), and nothing more is written. So a trace
-/// has no gaps, and played again it prints the lines of the evening ([`Recorder::line`]).
+/// It plays as an unrecorded voice does, bit for bit. **The buffer contains the evening up to the first
+/// call that did not fit.** That call is played too, but it and every later call say why they are not
+/// recorded ([`Recorded::recorded`]), and nothing more is written. So a trace has no gaps, and played
+/// again it prints the lines of the evening ([`Recorder::line`]).
 ///
-/// - 19, [`Refusal::Room`]: the buffer is full. A host that records for long empties it in time: while
+/// - 19, [`Refusal::Room`]: the buffer is full. A host that records for long empties it in time: when
 ///   [`Recorder::room`] is below [`MAX_RECORD_BYTES`](super::MAX_RECORD_BYTES), it appends
 ///   [`Recorder::bytes`] to its file and calls [`Recorder::clear`].
 /// - 17, [`Refusal::Record`]: a sound of more than 64 frames or an odd sample count, a block of more
-///   than 1,024 frames, a lane that changes within the block, a call refused with 9 (no record shows
-///   that), or a sound that is not the creation's. **A host with moving lanes cuts its blocks where
-///   they change** ([`BlockLanes::constant_frames`] says where): cutting changes nothing that is
-///   heard.
+///   than 1,024 frames, a lane that changes inside the block, a call refused with 9 (no record contains
+///   one), or a sound that is not the creation's. **A host with moving lanes cuts its blocks where they
+///   change** ([`BlockLanes::constant_frames`] says where); cutting does not change the output.
 ///
 /// No call panics or allocates.
 ///
@@ -70,7 +69,8 @@ pub struct Recorder<'a> {
 }
 
 impl<'a> Recorder<'a> {
-    /// An empty trace in a lent buffer; no voice yet, so a command set or a block is refused with 1.
+    /// An empty trace in a borrowed buffer. There is no voice yet, so a command set or a block is refused
+    /// with 1.
     #[must_use]
     pub fn new(buffer: &'a mut [u8]) -> Self {
         Self {
@@ -81,8 +81,8 @@ impl<'a> Recorder<'a> {
         }
     }
 
-    /// Creates the voice, as [`StaticSound::new`]; it takes the place of one created before, and
-    /// after a refused creation there is none.
+    /// Creates the voice, as [`StaticSound::new`]. It replaces an earlier voice; after a refused creation
+    /// there is none.
     pub fn create(&mut self, settings: Settings, sound: &[f32]) -> Recorded<()> {
         let created = StaticSound::new(settings, sound);
         let answer = created.as_ref().map(|_| ()).map_err(|refusal| *refusal);
@@ -93,7 +93,7 @@ impl<'a> Recorder<'a> {
         self.recorded(answer, record)
     }
 
-    /// Obeys a command set, as [`StaticSound::on_start_processing`].
+    /// Applies a command set, as [`StaticSound::on_start_processing`].
     pub fn on_start_processing(&mut self, sound: &[f32], commands: Commands) -> Recorded<f64> {
         let answer = match &mut self.voice {
             Some(voice) => voice.on_start_processing(sound, commands),
@@ -103,8 +103,8 @@ impl<'a> Recorder<'a> {
         self.recorded(answer, record)
     }
 
-    /// Takes a loop from a table, as [`StaticSound::take_loop`]; recorded as the command set that it
-    /// is. Where the table refuses there is none, and nothing is recorded.
+    /// Takes a loop from a table, as [`StaticSound::take_loop`], and records it as a command set. If the
+    /// table refuses, nothing is recorded.
     pub fn take_loop(&mut self, sound: &[f32], table: &LoopTable, slot: usize) -> Recorded<f64> {
         let region = match table.region(slot) {
             Ok(region) => region,
@@ -159,8 +159,7 @@ impl<'a> Recorder<'a> {
         self.played(sound, frames, answer, block)
     }
 
-    /// The line of the last block: what the trace prints of it when it is played again, while blocks
-    /// are recorded.
+    /// The line of the last block, as a replay of the trace prints it while blocks are recorded.
     #[must_use]
     pub fn line(&self) -> Option<Line> {
         self.line
@@ -172,26 +171,25 @@ impl<'a> Recorder<'a> {
         self.voice.as_ref()
     }
 
-    /// Ends the recording: the voice, to be played on unrecorded.
+    /// Ends the recording and returns the voice.
     #[must_use]
     pub fn into_voice(self) -> Option<StaticSound> {
         self.voice
     }
 
-    /// The records that the buffer holds.
+    /// The records in the buffer.
     #[must_use]
     pub fn bytes(&self) -> &[u8] {
         self.tape.bytes()
     }
 
-    /// The bytes that the buffer still has room for.
+    /// The free bytes in the buffer.
     #[must_use]
     pub fn room(&self) -> usize {
         self.tape.room()
     }
 
-    /// Empties the buffer, once the host has kept its records: what is recorded next goes on with the
-    /// same trace.
+    /// Empties the buffer after the host has saved its records; the same trace continues.
     pub fn clear(&mut self) {
         self.tape.clear();
     }
@@ -214,14 +212,14 @@ impl<'a> Recorder<'a> {
         });
         let record = match (block, answer) {
             (Err(refusal), _) => Err(refusal),
-            // A recorded block brings its own output.
+            // A recorded block has its own output.
             (_, Err(Refusal::Block)) => Err(Refusal::Record),
             (Ok(block), _) => self.of_this_sound(sound, Record::Block(block)),
         };
         self.recorded(answer, record)
     }
 
-    /// Played again, the voice is lent the creation's sound: a call with another one is no record.
+    /// A replay uses the creation's sound, so a call with another sound cannot be recorded.
     fn of_this_sound(&self, sound: &[f32], record: Record) -> Result<Record, Refusal> {
         match self.voice.is_none() || self.sound.is(sound) {
             true => Ok(record),

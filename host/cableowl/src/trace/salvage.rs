@@ -1,4 +1,4 @@
-//! What is left of a trace with holes.
+//! The complete records of a damaged trace.
 
 use crate::{Refusal, ffi, float_mode};
 
@@ -10,17 +10,17 @@ pub struct Salvaged {
     pub records: usize,
     /// Their bytes, at the output's start.
     pub kept: usize,
-    /// The bytes that belong to no kept record.
+    /// The bytes that are in no kept record.
     pub skipped: usize,
-    /// The place in the input of the first byte skipped; the input's length if none.
+    /// The offset of the first skipped byte in the input; the input's length if none.
     pub first_skipped: usize,
 }
 
-/// Copies the complete records of a damaged trace to the output's start, and skips any other byte,
-/// one at a time. The output past the kept bytes stays.
+/// Copies the complete records of a damaged trace to the output's start and skips all other bytes. The
+/// rest of the output does not change.
 ///
-/// A record is known by its bytes alone: a mark inside a damaged payload may be taken for a record
-/// (docs/formats/TRACE.md has an example of each way).
+/// A record is recognised only by its bytes, so a mark inside a damaged payload can be taken for a
+/// record (docs/formats/TRACE.md has examples).
 ///
 /// ```
 /// use cableowl::{Commands, Refusal, trace::{Record, salvage, write}};
@@ -44,7 +44,7 @@ pub fn salvage(trace: &[u8], out: &mut [u8]) -> Result<Salvaged, Refusal> {
     let skipped = saved.skipped as usize;
     Ok(Salvaged {
         records: saved.records as usize,
-        // Skipped bytes are some of the trace's.
+        // The skipped bytes are bytes of the trace.
         kept: trace.len().saturating_sub(skipped),
         skipped,
         first_skipped: saved.first as usize,

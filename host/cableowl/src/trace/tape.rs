@@ -1,9 +1,9 @@
-//! The records of calls in a borrowed buffer: behind a recorded voice and a recorded player.
+//! The records of calls in a borrowed buffer, used by a recorded voice and a recorded player.
 
 use super::{Record, write};
 use crate::Refusal;
 
-/// A trace in a borrowed buffer, up to the first record that it could not hold.
+/// A trace in a borrowed buffer, up to the first record that did not fit.
 #[derive(Debug)]
 pub struct Tape<'a> {
     buffer: &'a mut [u8],
@@ -33,7 +33,7 @@ impl<'a> Tape<'a> {
         }
     }
 
-    /// Whether it holds every record so far, or why not.
+    /// Whether it contains every record so far, or why not.
     pub fn recorded(&self) -> Result<(), Refusal> {
         self.ended.map_or(Ok(()), Err)
     }
@@ -48,12 +48,12 @@ impl<'a> Tape<'a> {
         self.buffer.get(..self.held).unwrap_or_default()
     }
 
-    /// The bytes that the buffer still has room for.
+    /// The free bytes in the buffer.
     pub fn room(&self) -> usize {
         self.buffer.len().saturating_sub(self.held)
     }
 
-    /// Empties the buffer; what is written next goes on with the same trace.
+    /// Empties the buffer; the same trace continues.
     pub fn clear(&mut self) {
         self.held = 0;
     }

@@ -13,7 +13,7 @@ const CREATION: u64 = 1;
 const COMMANDS: u64 = 2;
 const BLOCK: u64 = 3;
 
-/// The places before the sound's frames.
+/// The number of fields before the sound's frames.
 const BEFORE_SOUND: usize = 13;
 
 /// A record's kind and numbers.
@@ -121,7 +121,7 @@ fn amount(amount: Option<f64>) -> [u64; 2] {
     amount.map_or([0; 2], |amount| [1, amount.to_bits()])
 }
 
-/// A place's unit and number.
+/// A position's unit and number.
 fn place(position: PlaybackPosition) -> (u64, u64) {
     match position {
         PlaybackPosition::Samples(samples) => (0, samples as u64),

@@ -142,6 +142,20 @@ int main(void) {
     const CableowlCreated again = cableowl_new(raised, sound, 6);
     expect(again.refusal == 0 && again.state.loop_end == 3 && again.state.reverse == 1, "settings_of: creation");
 
+    CableowlLoopHalf half = {1, 3, 5, {{1, 3}}};
+    uint8_t names[512] = "one";
+    uint8_t bytes[667];
+    memset(bytes, 9, sizeof bytes);
+    expect(cableowl_store_half(&half, names, 511, bytes, 667) == 24 && bytes[0] == 9, "store_half: names");
+    expect(cableowl_store_half(&half, names, 512, bytes, 665) == 19 && bytes[0] == 9, "store_half: room");
+    expect(cableowl_store_half(&half, names, 512, bytes, 667) == 0 && bytes[5] == 1, "store_half");
+    expect(memcmp(bytes + 150, names, 512) == 0 && bytes[666] == 9, "store_half: names and the last byte");
+    CableowlLoopHalf back;
+    expect(cableowl_load_half(bytes, 667, &back) == 0 && memcmp(&half, &back, sizeof half) == 0, "load_half");
+    bytes[150] ^= 1;
+    expect(cableowl_load_half(bytes, 667, &back) == 24 && back.changes == 0, "load_half: CRC");
+    expect(cableowl_load_half(bytes, 665, &back) == 18, "load_half: cut");
+
     uint64_t values[80] = {0};
     uint8_t trace[60];
     memset(trace, 9, sizeof trace);

@@ -1,10 +1,13 @@
 //! The audit's page.
 
-use super::{Found, Gap, Verdict, an_hour, behind, hourly, sentence, shown, span};
+use super::{
+    Found, Gap, Verdict,
+    words::{an_hour, behind, hourly, sentence, shown, span},
+};
 use crate::{
     fault::Result,
     page::{Sink, foot, head},
-    plot::{Plot, escaped, grouped},
+    plot::{Pen, Plot, escaped, grouped},
 };
 
 /// The audit's page.
@@ -38,7 +41,7 @@ pub fn page(found: &Found, put: &mut Sink<'_>) -> Result<()> {
         put(&format!("<div><dt>{name}</dt><dd>{says}</dd></div>\n"))?;
     }
     put("</dl>\n")?;
-    creep_plot(found, put)?;
+    put(&creep_plot(found))?;
     if !found.first.is_empty() {
         put(
             "<h3>The first places that differ</h3>\n<div class=\"scroll\"><table id=\"differing\" class=\"lines\"><thead><tr><th>The rule</th><th>The box</th><th>Creep</th></tr></thead><tbody>\n",
@@ -57,67 +60,52 @@ pub fn page(found: &Found, put: &mut Sink<'_>) -> Result<()> {
 }
 
 /// The creep over time; where the steps agree and the places do not, the places' difference.
-fn creep_plot(found: &Found, put: &mut Sink<'_>) -> Result<()> {
-    let by_steps = |gap: &Gap| gap.creep;
-    let by_place = |gap: &Gap| gap.place;
+pub fn creep_plot(found: &Found) -> String {
     let steps_differ = found
         .gaps
         .held
         .iter()
-        .any(|gap| by_steps(gap).is_some_and(|c| c != 0));
-    let (of, title, words): (fn(&Gap) -> Option<i128>, _, _) = match (steps_differ, found.apart) {
+        .any(|gap| gap.creep.is_some_and(|c| c != 0));
+    let (of, caption): (fn(&Gap) -> Option<i128>, _) = match (steps_differ, found.apart) {
         (false, true) => (
-            by_place,
-            "How far apart the places are",
-            "Upward: the rule's place minus the box's, in frames of the sound.",
+            |gap| gap.place,
+            "The rule's place minus the box's, in frames of the sound",
         ),
         _ => (
-            by_steps,
-            "How far the box is behind",
-            "Upward: frames of the sound that the box is behind the proved player. A box that plays as proved stays at 0.",
+            |gap| gap.creep,
+            "Frames of the sound that the box is behind the proved player",
         ),
     };
-    put(&format!(
-        "<h3>{title}</h3>\n<p class=\"note\">Across: the evening's time. {words}</p>\n"
-    ))?;
     let second = match found.frames {
         0 => 0.0,
         frames => found.seconds / frames as f64,
     };
-    let width = found.gaps.width;
-    let points: Vec<(f64, f64)> = found
-        .gaps
-        .held
-        .iter()
-        .enumerate()
-        .filter_map(|(index, gap)| Some(((index as u64 * width) as f64 * second, of(gap)? as f64)))
-        .collect();
+    let at = |index: usize| (index as u64 * found.gaps.width) as f64 * second;
+    let points = found.gaps.held.iter().enumerate();
+    let points = points.filter_map(|(index, gap)| Some((at(index), of(gap)? as f64)));
+    let points: Vec<(f64, f64)> = points.collect();
     if points.is_empty() {
-        return put("<p class=\"note\">There is no block to draw.</p>\n");
+        return String::from("<p class=\"note\">There is no block to draw.</p>\n");
     }
     let low = points.iter().fold(0.0, |low: f64, point| low.min(point.1));
     let high = points
         .iter()
         .fold(0.0, |high: f64, point| high.max(point.1));
-    let mut plot = Plot::new(
-        280.0,
-        found.seconds,
-        low,
-        if high > low { high } else { low + 4.0 },
-    );
+    let mut plot = Plot::new(found.seconds);
+    plot.panel(caption, 420, low, if high > low { high } else { low + 4.0 });
     plot.numbers();
-    let mut path = String::new();
-    for (index, (at, creep)) in points.iter().enumerate() {
-        let how = if index == 0 { 'M' } else { 'L' };
-        path += &format!("{how}{:.1} {:.1}", plot.x(*at), plot.y(*creep));
-    }
     if let Some(first) = found.first.first() {
-        plot.mark(
-            "first",
-            first.at - first.segment.seconds,
-            "the first block that differs begins here",
-        );
+        let begins = first.at - first.segment.seconds;
+        plot.mark("first", begins, "the first block that differs begins here");
     }
-    plot.put(&format!("<path class=\"creep\" d=\"{path}\"/>"));
-    put(&plot.done("how far the box is behind, over the evening"))
+    let mut pen = Pen::default();
+    for (index, (at, creep)) in points.iter().enumerate() {
+        let (x, y) = (plot.x(*at), plot.y(*creep));
+        match index {
+            0 => pen.go(x, y),
+            _ => pen.draw(x, y),
+        }
+    }
+    plot.path("creep", &pen);
+    plot.done("how far the box is behind, over the evening")
 }

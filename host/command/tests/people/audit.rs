@@ -155,7 +155,7 @@ fn the_creep_is_told_in_seconds_an_hour_with_its_likely_cause() {
         Some("  after 400 blocks, 8.5 s, the box is 271 frames of the sound behind, 0.0061 s")
     );
     let page = room.read("page.html");
-    assert!(page.contains("<path class=\"creep\" d=\"M") && page.contains("271 frames"));
+    assert!(page.contains("<path class=creep d=\"m") && page.contains("271 frames"));
     assert!(!page.contains("proves") && !ran.out.contains("proves"));
     let ran = room.run(&["audit", "--csv", "a.trace", "creeping.log"]);
     assert_eq!((ran.status, &*ran.err), (1, ""));

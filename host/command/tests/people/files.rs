@@ -35,26 +35,36 @@ fn room(name: &str) -> Room {
 
 fn refused(room: &Room, file: &str, sentence: &str) {
     for words in readers(file) {
-        let words: Vec<&str> = words.iter().map(String::as_str).collect();
-        let ran = room.run(&words);
-        let (status, more) = match words[0] {
-            "audit" => (3, ": nothing is said of the box"),
-            _ => (1, ""),
-        };
-        assert_eq!(
-            ran.err,
-            format!("cableowl: {sentence}{more}\n"),
-            "{words:?}"
-        );
-        assert_eq!((ran.status, &*ran.out), (status, ""), "{words:?}");
+        refuses(room, &words, sentence);
     }
+}
+
+fn refuses(room: &Room, words: &[String], sentence: &str) {
+    let words: Vec<&str> = words.iter().map(String::as_str).collect();
+    let ran = room.run(&words);
+    let (status, more) = match words[0] {
+        "audit" => (3, ": nothing is said of the box"),
+        _ => (1, ""),
+    };
+    assert_eq!(
+        ran.err,
+        format!("cableowl: {sentence}{more}\n"),
+        "{words:?}"
+    );
+    assert_eq!((ran.status, &*ran.out), (status, ""), "{words:?}");
 }
 
 #[test]
 fn a_directory_and_a_missing_file() {
     let room = room("unreadable");
     fs::create_dir(room.0.join("folder")).unwrap();
-    refused(&room, "folder", "folder: cannot be read: it is a directory");
+    // A report reads the logs of a folder (report.rs).
+    for words in readers("folder")
+        .iter()
+        .filter(|words| words[0] != "report")
+    {
+        refuses(&room, words, "folder: cannot be read: it is a directory");
+    }
     refused(
         &room,
         "gone",
@@ -172,8 +182,7 @@ fn an_audit_keeps_its_verdict_when_its_reader_goes() {
 #[test]
 fn wrong_words() {
     let room = room("words");
-    let all =
-        "replay, salvage, settings, report, audit, explain, help, version, man or completions";
+    let all = "replay, salvage, settings, loops, report, audit, explain, help, version, man or completions";
     for (words, told, verb) in [
         (&[][..], &*format!("say what to do: {all}"), ""),
         (

@@ -59,21 +59,14 @@ impl Room {
 
     /// Runs the command with this on standard input.
     pub fn run_on(&self, words: &[&str], input: &[u8]) -> Ran {
-        let mut command = self.command(words);
-        command.stdin(Stdio::piped());
-        command.stdout(Stdio::piped()).stderr(Stdio::piped());
-        let mut child = command.spawn().unwrap();
-        let stdin = child.stdin.take();
-        let output = thread::scope(|scope| {
-            // A command that has ended reads no more.
-            scope.spawn(move || stdin.map(|mut stdin| stdin.write_all(input)));
-            child.wait_with_output().unwrap()
-        });
-        Ran {
-            status: output.status.code().expect("it ended by itself"),
-            out: String::from_utf8_lossy(&output.stdout).into_owned(),
-            err: String::from_utf8_lossy(&output.stderr).into_owned(),
-        }
+        Ran::of(self.command(words), input)
+    }
+
+    /// Has another program run it.
+    pub fn run_by(&self, program: &str, words: &[&str]) -> Ran {
+        let mut command = Command::new(program);
+        command.args(words).current_dir(&self.0);
+        Ran::of(command, b"")
     }
 }
 
@@ -92,6 +85,24 @@ pub struct Ran {
 }
 
 impl Ran {
+    /// Runs a command with this on standard input.
+    fn of(mut command: Command, input: &[u8]) -> Self {
+        command.stdin(Stdio::piped());
+        command.stdout(Stdio::piped()).stderr(Stdio::piped());
+        let mut child = command.spawn().unwrap();
+        let stdin = child.stdin.take();
+        let output = thread::scope(|scope| {
+            // A command that has ended reads no more.
+            scope.spawn(move || stdin.map(|mut stdin| stdin.write_all(input)));
+            child.wait_with_output().unwrap()
+        });
+        Self {
+            status: output.status.code().expect("it ended by itself"),
+            out: String::from_utf8_lossy(&output.stdout).into_owned(),
+            err: String::from_utf8_lossy(&output.stderr).into_owned(),
+        }
+    }
+
     /// It ended well, saying this.
     #[track_caller]
     pub fn says(&self, out: &str) {

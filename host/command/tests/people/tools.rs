@@ -3,7 +3,7 @@
 use std::fs;
 
 use cableowl::{
-    Commands, ResumeCommand, SavedSettings, Settings, SettingsVersion,
+    Commands, Hall, ResumeCommand, SavedSettings, Settings, SettingsVersion, SharedLoops,
     trace::{Block, Record},
 };
 
@@ -127,6 +127,27 @@ fn files(room: &Room) {
     saved.store(SettingsVersion::Second, &mut record).unwrap();
     room.put("lesson.settings", record);
     room.put("cut.settings", &record[..20]);
+    loops(room);
+}
+
+/// The folders of loops: an empty one, a copy of what the page puts there, and a damaged copy.
+fn loops(room: &Room) {
+    for folder in ["loops", "backup", "damaged"] {
+        fs::create_dir(room.0.join(folder)).unwrap();
+    }
+    let backup = room.0.join("backup");
+    let mut at_a = SharedLoops::open(&backup, Hall::A, 480_690, &[]).unwrap();
+    at_a.write(0, 273_420..480_690, "greeting").unwrap();
+    let mut at_b = SharedLoops::open(&backup, Hall::B, 480_690, &[]).unwrap();
+    at_b.write(8, 0..110_250, "question").unwrap();
+    room.put(
+        "damaged/hall-a.loops",
+        fs::read(backup.join("hall-a.loops")).unwrap(),
+    );
+    room.put(
+        "damaged/hall-b.loops",
+        &fs::read(backup.join("hall-b.loops")).unwrap()[..300],
+    );
 }
 
 /// The examples: the words after `$ cableowl`, and the lines below them up to the next or the end.

@@ -1,14 +1,13 @@
 //! A week of many boxes: `report --by` and `audit FOLDER`.
 
-use std::fs;
-
-use cableowl::trace::Record;
-use random::Random;
+use std::{collections::BTreeSet, fs, process::Command};
 
 use crate::{
-    audit::{creeping, evening},
+    audit::evening,
+    exact,
     report::{cell, csv},
-    room::{Room, trace},
+    room::{CABLEOWL, Room, trace},
+    students::{CREEPING, Known, RATE, Session, made},
 };
 
 /// A log of form 3 with one block and so many restarts.
@@ -89,65 +88,187 @@ fn a_trace_has_the_group_and_the_figures_of_its_log() {
     assert_eq!(of_trace, by_day("hall1_2026-11-09.log"));
 }
 
-#[test]
-fn the_audit_of_a_week_finds_exactly_the_boxes_that_creep() {
-    let room = Room::new("week-audit");
-    let mut random = Random::new(40);
-    let mut made = Vec::new();
-    for folder in ["hall-a", "hall-b"] {
-        fs::create_dir(room.0.join(folder)).unwrap();
-        for index in 0..30 {
-            let name = format!("{folder}/box{index:02}");
-            let records: Vec<Record> = evening(20 + random.below(20));
-            room.put(&format!("{name}.trace"), trace(&records));
-            let creeps = random.one_in(6);
-            let log = match creeps {
-                true => creeping(&records),
-                false => room.run(&["replay", &format!("{name}.trace")]).out,
-            };
-            room.put(&format!("{name}.log"), log);
-            made.push((name, creeps));
-        }
-    }
-    let audit = |more: &[&str]| {
-        let ran = room.run(&[&["audit", "--csv"], more].concat());
-        assert_eq!((ran.status, &*ran.err), (1, ""));
-        ran.out
+/// The figures of a group of the made week, by what is known of its students.
+fn is_known(row: &[(String, String)], sessions: &[&Session]) {
+    let group = cell(row, "group");
+    let sum = |of: fn(&Known) -> u64| {
+        let each = sessions.iter().map(|session| of(&session.evening.known));
+        each.sum::<u64>().to_string()
     };
-    let out = audit(&["hall-a", "hall-b"]);
-    assert_eq!(
-        out,
-        audit(&["hall-b", "hall-a"]),
-        "the order does not matter"
-    );
-    let found: Vec<(String, bool)> = out
-        .lines()
-        .skip(1)
-        .map(|line| {
-            let mut cells = line.split(',');
-            let name = cells.next().unwrap().to_owned();
-            (name, cells.next() == Some("DIFFERS"))
-        })
-        .collect();
-    assert_eq!(found, made);
-    let creeping = made.iter().filter(|(_, creeps)| *creeps).count();
-    let ran = room.run(&["audit", "--html", "page.html", "hall-a", "hall-b"]);
-    let counts = format!(
-        "60 boxes: {} agree, {creeping} differ, 0 unknown, 0 without a trace or a log",
-        60 - creeping
-    );
-    assert_eq!(ran.out.lines().last(), Some(&*counts));
-    let page = room.read("page.html");
-    let first = page.find("<td>DIFFERS</td>").unwrap();
-    assert!(
-        page.find("<td>AGREES</td>").unwrap() > first,
-        "the creeping ones first"
-    );
-    assert!(page.contains(&counts));
+    let all = sessions.len().to_string();
+    for (column, known) in [
+        ("sessions", all.clone()),
+        ("restarted", sum(|known| u64::from(known.restarts > 0))),
+        ("restarted_of", all.clone()),
+        ("seeks", sum(|known| known.seeks)),
+        ("pauses", sum(|known| known.pauses)),
+        ("refused", sum(|known| known.refused)),
+        ("ended", sum(|known| u64::from(known.ended))),
+        ("ended_of", all),
+        ("tails", sum(|known| u64::from(known.ended))),
+        ("misfits", "0".into()),
+    ] {
+        assert_eq!(cell(row, column), known, "{column} of {group}");
+    }
+}
+
+fn share_of(row: &[(String, String)]) -> exact::Share {
+    let number = |column| cell(row, column).parse().unwrap();
+    (number("restarted"), number("restarted_of"))
+}
+
+/// The ends of an interval are those of the second computation, to what the values show of them.
+fn has_ends(row: &[(String, String)], ends: [(&str, i128); 3]) {
+    for (column, end) in ends {
+        let told: f64 = cell(row, column).parse().unwrap();
+        let apart = told / 100.0 - end as f64 / exact::ONE as f64;
+        assert!(apart.abs() < 6e-7, "{column}: {told}, {end}");
+    }
 }
 
 #[test]
-fn a_box_without_its_pair_is_named() {
+fn a_made_week_is_reported_as_it_was_made_and_only_the_creeping_boxes_differ() {
+    let room = Room::new("week-made");
+    let sessions = made();
+    // The files are made in two orders.
+    for (folder, backward) in [("week", false), ("again", true)] {
+        fs::create_dir(room.0.join(folder)).unwrap();
+        let mut order: Vec<&Session> = sessions.iter().collect();
+        if backward {
+            order.reverse();
+        }
+        for session in order {
+            let name = format!("{folder}/{}", session.name());
+            room.put(&format!("{name}.trace"), &session.evening.trace);
+            room.put(&format!("{name}.log"), &session.evening.log);
+        }
+    }
+    for by in ["box", "day", "week"] {
+        let group_of = |session: &Session| match by {
+            "box" => format!("box{:02}", session.box_number),
+            "day" => session.day.to_owned(),
+            _ => session.week.to_owned(),
+        };
+        let words = ["report", "--csv", "--rate", RATE, "--by", by];
+        let ran = room.run(&[&words[..], &["week"]].concat());
+        assert_eq!((ran.status, &*ran.err), (0, ""));
+        assert_eq!(ran.out, room.run(&[&words[..], &["again"]].concat()).out);
+        let rows = csv(&ran.out);
+        let mut names: Vec<String> = sessions.iter().map(group_of).collect();
+        names.sort();
+        names.dedup();
+        let (groups, changes) = rows.split_at(names.len());
+        for (row, name) in groups.iter().zip(&names) {
+            assert_eq!(cell(row, "group"), name);
+            let of_it = sessions.iter().filter(|session| group_of(session) == *name);
+            is_known(row, &of_it.collect::<Vec<_>>());
+            let share = share_of(row);
+            let (low, high) = exact::wilson(share);
+            let value = i128::from(share.0) * exact::ONE / i128::from(share.1);
+            has_ends(
+                row,
+                [("restarted_per_100", value), ("low", low), ("high", high)],
+            );
+        }
+        assert_eq!(changes.len(), names.len() - 1);
+        for (row, pair) in changes.iter().zip(groups.windows(2)) {
+            let (value, low, high) = exact::newcombe(share_of(&pair[0]), share_of(&pair[1]));
+            has_ends(
+                row,
+                [("restarted_per_100", value), ("low", low), ("high", high)],
+            );
+        }
+    }
+    let ran = room.run(&["report", "--rate", RATE, "--by", "week", "week"]);
+    let last = ran.out.lines().last().unwrap();
+    assert!(last.ends_with(": a change"), "2 to 9 in a hundred: {last}");
+    restarts_are_those_that_were_made(&room, &sessions);
+    exactly_the_creeping_boxes_differ(&room, &sessions);
+}
+
+/// Evening by evening, from the log and from the trace played again.
+fn restarts_are_those_that_were_made(room: &Room, sessions: &[Session]) {
+    let ran = room.run(&["report", "--csv", "--rate", RATE, "week"]);
+    let rows = csv(&ran.out);
+    let mut by_name: Vec<&Session> = sessions.iter().collect();
+    by_name.sort_by_key(|session| session.name());
+    for (row, session) in rows.iter().zip(&by_name) {
+        let (name, known) = (session.name(), session.evening.known);
+        assert_eq!(cell(row, "name"), format!("week/{name}.log"));
+        assert_eq!(cell(row, "restarts"), known.restarts.to_string(), "{name}");
+    }
+    let traces: Vec<String> = by_name
+        .iter()
+        .map(|s| format!("week/{}.trace", s.name()))
+        .collect();
+    let words: Vec<&str> = traces.iter().map(String::as_str).collect();
+    let ran = room.run(&[&["report", "--csv", "--rate", RATE], &words[..]].concat());
+    assert_eq!((ran.status, &*ran.err), (0, ""));
+    for (row, session) in csv(&ran.out).iter().zip(&by_name) {
+        for (column, known) in [
+            ("restarts", session.evening.known.restarts),
+            ("seeks", session.evening.known.seeks),
+            ("refused", session.evening.known.refused),
+        ] {
+            let name = session.name();
+            assert_eq!(cell(row, column), known.to_string(), "{column} of {name}");
+        }
+    }
+}
+
+fn exactly_the_creeping_boxes_differ(room: &Room, sessions: &[Session]) {
+    let audit = |folder: &str, processors: Option<&str>| {
+        let ran = match processors {
+            None => room.run(&["audit", "--csv", folder]),
+            Some(list) => room.run_by("taskset", &["-c", list, CABLEOWL, "audit", "--csv", folder]),
+        };
+        assert_eq!((ran.status, &*ran.err), (1, ""), "{folder}");
+        ran.out.replace(folder, "FOLDER")
+    };
+    let out = audit("week", None);
+    assert_eq!(out, audit("again", None), "made in another order");
+    match Command::new("taskset").arg("--version").output() {
+        Ok(_) => assert_eq!(out, audit("week", Some("0")), "on one processor"),
+        Err(_) => eprintln!("SKIPPED: no taskset here, so no audit on one processor"),
+    }
+    let mut found = BTreeSet::new();
+    for session in sessions {
+        let line = out
+            .lines()
+            .find(|line| line.contains(&session.name()))
+            .unwrap();
+        let creeps = CREEPING.contains(&session.box_number);
+        let verdict = if creeps { ",DIFFERS," } else { ",AGREES," };
+        assert!(line.contains(verdict), "{line}");
+        if creeps {
+            // One that runs off its sound at another time differs in its state too.
+            let ended = session.evening.known.ended;
+            assert!(ended || line.contains("the loop creeps"), "{line}");
+            found.insert(session.box_number);
+        }
+    }
+    assert_eq!(found, BTreeSet::from(CREEPING));
+    let share = out.lines().find(|line| line.starts_with("share,")).unwrap();
+    assert!(
+        share.starts_with("share,differ,,,,,,30,300,10.0000,"),
+        "{share}"
+    );
+    let (low, high) = exact::wilson((30, 300));
+    let ends = [low, high].map(|end| format!("{:.4}", end as f64 * 100.0 / exact::ONE as f64));
+    assert!(share.ends_with(&ends.join(",")), "{share} {ends:?}");
+    // The creep's quantiles are rows of their own, each the creep of one of the evenings.
+    let creep = |line: &str| line.split(',').nth(4).unwrap().parse::<f64>().unwrap();
+    let differ = out.lines().filter(|line| line.contains(",DIFFERS,"));
+    let mut creeps: Vec<f64> = differ.map(creep).collect();
+    creeps.sort_by(f64::total_cmp);
+    let quantiles = out.lines().filter(|line| line.starts_with("quantile,"));
+    let quantiles: Vec<f64> = quantiles.map(creep).collect();
+    assert_eq!(quantiles, [0, 7, 14, 22, 29].map(|rank| creeps[rank]));
+    assert!(creeps[0] > 0.0, "every one of them is behind");
+}
+
+#[test]
+fn an_evening_without_its_pair_is_named() {
     let room = Room::new("week-pairs");
     fs::create_dir(room.0.join("week")).unwrap();
     let none =
@@ -174,6 +295,6 @@ fn a_box_without_its_pair_is_named() {
     );
     assert_eq!(
         says[3],
-        "4 boxes: 1 agree, 0 differ, 1 unknown, 2 without a trace or a log"
+        "4 evenings: 1 agree, 0 differ, 1 unknown, 2 without a trace or a log"
     );
 }

@@ -111,7 +111,7 @@ fn fish_options(completions: &str, verb: &str) -> BTreeSet<String> {
 #[test]
 fn help_man_pages_and_completions_come_from_one_table() {
     let verbs = verbs();
-    assert_eq!(verbs.len(), 11, "{verbs:?}");
+    assert_eq!(verbs.len(), 15, "{verbs:?}");
     let shells = ["bash", "zsh", "fish"].map(|shell| printed(&["completions", shell]));
     let first = printed(&["man"]).replace("\\-", "-");
     let mut options = 0;
@@ -127,9 +127,11 @@ fn help_man_pages_and_completions_come_from_one_table() {
         assert_eq!(names, bash_options(&shells[0], verb), "{verb}");
         assert_eq!(names, zsh_options(&shells[1], verb), "{verb}");
         assert_eq!(names, fish_options(&shells[2], verb), "{verb}");
-        let says = help
-            .lines()
-            .find(|line| line.starts_with("    ") && !line.contains('['));
+        // The lines before it are how it is called: options in brackets, words in capitals.
+        let says = help.lines().find(|line| {
+            let has_words = line.chars().any(char::is_lowercase);
+            line.starts_with("    ") && !line.contains('[') && has_words
+        });
         let says = says.expect("what it does").trim();
         let plain = page.replace("\\-", "-");
         assert!(plain.contains(&format!(" - {says}")), "{verb}: {says}");

@@ -25,8 +25,7 @@ const CELLS: [Cell; 7] = [
 ];
 
 /// Instructions a frame in each cell, ours with every check: by processor, as callgrind counts them; none where a cell was not
-/// counted there. For x86-64 they were counted under an emulator (`tools/counted/run`), whose counts on Arm are callgrind's to
-/// half a percent.
+/// counted there.
 const RECORDED: [(&str, [Option<f64>; 7]); 2] = [
     (
         "aarch64",
@@ -43,13 +42,13 @@ const RECORDED: [(&str, [Option<f64>; 7]); 2] = [
     (
         "x86_64",
         [
-            Some(106.6),
-            Some(124.1),
-            Some(110.6),
-            None,
-            None,
-            None,
-            None,
+            Some(69.1),
+            Some(91.1),
+            Some(97.2),
+            Some(193.0),
+            Some(207.0),
+            Some(69.1),
+            Some(68.8),
         ],
     ),
 ];

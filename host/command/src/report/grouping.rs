@@ -1,6 +1,35 @@
 //! Which logs belong together: by what their names say, or by a table.
 
-use std::{collections::BTreeMap, fmt};
+use std::{
+    collections::BTreeMap,
+    fmt,
+    path::{Path, PathBuf},
+};
+
+use crate::{
+    fault::{Fault, Result},
+    input::Input,
+    out::shown,
+};
+
+/// How logs and traces are grouped, as it was asked for.
+#[derive(Debug, PartialEq, Eq)]
+pub enum Asked {
+    /// By what their names say.
+    Named(By, Pattern),
+    /// By a file of lines `file,group`.
+    Table(PathBuf),
+}
+
+impl Asked {
+    /// What it groups by, in a word.
+    pub fn name(&self) -> &'static str {
+        match self {
+            Self::Named(by, _) => by.name(),
+            Self::Table(_) => "group",
+        }
+    }
+}
 
 /// What logs are grouped by.
 #[derive(Debug, Clone, Copy, PartialEq, Eq)]
@@ -120,9 +149,20 @@ pub struct Named {
     pub date: Option<Date>,
 }
 
+impl fmt::Display for Pattern {
+    fn fmt(&self, f: &mut fmt::Formatter<'_>) -> fmt::Result {
+        self.parts.iter().try_for_each(|part| match part {
+            Part::Text(text) => f.write_str(text),
+            Part::Box => f.write_str("{box}"),
+            Part::Date => f.write_str("{date}"),
+            Part::Any => f.write_str("{any}"),
+        })
+    }
+}
+
 impl Pattern {
     /// Reads a pattern; the words say what is wrong with it.
-    pub fn read(text: &str) -> Result<Self, String> {
+    pub fn read(text: &str) -> std::result::Result<Self, String> {
         let mut parts = Vec::new();
         let mut rest = text;
         while !rest.is_empty() {
@@ -202,9 +242,29 @@ pub enum Grouping {
 }
 
 impl Grouping {
+    /// What was asked for, with its table read.
+    pub fn read(asked: &Asked) -> Result<Self> {
+        match asked {
+            Asked::Named(by, pattern) => Ok(Self::Named(*by, pattern.clone())),
+            Asked::Table(path) => {
+                let mut input = Input::open(path)?;
+                let text = String::from_utf8_lossy(&input.all()?).into_owned();
+                Self::table(&text).map_err(|words| input.wrong(words))
+            }
+        }
+    }
+
+    /// The group of a file.
+    pub fn of_file(&self, file: &Path) -> Result<String> {
+        let name = file.file_name().unwrap_or_default().to_string_lossy();
+        let bare = name.strip_suffix(".log").or(name.strip_suffix(".trace"));
+        let group = self.of(bare.unwrap_or(&name));
+        group.map_err(|words| Fault::refused(format!("{}: {words}", shown(file))))
+    }
+
     /// The group of a file of this name, without its folder and `.log` or `.trace`; the words say why
     /// it has none.
-    pub fn of(&self, name: &str) -> Result<String, String> {
+    fn of(&self, name: &str) -> std::result::Result<String, String> {
         match self {
             Self::Table(table) => {
                 let group = table
@@ -213,11 +273,13 @@ impl Grouping {
                     .or_else(|| table.get(&format!("{name}.trace")));
                 group
                     .cloned()
-                    .ok_or_else(|| "the table of groups does not name it".into())
+                    .ok_or_else(|| "the table of groups has no line for it: add one".into())
             }
             Self::Named(by, pattern) => {
                 let named = pattern.fit(name);
-                let named = named.ok_or("its name does not fit the pattern")?;
+                let named = named.ok_or_else(|| {
+                    format!("its name does not fit the pattern {pattern}: give its own with --name")
+                })?;
                 let date = named.date.ok_or("its name has no date");
                 match by {
                     By::Box => named.box_name.ok_or_else(|| "its name has no box".into()),
@@ -232,7 +294,7 @@ impl Grouping {
     }
 
     /// A table of lines `file,group`; the words say what is wrong with it.
-    pub fn table(text: &str) -> Result<Self, String> {
+    fn table(text: &str) -> std::result::Result<Self, String> {
         let mut table = BTreeMap::new();
         for (index, line) in text.lines().enumerate() {
             let number = index + 1;
@@ -296,6 +358,14 @@ mod tests {
         assert_eq!(fit("{any}.{box}", "a.b.c"), told("c", ""));
         assert_eq!(fit("{box}_{date}", "hall7"), None);
         assert_eq!(fit("{box}_{date}", "_2026-11-15"), None);
+        for pattern in ["{box}_{date}", "{any}-{date}.{box}", "a"] {
+            assert_eq!(Pattern::read(pattern).expect("one").to_string(), pattern);
+        }
+        let by_box = Grouping::Named(By::Box, Pattern::read("{box}_{date}").expect("one"));
+        assert_eq!(
+            by_box.of("hall7"),
+            Err("its name does not fit the pattern {box}_{date}: give its own with --name".into())
+        );
         for (pattern, wrong) in [
             ("{box", "a '{' without its '}'"),
             ("{hall}", "'{hall}' is none of {box}, {date} and {any}"),

@@ -1,0 +1,4 @@
+-- Laws of checksums.
+pub mod Xor
+pub mod Registers
+pub mod Promises

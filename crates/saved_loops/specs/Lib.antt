@@ -1,0 +1,4 @@
+-- What the contracts of a half's bytes cite.
+pub mod Tables
+pub mod Records
+pub mod Promises
