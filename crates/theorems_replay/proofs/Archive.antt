@@ -1,14 +1,14 @@
 -- The archive's replay and the program's, record by record: the numbers of the one mean the run of the other. Assumes nothing.
-use mathlib.Core.Path.{_≡_, refl, sym, ap, _∙_}
+use mathlib.Core.Path.{_≡_, refl, sym, ap, _∙_, subst}
 use Prim.Native.Nat.{ℕ, zero, suc, _+_, _-_, _*_, _≤_}
 use native.Mathlib.Omega.{arith}
-use mathlib.Core.Bool.{Bool, true, false, cond, _&&_}
+use mathlib.Core.Bool.{Bool, true, false, cond, not, _&&_, _||_}
 use mathlib.Core.List.{List, [], _∷_, _++_}
-use lib.Dec.{eqb, leb}
+use lib.Dec.{T, eqb, leb, leb→le}
 use lib.ListN.{length, take, drop, replicate, getD, length-replicate, length-append, length-drop}
 use lib.Seq.{sets, take-all, length-sets, length-take-le}
 use lib.Ieee.{Float}
-use borrow.Author.Tests.{eq-eqb, eqb-true, eqb-false, le-leb}
+use borrow.Author.Tests.{eq-eqb, ne-eqb, eqb-true, eqb-false, le-leb}
 use Rattle.numbers.specs.Words.{positiveZero}
 use Rattle.byte_layout.specs.Numbers.{num}
 use Rattle.byte_layout.specs.Rows as layout
@@ -523,6 +523,12 @@ nothing-shown r k snd out z e =
     cond z (record { answer = cond e (unplayed r 1 0) (unplayed r 2 0); sound = snd; samples = out })
     (record { answer = unplayed r 4 k; sound = snd; samples = out })
 
+differs : (m n : ℕ) → T (not (eqb m n)) → m ≡ n → ⊥
+differs m n h e = subst (λ (b : Bool). T (not b)) (eq-eqb m n e) h
+
+all-shown : (ended n w : ℕ) → T (eqb ended 0 || leb n w) → (ended ≡ 0 → ⊥) → n ≤ w
+all-shown ended n w h e = leb→le n w (subst (λ (b : Bool). T (b || leb n w)) (ne-eqb ended 0 e) h)
+
 pub archive-streams : StreamsC
 unfolding steppedC begun printedC lineC
 archive-streams r snd out ended w [] x = go w
@@ -538,7 +544,7 @@ archive-streams r snd out ended w [] x = go w
     go : (n : ℕ) → [] ≡ firstlyC [] (steppedC r (take n []) ended snd out)
     go zero = by (eqb k 0) (eqb ended 0)
     go (suc n) = by (eqb k 0) (eqb ended 0)
-archive-streams r snd out ended zero (b ∷ bs) x = go (eqb k 0) (eqb ended 0) refl (x .answers)
+archive-streams r snd out ended zero (b ∷ bs) x = go (eqb k 0) (eqb ended 0) refl (differs _ 1 (x .answers))
   where
     k : ℕ
     k = refusedStep r (length snd) (length out)
@@ -546,13 +552,13 @@ archive-streams r snd out ended zero (b ∷ bs) x = go (eqb k 0) (eqb ended 0) r
     go : (z e : Bool) → eqb ended 0 ≡ e → (nothing-shown r k snd out z e .answer .what ≡ 1 → ⊥)
         → onwardC bs (shown r z k 1 snd out (recordAt (b ∷ bs) 0)) ≡ firstlyC (b ∷ bs) (nothing-shown r k snd out z e)
     go true true q h = none (h refl)
-    go true false q h = none (let a = x .all (eqb-false ended 0 q) in omega arith)
+    go true false q h = none (let a = all-shown ended (suc (length bs)) 0 (x .all) (eqb-false ended 0 q) in omega arith)
     go false e q h = refl
 archive-streams r snd out ended (suc w) (b ∷ bs) x =
     let k = refusedStep r (length snd) (length out) in
     any-window r (eqb k 0) k ended snd out b bs (recordAt (take (suc w) (b ∷ bs)) 0) (x .bytes)
-    (λ h. ap (λ (l : List ℕ). recordAt l 0) (take-all (suc w) (b ∷ bs) (x .all h)))
-    (narrow (suc w) (b ∷ bs)) (x .answers)
+    (λ h. ap (λ (l : List ℕ). recordAt l 0) (take-all (suc w) (b ∷ bs) (all-shown ended (suc (length bs)) (suc w) (x .all) h)))
+    (narrow (suc w) (b ∷ bs)) (differs _ 1 (x .answers))
 
 -- ---- a traced block cut in two
 

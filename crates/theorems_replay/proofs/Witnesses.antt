@@ -36,9 +36,6 @@ use Rattle.theorems_replay.proofs.Archive.{goes-on, blank-fit, step-ref
 use Rattle.theorems_replay.proofs.Example.{creation-read}
 use Rattle.theorems_replay.proofs.OtherSamples.{same-but-for-samples}
 
-none : {A : Type 0} → ⊥ → A
-none e = elim e [ ]
-
 -- two frames and one at full volume, rate 1 and 1 Hz, without signals
 abbrev plainNumbers : ℕ → List ℕ
 plainNumbers n = blockNumbers n 1065353216 1065353216 1065353216 1065353216 4607182418800017408 4607182418800017408 0 0 0
@@ -92,18 +89,20 @@ witnesses =
       archive-streams =
           record {
             bytes = small-of threeFrames tt;
-            all = λ n. none (n refl);
-            answers = λ e. omega (arith, e, creation-shown);
+            all = tt;
+            answers = rw creation-shown tt;
           };
-      archive-cut-records =
-          record {
-            fit = going-fit;
-            few = omega arith;
-            uncut = two-read;
-            first = one-read;
-            rest = one-read;
-            accepted = going-accepted;
-          };
+      archive-cut-records = (
+        record {
+          fit = going-fit;
+          few = omega arith;
+          uncut = two-read;
+          first = one-read;
+          rest = one-read;
+          accepted = going-accepted;
+        },
+        tt,
+      );
       archive-three-frames = lent threeFrames tt refl;
       archive-lines-alike = record { first = lent threeFrames tt refl; second = lent threeNans tt refl; same = same-but-for-samples };
     }

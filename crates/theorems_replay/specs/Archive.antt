@@ -2,9 +2,9 @@
 -- each answer, prints what the program `replay` prints. So what is said of a trace that is played again holds of the entry.
 use Prim.Native.Nat.{ℕ, zero, suc, _+_, _-_, _≤_}
 use mathlib.Core.Path.{_≡_}
-use mathlib.Core.Bool.{cond}
+use mathlib.Core.Bool.{cond, not, _||_}
 use mathlib.Core.List.{List, [], _∷_, _++_}
-use lib.Dec.{eqb}
+use lib.Dec.{T, eqb, leb}
 use lib.ListN.{length, take, drop}
 use lib.Ieee.{Float}
 use Rattle.byte_layout.specs.Numbers.{Bytes}
@@ -76,8 +76,8 @@ LinesAlikeC =
 -- answer other than 1, more bytes are needed
 pub record WindowC (r : CableowlReplay) (snd out : List Float) (ended w : ℕ) (bs : List ℕ) : Type 0 where
   pub bytes : Bytes bs
-  pub all : (ended ≡ 0 → ⊥) → length bs ≤ w
-  pub answers : steppedC r (take w bs) ended snd out .answer .what ≡ 1 → ⊥
+  pub all : T (eqb ended 0 || leb (length bs) w)
+  pub answers : T (not (eqb (steppedC r (take w bs) ended snd out .answer .what) 1))
 
 -- the line of the step that is shown these bytes, then what is printed of the bytes behind its record
 abbrev pub StreamsC : Type 0

@@ -48,5 +48,6 @@ pub record Witnesses : Type 0 where
   pub archive-cut-records :
       MayCutStep going lentSound lentOutput 0 (plainBlock 2) (plainBlock 1) (plainBlock 1) 1 1
       1065353216 1065353216 1065353216 1065353216 4607182418800017408 4607182418800017408 0 0 0
+      × Going 0
   pub archive-three-frames : Lent lentSound lentOutput threeFrames
   pub archive-lines-alike : BothLent lentSound lentOutput lentSound lentOutput threeFrames threeNans
