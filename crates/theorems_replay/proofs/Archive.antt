@@ -102,9 +102,9 @@ few vs =
 
 -- ---- what the state after a call means: the voice after it
 
-stays : (k : ℕ) (v : StaticSound) (c : CableowlState) → (k ≡ 0 → v ≡ v) → (eqb k 0 ≡ false → decoded c ≡ v) → decoded (after k v c) ≡ v
+stays : (k : ℕ) (v : StaticSound) (c : CableowlState) → (eqb k 0 ≡ false → decoded c ≡ v) → decoded (after k v c) ≡ v
 unfolding after
-stays k v c i h = go (eqb k 0) refl
+stays k v c h = go (eqb k 0) refl
   where
     go : (b : Bool) → eqb k 0 ≡ b → decoded (cond b (encoded v) c) ≡ v
     go true e = decoded-encoded v
@@ -113,14 +113,14 @@ stays k v c i h = go (eqb k 0) refl
 commands-mean : (x : List Float) (c : CableowlState) (u : Commands) → let q = commanded x (decoded c) u in decoded (after (q .refusal) (q .sound) c) ≡ q .sound
 commands-mean x c u =
     let q = commanded x (decoded c) u in
-    stays (q .refusal) (q .sound) c (λ e. refl)
+    stays (q .refusal) (q .sound) c
     (λ e. sym (ap (λ (a : Commanded). a .sound) (commanded-refused x (decoded c) u (eqb-false (q .refusal) 0 e))))
 
 block-means : (x : List Float) (c : CableowlState) (b : Block) (out : List Float)
     → let q = blockOutcome x c b out .answer in decoded (after (q .refusal) (q .sound) c) ≡ q .sound
 block-means x c b out =
     let q = blockOutcome x c b out .answer in
-    stays (q .refusal) (q .sound) c (λ e. refl)
+    stays (q .refusal) (q .sound) c
     (λ e. sym (ap (λ (o : Outcome). o .answer .sound) (processed-refused x (decoded c) (b .«time_step») (lanesOf b) (b .signals) out (eqb-false (q .refusal) 0 e))))
 
 -- an answer does not depend on what the output held before

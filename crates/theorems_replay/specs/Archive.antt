@@ -1,5 +1,5 @@
 -- The archive's own replay: who gives `cableowl_replay_step` the bytes of a trace, step by step, and prints the line of
--- each answer, prints what the program `replay` prints. So what is said of a trace that is played again holds of the entry.
+-- each answer, prints what the program `replay` prints. So what is said of a whole trace holds of that entry.
 use Prim.Native.Nat.{ℕ, zero, suc, _+_, _-_, _≤_}
 use mathlib.Core.Path.{_≡_}
 use mathlib.Core.Bool.{cond, not, _||_}
@@ -14,7 +14,7 @@ use Rattle.trace_records.specs.Records.{recordAt}
 use Rattle.trace_replay.specs.Runs.{replayed}
 use Rattle.cableowl.specs.declared.replays.CableowlReplay.{CableowlReplay}
 use Rattle.cableowl.specs.declared.replays.CableowlReplayed.{CableowlReplayed}
-use Rattle.cableowl.specs.Replays.{StepC, blankReplay, steppedC}
+use Rattle.cableowl.specs.Replays.{blankReplay, steppedC}
 use Rattle.theorems_replay.specs.Cuts.{blockNumbers, Lines}
 use Rattle.theorems_replay.specs.Example.{threeFrames, printedLine}
 use Rattle.theorems_replay.specs.Lengths.{SameButForSamples}
@@ -53,11 +53,15 @@ pub record Lent (snd out : List Float) (bs : List ℕ) : Type 0 where
 
 -- what is printed by the steps of the entry is the whole run of trace_replay
 abbrev pub ArchiveReplays : Type 0
-ArchiveReplays = (snd out : List Float) (bs : List ℕ) → Lent snd out bs → printedC blankReplay snd out 0 bs ≡ replayed bs
+ArchiveReplays =
+    (snd out : List Float) (bs : List ℕ) → Lent snd out bs
+    → printedC blankReplay snd out 0 bs ≡ replayed bs
 
 -- the rules' three-frame example
 abbrev pub ThreeFramesC : Type 0
-ThreeFramesC = (snd out : List Float) → Lent snd out threeFrames → printedC blankReplay snd out 0 threeFrames ≡ printedLine
+ThreeFramesC =
+    (snd out : List Float) → Lent snd out threeFrames
+    → printedC blankReplay snd out 0 threeFrames ≡ printedLine
 
 -- what is asked: two traces, each with buffers of its own, that differ in the samples of their creations alone
 pub record BothLent (snd1 out1 snd2 out2 : List Float) (bs cs : List ℕ) : Type 0 where
@@ -72,7 +76,7 @@ LinesAlikeC =
 
 -- ---- any cutting of the stream of bytes
 
--- what is asked: bytes, of which a step is shown the first w, all of them where it is told that the trace has ended; and an
+-- what is asked: bytes, of which a step is shown the first w, and all where it is told that the trace has ended; and an
 -- answer other than 1, more bytes are needed
 pub record WindowC (r : CableowlReplay) (snd out : List Float) (ended w : ℕ) (bs : List ℕ) : Type 0 where
   pub bytes : Bytes bs
