@@ -1,5 +1,6 @@
--- A layout is a list of rows, one number each, kept as a table of six numbers a row: width, guard, low, least, most, refusal.
--- A row stands if the number of an earlier row, its guard, is at least `low`; one with `low` 0 always stands.
+-- A layout is a list of rows, one number each, kept as a table of six numbers a row: width, guard, low, least, most,
+-- refusal. A row is present if the number of an earlier row, its guard, is at least `low`; a row with `low` 0 is
+-- always present.
 use Prim.Native.Nat.{ℕ, zero, suc, _+_, _*_, _^_}
 use mathlib.Core.Bool.{Bool, true, false, _&&_}
 use mathlib.Core.List.{List, [], _∷_}
@@ -24,7 +25,7 @@ unfoldable pub rows : List ℕ → ℕ → ℕ → List Row
 rows t j zero = []
 rows t j (suc n) = rowAt t j ∷ rows t (suc j) n
 
--- whether a row stands, after the numbers vs
+-- whether a row is present, after the numbers vs
 unfoldable pub stands : Row → List ℕ → Bool
 stands r vs = leb (r .low) (getD vs (r .guard) 0)
 

@@ -1,4 +1,4 @@
--- Writing by a layout: which numbers the rows take, and their bytes.
+-- Writing by a layout: which numbers the rows accept, and their bytes.
 use Prim.Native.Nat.{ℕ}
 use mathlib.Core.Bool.{Bool, true, false, cond}
 use mathlib.Core.List.{List, [], _∷_, _++_}
@@ -18,12 +18,12 @@ payload [] vs ws = []
 payload (r ∷ rs) vs [] = []
 payload (r ∷ rs) vs (x ∷ ws) = field (stands r vs) r x ++ payload rs (vs ++ (x ∷ [])) ws
 
--- a number that a row takes: in its range, and 0 where the row does not stand
+-- a number that a row accepts: in its range, and 0 if the row is absent
 unfoldable pub fits : Bool → Row → ℕ → Bool
 fits true r x = within r x
 fits false r x = eqb x 0
 
--- the numbers ws, after the numbers vs, are as many as the rows, and each row takes its own
+-- the numbers ws, after the numbers vs, are as many as the rows, and each row accepts its own
 unfoldable pub fine : List Row → List ℕ → List ℕ → Bool
 fine [] vs [] = true
 fine [] vs (x ∷ ws) = false

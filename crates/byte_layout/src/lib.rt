@@ -1,5 +1,5 @@
-// Numbers in bytes by a table of rows: one reader, one writer, whatever the table. What is written is read back as the same
-// numbers, and what is read is written again byte for byte (proofs/Codec.antt).
+// Numbers as bytes, by a table of rows: one reader and one writer for every table. What is written is read back as
+// the same numbers, and what is read is written again byte for byte (proofs/Codec.antt).
 ghost use mathlib.Core.Path.{_≡_};
 ghost use Prim.Native.Nat.{_+_, _-_, _*_, _≤_, _<_};
 ghost use mathlib.Core.Bool.{true};
@@ -11,8 +11,8 @@ ghost use Rattle.byte_layout.specs.Rows.{rowAt, rows, stands, within, so
 ghost use Rattle.byte_layout.specs.Reads.{step, steps, view};
 ghost use Rattle.byte_layout.specs.Writes.{field, payload, fits, fine};
 
-// A number of `width` bytes, from `least` to `most` or refused by `refusal`, that stands if the number of row `guard` is at
-// least `low`.
+// A row: a number of `width` bytes, from `least` to `most` or refused with `refusal`. It is present if the number of
+// row `guard` is at least `low`.
 pub struct Row {
     pub width: usize,
     pub guard: usize,
@@ -22,7 +22,8 @@ pub struct Row {
     pub refusal: u64,
 }
 
-// A parse in progress: refused by a number, or at `at` with `left` bytes of payload left, and the numbers read.
+// A parse in progress: refused with a number, or at offset `at` with `left` bytes of payload left, and the numbers
+// read.
 pub struct Parsed {
     pub refused: u64,
     pub at: usize,
@@ -59,7 +60,7 @@ fn guarding(values: [u64; 80], i: usize, g: usize) -> u64
     0
 }
 
-// Whether row r stands after the first i numbers.
+// Whether row r is present after the first i numbers.
 fn row_stands(values: [u64; 80], i: usize, r: Row) -> bool
     requires { ⌜ i ≤ 80 ⌝ }
     ensures { λ b. ⌜ b ≡ stands r (take i values) ⌝ }
@@ -95,7 +96,8 @@ pub fn number(s: &[u8], at: usize, width: usize) -> u64
 // Reads row r, the row of number i.
 fn read_row(s: &[u8], p: Parsed, i: usize, r: Row) -> Parsed
     requires { ⌜ (i < 80) × (p .at ≤ length (now s)) × (r .width ≤ 8) × (0 < r .refusal) ⌝ }
-    ensures { λ q. ⌜ (view (now (s .entry)) (i + 1) q ≡ step r (view (now (s .entry)) i p)) × (q .at ≤ length (now (s .entry))) × (drop (i + 1) (q .values) ≡ drop (i + 1) (p .values)) ⌝ }
+    ensures { λ q. ⌜ (view (now (s .entry)) (i + 1) q ≡ step r (view (now (s .entry)) i p))
+        × (q .at ≤ length (now (s .entry))) × (drop (i + 1) (q .values) ≡ drop (i + 1) (p .values)) ⌝ }
 {
     if 0 < p.refused {
         return p;
@@ -151,10 +153,12 @@ pub fn begin(at: usize, left: usize) -> Parsed
     }
 }
 
-// Reads the first n rows of a table, and leaves the values after n. What was refused stays refused.
+// Reads the first n rows of a table; the values after n do not change. A refused parse stays refused.
 pub fn read_rows(s: &[u8], p: Parsed, table: &[u64], n: usize) -> Parsed
-    requires { ⌜ (p .at ≤ length (now s)) × (n ≤ 80) × (6 * n ≤ length (now table)) × (sound (rows (now table) 0 n) ≡ true) ⌝ }
-    ensures { λ q. ⌜ (view (now (s .entry)) n q ≡ steps (rows (now (table .entry)) 0 n) (view (now (s .entry)) 0 p)) × (q .at ≤ length (now (s .entry))) × (drop n (q .values) ≡ drop n (p .values)) ⌝ }
+    requires { ⌜ (p .at ≤ length (now s)) × (n ≤ 80) × (6 * n ≤ length (now table))
+        × (sound (rows (now table) 0 n) ≡ true) ⌝ }
+    ensures { λ q. ⌜ (view (now (s .entry)) n q ≡ steps (rows (now (table .entry)) 0 n) (view (now (s .entry)) 0 p))
+        × (q .at ≤ length (now (s .entry))) × (drop n (q .values) ≡ drop n (p .values)) ⌝ }
 {
     let mut q = p;
     let mut i = 0;
@@ -183,10 +187,13 @@ pub fn put_number(buf: &mut [u8], at: usize, width: usize, x: u64)
     }
 }
 
-// Writes row r, the row of number i, and returns the place after it.
+// Writes row r, the row of number i, and returns the offset after it.
 fn put_row(buf: &mut [u8], at: usize, values: [u64; 80], i: usize, r: Row) -> usize
-    requires { ⌜ (i < 80) × (at + length (field (stands r (take i values)) r (getD values i 0)) ≤ length (now buf)) ⌝ }
-    ensures { λ a. ⌜ (now (buf .exit) ≡ sets (now (buf .entry)) at (field (stands r (take i values)) r (getD values i 0))) × (a ≡ at + length (field (stands r (take i values)) r (getD values i 0))) ⌝ }
+    requires { ⌜ (i < 80)
+        × (at + length (field (stands r (take i values)) r (getD values i 0)) ≤ length (now buf)) ⌝ }
+    ensures { λ a. ⌜ (now (buf .exit)
+        ≡ sets (now (buf .entry)) at (field (stands r (take i values)) r (getD values i 0)))
+        × (a ≡ at + length (field (stands r (take i values)) r (getD values i 0))) ⌝ }
 {
     if row_stands(values, i, r) {
         let w = r.width;
@@ -196,10 +203,13 @@ fn put_row(buf: &mut [u8], at: usize, values: [u64; 80], i: usize, r: Row) -> us
     at
 }
 
-// Writes the numbers of the first n rows of a table, and returns the place after them.
+// Writes the numbers of the first n rows of a table, and returns the offset after them.
 pub fn put_rows(buf: &mut [u8], at: usize, values: [u64; 80], table: &[u64], n: usize) -> usize
-    requires { ⌜ (n ≤ 80) × (6 * n ≤ length (now table)) × (at + length (payload (rows (now table) 0 n) [] (take n values)) ≤ length (now buf)) ⌝ }
-    ensures { λ a. ⌜ (now (buf .exit) ≡ sets (now (buf .entry)) at (payload (rows (now (table .entry)) 0 n) [] (take n values))) × (a ≡ at + length (payload (rows (now (table .entry)) 0 n) [] (take n values))) ⌝ }
+    requires { ⌜ (n ≤ 80) × (6 * n ≤ length (now table))
+        × (at + length (payload (rows (now table) 0 n) [] (take n values)) ≤ length (now buf)) ⌝ }
+    ensures { λ a. ⌜ (now (buf .exit)
+        ≡ sets (now (buf .entry)) at (payload (rows (now (table .entry)) 0 n) [] (take n values)))
+        × (a ≡ at + length (payload (rows (now (table .entry)) 0 n) [] (take n values))) ⌝ }
 {
     let mut a = at;
     let mut i = 0;
@@ -211,7 +221,7 @@ pub fn put_rows(buf: &mut [u8], at: usize, values: [u64; 80], table: &[u64], n: 
     a
 }
 
-// Whether row r takes number i.
+// Whether row r accepts number i.
 fn row_fits(values: [u64; 80], i: usize, r: Row) -> bool
     requires { ⌜ i < 80 ⌝ }
     ensures { λ b. ⌜ b ≡ fits (stands r (take i values)) r (getD values i 0) ⌝ }
@@ -223,7 +233,7 @@ fn row_fits(values: [u64; 80], i: usize, r: Row) -> bool
     x == 0
 }
 
-// Whether the first n rows of a table take the values.
+// Whether the first n rows of a table accept the values.
 pub fn rows_fit(values: [u64; 80], table: &[u64], n: usize) -> bool
     requires { ⌜ (n ≤ 80) × (6 * n ≤ length (now table)) ⌝ }
     ensures { λ b. ⌜ b ≡ fine (rows (now (table .entry)) 0 n) [] (take n values) ⌝ }

@@ -1,4 +1,4 @@
--- What creation, commands and blocks are given, from records of numbers: a tag that means nothing becomes a value that its field's number refuses.
+-- Settings, commands and signals from C records: an unknown tag becomes a value that its field's check refuses.
 use Prim.Native.Nat.{ℕ}
 use mathlib.Core.Bool.{Bool, cond}
 use lib.Dec.{eqb}
@@ -30,19 +30,21 @@ use Rattle.c_inputs.specs.declared.CableowlCommands.{CableowlCommands}
 use Rattle.c_inputs.specs.declared.CableowlSignals.{CableowlSignals}
 use Rattle.c_state.specs.Records.{yes}
 
--- ---- places and regions
+-- ---- positions and regions
 
--- 0 is seconds, 1 samples, any other kind seconds that are no number
+-- 0 is seconds, 1 samples, any other kind NaN seconds
 abbrev pub placeOf : CableowlPlace → PlaybackPosition
-placeOf p = cond (eqb (p .kind) 0) (Seconds (p .seconds)) (cond (eqb (p .kind) 1) (Samples (p .samples)) (Seconds nan))
+placeOf p = cond (eqb (p .kind) 0) (Seconds (p .seconds))
+    (cond (eqb (p .kind) 1) (Samples (p .samples)) (Seconds nan))
 
--- 2 is the end of audio, any other kind that of a place
+-- 2 is the end of audio, any other kind as for a position
 abbrev pub endOf : CableowlPlace → EndPosition
 endOf p = cond (eqb (p .kind) 2) EndOfAudio (Custom (placeOf p))
 
--- the region where its tag is known, else one that begins nowhere
+-- the region if its tag is known, otherwise one with a NaN start
 abbrev pub regionIf : Bool → CableowlRegion → Region
-regionIf known r = cond known (record { start = placeOf (r .start); end = endOf (r .end) }) (record { start = Seconds nan; end = EndOfAudio })
+regionIf known r = cond known (record { start = placeOf (r .start); end = endOf (r .end) })
+    (record { start = Seconds nan; end = EndOfAudio })
 
 -- ---- creation
 
@@ -64,7 +66,7 @@ settingsOf s =
 
 -- ---- commands
 
--- 0 is absent, 1 given, any other tag given as no number
+-- 0 is absent, 1 given, any other tag NaN
 abbrev pub amountOf : ℕ → Float → Amount
 amountOf has x = cond (eqb has 0) amount.Absent (cond (eqb has 1) (amount.Given x) (amount.Given nan))
 
@@ -94,9 +96,13 @@ commandsOf c =
 abbrev pub answerOf : ℕ → StartAnswer
 answerOf n = cond (eqb n 1) answer.Now (cond (eqb n 2) answer.Never answer.Waiting)
 
--- 3 is a due tick with the tick now, any other an answer
+-- 3 is a due tick with the current tick, any other an answer
 abbrev pub startOf : ℕ → ℕ → ℕ → StartSignal
 startOf kind due now = cond (eqb kind 3) (start.Tick due now) (start.Answer (answerOf kind))
 
 abbrev pub signalsOf : CableowlSignals → Signals
-signalsOf g = record { finished = yes (g .finished); start = startOf (g .start) (g .due) (g .now); resume = answerOf (g .resume) }
+signalsOf g = record {
+  finished = yes (g .finished);
+  start = startOf (g .start) (g .due) (g .now);
+  resume = answerOf (g .resume);
+}

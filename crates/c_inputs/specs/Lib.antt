@@ -1,2 +1,2 @@
--- Inputs from records of numbers.
+-- Settings, commands and signals from C records.
 pub mod Inputs

@@ -1,7 +1,20 @@
-// What creation, commands and blocks are given, from records of numbers, for the C ABI: a tag that means nothing is refused by the number of what it stands for.
+// Settings, commands and signals from C records. An unknown tag becomes a value that its field's check refuses.
 ghost use mathlib.Core.Path.{_≡_};
 ghost use lib.Ieee.{nan};
-ghost use Rattle.c_inputs.specs.Inputs.{placeOf, endOf, regionIf, optionalOf, settingsOf, amountOf, loopOf, resumeOf, commandsOf, answerOf, startOf, signalsOf};
+ghost use Rattle.c_inputs.specs.Inputs.{
+  placeOf,
+  endOf,
+  regionIf,
+  optionalOf,
+  settingsOf,
+  amountOf,
+  loopOf,
+  resumeOf,
+  commandsOf,
+  answerOf,
+  startOf,
+  signalsOf,
+};
 use playback_position::EndPosition;
 use playback_position::PlaybackPosition;
 use playback_position::Region;
@@ -15,7 +28,7 @@ use sound_creation::OptionalRegion;
 use sound_creation::Settings;
 use start_time::StartSignal;
 
-// A place in a sound: kind 0 is seconds, 1 samples, and for an end 2 the end of audio.
+// A position in a sound: kind 0 is seconds, 1 samples, and for an end 2 the end of audio.
 #[repr(C)]
 pub struct CableowlPlace {
     pub seconds: f64,
@@ -29,7 +42,7 @@ pub struct CableowlRegion {
     pub end: CableowlPlace,
 }
 
-// What creation is given beside the sound.
+// The settings of a creation.
 #[repr(C)]
 pub struct CableowlSettings {
     pub sample_rate: u32,
@@ -59,7 +72,8 @@ pub struct CableowlCommands {
     pub loop_region: CableowlRegion,
 }
 
-// What a block is told. An answer is 0 still waiting, 1 now, 2 never; the start may be 3, due at one tick and now at another.
+// The signals of a block. An answer is 0 still waiting, 1 now, 2 never; a start can also be 3: due at a tick, with
+// the current tick.
 #[repr(C)]
 pub struct CableowlSignals {
     pub finished: u32,
@@ -69,7 +83,7 @@ pub struct CableowlSignals {
     pub now: u32,
 }
 
-// What no tag means: no number accepts it.
+// The value of an unknown tag: its field's check refuses it.
 fn nonsense() -> f64
     ensures { λ r. ⌜ r ≡ nan ⌝ }
 {
@@ -97,7 +111,7 @@ fn end_of(place: CableowlPlace) -> EndPosition
     EndPosition::Custom(place_of(place))
 }
 
-// The region where its tag is known, else one that no number accepts.
+// The region if its tag is known, otherwise one that is refused.
 fn region_if(known: bool, region: CableowlRegion) -> Region
     ensures { λ r. ⌜ r ≡ regionIf known region ⌝ }
 {

@@ -1,2 +1,2 @@
--- A voice as a record of numbers.
+-- A voice as a C record.
 pub mod Records

@@ -1,4 +1,4 @@
--- A voice as a record of numbers: which records are lawful, what each means, and the record of a voice.
+-- A voice as a C record: which records are lawful, the voice of a record, and the record of a voice.
 use Prim.Native.Nat.{ℕ}
 use mathlib.Core.Bool.{Bool, not, _&&_, _||_, cond}
 use mathlib.Core.List.{List, map}
@@ -29,7 +29,7 @@ bit b = cond b 1 0
 abbrev pub lawfulRange : ℕ → ℕ → ℕ → Bool
 lawfulRange has s e = eqb has 1 || eqb has 0 && eqb s 0 && eqb e 0
 
--- the state is known, the flags are 0 or 1, and what is absent has no numbers
+-- the state is known, the flags are 0 or 1, and absent regions have zeros
 unfoldable pub lawful : CableowlState → Bool
 lawful c =
     leb (c .state) 6
@@ -83,7 +83,7 @@ stated c =
       };
     }
 
--- the voice of any record: the blank state, which is not well formed, where it is not lawful
+-- the voice of any record: if it is not lawful, the blank state, which is not well formed
 unfoldable pub decoded : CableowlState → StaticSound
 decoded c = cond (lawful c) (stated c) blankSound
 

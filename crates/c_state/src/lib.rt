@@ -1,8 +1,24 @@
-// A voice as a record of numbers, for the C ABI: any bytes may be given, and what means nothing is the blank state, which no entry takes.
+// A voice as a C record. Any bytes are accepted: a record that represents no voice becomes the blank state, which
+// every entry refuses.
 ghost use mathlib.Core.Path.{_≡_};
 ghost use mathlib.Core.List.{map};
 ghost use Prim.Native.Nat.{_≤_};
-ghost use Rattle.c_state.specs.Records.{yes, bit, lawfulRange, lawful, stateOf, rangeOf, recentOf, windowOf, decoded, given, startOf, endingOf, entryOf, encoded};
+ghost use Rattle.c_state.specs.Records.{
+  yes,
+  bit,
+  lawfulRange,
+  lawful,
+  stateOf,
+  rangeOf,
+  recentOf,
+  windowOf,
+  decoded,
+  given,
+  startOf,
+  endingOf,
+  entryOf,
+  encoded,
+};
 use frame::Frame;
 use playback_position::FrameRange;
 use playback_state_manager::PlaybackState;
@@ -22,7 +38,7 @@ pub struct CableowlEntry {
     pub number: u64,
 }
 
-// A voice. The state is 0 to 6, each flag 0 or 1; where a slice or a loop is absent its two numbers are 0.
+// A voice. The state is 0 to 6, each flag 0 or 1. If a slice or a loop is absent, its two numbers are 0.
 #[repr(C)]
 pub struct CableowlState {
     pub sample_rate: u32,
@@ -133,7 +149,7 @@ fn window_of(window: [CableowlEntry; 4], count: u32) -> Resampler
     }
 }
 
-// A state that is not lawful is the blank one, which no entry takes for well formed.
+// A record that is not lawful becomes the blank state, which is not well formed.
 pub fn decode(state: CableowlState) -> StaticSound
     ensures { λ r. ⌜ r ≡ decoded state ⌝ }
 {

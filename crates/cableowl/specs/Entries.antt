@@ -1,4 +1,4 @@
--- The entries of the C ABI, accepted and refused together: each is the entry below it, between records of numbers.
+-- The C entries, for accepted and refused calls: each is the function below it, with C records in and out.
 use Prim.Native.Nat.{ℕ, _/_}
 use mathlib.Core.Bool.{cond}
 use mathlib.Core.List.{List}
@@ -24,11 +24,11 @@ use Rattle.cableowl.specs.declared.CableowlPart.{CableowlPart}
 use Rattle.c_state.specs.Records.{decoded, encoded}
 use Rattle.c_inputs.specs.Inputs.{settingsOf, commandsOf, signalsOf}
 
--- the state that comes back: after a refusal the given one
+-- the state to return: after a refusal the given one
 unfoldable pub after : ℕ → StaticSound → CableowlState → CableowlState
 after k v c = cond (eqb k 0) (encoded v) c
 
--- creation; refused, the blank state
+-- creation; if refused, the blank state
 unfoldable pub createdC : List Float → CableowlSettings → CableowlCreated
 createdC snd s = let r = created snd (settingsOf s) in record { state = encoded (r .sound); refusal = r .refusal }
 
@@ -38,11 +38,16 @@ commandedC snd c k =
     let r = commanded snd (decoded c) (commandsOf k) in
     record { state = after (r .refusal) (r .sound) c; position = r .position; refusal = r .refusal }
 
--- the answer of a block that was given this state
+-- the result of a block that was given this state
 abbrev pub answered : Processed → CableowlState → CableowlProcessed
-answered p c = record { state = after (p .refusal) (p .sound) c; steps = p .steps; refusal = p .refusal; «lowest_count» = p .«lowest_count» }
+answered p c = record {
+  state = after (p .refusal) (p .sound) c;
+  steps = p .steps;
+  refusal = p .refusal;
+  «lowest_count» = p .«lowest_count»;
+}
 
--- what a block's call gives: its answer, and every sample of the lent buffer
+-- the outcome of a block: its result, and every sample of the buffer
 pub record OutcomeC : Type 0 where
   pub answer : CableowlProcessed
   pub samples : List Float
@@ -54,19 +59,22 @@ processedC snd c dt b g out =
     record { answer = answered (o .answer) c; samples = o .samples }
 
 -- a block into a mix
-unfoldable pub processedIntoC : List Float → CableowlState → Float → Lanes → CableowlSignals → List Float → ℕ → OutcomeC
+unfoldable pub processedIntoC : List Float → CableowlState → Float → Lanes → CableowlSignals → List Float → ℕ
+    → OutcomeC
 processedIntoC snd c dt b g mix from =
     let o = processedInto snd (decoded c) dt b (signalsOf g) mix from in
     record { answer = answered (o .answer) c; samples = o .samples }
 
--- a block whose numbers are given once: that of lanes which repeat them, a frame for each two samples of the output
+-- a block whose numbers are given once: the block over lanes that repeat them, one frame for each two samples of the
+-- output
 abbrev pub processedHeldC : List Float → CableowlState → Float → Held → CableowlSignals → List Float → OutcomeC
 processedHeldC snd c dt x g out = processedC snd c dt (once x (length out / 2)) g out
 
 -- n frames of it into a mix
-abbrev pub processedHeldIntoC : List Float → CableowlState → Float → Held → CableowlSignals → List Float → ℕ → ℕ → OutcomeC
+abbrev pub processedHeldIntoC : List Float → CableowlState → Float → Held → CableowlSignals → List Float → ℕ → ℕ
+    → OutcomeC
 processedHeldIntoC snd c dt x g mix from n = processedIntoC snd c dt (once x n) g mix from
 
--- the stretch, by where it begins in the lent sound and how long it is
+-- the stretch, as its offset in the sound and its length
 unfoldable pub partC : List Float → CableowlState → CableowlPart
 partC snd c = let v = decoded c in record { offset = stretchAt (length snd) v; length = length (stretchOf snd v) }

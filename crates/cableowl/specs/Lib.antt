@@ -1,4 +1,4 @@
--- What the contracts of the C ABI cite.
+-- The definitions that the C entries' contracts cite.
 pub mod Entries
 pub mod Loops
 pub mod Saved

@@ -1,4 +1,5 @@
--- The C ABI of the table of loops (request #109): each entry is the one below it, between numbers. A hall that is neither 0 nor 1 means nothing: 1.
+-- The C entries of the loop table (request #109): each is the function below it, over numbers. A hall other than 0
+-- and 1 is refused with 1.
 use Prim.Native.Nat.{ℕ}
 use mathlib.Core.Bool.{cond}
 use mathlib.Core.List.{List}
@@ -28,7 +29,7 @@ writtenC t h k s e = cond (leb h 1) (written t (hallOf h) k s e) (record { table
 abbrev pub clearedC : LoopTable → ℕ → ℕ → LoopChanged
 clearedC t h k = cond (leb h 1) (cleared t (hallOf h) k) (record { table = t; refusal = 1 })
 
--- the same of a copy of the table
+-- the same for a copy of the table
 abbrev pub copyWrittenC : LoopCopy → ℕ → ℕ → ℕ → ℕ → CopyChanged
 copyWrittenC c h k s e = cond (leb h 1) (copyWritten c (hallOf h) k s e) (record { copy = c; refusal = 1 })
 

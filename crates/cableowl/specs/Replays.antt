@@ -1,4 +1,5 @@
--- The step of a replay (request #104; docs/formats/TRACE.md, "What is printed"): the next record of a trace, read and played.
+-- The step of a replay (request #104; docs/formats/TRACE.md, "What is printed"): the next record of a trace, read and
+-- played.
 use Prim.Native.Nat.{ℕ, zero, suc, _+_, _-_, _*_}
 use mathlib.Core.Bool.{Bool, true, false, cond, _&&_}
 use mathlib.Core.List.{List, [], _∷_, _++_}
@@ -40,19 +41,45 @@ onward at n = cond (leb n (18446744073709551615 - at)) (at + n) 1844674407370955
 -- behind a record of n bytes
 abbrev pub behind : CableowlReplay → ℕ → CableowlState → ℕ → ℕ → CableowlReplay
 behind r n v samples blocks =
-    record { voice = v; samples = samples; blocks = blocks; offset = onward (r .offset) n; reader = r .reader; given = r .given }
+    record {
+      voice = v;
+      samples = samples;
+      blocks = blocks;
+      offset = onward (r .offset) n;
+      reader = r .reader;
+      given = r .given;
+    }
 
 -- ---- answers
 
 -- 0: a record was played; its bytes, its kind, and what the player answered
 abbrev pub playedAs : CableowlReplay → ℕ → ℕ → ℕ → ℕ → ℕ → ℕ → CableowlReplayed
 playedAs r size kind refusal frames steps lowest =
-    record { replay = r; size = size; frames = frames; steps = steps; what = 0; kind = kind; refusal = refusal; «lowest_count» = lowest }
+    record {
+      replay = r;
+      size = size;
+      frames = frames;
+      steps = steps;
+      what = 0;
+      kind = kind;
+      refusal = refusal;
+      «lowest_count» = lowest;
+    }
 
--- nothing was played, for a reason: 1 more bytes are needed, 2 the trace has ended, 3 the record is refused, 4 the call is
+-- nothing was played, for a reason: 1 more bytes are needed, 2 the trace has ended, 3 the record is refused, 4 the
+-- call is
 abbrev pub unplayed : CableowlReplay → ℕ → ℕ → CableowlReplayed
 unplayed r what refusal =
-    record { replay = r; size = 0; frames = 0; steps = 0; what = what; kind = 0; refusal = refusal; «lowest_count» = 4 }
+    record {
+      replay = r;
+      size = 0;
+      frames = 0;
+      steps = 0;
+      what = what;
+      kind = 0;
+      refusal = refusal;
+      «lowest_count» = 4;
+    }
 
 -- what a step leaves: its answer, every sample of the lent sound, and every sample of the lent output
 pub record StepC : Type 0 where
@@ -87,7 +114,8 @@ blockOutcome snd v b out = processed snd (decoded v) (b .«time_step») (lanesOf
 -- a block, accepted or refused, is counted
 unfoldable pub blockC : CableowlReplay → ℕ → ℕ → Processed → CableowlReplayed
 blockC r n frames p =
-    playedAs (behind r n (after (p .refusal) (p .sound) (r .voice)) (r .samples) (more (r .blocks))) n 3 (p .refusal) frames (p .steps)
+    playedAs (behind r n (after (p .refusal) (p .sound) (r .voice)) (r .samples) (more (r .blocks))) n 3
+    (p .refusal) frames (p .steps)
     (p .«lowest_count»)
 
 -- ---- a step
@@ -97,17 +125,24 @@ unfoldable pub blockStep : CableowlReplay → ℕ → List ℕ → List Float �
 blockStep r n vs snd out =
     let b = blockOf vs in
     let o = blockOutcome (take (r .samples) snd) (r .voice) b (take (2 * b .frames) out) in
-    record { answer = blockC r n (b .frames) (o .answer); sound = snd; samples = o .samples ++ drop (2 * b .frames) out }
+    record {
+      answer = blockC r n (b .frames) (o .answer);
+      sound = snd;
+      samples = o .samples ++ drop (2 * b .frames) out;
+    }
 
 -- one record, by its kind; a creation puts its sound at the start of the lent one
 unfoldable pub turned : CableowlReplay → Record → List Float → List Float → StepC
 turned r d snd out =
     let vs = d .values in
-    cond (eqb (d .kind) 1) (record { answer = creationC r (d .next) vs; sound = sets snd 0 (samplesOf vs); samples = out })
-    (cond (eqb (d .kind) 2) (record { answer = commandsC (take (r .samples) snd) r (d .next) vs; sound = snd; samples = out })
+    cond (eqb (d .kind) 1)
+    (record { answer = creationC r (d .next) vs; sound = sets snd 0 (samplesOf vs); samples = out })
+    (cond (eqb (d .kind) 2)
+    (record { answer = commandsC (take (r .samples) snd) r (d .next) vs; sound = snd; samples = out })
     (blockStep r (d .next) vs snd out))
 
--- a record that was read is played; one whose end is missing waits for it while more bytes may come; any other refusal is final
+-- a record that was read is played; one whose end is missing waits for it while more bytes may come; any other
+-- refusal is final
 unfoldable pub judged : CableowlReplay → ℕ → Record → List Float → List Float → StepC
 judged r ended d snd out =
     cond (eqb (d .refusal) 0) (turned r d snd out)
@@ -119,10 +154,15 @@ judged r ended d snd out =
 
 -- the record that the bytes begin with; where there are none the trace has ended, or more may come
 unfoldable pub begun : CableowlReplay → ℕ → List ℕ → List Float → List Float → StepC
-begun r ended [] snd out = record { answer = cond (eqb ended 0) (unplayed r 1 0) (unplayed r 2 0); sound = snd; samples = out }
+begun r ended [] snd out = record {
+  answer = cond (eqb ended 0) (unplayed r 1 0) (unplayed r 2 0);
+  sound = snd;
+  samples = out;
+}
 begun r ended (b ∷ bs) snd out = judged r ended (recordAt (b ∷ bs) 0) snd out
 
--- the number of a refused call, 0 where it is accepted: 1 the numbers are no replay's over this sound, 19 too little room
+-- the number of a refused call, 0 where it is accepted: 1 the numbers are no replay's over this sound, 19 too little
+-- room
 unfoldable pub refusedStep : CableowlReplay → ℕ → ℕ → ℕ
 refusedStep r snd out =
     unless (eqb (r .reader) 1 && eqb (r .given) 0 && leb (r .samples) snd) 1

@@ -1,4 +1,5 @@
--- Saved settings over eight words (request #113): start, has_loop, loop_start, loop_end, reverse, the rate's bits, pitch, version.
+-- Saved settings over eight words (request #113): start, has_loop, loop_start, loop_end, reverse, the rate's bits,
+-- pitch, version.
 use Prim.Native.Nat.{ℕ}
 use mathlib.Core.Bool.{cond}
 use mathlib.Core.List.{List, [], _∷_}
@@ -34,11 +35,11 @@ wordsOf l =
     let s = l .settings in
     s .start ∷ s .«has_loop» ∷ s .«loop_start» ∷ s .«loop_end» ∷ s .reverse ∷ s .rate ∷ s .pitch ∷ l .version ∷ []
 
--- the held rate; a NaN where the rate is not finite, or the pitch not -24 to 24
+-- the held rate; NaN if the rate is not finite or the pitch is not -24 to 24
 abbrev pub rateOf : ℕ → ℕ → Float
 rateOf bits pitch = cond (finiteBits bits) (raisedBy (ofBits binary64 bits) pitch) nan
 
--- 0 or 1 as it is, any other 2, which creation refuses as a loop and takes as a yes
+-- 0 or 1 unchanged; any other number becomes 2, which creation refuses for a loop and reads as yes for a flag
 abbrev pub tagOf : ℕ → ℕ
 tagOf word = cond (eqb word 0) 0 (cond (eqb word 1) 1 2)
 

@@ -1,4 +1,4 @@
-// The C interface of copies of the loop table: crate loop_copies over numbers. Hall A is 0, B is 1.
+// The C entries of copies of the loop table: crate loop_copies over numbers. Hall A is 0, B is 1.
 ghost use mathlib.Core.Path.{_≡_};
 ghost use Rattle.loop_copies.specs.Copies.{emptyCopy, mergedCopy};
 ghost use Rattle.cableowl.specs.Loops.{copyWrittenC, copyClearedC};

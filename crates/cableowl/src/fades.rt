@@ -1,4 +1,4 @@
-// The C ABI of levels and fades: crate decibels over plain numbers and a lent lane.
+// The C entries of levels and fades: crate decibels over plain numbers and a lane.
 ghost use mathlib.Core.Path.{_≡_};
 ghost use lib.ListN.{length};
 ghost use Rattle.decibels.specs.Levels.{levelRefusal, amplitudeOr};
@@ -13,7 +13,8 @@ pub extern "C" fn cableowl_amplitude(level: u32, to: &mut f32) -> u32
 
 #[no_mangle]
 pub extern "C" fn cableowl_fade_ramp(start: u32, end: u32, count: u32, lane: &mut [f32]) -> u32
-    ensures { λ r. ⌜ (r ≡ refusal start end count (length (now (lane .entry)))) × (now (lane .exit) ≡ faded start end count (now (lane .entry))) ⌝ }
+    ensures { λ r. ⌜ (r ≡ refusal start end count (length (now (lane .entry))))
+        × (now (lane .exit) ≡ faded start end count (now (lane .entry))) ⌝ }
 {
     decibels::fade_ramp(start, end, count, lane)
 }

@@ -1,5 +1,5 @@
-// The C interface of a half's bytes: crate saved_loops. A half is nineteen words: hall (A is 0, B is 1), frames of the
-// sound, number of changes, then start and end of its eight slots.
+// The C interface of a half's bytes: crate saved_loops. A half is nineteen words: hall (A is 0, B is 1), frames of
+// the sound, number of changes, then start and end of its eight slots.
 ghost use mathlib.Core.Path.{_≡_};
 ghost use lib.ListN.{length};
 ghost use Rattle.saved_loops.specs.Records.{storeRefusal, stored, loaded};

@@ -1,9 +1,17 @@
-// The C ABI: every entry under a plain name, over records of numbers by value and lent slices. Any bytes may be given: what means
-// nothing is refused, by the number of what it stands for.
+// The C entries, over records of numbers by value and slices. They accept any bytes; an unknown value is refused with
+// its field's number.
 ghost use mathlib.Core.Path.{_≡_};
 ghost use Prim.Native.Nat.{_≤_};
 ghost use Rattle.sound_lanes.specs.Lanes.{five};
-ghost use Rattle.cableowl.specs.Entries.{after, createdC, commandedC, answered, processedC, processedIntoC, partC};
+ghost use Rattle.cableowl.specs.Entries.{
+  after,
+  createdC,
+  commandedC,
+  answered,
+  processedC,
+  processedIntoC,
+  partC,
+};
 
 mod copies;
 mod fades;
@@ -72,14 +80,14 @@ pub struct CableowlProcessed {
     pub lowest_count: u32,
 }
 
-// A part of the lent sound, in samples.
+// A part of the sound, in samples.
 #[repr(C)]
 pub struct CableowlPart {
     pub offset: u64,
     pub length: u64,
 }
 
-// The state that comes back: after a refusal the given one.
+// The state to return: after a refusal the given one.
 fn state_after(refusal: u32, voice: StaticSound, state: CableowlState) -> CableowlState
     requires { ⌜ (refusal ≡ 0 → voice .moving .resampler .«time_until_empty» ≤ 4) ⌝ }
     ensures { λ r. ⌜ r ≡ after refusal voice state ⌝ }
@@ -91,7 +99,8 @@ fn state_after(refusal: u32, voice: StaticSound, state: CableowlState) -> Cableo
 }
 
 fn answer(processed: Processed, state: CableowlState) -> CableowlProcessed
-    requires { ⌜ (processed .refusal ≡ 0 → processed .sound .moving .resampler .«time_until_empty» ≤ 4) × (processed .«lowest_count» ≤ 4) ⌝ }
+    requires { ⌜ (processed .refusal ≡ 0 → processed .sound .moving .resampler .«time_until_empty» ≤ 4)
+        × (processed .«lowest_count» ≤ 4) ⌝ }
     ensures { λ r. ⌜ r ≡ answered processed state ⌝ }
 {
     let voice = processed.sound;
@@ -104,7 +113,7 @@ fn answer(processed: Processed, state: CableowlState) -> CableowlProcessed
     }
 }
 
-// The version of this ABI.
+// The version of this interface.
 #[no_mangle]
 pub extern "C" fn cableowl_version() -> u32
     ensures { λ r. ⌜ r ≡ 2 ⌝ }
@@ -158,7 +167,10 @@ pub extern "C" fn cableowl_process(
     signals: CableowlSignals,
     out: &mut [f32],
 ) -> CableowlProcessed
-    ensures { λ r. ⌜ record { answer = r; samples = now (out .exit) } ≡ processedC (now (sound .entry)) state dt (five (now (fade .entry)) (now (volume .entry)) (now (left .entry)) (now (right .entry)) (now (rate .entry))) signals (now (out .entry)) ⌝ }
+    ensures { λ r. ⌜ record { answer = r; samples = now (out .exit) }
+        ≡ processedC (now (sound .entry)) state dt
+        (five (now (fade .entry)) (now (volume .entry)) (now (left .entry)) (now (right .entry)) (now (rate .entry)))
+        signals (now (out .entry)) ⌝ }
 {
     let processed = static_sound::process(
         decode(state),
@@ -175,7 +187,7 @@ pub extern "C" fn cableowl_process(
     answer(processed, state)
 }
 
-// Into the middle of a longer mix, from the frame given on.
+// Into the middle of a longer mix, from the given frame on.
 #[no_mangle]
 pub extern "C" fn cableowl_process_into(
     state: CableowlState,
@@ -190,7 +202,10 @@ pub extern "C" fn cableowl_process_into(
     mix: &mut [f32],
     from: u64,
 ) -> CableowlProcessed
-    ensures { λ r. ⌜ record { answer = r; samples = now (mix .exit) } ≡ processedIntoC (now (sound .entry)) state dt (five (now (fade .entry)) (now (volume .entry)) (now (left .entry)) (now (right .entry)) (now (rate .entry))) signals (now (mix .entry)) from ⌝ }
+    ensures { λ r. ⌜ record { answer = r; samples = now (mix .exit) }
+        ≡ processedIntoC (now (sound .entry)) state dt
+        (five (now (fade .entry)) (now (volume .entry)) (now (left .entry)) (now (right .entry)) (now (rate .entry)))
+        signals (now (mix .entry)) from ⌝ }
 {
     let processed = static_sound::process_into(
         decode(state),
@@ -208,7 +223,7 @@ pub extern "C" fn cableowl_process_into(
     answer(processed, state)
 }
 
-// The sound's own part, by its place in what was lent: that of `static_sound::stretch`.
+// The offset and length of the part that `static_sound::stretch` returns.
 #[no_mangle]
 pub extern "C" fn cableowl_stretch(state: CableowlState, sound: &[f32]) -> CableowlPart
     ensures { λ r. ⌜ r ≡ partC (now (sound .entry)) state ⌝ }

@@ -1,4 +1,4 @@
-// The C ABI of the table of loops: crates loop_table and take_loop between numbers. Hall A is 0, B is 1.
+// The C entries of the loop table: crates loop_table and take_loop over numbers. Hall A is 0, B is 1.
 ghost use mathlib.Core.Path.{_≡_};
 ghost use Rattle.loop_table.specs.Tables.{emptyTable, found};
 ghost use Rattle.cableowl.specs.Loops.{hallOf, writtenC, clearedC, takenC};

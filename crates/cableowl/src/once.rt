@@ -23,7 +23,10 @@ pub extern "C" fn cableowl_process_held(
     signals: CableowlSignals,
     out: &mut [f32],
 ) -> CableowlProcessed
-    ensures { λ r. ⌜ record { answer = r; samples = now (out .exit) } ≡ processedHeldC (now (sound .entry)) state dt (record { fade = fade; volume = volume; left = left; right = right; rate = rate }) signals (now (out .entry)) ⌝ }
+    ensures { λ r. ⌜ record { answer = r; samples = now (out .exit) }
+        ≡ processedHeldC (now (sound .entry)) state dt
+        (record { fade = fade; volume = volume; left = left; right = right; rate = rate }) signals
+        (now (out .entry)) ⌝ }
 {
     let held = Held {
         fade,
@@ -59,7 +62,10 @@ pub extern "C" fn cableowl_process_held_into(
     from: u64,
     frames: u64,
 ) -> CableowlProcessed
-    ensures { λ r. ⌜ record { answer = r; samples = now (mix .exit) } ≡ processedHeldIntoC (now (sound .entry)) state dt (record { fade = fade; volume = volume; left = left; right = right; rate = rate }) signals (now (mix .entry)) from frames ⌝ }
+    ensures { λ r. ⌜ record { answer = r; samples = now (mix .exit) }
+        ≡ processedHeldIntoC (now (sound .entry)) state dt
+        (record { fade = fade; volume = volume; left = left; right = right; rate = rate }) signals
+        (now (mix .entry)) from frames ⌝ }
 {
     let held = Held {
         fade,

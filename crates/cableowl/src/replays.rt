@@ -5,7 +5,21 @@ ghost use Prim.Native.Nat.{_≤_};
 ghost use lib.ListN.{length, take};
 ghost use lib.Seq.{sets};
 ghost use Rattle.trace_inputs.specs.Inputs.{samplesOf};
-ghost use Rattle.cableowl.specs.Replays.{blankReplay, more, onward, behind, playedAs, unplayed, creationC, commandsC, blockStep, turned, judged, refusedStep, steppedC};
+ghost use Rattle.cableowl.specs.Replays.{
+  blankReplay,
+  more,
+  onward,
+  behind,
+  playedAs,
+  unplayed,
+  creationC,
+  commandsC,
+  blockStep,
+  turned,
+  judged,
+  refusedStep,
+  steppedC,
+};
 use crate::state_after;
 use c_state::CableowlState;
 use c_state::decode;
@@ -14,8 +28,9 @@ use sound_held::Held;
 use trace_inputs::Block;
 use trace_records::Record;
 
-// A replay: the voice, how many samples of the lent sound are its sound, the blocks counted, and the place of the next record in
-// the trace. The reader is 1, the version of the traces that it reads; given is 0: reader 1 knows no sound but the recorded one.
+// A replay: the voice, how many samples of the lent sound are its sound, the blocks counted, and the place of the
+// next record in the trace. The reader is 1, the version of the traces that it reads; given is 0: reader 1 knows no
+// sound but the recorded one.
 #[repr(C)]
 pub struct CableowlReplay {
     pub voice: CableowlState,
@@ -26,8 +41,9 @@ pub struct CableowlReplay {
     pub given: u32,
 }
 
-// What a step did: 0 it played a record, 1 it needs more bytes, 2 the trace has ended, 3 the record is refused, 4 the call is. Of a
-// record its bytes, its kind and the player's refusal; of a block its frames, its steps and its lowest count.
+// What a step did: 0 it played a record, 1 it needs more bytes, 2 the trace has ended, 3 the record is refused, 4 the
+// call is. Of a record its bytes, its kind and the player's refusal; of a block its frames, its steps and its lowest
+// count.
 #[repr(C)]
 pub struct CableowlReplayed {
     pub replay: CableowlReplay,
@@ -123,7 +139,8 @@ fn create(
     sound: &mut [f32],
 ) -> CableowlReplayed
     requires { ⌜ 128 ≤ length (now sound) ⌝ }
-    ensures { λ r. ⌜ (r ≡ creationC replay size values) × (now (sound .exit) ≡ sets (now (sound .entry)) 0 (samplesOf values)) ⌝ }
+    ensures { λ r. ⌜ (r ≡ creationC replay size values)
+        × (now (sound .exit) ≡ sets (now (sound .entry)) 0 (samplesOf values)) ⌝ }
 {
     let samples = trace_inputs::put_samples(values, sound);
     let created = sound_creation::new(trace_inputs::settings_of(values), &sound[..samples]);
@@ -150,7 +167,13 @@ fn command(replay: CableowlReplay, size: u64, values: [u64; 80], sound: &[f32]) 
 }
 
 fn held_of(block: Block) -> Held
-    ensures { λ r. ⌜ r ≡ record { fade = block .fade; volume = block .volume; left = block .left; right = block .right; rate = block .rate } ⌝ }
+    ensures { λ r. ⌜ r ≡ record {
+      fade = block .fade;
+      volume = block .volume;
+      left = block .left;
+      right = block .right;
+      rate = block .rate;
+    } ⌝ }
 {
     Held {
         fade: block.fade,
@@ -170,7 +193,8 @@ fn play(
     out: &mut [f32],
 ) -> CableowlReplayed
     requires { ⌜ (replay .samples ≤ length (now sound)) × (2048 ≤ length (now out)) ⌝ }
-    ensures { λ r. ⌜ record { answer = r; sound = now (sound .entry); samples = now (out .exit) } ≡ blockStep replay size values (now (sound .entry)) (now (out .entry)) ⌝ }
+    ensures { λ r. ⌜ record { answer = r; sound = now (sound .entry); samples = now (out .exit) }
+        ≡ blockStep replay size values (now (sound .entry)) (now (out .entry)) ⌝ }
 {
     let before = replay.voice;
     let samples = replay.samples as usize;
@@ -208,7 +232,8 @@ fn turn(
     out: &mut [f32],
 ) -> CableowlReplayed
     requires { ⌜ (128 ≤ length (now sound)) × (replay .samples ≤ length (now sound)) × (2048 ≤ length (now out)) ⌝ }
-    ensures { λ r. ⌜ record { answer = r; sound = now (sound .exit); samples = now (out .exit) } ≡ turned replay read (now (sound .entry)) (now (out .entry)) ⌝ }
+    ensures { λ r. ⌜ record { answer = r; sound = now (sound .exit); samples = now (out .exit) }
+        ≡ turned replay read (now (sound .entry)) (now (out .entry)) ⌝ }
 {
     let size = read.next as u64;
     let values = read.values;
@@ -258,7 +283,8 @@ pub extern "C" fn cableowl_replay_step(
     sound: &mut [f32],
     out: &mut [f32],
 ) -> CableowlReplayed
-    ensures { λ r. ⌜ record { answer = r; sound = now (sound .exit); samples = now (out .exit) } ≡ steppedC replay (now (bytes .entry)) ended (now (sound .entry)) (now (out .entry)) ⌝ }
+    ensures { λ r. ⌜ record { answer = r; sound = now (sound .exit); samples = now (out .exit) }
+        ≡ steppedC replay (now (bytes .entry)) ended (now (sound .entry)) (now (out .entry)) ⌝ }
 {
     let refused = refusal_of(replay, sound.len(), out.len());
     if refused != 0 {

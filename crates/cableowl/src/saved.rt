@@ -1,5 +1,5 @@
-// The C ABI of saved settings: crates saved_settings and semitones over eight words, start, has_loop, loop_start, loop_end, reverse, the
-// rate's bits, pitch, version.
+// The C entries of saved settings: crates saved_settings and semitones over eight words: start, has_loop, loop_start,
+// loop_end, reverse, the rate's bits, pitch, version.
 ghost use mathlib.Core.Path.{_≡_};
 ghost use lib.ListN.{length};
 ghost use Rattle.saved_settings.specs.Records.{storeRefusal, stored, loaded};
@@ -42,16 +42,20 @@ fn words_of(l: Loaded) -> [u64; 8]
 
 #[no_mangle]
 pub extern "C" fn cableowl_store_settings(saved: &[u64; 8], buffer: &mut [u8]) -> u32
-    ensures { λ r. ⌜ (r ≡ storeRefusal (versionIn (now (saved .entry))) (savedIn (now (saved .entry))) (length (now (buffer .entry)))) × (now (buffer .exit) ≡ stored (versionIn (now (saved .entry))) (savedIn (now (saved .entry))) (now (buffer .entry))) ⌝ }
+    ensures { λ r. ⌜ (r ≡ storeRefusal (versionIn (now (saved .entry))) (savedIn (now (saved .entry)))
+        (length (now (buffer .entry))))
+        × (now (buffer .exit)
+        ≡ stored (versionIn (now (saved .entry))) (savedIn (now (saved .entry))) (now (buffer .entry))) ⌝ }
 {
     let version = saved[7];
     saved_settings::store(version, saved_in(saved), buffer)
 }
 
-// Reader 1 knows version 1 alone, any other version 2 too.
+// Reader 1 knows version 1 only, any other reader also version 2.
 #[no_mangle]
 pub extern "C" fn cableowl_load_settings(reader: u32, bytes: &[u8], saved: &mut [u64; 8]) -> u32
-    ensures { λ r. ⌜ (r ≡ loaded reader (now (bytes .entry)) .refusal) × (now (saved .exit) ≡ wordsOf (loaded reader (now (bytes .entry)))) ⌝ }
+    ensures { λ r. ⌜ (r ≡ loaded reader (now (bytes .entry)) .refusal)
+        × (now (saved .exit) ≡ wordsOf (loaded reader (now (bytes .entry)))) ⌝ }
 {
     let l = saved_settings::load(reader as u64, bytes);
     let words = words_of(l);
@@ -59,7 +63,7 @@ pub extern "C" fn cableowl_load_settings(reader: u32, bytes: &[u8], saved: &mut 
     l.refusal
 }
 
-// The held rate: a NaN, which creation refuses, where the rate is not finite or the pitch not -24 to 24.
+// The held rate; NaN, which creation refuses, if the rate is not finite or the pitch is not -24 to 24.
 fn rate_of(bits: u64, pitch: u64) -> f64
     ensures { λ r. ⌜ r ≡ rateOf bits pitch ⌝ }
 {
@@ -69,7 +73,7 @@ fn rate_of(bits: u64, pitch: u64) -> f64
     0.0 / 0.0
 }
 
-// 0 or 1 as it is, any other 2.
+// 0 or 1 unchanged, any other number becomes 2.
 fn tag_of(word: u64) -> u32
     ensures { λ r. ⌜ r ≡ tagOf word ⌝ }
 {
@@ -89,7 +93,7 @@ fn frame(samples: u64) -> CableowlPlace
     }
 }
 
-// What creation is told: all of the sound, the saved start and loop in frames, and the rate with its pitch.
+// The settings for creation: the whole sound, the saved start and loop in frames, and the rate with its pitch.
 #[no_mangle]
 pub extern "C" fn cableowl_settings_of(saved: &[u64; 8], sample_rate: u32) -> CableowlSettings
     ensures { λ r. ⌜ r ≡ settingsFrom (now (saved .entry)) «sample_rate» ⌝ }

@@ -1,4 +1,4 @@
-// The C ABI of traces: crates trace_records and trace_salvage, a record as its kind and its numbers.
+// The C entries of traces: crates trace_records and trace_salvage, a record as its kind and its numbers.
 ghost use mathlib.Core.Path.{_≡_};
 ghost use lib.ListN.{take};
 ghost use Rattle.trace_records.specs.Tables.{fields};
@@ -23,7 +23,8 @@ pub extern "C" fn cableowl_write_record(
     kind: u64,
     values: &[u64; 80],
 ) -> Sent
-    ensures { λ r. ⌜ sentOf r (now (buffer .exit)) ≡ writeRecord (now (buffer .entry)) at kind (take (fields kind) (now (values .entry))) ⌝ }
+    ensures { λ r. ⌜ sentOf r (now (buffer .exit))
+        ≡ writeRecord (now (buffer .entry)) at kind (take (fields kind) (now (values .entry))) ⌝ }
 {
     trace_records::write(buffer, at as usize, kind, *values)
 }

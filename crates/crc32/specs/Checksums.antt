@@ -1,5 +1,5 @@
--- CRC-32, the checksum of IEEE 802.3, bit by bit. A register of 32 bits begins with ones. Each byte, lowest bit first,
--- goes into its low end. The checksum is the register with every bit turned round.
+-- CRC-32, the checksum of IEEE 802.3, bit by bit. A register of 32 bits begins with ones. Each byte, lowest bit
+-- first, goes into its low end. The checksum is the register with every bit turned round.
 use Prim.Native.Nat.{ℕ, zero, suc, _*_, _/_, _%_, _<_}
 use mathlib.Core.Path.{_≡_}
 use mathlib.Core.List.{List, [], _∷_}

@@ -21,7 +21,7 @@ Entry t e = (e ^ 200 * 10 ^ t ≤ 2 ^ 4800) × (2 ^ 4800 < suc e ^ 200 * 10 ^ t)
 unfoldable pub scaled : ℕ → ℕ
 scaled t = largest (fits t) 16777216
 
--- a table of the levels 0 to 600: each entry keeps the rule, so it is the largest
+-- a table of the levels 0 to 600: each entry meets the rule, so it is the largest number that fits
 unfoldable pub Table : List ℕ → Type 0
 Table xs = (length xs ≡ 601) × ((t : ℕ) → t < 601 → (getD xs t 0 ≡ scaled t) × Entry t (getD xs t 0))
 
@@ -33,6 +33,6 @@ amplitude t = cond (ltb t 601) (round binary32 false (scaled t) 16777216) positi
 abbrev pub levelRefusal : ℕ → ℕ
 levelRefusal t = cond (leb t 601) 0 13
 
--- the amplitude of a level, or what was there where the level is refused
+-- the amplitude of a level, or the old value if the level is refused
 abbrev pub amplitudeOr : ℕ → Float → Float
 amplitudeOr t given = cond (leb t 601) (amplitude t) given

@@ -1,4 +1,4 @@
--- What the contracts of levels and ramps cite.
+-- The definitions that contracts on levels and ramps cite.
 pub mod Levels
 pub mod Ramps
 pub mod Promises

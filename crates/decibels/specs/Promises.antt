@@ -1,4 +1,4 @@
--- What is promised of levels and ramps beyond the contracts (request #101).
+-- The theorems about levels and ramps (request #101).
 use Prim.Native.Nat.{ℕ, _-_, _≤_, _<_}
 use mathlib.Core.Path.{_≡_}
 use mathlib.Core.Bool.{false}
@@ -11,7 +11,7 @@ use Rattle.numbers.specs.Words.{positiveZero, finiteClear}
 use Rattle.decibels.specs.Levels.{fits, Entry, scaled, amplitude}
 use Rattle.decibels.specs.Ramps.{levelAt, frames}
 
--- ---- what is asked
+-- ---- hypotheses
 
 abbrev pub Fitting : ℕ → ℕ → Type 0
 Fitting t e = T (fits t e)
@@ -49,7 +49,7 @@ pub record Falling (start end n i j : ℕ) : Type 0 where
   pub order : i ≤ j
   pub frame : j < n
 
--- and numbers that meet it
+-- inputs that meet them
 pub record Witnesses : Type 0 where
   pub none-larger : Fitting 0 16777216
   pub exact : Audible 60
@@ -74,13 +74,14 @@ pub record Promises : Type 0 where
   pub first : (start end n : ℕ) → Several n → levelAt start end n 0 ≡ start
   pub last : (start end n : ℕ) → Some n → levelAt start end n (n - 1) ≡ end
   -- numbers that enclose both levels enclose the level of every frame
-  pub between : (start end n i low high : ℕ) → Enclosed start end n i low high → (low ≤ levelAt start end n i) × (levelAt start end n i ≤ high)
-  -- levels go one way
+  pub between : (start end n i low high : ℕ) → Enclosed start end n i low high → (low ≤ levelAt start end n i)
+      × (levelAt start end n i ≤ high)
+  -- levels never change direction
   pub upward : (start end n i j : ℕ) → Rising start end n i j → levelAt start end n i ≤ levelAt start end n j
   pub downward : (start end n i j : ℕ) → Falling start end n i j → levelAt start end n j ≤ levelAt start end n i
   -- each frame of the lane has the amplitude of its level
   pub each : (start end n i : ℕ) → Among n i → getD (frames start end n n) i nan ≡ amplitude (levelAt start end n i)
-  -- one lane is filled and blocks are lent parts of it: the parts side by side are the lane
+  -- a lane cut in two and joined again is the lane, so blocks can get parts of it
   pub parts : (k : ℕ) (lane : List Float) → take k lane ++ drop k lane ≡ lane
-  -- an input for each that meets what it asks
+  -- one input for each hypothesis
   pub witnesses : Witnesses

@@ -1,4 +1,5 @@
-// Levels in tenths of a decibel below full level, 601 for silence: their amplitudes, and the ramp that fills a fade lane.
+// Levels in tenths of a decibel below full level, 601 for silence: their amplitudes, and the ramp that fills a fade
+// lane.
 ghost use mathlib.Core.Path.{_≡_};
 ghost use Prim.Native.Nat.{_/_, _<_, _≤_};
 ghost use lib.ListN.{length};
@@ -23,7 +24,7 @@ fn amplitude(entries: &[u32; 601], level: u32) -> f32
     }
 }
 
-// The refusal's number, or 0 and the level's amplitude is written.
+// Returns the refusal, or 0 and writes the level's amplitude.
 pub fn as_amplitude(level: u32, to: &mut f32) -> u32
     ensures { λ r. ⌜ (r ≡ levelRefusal level) × (now (to .exit) ≡ amplitudeOr level (now (to .entry))) ⌝ }
 {
@@ -43,7 +44,7 @@ fn divided(sum: u32, by: u32) -> u32
     sum / by
 }
 
-// Straight from start to end; one frame takes the end level.
+// The level of a frame on the straight line from start to end; a single frame has the end level.
 fn level_at(start: u32, end: u32, count: u32, i: u32) -> u32
     requires { ⌜ start ≤ 601 ⌝ }
     requires { ⌜ end ≤ 601 ⌝ }
@@ -93,9 +94,10 @@ fn refusal_of(start: u32, end: u32, count: u32, room: usize) -> u32
     if count as usize == room { 0 } else { 14 }
 }
 
-// The refusal's number, or 0 and the whole lane is written.
+// Returns the refusal, or 0 and writes the whole lane.
 pub fn fade_ramp(start: u32, end: u32, count: u32, lane: &mut [f32]) -> u32
-    ensures { λ r. ⌜ (r ≡ refusal start end count (length (now (lane .entry)))) × (now (lane .exit) ≡ faded start end count (now (lane .entry))) ⌝ }
+    ensures { λ r. ⌜ (r ≡ refusal start end count (length (now (lane .entry))))
+        × (now (lane .exit) ≡ faded start end count (now (lane .entry))) ⌝ }
 {
     let refused = refusal_of(start, end, count, lane.len());
     if refused > 0 {
@@ -106,7 +108,7 @@ pub fn fade_ramp(start: u32, end: u32, count: u32, lane: &mut [f32]) -> u32
     0
 }
 
-// What is promised beyond the contracts.
+// An empty function whose contract collects the theorems, so that the checker must prove them.
 pub fn promised()
     ensures { λ r. ⌜ Promises ⌝ }
 {}

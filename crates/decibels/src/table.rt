@@ -605,7 +605,7 @@ const AMPLITUDES: [u32; 601] = [
     16777,
 ];
 
-// Lend it to every look-up of a loop: each call copies the table.
+// Call it once and pass the result to each look-up: each call copies the table.
 pub(crate) fn all() -> [u32; 601]
     ensures { λ r. ⌜ Table r ⌝ }
 {

@@ -1,2 +1,2 @@
--- What the contracts of the words cite.
+-- The definitions that the contracts cite.
 pub mod Patterns

@@ -8,10 +8,10 @@ use lib.Ieee.{Float, nan, Format, eq, ofBits, toBits, nanBits}
 abbrev pub digit : ℕ → ℕ
 digit b = cond (ltb b 58) (b % 16) ((b + 9) % 16)
 
--- the float that a pattern stands for; every NaN's pattern stands for NaN
+-- the float with these bits; every NaN pattern is NaN
 unfoldable pub floatOf : Format → ℕ → Float
 floatOf f n = cond (nanBits f n) nan (ofBits f n)
 
--- the bits of a float; those given, for a NaN
+-- the bits of a float; for a NaN the given ones
 unfoldable pub bitsOf : Format → ℕ → Float → ℕ
 bitsOf f other x = cond (eq x x) (toBits f x) other

@@ -1,5 +1,4 @@
-// The words of a fixed list: hexadecimal digits, and floats by their bits. A NaN has no bits that can be told, so every NaN
-// is one word.
+// Hexadecimal digits, and floats from their bits and back. Every NaN is represented by one canonical bit pattern.
 ghost use mathlib.Core.Path.{_≡_};
 ghost use lib.Ieee.{binary32, binary64};
 ghost use Rattle.float_bits.specs.Patterns.{digit, floatOf, bitsOf};

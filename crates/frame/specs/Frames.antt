@@ -26,7 +26,8 @@ cubic a b c d f =
     (add binary32 (sub binary32 a (mul binary32 b (fin false 5 (negsuc 0)))) (mul binary32 c (fin false 1 (pos 1))))
     (mul binary32 d half)
     in
-    let c3 = add binary32 (mul binary32 (sub binary32 d a) half) (mul binary32 (sub binary32 b c) (fin false 3 (negsuc 0))) in
+    let c3 = add binary32 (mul binary32 (sub binary32 d a) half)
+    (mul binary32 (sub binary32 b c) (fin false 3 (negsuc 0))) in
     add binary32 (mul binary32 (add binary32 (mul binary32 (add binary32 (mul binary32 c3 f) c2) f) c1) f) b
 
 -- the cubic in each channel

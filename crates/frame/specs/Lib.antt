@@ -1,2 +1,2 @@
--- What the contracts on frames cite, and the crates above.
+-- The definitions that contracts on frames cite, here and in the crates above.
 pub mod Frames

@@ -21,7 +21,7 @@ fn interpolate(previous: f32, current: f32, next_1: f32, next_2: f32, fraction: 
     let c0 = current;
     let c1 = (next_1 - previous) * 0.5;
     let c2 = previous - current * 2.5 + next_1 * 2.0 - next_2 * 0.5;
-    // A difference, where the definition has a sum: the same number, and clang pairs the channels' terms rightly.
+    // A difference where the definition has a sum: the same value, and clang vectorises it over the channels.
     let c3 = (next_2 - previous) * 0.5 - (next_1 - current) * 1.5;
     ((c3 * fraction + c2) * fraction + c1) * fraction + c0
 }

@@ -1,5 +1,6 @@
--- A copy of the loop table, for boxes that cannot share one: the table, and for each hall the number of writes and clears that it has made.
--- Each hall changes only its own half, so of two copies of a half the one with the larger number is the newer. Refusals 1, 27 and 28.
+-- A copy of the loop table, for boxes that cannot share one: the table, and for each hall the number of writes and
+-- clears that it has made. Each hall changes only its own half, so the half with the larger number is the newer one.
+-- Refusals 1, 27 and 28.
 use Prim.Native.Nat.{ℕ, zero, suc, _+_}
 use mathlib.Core.Bool.{Bool, true, _&&_, _||_, not, cond}
 use mathlib.Core.List.{List, _++_}
@@ -26,7 +27,7 @@ changesOf hall.B c = c .«changes_b»
 abbrev pub raised : ℕ → ℕ
 raised n = cond (ltb n 18446744073709551615) (n + 1) n
 
--- ---- a write or a clear by hall h: the table's own, and counted where it is accepted
+-- ---- a write or a clear by hall h: the table's own, counted if it is accepted
 
 abbrev pub countedBy : Hall → LoopCopy → LoopTable → LoopCopy
 countedBy hall.A c t = record { table = t; «changes_a» = raised (c .«changes_a»); «changes_b» = c .«changes_b» }
@@ -55,7 +56,7 @@ abbrev pub first : Hall → ℕ
 first hall.A = 0
 first hall.B = 8
 
--- 28: two halves with one number are one half
+-- 28: two halves with the same number are equal
 abbrev pub agrees : Hall → LoopCopy → LoopCopy → Bool
 agrees h c d = not (eqb (changesOf h c) (changesOf h d)) || sameSlots 8 (first h) (c .table .slots) (d .table .slots)
 
@@ -64,9 +65,10 @@ refusedMerge c d =
     unless
     (lawfulTable (c .table) && lawfulTable (d .table))
     1
-    (unless (eqb (c .table .«num_frames») (d .table .«num_frames»)) 27 (unless (agrees hall.A c d && agrees hall.B c d) 28 0))
+    (unless (eqb (c .table .«num_frames») (d .table .«num_frames»)) 27
+    (unless (agrees hall.A c d && agrees hall.B c d) 28 0))
 
--- of two copies the one whose half of hall h is newer; ours where they have one number
+-- the copy whose half of hall h is newer; ours if they have the same number
 abbrev pub newer : Hall → LoopCopy → LoopCopy → LoopCopy
 newer h c d = cond (ltb (changesOf h c) (changesOf h d)) d c
 
@@ -76,11 +78,14 @@ merged c d =
     let a = newer hall.A c d in
     let b = newer hall.B c d in
     record {
-      table = record { «num_frames» = c .table .«num_frames»; slots = half hall.A (a .table) ++ half hall.B (b .table) };
+      table = record {
+        «num_frames» = c .table .«num_frames»;
+        slots = half hall.A (a .table) ++ half hall.B (b .table);
+      };
       «changes_a» = a .«changes_a»;
       «changes_b» = b .«changes_b»;
     }
 
--- refused, our copy as it was
+-- if refused, our copy unchanged
 unfoldable pub mergedCopy : LoopCopy → LoopCopy → CopyChanged
 mergedCopy c d = let n = refusedMerge c d in record { copy = cond (eqb n 0) (merged c d) c; refusal = n }

@@ -1,10 +1,25 @@
-// A copy of the loop table for a box that shares no memory with the other hall's: it counts each hall's writes and clears,
-// and two copies are merged by keeping each hall's newer half. Refusals 1, 27 and 28.
+// A copy of the loop table for one of two boxes that share no memory. It counts each hall's writes and clears; a
+// merge of two copies keeps each hall's newer half. Refusals 1, 27 and 28.
 ghost use mathlib.Core.Path.{_≡_};
 ghost use Prim.Native.Nat.{_≤_};
 ghost use lib.ListN.{take, drop};
 ghost use mathlib.Core.List.{_++_};
-ghost use Rattle.loop_copies.specs.Copies.{emptyCopy, changesOf, raised, counted, copyWritten, copyCleared, sameSlot, sameSlots, first, agrees, refusedMerge, newer, merged, mergedCopy};
+ghost use Rattle.loop_copies.specs.Copies.{
+  emptyCopy,
+  changesOf,
+  raised,
+  counted,
+  copyWritten,
+  copyCleared,
+  sameSlot,
+  sameSlots,
+  first,
+  agrees,
+  refusedMerge,
+  newer,
+  merged,
+  mergedCopy,
+};
 use loop_table::Hall;
 use loop_table::LoopChanged;
 use loop_table::LoopSlot;
@@ -136,7 +151,7 @@ impl LoopCopy {
         }
     }
 
-    // Whether a hall's two halves are one half if they have one number.
+    // Whether a hall's two halves are equal if they have the same number.
     fn agrees(self, theirs: LoopCopy, hall: Hall, from: usize) -> bool
         requires { ⌜ from ≡ first hall ⌝ }
         ensures { λ r. ⌜ r ≡ agrees hall self theirs ⌝ }
@@ -174,7 +189,7 @@ impl LoopCopy {
         0
     }
 
-    // The copy whose half is newer; ours where both have one number.
+    // The copy whose half is newer; ours if both have the same number.
     fn newer(self, theirs: LoopCopy, hall: Hall) -> LoopCopy
         ensures { λ r. ⌜ r ≡ newer hall self theirs ⌝ }
     {
@@ -185,7 +200,7 @@ impl LoopCopy {
         }
     }
 
-    // Each hall's newer half; refused, our copy as it was.
+    // Each hall's newer half; if refused, our copy unchanged.
     pub fn merge(self, theirs: LoopCopy) -> CopyChanged
         ensures { λ r. ⌜ r ≡ mergedCopy self theirs ⌝ }
     {

@@ -1,5 +1,6 @@
--- The table of loops (request #109), refusals 1, 6 and 20 to 22: sixteen slots over one sound, slots 0 to 7 written by hall A, 8 to 15 by hall B.
--- Every loop is in frames and judged over all frames of the sound, which the table records.
+-- The table of loops (request #109), refusals 1, 6 and 20 to 22: sixteen slots over one sound, slots 0 to 7 written
+-- by hall A, 8 to 15 by hall B. Every loop is in frames and must lie inside the sound, whose frame count the table
+-- records.
 use Prim.Native.Nat.{ℕ}
 use mathlib.Core.Bool.{Bool, true, false, _&&_, _||_, cond}
 use mathlib.Core.List.{List}
@@ -15,7 +16,7 @@ use Rattle.loop_table.specs.declared.LoopTable.{LoopTable}
 use Rattle.loop_table.specs.declared.LoopChanged.{LoopChanged}
 use Rattle.loop_table.specs.declared.LoopFound.{LoopFound}
 
--- a number where its test fails, else what the rest gives
+-- a number if its test fails, otherwise the result of the rest
 abbrev pub unless : Bool → ℕ → ℕ → ℕ
 unless ok n rest = cond ok rest n
 
@@ -37,7 +38,7 @@ isEmpty s = eqb (s .start) 0 && eqb (s .end) 0
 abbrev pub lawfulSlot : ℕ → LoopSlot → Bool
 lawfulSlot n s = isEmpty s || looping n (s .start) (s .end)
 
--- 1: no slot holds a loop that would get 6
+-- 1: no slot holds a loop that 6 would refuse
 unfoldable pub lawfulTable : LoopTable → Bool
 lawfulTable t = all (lawfulSlot (t .«num_frames»)) (t .slots)
 
@@ -71,9 +72,10 @@ stored t k s = record { «num_frames» = t .«num_frames»; slots = set (t .slot
 abbrev pub heldIn : LoopTable → ℕ → LoopSlot
 heldIn t k = getD (t .slots) k empty
 
--- accepted, the table with the slot replaced; refused, the given table
+-- if accepted, the table with the slot replaced; if refused, the given table
 abbrev pub changed : ℕ → LoopTable → ℕ → LoopSlot → LoopChanged
-changed refusal t k s = cond (eqb refusal 0) (record { table = stored t k s; refusal = 0 }) (record { table = t; refusal = refusal })
+changed refusal t k s = cond (eqb refusal 0) (record { table = stored t k s; refusal = 0 })
+    (record { table = t; refusal = refusal })
 
 -- a write
 unfoldable pub refusedWrite : LoopTable → Hall → ℕ → ℕ → ℕ → ℕ
@@ -82,14 +84,14 @@ refusedWrite t h k s e = unless (lawfulTable t) 1 (unless (looping (t .«num_fra
 unfoldable pub written : LoopTable → Hall → ℕ → ℕ → ℕ → LoopChanged
 written t h k s e = changed (refusedWrite t h k s e) t k (slotOf s e)
 
--- a clear, of an empty slot too
+-- a clear, also of an empty slot
 unfoldable pub refusedClear : LoopTable → Hall → ℕ → ℕ
 refusedClear t h k = unless (lawfulTable t) 1 (refusedSlot h k)
 
 unfoldable pub cleared : LoopTable → Hall → ℕ → LoopChanged
 cleared t h k = changed (refusedClear t h k) t k empty
 
--- a read by either hall; refused, no loop
+-- a read by either hall; if refused, no loop
 unfoldable pub refusedRead : LoopTable → ℕ → ℕ
 refusedRead t k = unless (lawfulTable t) 1 (unless (leb k 15) 20 (cond (isEmpty (heldIn t k)) 22 0))
 

@@ -1,21 +1,36 @@
-// A table of sixteen loops over one sound, written by two halls: A's slots are 0 to 7, B's 8 to 15, and both read all.
+// A table of sixteen loops over one sound, written by two halls: A's slots are 0 to 7, B's 8 to 15, and both read
+// all.
 ghost use mathlib.Core.Path.{_≡_};
 ghost use Prim.Native.Nat.{_<_};
-ghost use Rattle.loop_table.specs.Tables.{looping, isEmpty, lawfulSlot, lawfulTable, owns, emptyTable, changed, refusedSlot, refusedWrite, written, refusedClear, cleared, found};
+ghost use Rattle.loop_table.specs.Tables.{
+  looping,
+  isEmpty,
+  lawfulSlot,
+  lawfulTable,
+  owns,
+  emptyTable,
+  changed,
+  refusedSlot,
+  refusedWrite,
+  written,
+  refusedClear,
+  cleared,
+  found,
+};
 
 pub enum Hall {
     A,
     B,
 }
 
-// A loop in frames, its end not in it; an empty slot has start 0 and end 0, which no loop has.
+// A loop in frames, end exclusive. An empty slot has start 0 and end 0, which no loop has.
 #[repr(C)]
 pub struct LoopSlot {
     pub start: u64,
     pub end: u64,
 }
 
-// The frames of the sound, by which every loop is judged, and the slots.
+// The frame count of the sound, inside which every loop must lie, and the slots.
 #[repr(C)]
 pub struct LoopTable {
     pub num_frames: u64,
@@ -108,7 +123,7 @@ impl LoopTable {
         ok
     }
 
-    // Accepted, the slot is replaced; refused, nothing changes.
+    // Replaces the slot if the call is accepted; otherwise nothing changes.
     fn change(self, refusal: u32, slot: usize, held: LoopSlot) -> LoopChanged
         requires { ⌜ (refusal ≡ 0 → slot < 16) ⌝ }
         ensures { λ r. ⌜ r ≡ changed refusal self slot held ⌝ }

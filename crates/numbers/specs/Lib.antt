@@ -1,4 +1,4 @@
--- What contracts on numbers cite, and the crates above.
+-- The definitions that contracts on numbers cite, here and in the crates above.
 pub mod Words
 pub mod Frames
 pub mod Lists

@@ -1,4 +1,4 @@
--- One test over a whole list: "over the whole input" of docs/assurance/RULES.md, Numbers and their refusals.
+-- One test over a whole list: docs/assurance/RULES.md, "Numbers and their refusals".
 use mathlib.Core.Bool.{Bool, true, _&&_}
 use mathlib.Core.List.{List, [], _∷_}
 

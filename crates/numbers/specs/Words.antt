@@ -1,5 +1,5 @@
--- Words for floats by their values: docs/assurance/RULES.md, Numbers and their refusals, The window of four, and Creation, commands, block.
--- `fin s m e` is m * 2 ^ e, its sign bit s; that is m * up e / down e.
+-- Floats by their values: docs/assurance/RULES.md, "Numbers and their refusals", "The window of four", "Creation,
+-- commands, block". `fin s m e` is m * 2 ^ e, its sign bit s; that is m * up e / down e.
 use Prim.Native.Nat.{ℕ, zero, suc, _*_, _/_}
 use mathlib.Core.Bool.{Bool, true, false, not, _&&_}
 use lib.IntN.{pos, negsuc}
@@ -13,7 +13,7 @@ positiveZero = fin false 0 (pos 0)
 abbrev pub one : Float
 one = fin false 1 (pos 0)
 
--- neither a NaN nor an infinity
+-- neither NaN nor infinite
 abbrev pub finite : Float → Bool
 finite nan = false
 finite (inf s) = false
@@ -68,11 +68,11 @@ unfoldable pub taken : ℕ → Float → Float
 taken zero x = x
 taken (suc n) x = taken n (sub binary64 x one)
 
--- what is left once 1 is subtracted as often as it is there
+-- the fractional part: 1 subtracted as often as the whole part says
 unfoldable pub part : Float → Float
 part x = taken (whole x) x
 
--- a sum of fraction and advance: the steps that it makes, and the fraction that it leaves
+-- the steps of a sum of fraction and advance, and the fraction that is left
 abbrev pub stepped : Float → Stepped
 stepped x = record { steps = whole x; rest = part x }
 

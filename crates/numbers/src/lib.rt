@@ -1,4 +1,4 @@
-// Numbers of the player: fractions of a frame, seconds to frames, the narrowing of an f64, and the tests on floats.
+// Float arithmetic of the player: fractions of a frame, seconds to frames, narrowing an f64, and tests on floats.
 ghost use mathlib.Core.Path.{_≡_};
 ghost use lib.Dec.{T};
 ghost use lib.IntN.{pos};
@@ -9,8 +9,8 @@ ghost use Rattle.numbers.specs.Words.{finite, finiteClear, isPositiveZer
 ghost use Rattle.numbers.specs.Words as Words;
 ghost use Rattle.numbers.specs.Frames.{rounded, cutOff};
 
-// The nearest f32. x + c lies in c's binade, where the step of an f64 is that of an f32 at x, so the sum rounds x as
-// an f32 does; the difference is exact.
+// The nearest f32. x + c lies in c's binade, where the spacing of f64 is that of f32 at x, so the sum rounds x as an
+// f32 does; the difference is exact.
 pub fn narrow(x: f64) -> f32
     requires { ⌜ T (proper x) ⌝ }
     ensures { λ r. ⌜ r ≡ narrowed x ⌝ }
@@ -27,7 +27,7 @@ pub struct Stepped {
     pub rest: f64,
 }
 
-// The fraction moved on by the advance: 1 is subtracted while it is there, a step each time.
+// Adds the advance to the fraction, then subtracts 1 while the sum is at least 1, one step each time.
 pub fn advance_by(fraction: f64, advance: f64) -> Stepped
     requires { ⌜ T (proper fraction) ⌝ }
     requires { ⌜ T (finiteClear advance) ⌝ }
@@ -43,7 +43,7 @@ pub fn advance_by(fraction: f64, advance: f64) -> Stepped
     Stepped { steps, rest }
 }
 
-// The nearest whole number, a half away from zero; 0 below 0 and at a NaN, and 2^32 from 2^32 up.
+// The nearest whole number, a half away from zero; 0 for negative x and NaN, 2^32 for 2^32 and above.
 pub fn round_half_away(x: f64) -> usize
     ensures { λ r. ⌜ r ≡ rounded x ⌝ }
 {
@@ -56,7 +56,7 @@ pub fn round_half_away(x: f64) -> usize
     }
 }
 
-// x without its fraction, in the same range.
+// x without its fractional part, in the same range.
 pub fn cut(x: f64) -> usize
     ensures { λ r. ⌜ r ≡ cutOff x ⌝ }
 {
@@ -69,7 +69,7 @@ pub fn cut(x: f64) -> usize
     }
 }
 
-// x without its sign. A NaN has no bits that can be told, so it stays as it is.
+// x without its sign. The bits of a NaN are not defined, so a NaN is returned as it is.
 pub fn magnitude(x: f64) -> f64
     ensures { λ r. ⌜ r ≡ Words.magnitude x ⌝ }
 {
@@ -87,21 +87,21 @@ pub fn is_finite(x: f64) -> bool
     x < top && x > -top
 }
 
-// Its sign bit is set: minus zero is negative. A NaN has no bits that can be told, so it is not.
+// Whether the sign bit is set: minus zero is negative. The bits of a NaN are not defined, so it is not negative.
 pub fn is_negative(x: f64) -> bool
     ensures { λ r. ⌜ r ≡ negative x ⌝ }
 {
     x == x && f64::to_bits(x) >= 0x8000_0000_0000_0000
 }
 
-// A fraction: at least 0, below 1, its sign bit clear.
+// A proper fraction: at least 0, below 1, sign bit clear.
 pub fn is_proper(x: f64) -> bool
     ensures { λ r. ⌜ r ≡ proper x ⌝ }
 {
     x < 1.0 && f64::to_bits(x) < 0x8000_0000_0000_0000
 }
 
-// Finite with its sign bit clear: minus zero is refused, so the bits decide.
+// Finite with the sign bit clear, so minus zero is not.
 pub fn is_finite_clear(x: f32) -> bool
     ensures { λ r. ⌜ r ≡ finiteClear x ⌝ }
 {
@@ -109,7 +109,7 @@ pub fn is_finite_clear(x: f32) -> bool
     x < top && f32::to_bits(x) < 0x8000_0000
 }
 
-// Exactly positive zero, which minus zero equals.
+// Exactly positive zero. (Minus zero compares equal to it, so the bits decide.)
 pub fn is_positive_zero(x: f32) -> bool
     ensures { λ r. ⌜ r ≡ isPositiveZero x ⌝ }
 {

@@ -1,2 +1,2 @@
--- What contracts on places and regions cite, and the crates above.
+-- The definitions that contracts on positions and regions cite, here and in the crates above.
 pub mod Positions

@@ -1,4 +1,5 @@
--- docs/assurance/RULES.md, "Seconds to frames" and refusals 4 to 6: places in seconds or samples as frame numbers, and which regions are lawful.
+-- docs/assurance/RULES.md, "Seconds to frames" and refusals 4 to 6: positions as frame indices, and which regions are
+-- accepted.
 use Prim.Native.Nat.{ℕ}
 use mathlib.Core.Bool.{Bool, true, _&&_}
 use lib.Dec.{leb, ltb}
@@ -19,27 +20,27 @@ abbrev pub ordered : FrameRange → Bool
 ordered Absent = true
 ordered (Frames s e) = ltb s e
 
--- a range of frames lies in n frames: start < end <= n
+-- a range of frames is inside n frames: start < end <= n
 abbrev pub within : ℕ → FrameRange → Bool
 within n Absent = true
 within n (Frames s e) = ltb s e && leb e n
 
--- seconds are finite; samples may be any number
+-- seconds must be finite; samples can be any number
 abbrev pub placeable : PlaybackPosition → Bool
 placeable (Seconds x) = finite x
 placeable (Samples p) = true
 
--- an end that is given in seconds is finite
+-- an end in seconds must be finite
 abbrev pub endable : EndPosition → Bool
 endable EndOfAudio = true
 endable (Custom p) = placeable p
 
--- seconds times sample rate in f64, rounded half away from zero; negative results give 0, and from 2^32 on 2^32
+-- seconds times sample rate in f64, rounded half away from zero; negative results become 0, 2^32 and above 2^32
 unfoldable pub placed : ℕ → PlaybackPosition → ℕ
 placed hz (Seconds x) = rounded (mul binary64 x (ofInt binary64 (pos hz)))
 placed hz (Samples p) = p
 
--- the end of audio is n, the frames there are
+-- the end of audio is n, the number of frames
 unfoldable pub ended : ℕ → ℕ → EndPosition → ℕ
 ended hz n EndOfAudio = n
 ended hz n (Custom p) = placed hz p
@@ -48,6 +49,6 @@ ended hz n (Custom p) = placed hz p
 unfoldable pub stretched : ℕ → ℕ → Region → FrameRange
 stretched hz n r = Frames (placed hz (r .start)) (ended hz n (r .end))
 
--- neither refused for its seconds nor for its frames: refusal 4 of a slice, where n is all frames, and 6 of a loop, where n is N
+-- its seconds and its frames are accepted: refusal 4 for a slice, with n all frames, and 6 for a loop, with n = N
 unfoldable pub lawfulRegion : ℕ → ℕ → Region → Bool
 lawfulRegion hz n r = placeable (r .start) && endable (r .end) && within n (stretched hz n r)

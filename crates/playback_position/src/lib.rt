@@ -1,6 +1,14 @@
-// Places in a sound, in seconds or in samples, as frame numbers; and the regions between two of them.
+// Positions in a sound, in seconds or frames, as frame indices; and regions between two positions.
 ghost use mathlib.Core.Path.{_≡_};
-ghost use Rattle.playback_position.specs.Positions.{within, placeable, endable, placed, ended, stretched, lawfulRegion};
+ghost use Rattle.playback_position.specs.Positions.{
+  within,
+  placeable,
+  endable,
+  placed,
+  ended,
+  stretched,
+  lawfulRegion,
+};
 use numbers::is_finite;
 use numbers::round_half_away;
 
@@ -16,7 +24,7 @@ pub enum EndPosition {
     Custom(PlaybackPosition),
 }
 
-// A part of a piece of audio. Its end is not in it.
+// A part of a piece of audio. The end is exclusive.
 pub struct Region {
     pub start: PlaybackPosition,
     pub end: EndPosition,
@@ -91,7 +99,7 @@ impl Region {
         )
     }
 
-    // Whether a slice of the sound's frames, or a loop in the slice's, may be this region.
+    // Whether this region is a valid slice of the sound, or a valid loop in the slice.
     pub fn is_lawful(self, sample_rate: u32, num_frames: usize) -> bool
         ensures { λ r. ⌜ r ≡ lawfulRegion «sample_rate» «num_frames» self ⌝ }
     {

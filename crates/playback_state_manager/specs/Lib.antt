@@ -1,2 +1,2 @@
--- What the contracts on states cite, and the crates above.
+-- The definitions that contracts on states cite, here and in the crates above.
 pub mod States

@@ -1,8 +1,16 @@
--- docs/assurance/RULES.md, "States": the numbers of the seven, what pause, resume and stop make of them, and the change a block makes.
+-- docs/assurance/RULES.md, "States": the numbers, pause, resume and stop, and the change in a block.
 use Prim.Native.Nat.{ℕ}
 use mathlib.Core.Bool.{Bool, true, false, cond}
 use Rattle.playback_state_manager.specs.declared.PlaybackState.{PlaybackState}
-use Rattle.playback_state_manager.specs.declared.PlaybackState.the-variants.{Playing, Pausing, Paused, WaitingToResume, Resuming, Stopping, Stopped}
+use Rattle.playback_state_manager.specs.declared.PlaybackState.the-variants.{
+  Playing,
+  Pausing,
+  Paused,
+  WaitingToResume,
+  Resuming,
+  Stopping,
+  Stopped,
+}
 use Rattle.playback_state_manager.specs.declared.StartAnswer.{StartAnswer}
 use Rattle.playback_state_manager.specs.declared.StartAnswer.the-variants.{Waiting, Now, Never}
 
@@ -26,7 +34,7 @@ advancing Resuming = true
 advancing Stopping = true
 advancing Stopped = false
 
--- a Stopped voice stays so, and any other goes to the wanted state
+-- Stopped stays; any other state becomes the wanted one
 abbrev pub unless-stopped : PlaybackState → PlaybackState → PlaybackState
 unless-stopped wanted Playing = wanted
 unless-stopped wanted Pausing = wanted
@@ -36,19 +44,19 @@ unless-stopped wanted Resuming = wanted
 unless-stopped wanted Stopping = wanted
 unless-stopped wanted Stopped = Stopped
 
--- what pause gives
+-- the state after pause
 abbrev pub pausing : PlaybackState → PlaybackState
 pausing state = unless-stopped Pausing state
 
--- what resume gives, told whether the resume waits
+-- the state after resume, by whether the resume waits
 abbrev pub resuming : Bool → PlaybackState → PlaybackState
 resuming waits state = unless-stopped (cond waits WaitingToResume Resuming) state
 
--- what stop gives
+-- the state after stop
 abbrev pub stopping : PlaybackState → PlaybackState
 stopping state = unless-stopped Stopping state
 
--- what the answer makes of a waiting resume
+-- the state after the answer to a waiting resume
 abbrev pub resumed : StartAnswer → PlaybackState
 resumed Waiting = WaitingToResume
 resumed Now = Resuming

@@ -1,6 +1,14 @@
-// The seven states, what pause, resume and stop make of them, and one change a block.
+// The seven playback states: pause, resume, stop, and one change per block.
 ghost use mathlib.Core.Path.{_≡_};
-ghost use Rattle.playback_state_manager.specs.States.{number, advancing, unless-stopped, pausing, resuming, stopping, settled};
+ghost use Rattle.playback_state_manager.specs.States.{
+  number,
+  advancing,
+  unless-stopped,
+  pausing,
+  resuming,
+  stopping,
+  settled,
+};
 ghost use Rattle.playback_state_manager.specs.declared.PlaybackState.the-variants.{Stopped};
 
 pub enum PlaybackState {
@@ -13,7 +21,7 @@ pub enum PlaybackState {
     Stopped,
 }
 
-// What the host says of a start time.
+// The host's answer for a start or a waiting resume.
 pub enum StartAnswer {
     Waiting,
     Now,

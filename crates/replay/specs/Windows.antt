@@ -1,4 +1,4 @@
--- A window on the input lies in its buffer.
+-- A window on the input is inside its buffer.
 use Prim.Native.Nat.{ℕ, _≤_}
 use mathlib.Core.List.{List}
 use lib.ListN.{length}

@@ -1,14 +1,14 @@
-// A trace from standard input, played again: one line a block on standard output (docs/formats/TRACE.md). Each record's run and line
-// are `trace_replay::advance`'s; what stands here is reading and writing. Input of any length: a window moves over it that holds a whole
-// record or the input's end.
+// Plays a trace from standard input: one line per block on standard output (docs/formats/TRACE.md).
+// `trace_replay::advance` plays each record; this file only reads and writes. The input can have any length: a window
+// moves over it that holds a whole record or the input's end.
 ghost use mathlib.Core.Path.{_≡_};
 ghost use Prim.Native.Nat.{_-_, _≤_};
 ghost use lib.ListN.{length};
 ghost use Rattle.replay.specs.Windows.{Held};
 use trace_replay::Run;
 
-// The window on the input: its bytes lie from `at` to `end` of a buffer whose first byte has the place `base` in the trace.
-// `ended` says that the input has no more.
+// The window on the input: its bytes are `at` to `end` of a buffer whose first byte has the offset `base` in the
+// trace. `ended` means that the input has ended.
 pub struct Window {
     pub at: usize,
     pub end: usize,
@@ -22,7 +22,7 @@ pub struct Play {
     pub done: bool,
 }
 
-// Moves what is left to the front, and reads on behind it.
+// Moves the unread bytes to the front, and reads more after them.
 fn refill(bytes: &mut [u8], spare: &mut [u8], w: Window) -> Window
     requires { ⌜ (w .at ≤ w .end) × (w .end ≤ length (now bytes)) × (w .end - w .at ≤ length (now spare)) ⌝ }
     ensures { λ r. ⌜ Held r (now (bytes .exit)) ⌝ }
@@ -42,9 +42,10 @@ fn refill(bytes: &mut [u8], spare: &mut [u8], w: Window) -> Window
     }
 }
 
-// One record: its line is printed.
+// Plays one record and prints its line.
 fn play_one(p: Play, bytes: &[u8], sound: &mut [f32], line: &mut [u8]) -> Play
-    requires { ⌜ Held (p .window) (now bytes) × (128 ≤ length (now sound)) × (p .run .samples ≤ length (now sound)) × (139 ≤ length (now line)) ⌝ }
+    requires { ⌜ Held (p .window) (now bytes) × (128 ≤ length (now sound)) × (p .run .samples ≤ length (now sound))
+        × (139 ≤ length (now line)) ⌝ }
     ensures { λ r. ⌜ Held (r .window) (now (bytes .entry)) × (r .run .samples ≤ length (now (sound .exit))) ⌝ }
 {
     let window = p.window;
@@ -66,9 +67,10 @@ fn play_one(p: Play, bytes: &[u8], sound: &mut [f32], line: &mut [u8]) -> Play
     }
 }
 
-// Reads on where the window may end inside a record that goes on behind it (no record has more than 575 bytes), then plays one.
+// Reads more if the window may end inside a record (no record has more than 575 bytes), then plays one record.
 fn advance(p: Play, bytes: &mut [u8], spare: &mut [u8], sound: &mut [f32], line: &mut [u8]) -> Play
-    requires { ⌜ Held (p .window) (now bytes) × (1024 ≤ length (now spare)) × (128 ≤ length (now sound)) × (p .run .samples ≤ length (now sound)) × (139 ≤ length (now line)) ⌝ }
+    requires { ⌜ Held (p .window) (now bytes) × (1024 ≤ length (now spare)) × (128 ≤ length (now sound))
+        × (p .run .samples ≤ length (now sound)) × (139 ≤ length (now line)) ⌝ }
     ensures { λ r. ⌜ Held (r .window) (now (bytes .exit)) × (r .run .samples ≤ length (now (sound .exit))) ⌝ }
 {
     let window = p.window;

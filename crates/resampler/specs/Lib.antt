@@ -1,2 +1,2 @@
--- What the contracts on the window cite, and the crates above.
+-- The definitions that contracts on the window cite, here and in the crates above.
 pub mod Windows

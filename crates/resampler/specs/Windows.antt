@@ -1,4 +1,4 @@
--- docs/assurance/RULES.md, "The window of four", and what "Well formed" says of the window.
+-- docs/assurance/RULES.md, "The window of four", and "Well formed" for the window.
 use Prim.Native.Nat.{ℕ, _-_, _≤_}
 use mathlib.Core.Path.{_≡_}
 use mathlib.Core.Bool.{Bool, _&&_}
@@ -17,21 +17,21 @@ use Rattle.resampler.specs.declared.Resampler.{Resampler}
 use Rattle.resampler.specs.declared.MaybeFrame.{MaybeFrame}
 use Rattle.resampler.specs.declared.MaybeFrame.the-variants.{Absent, Present}
 
--- what the logic reads where an array has no entry
+-- the value that the logic reads outside an array
 abbrev pub blank : RecentFrame
 blank = record { frame = record { left = nan; right = nan }; «frame_index» = 0 }
 
--- the frame that is stored: none stores a zero frame
+-- the frame to store: no frame stores a zero frame
 abbrev pub given-frame : MaybeFrame → Frame
 given-frame Absent = lastZero
 given-frame (Present f) = f
 
--- the count afterwards: a real frame sets it to 4, none lowers it, not below 0
+-- the count afterwards: a real frame sets it to 4; no frame lowers it, not below 0
 abbrev pub given-count : MaybeFrame → ℕ → ℕ
 given-count Absent t = t - 1
 given-count (Present f) t = 4
 
--- the entry that is stored: the number either way
+-- the entry to store, with its frame index in both cases
 abbrev pub given-entry : MaybeFrame → ℕ → RecentFrame
 given-entry g n = record { frame = given-frame g; «frame_index» = n }
 
@@ -51,11 +51,11 @@ nth w i = (getD (w .frames) i blank) .frame
 unfoldable pub reading : Resampler → Float → Reading
 reading w f = record { frame = interpolated (nth w 0) (nth w 1) (nth w 2) (nth w 3) f; count = w .«time_until_empty» }
 
--- the frame number heard is entry 1's
+-- the frame index that is heard: entry 1's
 abbrev pub heardNumber : Resampler → ℕ
 heardNumber w = (getD (w .frames) 1 blank) .«frame_index»
 
--- nothing is left to hear
+-- the window is empty
 abbrev pub isEmpty : Resampler → Bool
 isEmpty w = eqb (w .«time_until_empty») 0
 
@@ -69,11 +69,11 @@ fresh n =
 abbrev pub zeroFrame : RecentFrame → Bool
 zeroFrame r = isPositiveZero (r .frame .left) && isPositiveZero (r .frame .right)
 
--- a frame number of at most 4,294,967,296
+-- a frame index of at most 4,294,967,296
 abbrev pub numbered : RecentFrame → Bool
 numbered r = leb (r .«frame_index») most
 
--- count t at most 4, the last 4 - t frames positive zero, the numbers in range
+-- count t at most 4, the last 4 - t frames positive zero, the frame indices in range
 abbrev pub windowed : Resampler → Bool
 windowed w =
     eqb (length (w .frames)) 4

@@ -1,4 +1,4 @@
-// The window of four: the frames heard of late, each with its number, and how many pushes until they are all silent.
+// The window: the four most recent frames, each with its frame index, and how many pushes until all are silent.
 ghost use mathlib.Core.Path.{_≡_};
 ghost use Prim.Native.Nat.{_-_};
 ghost use Rattle.resampler.specs.Windows.{fresh, push, reading, heardNumber, isEmpty};
@@ -10,7 +10,7 @@ pub struct RecentFrame {
     pub frame_index: usize,
 }
 
-// What a reading gives: the frame, and the count of the window that was read.
+// A reading: the frame, and the window's count.
 pub struct Reading {
     pub frame: Frame,
     pub count: usize,

@@ -1,4 +1,4 @@
--- What the contracts of saved settings cite.
+-- The definitions that contracts on saved settings cite.
 pub mod Tables
 pub mod Records
 pub mod Promises

@@ -15,19 +15,21 @@ use Rattle.saved_settings.specs.Tables.{firstRows, secondRows}
 
 -- none is (0, 0); a loop that is given starts below its end
 abbrev pub loopRight : SavedSettings → Bool
-loopRight s = cond (eqb (s .«has_loop») 0) (eqb (s .«loop_start») 0 && eqb (s .«loop_end») 0) (eqb (s .«has_loop») 1 && ltb (s .«loop_start») (s .«loop_end»))
+loopRight s = cond (eqb (s .«has_loop») 0) (eqb (s .«loop_start») 0 && eqb (s .«loop_end») 0) (eqb (s .«has_loop») 1
+    && ltb (s .«loop_start») (s .«loop_end»))
 
 -- a finite rate, by its bits: the exponent's field is not all ones
 abbrev pub finiteBits : ℕ → Bool
 finiteBits bits = ltb (bits % 9223372036854775808) 9218868437227405312
 
--- -24 to 24, the sign in two's complement
+-- -24 to 24, in two's complement
 abbrev pub pitchRight : ℕ → Bool
 pitchRight p = leb p 24 || leb 18446744073709551592 p
 
 -- 24: a field that is not one of these is wrong
 abbrev pub lawful : SavedSettings → Bool
-lawful s = loopRight s && leb (s .start) 4294967295 && leb (s .«loop_end») 4294967295 && leb (s .reverse) 1 && finiteBits (s .rate) && pitchRight (s .pitch)
+lawful s = loopRight s && leb (s .start) 4294967295 && leb (s .«loop_end») 4294967295 && leb (s .reverse) 1
+    && finiteBits (s .rate) && pitchRight (s .pitch)
 
 -- ---- loading
 
@@ -59,28 +61,29 @@ savedOf version vs =
 abbrev pub nothing : SavedSettings
 nothing = record { start = 0; «has_loop» = 0; «loop_start» = 0; «loop_end» = 0; reverse = 0; rate = 0; pitch = 0 }
 
--- refused: every field shown as 0
+-- if refused, every field is 0
 abbrev pub refusedBy : ℕ → Loaded
 refusedBy k = record { settings = nothing; version = 0; refusal = k }
 
 abbrev pub shown : ℕ → SavedSettings → Loaded
 shown version s = cond (lawful s) (record { settings = s; version = version; refusal = 0 }) (refusedBy 24)
 
--- the fields are judged once all bytes are there
+-- the fields are checked once all bytes are there
 unfoldable pub judged : ℕ → Reading → Loaded
 judged version (bad k) = refusedBy k
 judged version (good left vs rest) = shown version (savedOf version vs)
 
--- reader 1 knows version 1 alone, any other version 2 too
+-- reader 1 knows version 1 only, any other reader also version 2
 abbrev pub second : ℕ → List ℕ → Bool
 second reader bs = cond (eqb reader 1) false (eqb (getD bs 2 0) 2)
 
 unfoldable pub loaded : ℕ → List ℕ → Loaded
-loaded reader bs = cond (second reader bs) (judged 2 (steps secondRows (good 26 [] bs))) (judged 1 (steps firstRows (good 25 [] bs)))
+loaded reader bs = cond (second reader bs) (judged 2 (steps secondRows (good 26 [] bs)))
+    (judged 1 (steps firstRows (good 25 [] bs)))
 
 -- ---- storing
 
--- version 1 takes no pitch
+-- version 1 has no pitch
 abbrev pub storable : ℕ → SavedSettings → Bool
 storable version s = lawful s && cond (eqb version 1) (eqb (s .pitch) 0) (eqb version 2)
 
@@ -95,12 +98,15 @@ abbrev pub firstNumbers : SavedSettings → List ℕ
 firstNumbers s = 94 ∷ 113 ∷ 1 ∷ 21 ∷ s .start ∷ s .«loop_start» ∷ s .«loop_end» ∷ s .reverse ∷ s .rate ∷ []
 
 abbrev pub secondNumbers : SavedSettings → List ℕ
-secondNumbers s = 94 ∷ 113 ∷ 2 ∷ 22 ∷ s .start ∷ s .«loop_start» ∷ s .«loop_end» ∷ s .reverse ∷ s .rate ∷ s .pitch % 256 ∷ []
+secondNumbers s = 94 ∷ 113 ∷ 2 ∷ 22 ∷ s .start ∷ s .«loop_start» ∷ s .«loop_end» ∷ s .reverse ∷ s .rate
+    ∷ s .pitch % 256 ∷ []
 
 -- the bytes of a record
 unfoldable pub encoded : ℕ → SavedSettings → List ℕ
-encoded version s = cond (eqb version 1) (payload firstRows [] (firstNumbers s)) (payload secondRows [] (secondNumbers s))
+encoded version s = cond (eqb version 1) (payload firstRows [] (firstNumbers s))
+    (payload secondRows [] (secondNumbers s))
 
--- the buffer afterwards: the record at its start, or as it was
+-- the buffer afterwards: the record at its start, or unchanged
 unfoldable pub stored : ℕ → SavedSettings → List ℕ → List ℕ
-stored version s buffer = cond (eqb (storeRefusal version s (length buffer)) 0) (sets buffer 0 (encoded version s)) buffer
+stored version s buffer =
+    cond (eqb (storeRefusal version s (length buffer)) 0) (sets buffer 0 (encoded version s)) buffer

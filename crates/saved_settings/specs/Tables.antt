@@ -1,4 +1,5 @@
--- The layouts of docs/formats/SETTINGS.md, head and fields in one: six numbers a row, width, guard, low, least, most, refusal. Every row stands.
+-- The layouts of docs/formats/SETTINGS.md, head and fields in one: six numbers per row, width, guard, low, least,
+-- most, refusal. Every row is present.
 use Prim.Native.Nat.{ℕ}
 use mathlib.Core.List.{List, [], _∷_}
 use Rattle.byte_layout.specs.declared.Row.{Row}

@@ -6,7 +6,25 @@ ghost use lib.ListN.{length, take};
 ghost use lib.Seq.{sets};
 ghost use Rattle.byte_layout.specs.Reads.{good, steps, view};
 ghost use Rattle.saved_settings.specs.Tables.{firstRows, secondRows};
-ghost use Rattle.saved_settings.specs.Records.{loopRight, finiteBits, pitchRight, lawful, hasLoop, pitchOf, savedOf, refusedBy, shown, second, loaded, storable, storeRefusal, firstNumbers, secondNumbers, encoded, stored};
+ghost use Rattle.saved_settings.specs.Records.{
+  loopRight,
+  finiteBits,
+  pitchRight,
+  lawful,
+  hasLoop,
+  pitchOf,
+  savedOf,
+  refusedBy,
+  shown,
+  second,
+  loaded,
+  storable,
+  storeRefusal,
+  firstNumbers,
+  secondNumbers,
+  encoded,
+  stored,
+};
 ghost use Rattle.saved_settings.specs.Records as Records;
 ghost use Rattle.saved_settings.specs.Promises.{Promises};
 
@@ -16,7 +34,7 @@ use byte_layout::Parsed;
 use tables::FIRST;
 use tables::SECOND;
 
-// Frames, the rate by its bits, the pitch in semitones with its sign in two's complement. Without a loop both of its numbers are 0.
+// Frames, the rate by its bits, the pitch in semitones in two's complement. Without a loop both loop numbers are 0.
 pub struct SavedSettings {
     pub start: u64,
     pub has_loop: u64,
@@ -27,7 +45,7 @@ pub struct SavedSettings {
     pub pitch: u64,
 }
 
-// The refusal's number, or 0; where refused, every other number is 0.
+// The refusal, or 0. If refused, every other number is 0.
 pub struct Loaded {
     pub settings: SavedSettings,
     pub version: u64,
@@ -163,7 +181,7 @@ fn is_second(reader: u64, s: &[u8]) -> bool
     s[2] == 2
 }
 
-// Any bytes. Reader 1 knows version 1 alone, any other version 2 too.
+// Accepts any bytes. Reader 1 knows version 1 only, any other reader also version 2.
 pub fn load(reader: u64, s: &[u8]) -> Loaded
     ensures { λ r. ⌜ r ≡ loaded reader (now (s .entry)) ⌝ }
 {
@@ -260,9 +278,10 @@ fn put_second(s: SavedSettings, buffer: &mut [u8])
     let end = byte_layout::put_rows(buffer, 0, values, &table, 10);
 }
 
-// The refusal's number, or 0 and the record stands at the buffer's start.
+// Returns the refusal, or 0 and writes the record at the buffer's start.
 pub fn store(version: u64, s: SavedSettings, buffer: &mut [u8]) -> u32
-    ensures { λ r. ⌜ (r ≡ storeRefusal version s (length (now (buffer .entry)))) × (now (buffer .exit) ≡ stored version s (now (buffer .entry))) ⌝ }
+    ensures { λ r. ⌜ (r ≡ storeRefusal version s (length (now (buffer .entry))))
+        × (now (buffer .exit) ≡ stored version s (now (buffer .entry))) ⌝ }
 {
     let refusal = refusal_of(version, s, buffer.len());
     if refusal > 0 {
@@ -276,7 +295,7 @@ pub fn store(version: u64, s: SavedSettings, buffer: &mut [u8]) -> u32
     0
 }
 
-// What is promised beyond the contracts.
+// An empty function whose contract collects the theorems, so that the checker must prove them.
 pub fn promised()
     ensures { λ r. ⌜ Promises ⌝ }
 {}

@@ -1,4 +1,4 @@
-// The layouts of docs/formats/SETTINGS.md: six numbers a row, width, guard, low, least, most, refusal.
+// The layouts of docs/formats/SETTINGS.md: six numbers per row, width, guard, low, least, most, refusal.
 
 pub(crate) const FIRST: [u64; 54] = [
     1,

@@ -1,3 +1,3 @@
--- What the contracts of pitches cite.
+-- The definitions that contracts on pitches cite.
 pub mod Ratios
 pub mod Promises

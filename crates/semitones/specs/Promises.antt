@@ -1,4 +1,4 @@
--- What is promised of pitches beyond the contracts (request #113).
+-- The theorems about pitches (request #113).
 use Prim.Native.Nat.{ℕ, _*_, _/_, _%_, _^_, _≤_, _<_}
 use mathlib.Core.Path.{_≡_}
 use mathlib.Core.Bool.{false}
@@ -6,7 +6,7 @@ use lib.Dec.{T}
 use lib.Ieee.Exact.{HasValue}
 use Rattle.semitones.specs.Ratios.{fits, Entry, scaled, ratio}
 
--- ---- what is asked
+-- ---- hypotheses
 
 -- a number of semitones below an octave, and one that fits it
 abbrev pub Semitones : ℕ → Type 0
@@ -32,6 +32,7 @@ pub record Promises : Type 0 where
   -- and no larger number fits
   pub none-larger : (n e : ℕ) → Fitting n e → e ≤ scaled n
   -- a ratio is its fraction exactly
-  pub exact : (steps : ℕ) → Steps steps → HasValue (ratio steps) false (scaled (steps % 12) * 2 ^ (steps / 12)) (2 ^ 50)
-  -- an input for each that meets what it asks
+  pub exact : (steps : ℕ) → Steps steps
+      → HasValue (ratio steps) false (scaled (steps % 12) * 2 ^ (steps / 12)) (2 ^ 50)
+  -- one input for each hypothesis
   pub witnesses : Witnesses

@@ -20,15 +20,16 @@ Entry n e = (e ^ 12 ≤ 2 ^ (n + 576)) × (2 ^ (n + 576) < suc e ^ 12)
 unfoldable pub scaled : ℕ → ℕ
 scaled n = largest (fits n) 562949953421311
 
--- a table of 0 to 11 semitones: each entry keeps the rule, so it is the largest
+-- a table of 0 to 11 semitones: each entry meets the rule, so it is the largest number that fits
 unfoldable pub Table : List ℕ → Type 0
 Table xs = (length xs ≡ 12) × ((n : ℕ) → n < 12 → (getD xs n 0 ≡ scaled n) × Entry n (getD xs n 0))
 
--- the ratio of the pitch that lies so many steps above the lowest, -24: with n = steps mod 12 and o = steps div 12 - 2 octaves it is
--- e * 2^(o - 48), and it is an f64
+-- the ratio of the pitch this many steps above the lowest, -24: with n = steps mod 12 and o = steps div 12 - 2
+-- octaves it is e * 2^(o - 48), and it is an f64
 unfoldable pub ratio : ℕ → Float
 ratio steps = round binary64 false (scaled (steps % 12) * 2 ^ (steps / 12)) (2 ^ 50)
 
 -- a rate times the ratio of a pitch, rounded once; the pitch is a word with its sign in two's complement, -24 to 24
 abbrev pub raisedBy : Float → ℕ → Float
-raisedBy rate pitch = cond (leb pitch 24) (mul binary64 rate (ratio (pitch + 24))) (cond (leb 18446744073709551592 pitch) (mul binary64 rate (ratio (pitch - 18446744073709551592))) nan)
+raisedBy rate pitch = cond (leb pitch 24) (mul binary64 rate (ratio (pitch + 24)))
+    (cond (leb 18446744073709551592 pitch) (mul binary64 rate (ratio (pitch - 18446744073709551592))) nan)

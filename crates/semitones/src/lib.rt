@@ -52,7 +52,8 @@ fn doubled(octaves: u64) -> u64
     16
 }
 
-// The pitch of that many steps above the lowest, -24. What is divided is below 2^53, so it is an f64 and its quotient is exact.
+// The pitch of that many steps above the lowest, -24. What is divided is below 2^53, so it is an f64 and its quotient
+// is exact.
 fn ratio(steps: u64) -> f64
     requires { ⌜ steps ≤ 48 ⌝ }
     ensures { λ r. ⌜ r ≡ Ratios.ratio steps ⌝ }
@@ -64,7 +65,7 @@ fn ratio(steps: u64) -> f64
     (scaled as f64) / 1125899906842624.0
 }
 
-// The rate times the pitch's ratio, rounded once. The pitch has its sign in two's complement; one that is not -24 to 24 gives a NaN.
+// The rate times the pitch's ratio, rounded once. The pitch is in two's complement; one outside -24 to 24 gives NaN.
 pub fn raised(rate: f64, pitch: u64) -> f64
     ensures { λ r. ⌜ r ≡ raisedBy rate pitch ⌝ }
 {
@@ -77,7 +78,7 @@ pub fn raised(rate: f64, pitch: u64) -> f64
     0.0 / 0.0
 }
 
-// What is promised beyond the contracts.
+// An empty function whose contract collects the theorems, so that the checker must prove them.
 pub fn promised()
     ensures { λ r. ⌜ Promises ⌝ }
 {}

@@ -1,4 +1,5 @@
--- An accepted block: the voice takes its signals, then sounds or rests (docs/assurance/RULES.md, "Creation, commands, block").
+-- An accepted block: applies its signals, then plays or is silent (docs/assurance/RULES.md, "Creation, commands,
+-- block").
 use mathlib.Core.Bool.{Bool, true, false, _&&_, cond}
 use mathlib.Core.List.{List, [], _∷_}
 use lib.Ieee.{Float}
@@ -19,25 +20,25 @@ unfoldable pub zeros : List Lane → List Float
 zeros [] = []
 zeros (l ∷ ls) = positiveZero ∷ positiveZero ∷ zeros ls
 
--- positive zeros are written and nothing moves; no window is read, and the count is 4
+-- writes positive zeros and moves nothing; no window is read, so the count is 4
 abbrev pub silent : List Lane → StaticSound → Played
 silent ls v = record { voice = v; samples = zeros ls; steps = 0; «lowest_count» = 4 }
 
--- whether the start has come: one that has come stays so
+-- whether the sound has started; a start that has come stays
 abbrev pub come : StartAnswer → Bool → Bool
 come a true = true
 come answer.Waiting false = false
 come answer.Now false = true
 come answer.Never false = false
 
--- never, for a start that has not come, gives Stopped
+-- never, before the start has come, leads to Stopped
 abbrev pub givenUp : StartAnswer → Bool → PlaybackState → PlaybackState
 givenUp a true s = s
 givenUp answer.Waiting false s = s
 givenUp answer.Now false s = s
 givenUp answer.Never false s = state.Stopped
 
--- the voice once it has taken its signals: states, then the answer that the start signal gives
+-- the voice after its signals: the state, then the answer of the start signal
 unfoldable pub begun : Signals → StaticSound → StaticSound
 begun g v =
     record {

@@ -1,4 +1,4 @@
-// An accepted block: the voice takes its signals, then it plays or is silent.
+// An accepted block: applies its signals, then plays or writes silence.
 ghost use mathlib.Core.Path.{_≡_};
 ghost use lib.ListN.{length, replicate};
 ghost use Rattle.numbers.specs.Words.{positiveZero};
@@ -19,21 +19,22 @@ use sound_state::StaticSound;
 use sound_update::Moving;
 use start_time::StartSignal;
 
-// What a block is told: whether the fade has finished, an answer or a tick for the sound's start, and an answer for a waiting resume.
+// The signals of a block: whether the fade has finished, an answer or a tick for the sound's start, and an answer for
+// a waiting resume.
 pub struct Signals {
     pub finished: bool,
     pub start: StartSignal,
     pub resume: StartAnswer,
 }
 
-// A voice, the seconds that each frame of its block takes, and what the block is told.
+// A voice, and the time step and signals of its block.
 pub struct Told {
     pub voice: StaticSound,
     pub dt: f64,
     pub signals: Signals,
 }
 
-// A voice takes its signals: states, then the answer that the start signal gives.
+// Applies the signals: the state, then the answer of the start signal.
 fn begin(voice: StaticSound, signals: Signals) -> StaticSound
     ensures { λ r. ⌜ r ≡ begun signals voice ⌝ }
 {
@@ -94,7 +95,7 @@ fn silence(out: &mut [f32])
     }
 }
 
-// The block of a well formed voice over lanes that were judged.
+// The block of a well formed voice over checked lanes.
 pub fn block(
     told: Told,
     sound: &[f32],
@@ -105,8 +106,12 @@ pub fn block(
     rate: &[f64],
     out: &mut [f32],
 ) -> Processed
-    requires { ⌜ Playable (now sound) (told .voice) (told .dt) (five (now fade) (now volume) (now left) (now right) (now rate)) (length (now out)) ⌝ }
-    ensures { λ r. ⌜ record { answer = r; samples = now (out .exit) } ≡ acceptedAs (block (now (sound .entry)) (told .dt) (rows (five (now (fade .entry)) (now (volume .entry)) (now (left .entry)) (now (right .entry)) (now (rate .entry)))) (told .signals) (told .voice)) ⌝ }
+    requires { ⌜ Playable (now sound) (told .voice) (told .dt)
+        (five (now fade) (now volume) (now left) (now right) (now rate)) (length (now out)) ⌝ }
+    ensures { λ r. ⌜ record { answer = r; samples = now (out .exit) }
+        ≡ acceptedAs (block (now (sound .entry)) (told .dt)
+        (rows (five (now (fade .entry)) (now (volume .entry)) (now (left .entry)) (now (right .entry))
+        (now (rate .entry)))) (told .signals) (told .voice)) ⌝ }
 {
     let voice = told.voice;
     let signals = told.signals;

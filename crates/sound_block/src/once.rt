@@ -15,10 +15,13 @@ use sound_held::Held;
 use sound_slow_path::Processed;
 use sound_slow_path::Timed;
 
-// The block of a well formed voice over numbers that were judged: that of lanes which repeat them, a frame for each two samples of the output.
+// The block of a well formed voice over checked numbers: the block over lanes that repeat them, one frame for each
+// two samples of the output.
 pub fn block_held(told: Told, sound: &[f32], held: Held, out: &mut [f32]) -> Processed
     requires { ⌜ Playable (now sound) (told .voice) (told .dt) (once held (length (now out) / 2)) (length (now out)) ⌝ }
-    ensures { λ r. ⌜ record { answer = r; samples = now (out .exit) } ≡ acceptedAs (block (now (sound .entry)) (told .dt) (rows (once held (length (now (out .entry)) / 2))) (told .signals) (told .voice)) ⌝ }
+    ensures { λ r. ⌜ record { answer = r; samples = now (out .exit) }
+        ≡ acceptedAs (block (now (sound .entry)) (told .dt) (rows (once held (length (now (out .entry)) / 2)))
+        (told .signals) (told .voice)) ⌝ }
 {
     let voice = told.voice;
     let signals = told.signals;

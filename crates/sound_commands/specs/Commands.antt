@@ -33,25 +33,26 @@ use Rattle.sound_state.specs.Refusals.{unless}
 
 -- ---- what is refused
 
--- 6: the loop given is lawful over N
+-- 6: the given loop is accepted over N
 abbrev pub loopable : StaticSound → LoopCommand → Bool
 loopable v loop.Keep = true
 loopable v loop.Clear = true
 loopable v (loop.Set r) = lawfulRegion (v .setup .«sample_rate») (span (v .setup)) r
 
--- 7: the rate given is finite
+-- 7: the given rate is finite
 abbrev pub rateable : Amount → Bool
 rateable amount.Absent = true
 rateable (amount.Given x) = finite x
 
--- where a seek by x goes, in frames: position by rate, and x, times rate
+-- the target of a seek by x, in frames: (position / rate + x) * rate
 unfoldable pub targetBy : StaticSound → Float → Float
 targetBy v x =
     mul binary64
-    (add binary64 (div binary64 (ofInt binary64 (pos (v .moving .transport .position))) (ofInt binary64 (pos (v .setup .«sample_rate»)))) x)
+    (add binary64 (div binary64 (ofInt binary64 (pos (v .moving .transport .position)))
+    (ofInt binary64 (pos (v .setup .«sample_rate»)))) x)
     (ofInt binary64 (pos (v .setup .«sample_rate»)))
 
--- where a seek to x goes, in frames
+-- the target of a seek to x, in frames
 unfoldable pub targetTo : StaticSound → Float → Float
 targetTo v x = mul binary64 x (ofInt binary64 (pos (v .setup .«sample_rate»)))
 
@@ -60,7 +61,7 @@ abbrev pub seekable : (Float → Float) → Amount → Bool
 seekable f amount.Absent = true
 seekable f (amount.Given x) = finite x && lt (f x) (fin false 1 (pos 32))
 
--- the number of a refused command set, 0 where it is accepted; both seeks are judged on the given state
+-- the refusal of a command set, 0 if it is accepted; both seeks are checked against the given state
 unfoldable pub refusedSet : ℕ → StaticSound → Commands → ℕ
 unfolding targetBy targetTo
 refusedSet len v c =
@@ -102,15 +103,24 @@ told c v =
       «fractional_position» = v .«fractional_position»;
       moving = record {
         state = ordered c (v .moving .state);
-        transport = record { position = v .moving .transport .position; «loop_region» = looped v (c .«loop_region»); playing = v .moving .transport .playing };
+        transport = record {
+          position = v .moving .transport .position;
+          «loop_region» = looped v (c .«loop_region»);
+          playing = v .moving .transport .playing;
+        };
         resampler = v .moving .resampler;
         wraps = v .moving .wraps;
       };
     }
 
--- the moving parts once the transport has sought frame q
+-- the moving part after the transport's seek to frame q
 abbrev pub jumped : StaticSound → ℕ → Moving
-jumped v q = record { state = v .moving .state; transport = seek (span (v .setup)) (v .moving .transport) q; resampler = v .moving .resampler; wraps = v .moving .wraps }
+jumped v q = record {
+  state = v .moving .state;
+  transport = seek (span (v .setup)) (v .moving .transport) q;
+  resampler = v .moving .resampler;
+  wraps = v .moving .wraps;
+}
 
 -- the same with one frame pushed, without the Stopped check
 abbrev pub refilled : List Float → Course → Moving → Moving
@@ -120,7 +130,8 @@ refilled snd c m = record { state = m .state; transport = m .transport; resample
 unfoldable pub sought : List Float → StaticSound → ℕ → StaticSound
 unfolding seek pushed
 sought snd v q =
-    moved v (v .«fractional_position») (cond (advancing (v .moving .state)) (refilled snd (courseOf v) (jumped v q)) (jumped v q))
+    moved v (v .«fractional_position»)
+    (cond (advancing (v .moving .state)) (refilled snd (courseOf v) (jumped v q)) (jumped v q))
 
 abbrev pub soughtBy : List Float → StaticSound → Amount → StaticSound
 soughtBy snd v amount.Absent = v
@@ -135,12 +146,14 @@ unfoldable pub obeyed : List Float → Commands → StaticSound → StaticSound
 unfolding told sought targetBy targetTo cutOff
 obeyed snd c v = soughtTo snd (soughtBy snd (told c v) (c .«seek_by»)) (c .«seek_to»)
 
--- the reported position: entry 1's number divided by the sample rate
+-- the reported position: entry 1's frame index divided by the sample rate
 unfoldable pub reported : StaticSound → Float
-reported v = div binary64 (ofInt binary64 (pos (heardNumber (v .moving .resampler)))) (ofInt binary64 (pos (v .setup .«sample_rate»)))
+reported v = div binary64 (ofInt binary64 (pos (heardNumber (v .moving .resampler))))
+    (ofInt binary64 (pos (v .setup .«sample_rate»)))
 
 -- a command set, accepted and refused; the position is read before the commands
 unfoldable pub commanded : List Float → StaticSound → Commands → Commanded
 commanded snd v c =
     let k = refusedSet (length snd) v c in
-    cond (eqb k 0) (record { refusal = 0; sound = obeyed snd c v; position = reported v }) (record { refusal = k; sound = v; position = positiveZero })
+    cond (eqb k 0) (record { refusal = 0; sound = obeyed snd c v; position = reported v })
+    (record { refusal = k; sound = v; position = positiveZero })

@@ -1,4 +1,5 @@
-// A command set: judged as a whole, then obeyed in one order (kira's on_start_processing and read_commands).
+// A command set: checks all commands, then applies them in a fixed order (kira's on_start_processing and
+// read_commands).
 ghost use mathlib.Core.Path.{_≡_};
 ghost use Prim.Native.Nat.{_≤_};
 ghost use mathlib.Core.Bool.{false, _&&_, cond};
@@ -12,7 +13,24 @@ ghost use Rattle.playback_state_manager.specs.States.{pausing, stopping};
 ghost use Rattle.transport.specs.Moves.{reloop};
 ghost use Rattle.resampler.specs.Windows.{heardNumber};
 ghost use Rattle.sound_state.specs.WellFormed.{ours};
-ghost use Rattle.sound_commands.specs.Commands.{loopable, rateable, targetBy, targetTo, seekable, refusedSet, orElse, looped, woken, told, sought, soughtBy, soughtTo, obeyed, reported, commanded};
+ghost use Rattle.sound_commands.specs.Commands.{
+  loopable,
+  rateable,
+  targetBy,
+  targetTo,
+  seekable,
+  refusedSet,
+  orElse,
+  looped,
+  woken,
+  told,
+  sought,
+  soughtBy,
+  soughtTo,
+  obeyed,
+  reported,
+  commanded,
+};
 use playback_position::FrameRange;
 use playback_position::Region;
 use playback_state_manager::PlaybackState;
@@ -74,7 +92,7 @@ fn is_rate(command: Amount) -> bool
     }
 }
 
-// Where a seek by the amount goes, in frames: not cut yet.
+// The target of a seek by the amount, in frames, before it is cut to a whole number.
 fn frames_by(voice: StaticSound, amount: f64) -> f64
     requires { ⌜ voice .moving .transport .position ≤ most ⌝ }
     ensures { λ r. ⌜ r ≡ targetBy voice amount ⌝ }
@@ -87,7 +105,7 @@ fn frames_by(voice: StaticSound, amount: f64) -> f64
     position * setup.sample_rate as f64
 }
 
-// Where a seek to the position goes, in frames: not cut yet.
+// The target of a seek to the position, in frames, before it is cut to a whole number.
 fn frames_to(voice: StaticSound, position: f64) -> f64
     ensures { λ r. ⌜ r ≡ targetTo voice position ⌝ }
 {
@@ -121,7 +139,7 @@ fn is_seek_to(voice: StaticSound, command: Amount) -> bool
     }
 }
 
-// The lowest number that applies to a command set, 0 for none. Both seeks are judged on the given state.
+// The lowest number that applies to a command set, 0 for none. Both seeks are checked against the given state.
 fn refusal_of(voice: StaticSound, samples: usize, commands: Commands) -> u32
     ensures { λ r. ⌜ r ≡ refusedSet samples voice commands ⌝ }
 {
@@ -230,7 +248,7 @@ fn seek_to_index(voice: StaticSound, index: usize, sound: &[f32]) -> StaticSound
         transport,
         ..moving
     };
-    // One frame is pushed so that the one sought is not skipped.
+    // Pushes one frame so that the target frame is not skipped.
     if state.is_advancing() {
         let resampler = jumped.push_frame_to_resampler(voice.course(), sound);
         return StaticSound {
@@ -287,7 +305,7 @@ fn read_commands(voice: StaticSound, sound: &[f32], commands: Commands) -> Stati
     seek_to(sought, to, sound)
 }
 
-// The last frame heard, in seconds.
+// The position of the frame that was heard last, in seconds.
 fn last_played_position(voice: StaticSound) -> f64
     requires { ⌜ heardNumber (voice .moving .resampler) ≤ most ⌝ }
     ensures { λ r. ⌜ r ≡ reported voice ⌝ }

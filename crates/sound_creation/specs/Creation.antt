@@ -24,7 +24,7 @@ use Rattle.sound_creation.specs.declared.OptionalRegion.the-variants as 
 use Rattle.sound_creation.specs.declared.Settings.{Settings}
 use Rattle.sound_creation.specs.declared.Created.{Created}
 
--- a region as it is given, in frames, over n frames
+-- the given region in frames, over n frames
 abbrev pub ranged : ℕ → ℕ → OptionalRegion → FrameRange
 ranged hz n optional.Absent = range.Absent
 ranged hz n (optional.Present r) = stretched hz n r
@@ -33,16 +33,21 @@ abbrev pub allowed : ℕ → ℕ → OptionalRegion → Bool
 allowed hz n optional.Absent = true
 allowed hz n (optional.Present r) = lawfulRegion hz n r
 
--- what creation fixes; len is the lent sound's length in samples
+-- what creation fixes; len is the sound's length in samples
 abbrev pub setupOf : ℕ → Settings → Setup
 setupOf len s =
-    record { «sample_rate» = s .«sample_rate»; «num_frames» = len / 2; slice = ranged (s .«sample_rate») (len / 2) (s .slice); reverse = s .reverse }
+    record {
+      «sample_rate» = s .«sample_rate»;
+      «num_frames» = len / 2;
+      slice = ranged (s .«sample_rate») (len / 2) (s .slice);
+      reverse = s .reverse;
+    }
 
 -- 5: start below N, seconds finite
 abbrev pub startable : ℕ → Settings → Bool
 startable n s = placeable (s .«start_position») && ltb (placed (s .«sample_rate») (s .«start_position»)) n
 
--- the number of a refused creation, 0 where it is accepted
+-- the refusal of a creation, 0 if it is accepted
 unfoldable pub refusedNew : ℕ → Settings → ℕ
 refusedNew len s =
     let n = span (setupOf len s) in
@@ -71,7 +76,8 @@ filled snd v = moved v (v .«fractional_position») (updates 3 snd (courseOf v) 
 -- the transport that creation begins with
 abbrev pub transportOf : Setup → Settings → Transport
 transportOf k s =
-    begun (span k) (k .reverse) (ranged (s .«sample_rate») (span k) (s .«loop_region»)) (placed (s .«sample_rate») (s .«start_position»))
+    begun (span k) (k .reverse) (ranged (s .«sample_rate») (span k) (s .«loop_region»))
+    (placed (s .«sample_rate») (s .«start_position»))
 
 -- an accepted creation
 unfoldable pub made : List Float → Settings → StaticSound
@@ -88,7 +94,12 @@ blankSound =
       «playback_rate» = positiveZero;
       started = false;
       «fractional_position» = positiveZero;
-      moving = record { state = state.Stopped; transport = record { position = 0; «loop_region» = range.Absent; playing = false }; resampler = fresh 0; wraps = uncounted };
+      moving = record {
+        state = state.Stopped;
+        transport = record { position = 0; «loop_region» = range.Absent; playing = false };
+        resampler = fresh 0;
+        wraps = uncounted;
+      };
     }
 
 -- creation, accepted and refused

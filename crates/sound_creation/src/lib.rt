@@ -1,10 +1,22 @@
-// Creation: judged as a whole, then made (kira's StaticSound::new, StaticSoundData::slice and num_frames).
+// Creation: checks all settings, then makes the voice (kira's StaticSound::new, StaticSoundData::slice and
+// num_frames).
 ghost use mathlib.Core.Path.{_≡_};
 ghost use Prim.Native.Nat.{_/_, _%_};
 ghost use mathlib.Core.Bool.{_&&_};
 ghost use lib.Dec.{leb, ltb, eqb};
 ghost use lib.ListN.{length};
-ghost use Rattle.sound_creation.specs.Creation.{ranged, allowed, setupOf, startable, refusedNew, opened, transportOf, made, blankSound, created};
+ghost use Rattle.sound_creation.specs.Creation.{
+  ranged,
+  allowed,
+  setupOf,
+  startable,
+  refusedNew,
+  opened,
+  transportOf,
+  made,
+  blankSound,
+  created,
+};
 use playback_position::FrameRange;
 use playback_position::PlaybackPosition;
 use playback_position::Region;
@@ -22,7 +34,7 @@ pub enum OptionalRegion {
     Present(Region),
 }
 
-// What creation is given beside the sound.
+// The settings of a creation.
 pub struct Settings {
     pub sample_rate: u32,
     pub slice: OptionalRegion,
@@ -38,7 +50,7 @@ pub struct Created {
     pub sound: StaticSound,
 }
 
-// The region in frames, over so many frames.
+// The region in frames, over this many frames.
 fn into_frames(region: OptionalRegion, sample_rate: u32, num_frames: usize) -> FrameRange
     ensures { λ r. ⌜ r ≡ ranged «sample_rate» «num_frames» region ⌝ }
 {
@@ -57,7 +69,7 @@ fn is_lawful(region: OptionalRegion, sample_rate: u32, num_frames: usize) -> boo
     }
 }
 
-// What creation fixes of a sound of so many samples.
+// What creation fixes for a sound of this many samples.
 fn setup_of(settings: Settings, samples: usize) -> Setup
     ensures { λ r. ⌜ r ≡ setupOf samples settings ⌝ }
 {
@@ -77,14 +89,14 @@ fn is_sample_rate(sample_rate: u32) -> bool
     (sample_rate > 0) & (sample_rate <= 768000)
 }
 
-// Whole frames, some of them and not too many.
+// Whether the samples are whole frames, at least one and not too many.
 fn is_sound(samples: usize) -> bool
     ensures { λ r. ⌜ r ≡ (eqb (samples % 2) 0 && ltb 0 (samples / 2) && leb (samples / 2) 16777216) ⌝ }
 {
     (samples % 2 == 0) & (samples / 2 > 0) & (samples / 2 <= 16777216)
 }
 
-// Whether the start lies in the frames that are played.
+// Whether the start is inside the slice.
 fn is_start(settings: Settings, num_frames: usize) -> bool
     ensures { λ r. ⌜ r ≡ startable «num_frames» settings ⌝ }
 {
@@ -122,10 +134,11 @@ fn refusal_of(settings: Settings, samples: usize) -> u32
     0
 }
 
-// An accepted sound before its updates: at its first position, nothing heard yet.
+// An accepted voice before its updates: at its first position, with an empty window.
 fn open(settings: Settings, samples: usize) -> StaticSound
     requires { ⌜ refusedNew samples settings ≡ 0 ⌝ }
-    ensures { λ r. ⌜ r ≡ opened (setupOf samples settings) (transportOf (setupOf samples settings) settings) (settings .«playback_rate») (settings .«start_waits») ⌝ }
+    ensures { λ r. ⌜ r ≡ opened (setupOf samples settings) (transportOf (setupOf samples settings) settings)
+        (settings .«playback_rate») (settings .«start_waits») ⌝ }
 {
     let setup = setup_of(settings, samples);
     let num_frames = setup.num_frames();
@@ -156,7 +169,7 @@ fn open(settings: Settings, samples: usize) -> StaticSound
     }
 }
 
-// Three updates fill the window, so that playback can start immediately.
+// Makes three updates, which fill the window, so that playback can start at once.
 fn make(settings: Settings, sound: &[f32]) -> StaticSound
     requires { ⌜ refusedNew (length (now sound)) settings ≡ 0 ⌝ }
     ensures { λ r. ⌜ r ≡ made (now (sound .entry)) settings ⌝ }

@@ -1,4 +1,4 @@
--- A block along a track: where a ride begins, what moves after it, and the block after it.
+-- A block along a track: where a ride begins, the moving part after it, and the rest of the block.
 use Prim.Native.Nat.{ℕ, _*_}
 use mathlib.Core.Path.{_≡_}
 use mathlib.Core.List.{List, _++_}
@@ -15,19 +15,20 @@ use Rattle.sound_fast_reading.specs.declared.Way.{Way}
 use Rattle.sound_fast_reading.specs.declared.Ridden.{Ridden}
 use Rattle.sound_slow_path.specs.Plays.{plays, Outcome, acceptedWith}
 
--- where a ride over a way begins
+-- the beginning of a ride
 abbrev pub begun : Way → Ridden
 begun w = record { at = w .at; «fractional_position» = w .«fractional_position»; steps = 0; next = 0 }
 
--- the track is that of the voice, and lies in the sound
+-- the track is the voice's, and it is inside the sound
 pub record Tracked (snd : List Float) (v : StaticSound) (k : Track) : Type 0 where
   pub is : k ≡ trackOf (v .moving .transport .«loop_region») (courseOf v)
   pub lies : Lies snd k
 
--- what moves in the voice v once n steps have brought its trail to q
+-- the moving part of the voice v after n steps have moved its trail to q
 abbrev pub riddenTo : List Float → Track → StaticSound → ℕ → ℕ → Moving
 riddenTo snd k v n q = trailOf snd k (v .moving) (counts n k (v .moving .transport .position) (v .moving .wraps)) q
 
 -- the lanes from frame i on, played by the voice v into the rest of the output
 abbrev pub playedFrom : List Float → Float → Lanes → ℕ → StaticSound → List Float → Outcome
-playedFrom snd dt b i v out = let p = plays snd dt (drop i (rows b)) v in acceptedWith p (take (2 * i) out ++ p .samples)
+playedFrom snd dt b i v out = let p = plays snd dt (drop i (rows b)) v in acceptedWith p
+    (take (2 * i) out ++ p .samples)

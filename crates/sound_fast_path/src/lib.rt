@@ -1,6 +1,6 @@
-// A started, advancing block where the window is the transport's trail: the four frames are read in the sound (crates straight
-// and round), and then every reading is multiplied by its gains (crate sound_gains).
-// Where the window is no trail, and where a ride ends, the block goes on frame by frame (crate sound_slow_path).
+// The fast path: if the window is four neighbouring frames of the track (a trail), the frames are read in the sound
+// (crates sound_fast_straight and sound_fast_wrapping), then multiplied by their gains (crate sound_gains).
+// Otherwise, and after the track's end, the block is played by sound_slow_path.
 ghost use mathlib.Core.Path.{_≡_};
 ghost use Prim.Native.Nat.{_≤_};
 ghost use lib.ListN.{length};
@@ -16,14 +16,14 @@ use sound_slow_path::Processed;
 use sound_slow_path::Timed;
 use sound_state::StaticSound;
 
-// A voice, the seconds that each frame of its block takes, and the first frame that is left.
+// A voice, the time step of its block, and the first frame that is left.
 pub struct Rest {
     pub voice: StaticSound,
     pub dt: f64,
     pub next: usize,
 }
 
-// Straight, and then round the loop.
+// The straight loop, then the wrapping loop.
 fn stretch(way: Way, from: Ridden, sound: &[f32], rate: &[f64], out: &mut [f32]) -> Ridden
     requires { ⌜ Rideable (now sound) way (now rate) ⌝ }
     requires { ⌜ Rode (now sound) way (now rate) from (now out) ⌝ }
@@ -39,7 +39,7 @@ fn stretch(way: Way, from: Ridden, sound: &[f32], rate: &[f64], out: &mut [f32])
     sound_fast_wrapping::round_on(way, ones, sound, rate, out)
 }
 
-// The same where every frame makes one advance.
+// The same if every frame has the same advance.
 fn stretch_held(
     way: Way,
     from: Ridden,
@@ -64,7 +64,7 @@ fn stretch_held(
     sound_fast_wrapping::round_on(way, ones, sound, rate, out)
 }
 
-// As far as the track goes, rates that differ.
+// To the track's end, with rates that differ.
 fn ride_varied(way: Way, sound: &[f32], rate: &[f64], out: &mut [f32]) -> Ridden
     requires { ⌜ Rideable (now sound) way (now rate) ⌝ }
     requires { ⌜ Rode (now sound) way (now rate) (begun way) (now out) ⌝ }
@@ -84,7 +84,7 @@ fn ride_varied(way: Way, sound: &[f32], rate: &[f64], out: &mut [f32]) -> Ridden
     }
     r
 }
-// As far as the track goes, one advance for every frame.
+// To the track's end, with the same advance for every frame.
 fn ride_held(way: Way, sound: &[f32], advance: f64, rate: &[f64], out: &mut [f32]) -> Ridden
     requires { ⌜ Rideable (now sound) way (now rate) ⌝ }
     requires { ⌜ Rode (now sound) way (now rate) (begun way) (now out) ⌝ }
@@ -106,7 +106,7 @@ fn ride_held(way: Way, sound: &[f32], advance: f64, rate: &[f64], out: &mut [f32
     }
     r
 }
-// From a trail on, as far as the track goes: where the rates are all the same their advance is worked out once.
+// From a trail to the track's end. If all rates are the same, the advance is computed once.
 fn ride(way: Way, sound: &[f32], rate: &[f64], out: &mut [f32]) -> Ridden
     requires { ⌜ Rideable (now sound) way (now rate) ⌝ }
     requires { ⌜ Rode (now sound) way (now rate) (begun way) (now out) ⌝ }
@@ -119,7 +119,7 @@ fn ride(way: Way, sound: &[f32], rate: &[f64], out: &mut [f32]) -> Ridden
     ride_varied(way, sound, rate, out)
 }
 
-// Frame by frame from the first frame that is left on.
+// Plays the rest frame by frame, from the first frame that is left.
 fn play_from(
     rest: Rest,
     sound: &[f32],
@@ -130,9 +130,13 @@ fn play_from(
     rate: &[f64],
     out: &mut [f32],
 ) -> Processed
-    requires { ⌜ Playable (now sound) (rest .voice) (rest .dt) (five (now fade) (now volume) (now left) (now right) (now rate)) (length (now out)) ⌝ }
+    requires { ⌜ Playable (now sound) (rest .voice) (rest .dt)
+        (five (now fade) (now volume) (now left) (now right) (now rate)) (length (now out)) ⌝ }
     requires { ⌜ rest .next ≤ length (now rate) ⌝ }
-    ensures { λ r. ⌜ record { answer = r; samples = now (out .exit) } ≡ playedFrom (now (sound .entry)) (rest .dt) (five (now (fade .entry)) (now (volume .entry)) (now (left .entry)) (now (right .entry)) (now (rate .entry))) (rest .next) (rest .voice) (now (out .entry)) ⌝ }
+    ensures { λ r. ⌜ record { answer = r; samples = now (out .exit) }
+        ≡ playedFrom (now (sound .entry)) (rest .dt)
+        (five (now (fade .entry)) (now (volume .entry)) (now (left .entry)) (now (right .entry)) (now (rate .entry)))
+        (rest .next) (rest .voice) (now (out .entry)) ⌝ }
 {
     let voice = rest.voice;
     let i = rest.next;
@@ -149,7 +153,7 @@ fn play_from(
     )
 }
 
-// A started, advancing block: along the track where the window is its trail, and the rest frame by frame.
+// A block of a started, advancing voice: along the track if the window is a trail, the rest frame by frame.
 pub fn play(
     timed: Timed,
     sound: &[f32],
@@ -160,8 +164,12 @@ pub fn play(
     rate: &[f64],
     out: &mut [f32],
 ) -> Processed
-    requires { ⌜ Playable (now sound) (timed .voice) (timed .dt) (five (now fade) (now volume) (now left) (now right) (now rate)) (length (now out)) ⌝ }
-    ensures { λ r. ⌜ record { answer = r; samples = now (out .exit) } ≡ acceptedAs (plays (now (sound .entry)) (timed .dt) (rows (five (now (fade .entry)) (now (volume .entry)) (now (left .entry)) (now (right .entry)) (now (rate .entry)))) (timed .voice)) ⌝ }
+    requires { ⌜ Playable (now sound) (timed .voice) (timed .dt)
+        (five (now fade) (now volume) (now left) (now right) (now rate)) (length (now out)) ⌝ }
+    ensures { λ r. ⌜ record { answer = r; samples = now (out .exit) }
+        ≡ acceptedAs (plays (now (sound .entry)) (timed .dt)
+        (rows (five (now (fade .entry)) (now (volume .entry)) (now (left .entry)) (now (right .entry))
+        (now (rate .entry)))) (timed .voice)) ⌝ }
 {
     let voice = timed.voice;
     let dt = timed.dt;

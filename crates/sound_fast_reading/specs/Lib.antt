@@ -1,3 +1,3 @@
--- One frame's steps, and a ride along a track.
+-- One frame's steps, and a run along a track (a ride).
 pub mod Moves
 pub mod Rides

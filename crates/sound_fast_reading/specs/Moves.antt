@@ -10,18 +10,18 @@ use lib.Ieee.{Float, nan, fin, binary64, add, le, isNan}
 use Rattle.numbers.specs.declared.Stepped.{Stepped}
 use Rattle.numbers.specs.Words.{proper, finiteClear, stepped, advance}
 
--- an advance that is finite, its sign clear, and at most 256
+-- an advance that is finite, not negative and at most 256
 pub record Slow (a : Float) : Type 0 where
   pub finiteClear : T (finiteClear a)
   pub most : T (le a (fin false 1 (pos 8)))
 
--- s is the steps that the advance a makes from the fraction f, and the fraction that they leave
+-- s is the steps that the advance a makes from the fraction f, and the new fraction
 pub record Move (f a : Float) (s : Stepped) : Type 0 where
   pub is : s ≡ stepped (add binary64 f a)
   pub few : s .steps < 258
   pub below : T (proper (s .rest))
 
--- every frame of the rates makes the advance a
+-- every frame has the advance a
 pub record Steady (hz : ℕ) (dt a : Float) (rates : List Float) : Type 0 where
   pub each : (i : ℕ) → i < length rates → advance hz (getD rates i nan) dt ≡ a
 
@@ -29,7 +29,7 @@ pub record Steady (hz : ℕ) (dt a : Float) (rates : List Float) : Type 0 where
 abbrev pub number : Float → Bool
 number x = not (isNan x)
 
--- some rates, all of them the first one
+-- at least one rate, all equal to the first
 pub record Same (rates : List Float) : Type 0 where
   pub some : 0 < length rates
   pub each : (i : ℕ) → i < length rates → getD rates i nan ≡ getD rates 0 nan

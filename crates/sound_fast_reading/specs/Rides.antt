@@ -1,4 +1,4 @@
--- A ride along a track: the frames read there, the steps made, and how far it has come.
+-- A ride: a run along a track, with the frames it reads, its steps, and its end.
 use Prim.Native.Nat.{ℕ, _+_, _*_, _≤_}
 use mathlib.Core.Path.{_≡_}
 use mathlib.Core.List.{List, [], _∷_}
@@ -16,15 +16,16 @@ use Rattle.sound_track.specs.Trails.{Lies}
 use Rattle.sound_fast_reading.specs.declared.Way.{Way}
 use Rattle.sound_fast_reading.specs.declared.Ridden.{Ridden}
 
--- the reading at q: the four frames from there on
+-- the reading at q: of the four frames from q on
 unfoldable pub readOn : List Float → Track → ℕ → Float → Frame
 readOn snd k q f =
     let b = next k q in
     let c = next k b in
     let d = next k c in
-    interpolated (frameOf snd (k .start + q)) (frameOf snd (k .start + b)) (frameOf snd (k .start + c)) (frameOf snd (k .start + d)) (narrowed f)
+    interpolated (frameOf snd (k .start + q)) (frameOf snd (k .start + b)) (frameOf snd (k .start + c))
+    (frameOf snd (k .start + d)) (narrowed f)
 
--- the place and the fraction that a ride ends at, its steps, and its readings, two samples each
+-- the position and fraction at which a ride ends, its steps, and its readings, two samples each
 pub record Ride : Type 0 where
   pub at : ℕ
   pub «fractional_position» : Float
@@ -33,27 +34,32 @@ pub record Ride : Type 0 where
 
 -- one frame of n steps, and the ride after it
 abbrev pub thenRide : Frame → ℕ → Ride → Ride
-thenRide x n r = record { at = r .at; «fractional_position» = r .«fractional_position»; steps = n + r .steps; samples = x .left ∷ x .right ∷ r .samples }
+thenRide x n r = record {
+  at = r .at;
+  «fractional_position» = r .«fractional_position»;
+  steps = n + r .steps;
+  samples = x .left ∷ x .right ∷ r .samples;
+}
 
--- a ride from q and the fraction f over a list of rates: a frame is read before its steps are made
+-- a ride from q and the fraction f over a list of rates; each frame is read before its steps
 unfoldable pub rides : List Float → Track → ℕ → Float → List Float → ℕ → Float → Ride
 rides snd k hz dt [] q f = record { at = q; «fractional_position» = f; steps = 0; samples = [] }
 rides snd k hz dt (r ∷ rs) q f =
     let x = add binary64 f (advance hz r dt) in
     thenRide (readOn snd k q f) (whole x) (rides snd k hz dt rs (nexts (whole x) k q) (part x))
 
--- the ride over the way w
+-- the ride that begins with w
 abbrev pub ridesOn : List Float → Way → List Float → Ride
 ridesOn snd w rates = rides snd (w .track) (w .«sample_rate») (w .dt) rates (w .at) (w .«fractional_position»)
 
--- what a ride asks
+-- what a ride requires
 pub record Rideable (snd : List Float) (w : Way) (rates : List Float) : Type 0 where
   pub lies : Lies snd (w .track)
   pub timeStep : T (lt positiveZero (w .dt))
   pub slow : T (all (slow (w .«sample_rate») (w .dt)) rates)
   pub most : length rates ≤ 4096
 
--- what is read so far is the definition's of the rates so far, and the track has room for the steps made
+-- the readings so far are those of the definition, and the steps made stay on the track
 pub record Rode (snd : List Float) (w : Way) (rates : List Float) (r : Ridden) (out : List Float) : Type 0 where
   pub within : r .next ≤ length rates
   pub few : r .steps ≤ 257 * r .next
@@ -64,4 +70,9 @@ pub record Rode (snd : List Float) (w : Way) (rates : List Float) (r : Ridden) (
   pub room : T (roomy (w .track) (r .steps) (w .at))
   pub soFar :
       ridesOn snd w (take (r .next) rates)
-      ≡ record { at = r .at; «fractional_position» = r .«fractional_position»; steps = r .steps; samples = take (2 * r .next) out }
+      ≡ record {
+        at = r .at;
+        «fractional_position» = r .«fractional_position»;
+        steps = r .steps;
+        samples = take (2 * r .next) out;
+      }

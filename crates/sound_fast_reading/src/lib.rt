@@ -1,4 +1,4 @@
-// Reading a sound along a track: what the rides over it (straight and round) share.
+// Readings along a track: what the loops of the fast path (straight and wrapping) share.
 ghost use mathlib.Core.Path.{_≡_};
 ghost use mathlib.Core.Bool.{true, not};
 ghost use Prim.Native.Nat.{_+_, _<_};
@@ -13,8 +13,7 @@ use frame::Frame;
 use numbers::Stepped;
 use sound_track::Track;
 
-// A track, the place and the fraction where a ride along it begins, the seconds that each frame takes, and the sound's
-// frames a second.
+// A track, the position and fraction where the fast path begins, the time step, and the sound's sample rate.
 pub struct Way {
     pub track: Track,
     pub at: usize,
@@ -23,7 +22,7 @@ pub struct Way {
     pub sample_rate: u32,
 }
 
-// How far a ride has come: the place and the fraction, the steps made, and the next frame.
+// The state of the fast path: position and fraction, the steps made, and the next frame.
 pub struct Ridden {
     pub at: usize,
     pub fractional_position: f64,
@@ -31,7 +30,7 @@ pub struct Ridden {
     pub next: usize,
 }
 
-// A rate without its sign. It is no NaN, so its bits need no test.
+// A rate without its sign. It is not NaN, so its bits need no test.
 fn magnitude_of(rate: f64) -> f64
     requires { ⌜ T (not (isNan rate)) ⌝ }
     ensures { λ r. ⌜ r ≡ magnitude rate ⌝ }
@@ -48,7 +47,7 @@ pub fn advance_of(sample_rate: u32, dt: f64, rate: f64) -> f64
     advance
 }
 
-// The steps that an advance makes from a fraction, and the fraction that they leave.
+// The steps that an advance makes from a fraction, and the new fraction.
 pub fn stepped_by(fractional_position: f64, advance: f64) -> Stepped
     requires { ⌜ T (proper «fractional_position») ⌝ }
     requires { ⌜ Slow advance ⌝ }
@@ -67,7 +66,7 @@ pub fn moved(sample_rate: u32, dt: f64, fractional_position: f64, rate: f64) -> 
     stepped_by(fractional_position, advance_of(sample_rate, dt, rate))
 }
 
-// Writes a frame's two samples, from sample k of the output on.
+// Writes a frame's two samples at sample k of the output.
 pub fn store(out: &mut [f32], k: usize, frame: Frame)
     requires { ⌜ k + 1 < length (now out) ⌝ }
     ensures { λ _. ⌜ now (out .exit) ≡ set (set (now (out .entry)) k (frame .left)) (k + 1) (frame .right) ⌝ }
@@ -84,7 +83,7 @@ fn is_same_rate(a: f64, b: f64) -> bool
     f64::to_bits(a) == f64::to_bits(b)
 }
 
-// Whether all rates are one and the same, bit for bit. The last one is looked at first: rates that move differ there.
+// Whether all rates have the same bits. The last one is compared first, since moving rates differ there.
 pub fn is_steady(rate: &[f64]) -> bool
     requires { ⌜ T (all number (now rate)) ⌝ }
     ensures { λ r. ⌜ (r ≡ true → Same (now (rate .entry))) ⌝ }

@@ -1,4 +1,4 @@
--- The reading of four frames by their numbers.
+-- The reading of four frames by their indices.
 use Prim.Native.Nat.{ℕ}
 use mathlib.Core.List.{List}
 use lib.Ieee.{Float}

@@ -1,4 +1,4 @@
-// Straight back.
+// Backward.
 ghost use mathlib.Core.Path.{_≡_};
 ghost use mathlib.Core.Bool.{true};
 ghost use Prim.Native.Nat.{_+_, _*_, _<_};
@@ -30,7 +30,7 @@ fn read_back(sound: &[f32], p: usize, fractional_position: f64) -> Frame
     )
 }
 
-// Four frames a turn; p is the lowest place of the window's four.
+// Four frames per iteration; p is the lowest position of the window's four.
 pub fn straight_back(way: Way, from: Ridden, sound: &[f32], rate: &[f64], out: &mut [f32]) -> Ridden
     requires { ⌜ Rideable (now sound) way (now rate) ⌝ }
     requires { ⌜ Rode (now sound) way (now rate) from (now out) ⌝ }
@@ -80,7 +80,7 @@ pub fn straight_back(way: Way, from: Ridden, sound: &[f32], rate: &[f64], out: &
     }
 }
 
-// The same where every frame makes one advance.
+// The same if every frame has the same advance.
 pub fn held_back(
     way: Way,
     from: Ridden,
@@ -139,7 +139,7 @@ pub fn held_back(
     }
 }
 
-// One frame a turn.
+// One frame per iteration.
 pub fn ones_back(way: Way, from: Ridden, sound: &[f32], rate: &[f64], out: &mut [f32]) -> Ridden
     requires { ⌜ Rideable (now sound) way (now rate) ⌝ }
     requires { ⌜ Rode (now sound) way (now rate) from (now out) ⌝ }

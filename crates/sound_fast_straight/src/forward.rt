@@ -1,4 +1,4 @@
-// Straight on.
+// Forward.
 ghost use mathlib.Core.Path.{_≡_};
 ghost use mathlib.Core.Bool.{false};
 ghost use Prim.Native.Nat.{_+_, _*_, _<_};
@@ -30,7 +30,7 @@ fn read_on(sound: &[f32], p: usize, fractional_position: f64) -> Frame
     )
 }
 
-// Four frames a turn.
+// Four frames per iteration.
 pub fn straight_on(way: Way, from: Ridden, sound: &[f32], rate: &[f64], out: &mut [f32]) -> Ridden
     requires { ⌜ Rideable (now sound) way (now rate) ⌝ }
     requires { ⌜ Rode (now sound) way (now rate) from (now out) ⌝ }
@@ -80,7 +80,7 @@ pub fn straight_on(way: Way, from: Ridden, sound: &[f32], rate: &[f64], out: &mu
     }
 }
 
-// The same where every frame makes one advance.
+// The same if every frame has the same advance.
 pub fn held_on(
     way: Way,
     from: Ridden,
@@ -139,7 +139,7 @@ pub fn held_on(
     }
 }
 
-// One frame a turn.
+// One frame per iteration.
 pub fn ones_on(way: Way, from: Ridden, sound: &[f32], rate: &[f64], out: &mut [f32]) -> Ridden
     requires { ⌜ Rideable (now sound) way (now rate) ⌝ }
     requires { ⌜ Rode (now sound) way (now rate) from (now out) ⌝ }

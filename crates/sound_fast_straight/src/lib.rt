@@ -1,5 +1,5 @@
-// A ride along the stretch of a track that does not wrap: the places are consecutive, so no step chooses one. Four frames a turn, and
-// then one by one, as long as the window's four frames and the steps stay short of the track's end.
+// The fast path where no step wraps: the positions are consecutive. Plays four frames per iteration, then one by one,
+// as long as the window's four frames and the steps stay before the track's end.
 ghost use mathlib.Core.Path.{_≡_};
 ghost use Prim.Native.Nat.{_+_, _<_};
 ghost use lib.Dec.{T};
@@ -42,10 +42,14 @@ pub fn four_moves(
     requires { ⌜ T (all (slow «sample_rate» dt) (now rate)) ⌝ }
     requires { ⌜ i + 3 < length (now rate) ⌝ }
     requires { ⌜ length (now rate) < 8192 ⌝ }
-    ensures { λ r. ⌜ Move «fractional_position» (advance «sample_rate» (getD (now (rate .entry)) i nan) dt) (r .first) ⌝ }
-    ensures { λ r. ⌜ Move (r .first .rest) (advance «sample_rate» (getD (now (rate .entry)) (i + 1) nan) dt) (r .second) ⌝ }
-    ensures { λ r. ⌜ Move (r .second .rest) (advance «sample_rate» (getD (now (rate .entry)) (i + 2) nan) dt) (r .third) ⌝ }
-    ensures { λ r. ⌜ Move (r .third .rest) (advance «sample_rate» (getD (now (rate .entry)) (i + 3) nan) dt) (r .fourth) ⌝ }
+    ensures { λ r. ⌜ Move «fractional_position» (advance «sample_rate» (getD (now (rate .entry)) i nan) dt)
+        (r .first) ⌝ }
+    ensures { λ r. ⌜ Move (r .first .rest) (advance «sample_rate» (getD (now (rate .entry)) (i + 1) nan) dt)
+        (r .second) ⌝ }
+    ensures { λ r. ⌜ Move (r .second .rest) (advance «sample_rate» (getD (now (rate .entry)) (i + 2) nan) dt)
+        (r .third) ⌝ }
+    ensures { λ r. ⌜ Move (r .third .rest) (advance «sample_rate» (getD (now (rate .entry)) (i + 3) nan) dt)
+        (r .fourth) ⌝ }
 {
     let first = sound_fast_reading::moved(sample_rate, dt, fractional_position, rate[i]);
     let second = sound_fast_reading::moved(sample_rate, dt, first.rest, rate[i + 1]);
@@ -59,7 +63,7 @@ pub fn four_moves(
     }
 }
 
-// The steps of four frames that make one advance.
+// The steps of four frames that have the same advance.
 pub fn four_held(fractional_position: f64, advance: f64) -> Moves
     requires { ⌜ T (proper «fractional_position») ⌝ }
     requires { ⌜ Slow advance ⌝ }

@@ -1,4 +1,4 @@
-// Round a track forward.
+// Forward.
 ghost use mathlib.Core.Path.{_≡_};
 ghost use mathlib.Core.Bool.{false};
 ghost use lib.Dec.{T};
@@ -12,7 +12,7 @@ use sound_fast_reading::Ridden;
 use sound_fast_reading::Way;
 use sound_track::Track;
 
-// The reading at a place: the four frames from there on.
+// The reading at a position: of the four frames from there on.
 fn read_after(sound: &[f32], track: Track, at: usize, fractional_position: f64) -> Frame
     requires { ⌜ Lies (now sound) track ⌝ }
     requires { ⌜ On track at ⌝ }

@@ -1,5 +1,6 @@
-// A ride along a track that wraps: two frames a turn, each place chosen round the loop. It leaves where the track has no room for
-// two frames, where fewer than two are left, and where many places are ahead before the next wrap (crate sound_fast_straight is faster there).
+// The fast path at the loop's edge: plays two frames per iteration so that they vectorise, each position wrapped into
+// the loop. It stops at the track's end, when fewer than two frames are left, or when many positions are ahead
+// without a wrap (sound_fast_straight is faster there).
 mod backward;
 mod forward;
 

@@ -1,4 +1,5 @@
--- Readings times their gains (docs/assurance/RULES.md, "Creation, commands, block"): fade, then volume, then the channel's gain.
+-- Readings times their gains (docs/assurance/RULES.md, "Creation, commands, block"): fade, then volume, then the
+-- channel's gain.
 use Prim.Native.Nat.{ℕ, zero, suc, _+_, _*_}
 use mathlib.Core.List.{List, [], _∷_}
 use lib.ListN.{getD, drop, set}

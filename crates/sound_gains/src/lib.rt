@@ -1,4 +1,4 @@
-// The gains over readings that are written: each frame's two samples times its fade, volume and gain, in place.
+// Multiplies the readings in the output by their gains, in place: fade, then volume, then the channel's gain.
 ghost use mathlib.Core.Path.{_≡_};
 ghost use Prim.Native.Nat.{_+_, _*_, _≤_, _<_};
 ghost use lib.ListN.{length};
@@ -18,7 +18,8 @@ fn gains_at(fade: &[f32], volume: &[f32], left: &[f32], right: &[f32], i: usize)
     requires { ⌜ i < length (now volume) ⌝ }
     requires { ⌜ i < length (now left) ⌝ }
     requires { ⌜ i < length (now right) ⌝ }
-    ensures { λ r. ⌜ r ≡ gainsAt (now (fade .entry)) (now (volume .entry)) (now (left .entry)) (now (right .entry)) i ⌝ }
+    ensures { λ r. ⌜ r ≡ gainsAt (now (fade .entry)) (now (volume .entry)) (now (left .entry))
+        (now (right .entry)) i ⌝ }
 {
     Gains {
         fade: fade[i],
@@ -45,14 +46,16 @@ fn gain_one(fade: &[f32], volume: &[f32], left: &[f32], right: &[f32], i: usize,
     requires { ⌜ i < length (now right) ⌝ }
     requires { ⌜ 2 * i + 1 < length (now out) ⌝ }
     requires { ⌜ i < 4096 ⌝ }
-    ensures { λ _. ⌜ now (out .exit) ≡ gainedAt (now (fade .entry)) (now (volume .entry)) (now (left .entry)) (now (right .entry)) i (now (out .entry)) (now (out .entry)) ⌝ }
+    ensures { λ _. ⌜ now (out .exit)
+        ≡ gainedAt (now (fade .entry)) (now (volume .entry)) (now (left .entry)) (now (right .entry)) i
+        (now (out .entry)) (now (out .entry)) ⌝ }
 {
     let gains = gains_at(fade, volume, left, right, i);
     let x = scale(out[2 * i], out[2 * i + 1], gains);
     sound_fast_reading::store(out, 2 * i, x);
 }
 
-// The first n frames of the output times their gains; clang makes vector code of it.
+// Multiplies the first n frames of the output by their gains; clang vectorises it.
 pub fn by_frame(
     fade: &[f32],
     volume: &[f32],
@@ -67,7 +70,9 @@ pub fn by_frame(
     requires { ⌜ n ≤ length (now right) ⌝ }
     requires { ⌜ 2 * n ≤ length (now out) ⌝ }
     requires { ⌜ n ≤ 4096 ⌝ }
-    ensures { λ _. ⌜ now (out .exit) ≡ gained (now (fade .entry)) (now (volume .entry)) (now (left .entry)) (now (right .entry)) n (now (out .entry)) ⌝ }
+    ensures { λ _. ⌜ now (out .exit)
+        ≡ gained (now (fade .entry)) (now (volume .entry)) (now (left .entry)) (now (right .entry)) n
+        (now (out .entry)) ⌝ }
 {
     let mut i: usize = 0;
     while i < n {

@@ -1,4 +1,4 @@
-// A started, advancing block whose five numbers are given once: each holds for every frame.
+// A block of a started, advancing voice whose five numbers are given once: each applies to every frame.
 ghost use mathlib.Core.Path.{_≡_};
 ghost use Prim.Native.Nat.{_+_, _*_, _/_, _^_, _≤_, _<_};
 ghost use lib.ListN.{length};
@@ -9,7 +9,7 @@ ghost use Rattle.sound_held.specs.Held.{once};
 use sound_slow_path::Processed;
 use sound_slow_path::Timed;
 
-// What every frame of a block is given.
+// The five numbers of every frame of a block.
 pub struct Held {
     pub fade: f32,
     pub volume: f32,
@@ -25,10 +25,15 @@ fn part_of(n: usize) -> usize
     if n < 16 { n } else { 16 }
 }
 
-// The answer of two parts, one after the other.
+// The result of two parts, one after the other.
 fn joined(first: Processed, next: Processed) -> Processed
     requires { ⌜ first .steps + next .steps < 2 ^ 64 ⌝ }
-    ensures { λ r. ⌜ r ≡ record { refusal = 0; sound = next .sound; steps = first .steps + next .steps; «lowest_count» = lower (first .«lowest_count») (next .«lowest_count») } ⌝ }
+    ensures { λ r. ⌜ r ≡ record {
+      refusal = 0;
+      sound = next .sound;
+      steps = first .steps + next .steps;
+      «lowest_count» = lower (first .«lowest_count») (next .«lowest_count»);
+    } ⌝ }
 {
     let sound = next.sound;
     let steps = first.steps + next.steps;
@@ -48,11 +53,14 @@ fn joined(first: Processed, next: Processed) -> Processed
     }
 }
 
-// At most 16 frames: the numbers are spread over lanes.
+// At most 16 frames: repeats the numbers in lanes.
 fn few(timed: Timed, sound: &[f32], held: Held, out: &mut [f32]) -> Processed
-    requires { ⌜ Playable (now sound) (timed .voice) (timed .dt) (once held (length (now out) / 2)) (length (now out)) ⌝ }
+    requires { ⌜ Playable (now sound) (timed .voice) (timed .dt) (once held (length (now out) / 2))
+        (length (now out)) ⌝ }
     requires { ⌜ length (now out) ≤ 32 ⌝ }
-    ensures { λ r. ⌜ record { answer = r; samples = now (out .exit) } ≡ acceptedAs (plays (now (sound .entry)) (timed .dt) (rows (once held (length (now (out .entry)) / 2))) (timed .voice)) ⌝ }
+    ensures { λ r. ⌜ record { answer = r; samples = now (out .exit) }
+        ≡ acceptedAs (plays (now (sound .entry)) (timed .dt) (rows (once held (length (now (out .entry)) / 2)))
+        (timed .voice)) ⌝ }
 {
     let n = out.len() / 2;
     let fade = [held.fade; 16];
@@ -72,10 +80,13 @@ fn few(timed: Timed, sound: &[f32], held: Held, out: &mut [f32]) -> Processed
     )
 }
 
-// A started, advancing block, in parts of 16 frames.
+// Plays the block in parts of 16 frames.
 pub fn play(timed: Timed, sound: &[f32], held: Held, out: &mut [f32]) -> Processed
-    requires { ⌜ Playable (now sound) (timed .voice) (timed .dt) (once held (length (now out) / 2)) (length (now out)) ⌝ }
-    ensures { λ r. ⌜ record { answer = r; samples = now (out .exit) } ≡ acceptedAs (plays (now (sound .entry)) (timed .dt) (rows (once held (length (now (out .entry)) / 2))) (timed .voice)) ⌝ }
+    requires { ⌜ Playable (now sound) (timed .voice) (timed .dt) (once held (length (now out) / 2))
+        (length (now out)) ⌝ }
+    ensures { λ r. ⌜ record { answer = r; samples = now (out .exit) }
+        ≡ acceptedAs (plays (now (sound .entry)) (timed .dt) (rows (once held (length (now (out .entry)) / 2)))
+        (timed .voice)) ⌝ }
 {
     let n = out.len() / 2;
     let dt = timed.dt;

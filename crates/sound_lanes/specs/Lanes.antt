@@ -1,4 +1,5 @@
--- The five lanes of a block, and refusals 9 to 12 (docs/assurance/RULES.md, "What the host supplies", "Numbers and their refusals").
+-- The five lanes of a block, and refusals 9 to 12 (docs/assurance/RULES.md, "What the host supplies", "Numbers and
+-- their refusals").
 use Prim.Native.Nat.{ℕ}
 use mathlib.Core.Bool.{Bool, false, _&&_, cond}
 use mathlib.Core.List.{List, [], _∷_}
@@ -9,7 +10,7 @@ use lib.Ieee.{Float, nan, fin, lt, le}
 use Rattle.numbers.specs.Words.{positiveZero, finite, finiteClear, advance}
 use Rattle.numbers.specs.Lists.{all}
 
--- what one output frame brings
+-- the five numbers of one output frame
 pub record Lane : Type 0 where
   pub fade : Float
   pub volume : Float
@@ -17,7 +18,7 @@ pub record Lane : Type 0 where
   pub right : Float
   pub rate : Float
 
--- the five lanes as they come
+-- the five lanes as they are passed
 pub record Lanes : Type 0 where
   pub fade : List Float
   pub volume : List Float
@@ -42,7 +43,8 @@ rows b = beside (b .fade) (b .volume) (b .left) (b .right) (b .rate)
 abbrev pub sized : Lanes → Bool
 sized b =
     let n = length (b .rate) in
-    leb n 4096 && eqb (length (b .fade)) n && eqb (length (b .volume)) n && eqb (length (b .left)) n && eqb (length (b .right)) n
+    leb n 4096 && eqb (length (b .fade)) n && eqb (length (b .volume)) n && eqb (length (b .left)) n
+    && eqb (length (b .right)) n
 
 -- 10: a time step that is finite and above 0
 abbrev pub timeStep : Float → Bool
@@ -50,7 +52,8 @@ timeStep dt = finite dt && lt positiveZero dt
 
 -- 11: amplitudes and gains finite with their sign bit clear, a finite rate
 abbrev pub laned : Lane → Bool
-laned l = finiteClear (l .fade) && finiteClear (l .volume) && finiteClear (l .left) && finiteClear (l .right) && finite (l .rate)
+laned l = finiteClear (l .fade) && finiteClear (l .volume) && finiteClear (l .left) && finiteClear (l .right)
+    && finite (l .rate)
 
 -- 12: an advance of at most 256
 abbrev pub slow : ℕ → Float → Float → Bool
@@ -59,7 +62,7 @@ slow hz dt rate = le (advance hz rate dt) (fin false 1 (pos 8))
 abbrev pub near : ℕ → Float → Lane → Bool
 near hz dt l = slow hz dt (l .rate)
 
--- 11 and 12 over all frames, 11 first; 0 where both pass
+-- 11 and 12 over all frames, 11 first; 0 if both pass
 abbrev pub judged : ℕ → Float → Lanes → ℕ
 judged hz dt b = cond (all laned (rows b)) (cond (all (near hz dt) (rows b)) 0 12) 11
 
@@ -73,7 +76,8 @@ low n = ltb n 2147483648
 
 -- the lanes of the first k frames
 abbrev pub firstLanes : ℕ → Lanes → Lanes
-firstLanes k b = five (take k (b .fade)) (take k (b .volume)) (take k (b .left)) (take k (b .right)) (take k (b .rate))
+firstLanes k b = five (take k (b .fade)) (take k (b .volume)) (take k (b .left)) (take k (b .right))
+    (take k (b .rate))
 
 -- the lanes of the frames after them
 abbrev pub restLanes : ℕ → Lanes → Lanes

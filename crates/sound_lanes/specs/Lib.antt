@@ -1,2 +1,2 @@
--- The five lanes of a block, and what is asked of them.
+-- The five lanes of a block and their checks.
 pub mod Lanes

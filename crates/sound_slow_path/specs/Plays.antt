@@ -1,4 +1,4 @@
--- A started, advancing block, frame after frame (docs/assurance/RULES.md, "Creation, commands, block").
+-- A block of a started, advancing voice, frame by frame (docs/assurance/RULES.md, "Creation, commands, block").
 use Prim.Native.Nat.{ℕ, _+_}
 use mathlib.Core.Bool.{cond}
 use mathlib.Core.List.{List, [], _∷_}
@@ -16,12 +16,12 @@ use Rattle.sound_update.specs.Updates.{updates}
 
 -- ---- one frame
 
--- the sum whose whole part is the steps
+-- the sum whose whole part is the number of steps
 unfoldable pub total : Float → StaticSound → Lane → Float
 unfolding advance
 total dt v l = add binary64 (v .«fractional_position») (advance (v .setup .«sample_rate») (l .rate) dt)
 
--- the voice after one frame: as many updates as the sum's whole part, and the rest of the sum
+-- the voice after one frame: as many updates as the sum's whole part; its fractional part is the new fraction
 unfoldable pub turned : List Float → Float → StaticSound → Lane → StaticSound
 unfolding total updates whole part
 turned snd dt v l =
@@ -44,7 +44,7 @@ frameHeard v l =
 
 -- ---- a block
 
--- what a block gives: the voice after it, the samples it wrote, the steps it made, the lowest count it read
+-- the outcome of a block: the voice after it, its samples, its steps, the lowest count it read
 pub record Played : Type 0 where
   pub voice : StaticSound
   pub samples : List Float
@@ -55,27 +55,36 @@ pub record Played : Type 0 where
 unfoldable pub lower : ℕ → ℕ → ℕ
 lower a b = cond (leb a b) a b
 
--- one frame, its steps and the count that was read, and what follows it
+-- one frame with its steps and its count, then the rest
 abbrev pub then : Frame → ℕ → ℕ → Played → Played
 then f n t p =
-    record { voice = p .voice; samples = f .left ∷ f .right ∷ p .samples; steps = n + p .steps; «lowest_count» = lower t (p .«lowest_count») }
+    record {
+      voice = p .voice;
+      samples = f .left ∷ f .right ∷ p .samples;
+      steps = n + p .steps;
+      «lowest_count» = lower t (p .«lowest_count»);
+    }
 
--- a started, advancing block; of no frames, the count is 4
+-- the whole block; for no frames the count is 4
 unfoldable pub plays : List Float → Float → List Lane → StaticSound → Played
 unfolding turned frameHeard total whole reading
 plays snd dt [] v = record { voice = v; samples = []; steps = 0; «lowest_count» = 4 }
-plays snd dt (l ∷ ls) v = then (frameHeard v l) (whole (total dt v l)) (readBy v .count) (plays snd dt ls (turned snd dt v l))
+plays snd dt (l ∷ ls) v = then (frameHeard v l) (whole (total dt v l))
+    (readBy v .count) (plays snd dt ls (turned snd dt v l))
 
--- ---- what a call gives
+-- ---- the outcome of a call
 
--- what a call gives: its answer, and every sample of the lent buffer
+-- the outcome of a call: its result, and every sample of the buffer
 pub record Outcome : Type 0 where
   pub answer : Processed
   pub samples : List Float
 
 abbrev pub acceptedWith : Played → List Float → Outcome
-acceptedWith p out = record { answer = record { refusal = 0; sound = p .voice; steps = p .steps; «lowest_count» = p .«lowest_count» }; samples = out }
+acceptedWith p out = record {
+  answer = record { refusal = 0; sound = p .voice; steps = p .steps; «lowest_count» = p .«lowest_count» };
+  samples = out;
+}
 
--- an accepted block's outcome: its own samples are the output
+-- the outcome of an accepted block: its samples are the output
 abbrev pub acceptedAs : Played → Outcome
 acceptedAs p = acceptedWith p (p .samples)

@@ -1,4 +1,4 @@
--- One frame of a block over what moves, as the block's loop has it; and what the loop asks.
+-- One frame of a block over the moving part, as the code's loop has it; and what the loop requires.
 use Prim.Native.Nat.{ℕ, _*_}
 use mathlib.Core.Path.{_≡_}
 use mathlib.Core.List.{List}
@@ -29,28 +29,29 @@ frameAt a b c d f fade volume left right =
       right = mul binary32 (mul binary32 (mul binary32 (x .right) fade) volume) right;
     }
 
--- frame i of the lanes heard: the window read at a fraction, with the count that the read returns
+-- frame i with its lanes: the window read at a fraction, with the count of the reading
 abbrev pub heardAt : Resampler → Float → List Float → List Float → List Float → List Float → ℕ → Reading
 heardAt w f fade volume left right i =
     record {
-      frame = frameAt (nth w 0) (nth w 1) (nth w 2) (nth w 3) f (getD fade i nan) (getD volume i nan) (getD left i nan) (getD right i nan);
+      frame = frameAt (nth w 0) (nth w 1) (nth w 2) (nth w 3) f (getD fade i nan) (getD volume i nan)
+          (getD left i nan) (getD right i nan);
       count = (reading w (narrowed f)) .count;
     }
 
--- what one frame leaves of the moving parts and the fraction
+-- the moving part and the fraction after one frame
 unfoldable pub turnOf : List Float → Course → ℕ → Float → Float → Moving → Float → Turned
 turnOf snd c hz rate dt m f =
     let x = add binary64 f (advance hz rate dt) in
     record { moving = updates (whole x) snd c m; «fractional_position» = part x; steps = whole x }
 
--- what a frame asks
+-- what a frame requires
 pub record Turning (snd : List Float) (c : Course) (hz : ℕ) (rate dt : Float) (m : Moving) (f : Float) : Type 0 where
   pub able : Able snd c m
   pub below : T (proper f)
   pub timeStep : T (lt positiveZero dt)
   pub slow : T (slow hz dt rate)
 
--- what a block asks that is neither refused nor judged again; m is the output's length
+-- what holds of an accepted block; m is the output's length
 pub record Playable (snd : List Float) (v : StaticSound) (dt : Float) (b : Lanes) (m : ℕ) : Type 0 where
   pub formed : Formed v
   pub lent : length snd ≡ 2 * v .setup .«num_frames»

@@ -1,4 +1,4 @@
-// A started, advancing block: frame after frame, the window is read and the voice moves (the loop of kira's StaticSound::process).
+// The slow path: a block of a started, advancing voice, frame by frame (the loop of kira's StaticSound::process).
 ghost use mathlib.Core.Path.{_≡_};
 ghost use Prim.Native.Nat.{_<_};
 ghost use lib.Dec.{T};
@@ -14,13 +14,13 @@ use sound_state::StaticSound;
 use sound_update::Course;
 use sound_update::Moving;
 
-// A voice, and the seconds that each frame of its block takes.
+// A voice, and the time step of its block.
 pub struct Timed {
     pub voice: StaticSound,
     pub dt: f64,
 }
 
-// What a block answers: its refusal, 0 for none, the voice after it, the steps made, and the lowest count that it read.
+// The result of a block: refusal (0 for none), the voice after it, its steps, and the lowest count that it read.
 pub struct Processed {
     pub refusal: u32,
     pub sound: StaticSound,
@@ -28,7 +28,7 @@ pub struct Processed {
     pub lowest_count: usize,
 }
 
-// What one frame leaves: the moving parts, the fraction, and the steps made.
+// The result of one frame: the moving part, the fraction, and its steps.
 pub struct Turned {
     pub moving: Moving,
     pub fractional_position: f64,
@@ -42,7 +42,7 @@ fn lower(a: usize, b: usize) -> usize
     if a <= b { a } else { b }
 }
 
-// The window's reading, with the count that it was read at: its frame times fade, times volume, times each channel's gain, all of frame i.
+// Frame i: the window's reading times fade, times volume, times each channel's gain; and the count of the reading.
 fn frame_heard(
     window: Resampler,
     fractional_position: f64,
@@ -57,7 +57,8 @@ fn frame_heard(
     requires { ⌜ i < length (now volume) ⌝ }
     requires { ⌜ i < length (now left) ⌝ }
     requires { ⌜ i < length (now right) ⌝ }
-    ensures { λ r. ⌜ r ≡ heardAt window «fractional_position» (now (fade .entry)) (now (volume .entry)) (now (left .entry)) (now (right .entry)) i ⌝ }
+    ensures { λ r. ⌜ r ≡ heardAt window «fractional_position» (now (fade .entry)) (now (volume .entry))
+        (now (left .entry)) (now (right .entry)) i ⌝ }
 {
     let read = window.get(numbers::narrow(fractional_position));
     let out = read.frame;
@@ -108,8 +109,12 @@ pub fn play(
     rate: &[f64],
     out: &mut [f32],
 ) -> Processed
-    requires { ⌜ Playable (now sound) (timed .voice) (timed .dt) (five (now fade) (now volume) (now left) (now right) (now rate)) (length (now out)) ⌝ }
-    ensures { λ r. ⌜ record { answer = r; samples = now (out .exit) } ≡ acceptedAs (plays (now (sound .entry)) (timed .dt) (rows (five (now (fade .entry)) (now (volume .entry)) (now (left .entry)) (now (right .entry)) (now (rate .entry)))) (timed .voice)) ⌝ }
+    requires { ⌜ Playable (now sound) (timed .voice) (timed .dt)
+        (five (now fade) (now volume) (now left) (now right) (now rate)) (length (now out)) ⌝ }
+    ensures { λ r. ⌜ record { answer = r; samples = now (out .exit) }
+        ≡ acceptedAs (plays (now (sound .entry)) (timed .dt)
+        (rows (five (now (fade .entry)) (now (volume .entry)) (now (left .entry)) (now (right .entry))
+        (now (rate .entry)))) (timed .voice)) ⌝ }
 {
     let voice = timed.voice;
     let course = voice.course();

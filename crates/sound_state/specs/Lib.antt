@@ -1,4 +1,4 @@
--- What a voice holds and when it is well formed.
+-- The state of a voice, and when it is well formed.
 pub mod Voices
 pub mod WellFormed
 pub mod Refusals

@@ -1,7 +1,7 @@
--- Tests in a row (docs/assurance/RULES.md, "Numbers and their refusals"): the lowest number wins.
+-- Checks one after the other (docs/assurance/RULES.md, "Numbers and their refusals"): the lowest number is returned.
 use Prim.Native.Nat.{ℕ}
 use mathlib.Core.Bool.{Bool, cond}
 
--- a number where its test fails, else what the rest gives
+-- a number if its test fails, otherwise the result of the rest
 abbrev pub unless : Bool → ℕ → ℕ → ℕ
 unless ok n rest = cond ok rest n

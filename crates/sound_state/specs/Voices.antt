@@ -1,4 +1,4 @@
--- What a voice holds, as an update reads it.
+-- What an update reads of a voice.
 use Prim.Native.Nat.{ℕ, _-_}
 use mathlib.Core.Bool.{Bool, not, cond}
 use lib.Ieee.{Float}
@@ -13,18 +13,28 @@ use Rattle.sound_update.specs.declared.Course.{Course}
 abbrev pub span : Setup → ℕ
 span k = elim (k .slice) [ Absent ↦ k .«num_frames» | Frames s e ↦ e - s ]
 
--- where the slice begins
+-- the slice's first frame
 abbrev pub offset : Setup → ℕ
 offset k = elim (k .slice) [ Absent ↦ 0 | Frames s e ↦ s ]
 
--- backward when the held rate's sign bit is set, minus zero included, turned round by reverse
+-- backward if the held rate's sign bit is set, minus zero included; reverse turns it round
 abbrev pub backwards : Float → Bool → Bool
 backwards rate reverse = cond (negative rate) (not reverse) reverse
 
--- what an update reads of a voice and leaves as it is
+-- what an update reads of a voice and does not change
 abbrev pub courseOf : StaticSound → Course
-courseOf v = record { start = offset (v .setup); «num_frames» = span (v .setup); backwards = backwards (v .«playback_rate») (v .setup .reverse) }
+courseOf v = record {
+  start = offset (v .setup);
+  «num_frames» = span (v .setup);
+  backwards = backwards (v .«playback_rate») (v .setup .reverse);
+}
 
--- the voice with another fraction and other moving parts
+-- the voice with another fraction and another moving part
 abbrev pub moved : StaticSound → Float → Moving → StaticSound
-moved v f m = record { setup = v .setup; «playback_rate» = v .«playback_rate»; started = v .started; «fractional_position» = f; moving = m }
+moved v f m = record {
+  setup = v .setup;
+  «playback_rate» = v .«playback_rate»;
+  started = v .started;
+  «fractional_position» = f;
+  moving = m;
+}

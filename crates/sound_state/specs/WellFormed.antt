@@ -10,15 +10,18 @@ use Rattle.sound_state.specs.declared.Setup.{Setup}
 use Rattle.sound_state.specs.declared.StaticSound.{StaticSound}
 use Rattle.sound_state.specs.Voices.{span}
 
--- 2, 3 and 4 would not be given for the recorded values
+-- refusals 2, 3 and 4 do not apply to the recorded values
 abbrev pub setUp : Setup → Bool
-setUp k = (ltb 0 (k .«sample_rate») && leb (k .«sample_rate») 768000) && (ltb 0 (k .«num_frames») && leb (k .«num_frames») 16777216) && within (k .«num_frames») (k .slice)
+setUp k = (ltb 0 (k .«sample_rate») && leb (k .«sample_rate») 768000)
+    && (ltb 0 (k .«num_frames») && leb (k .«num_frames») 16777216) && within (k .«num_frames») (k .slice)
 
 -- the voice itself
 unfoldable pub wellFormed : StaticSound → Bool
-wellFormed v = setUp (v .setup) && finite (v .«playback_rate») && formedTransport (span (v .setup)) (v .moving .transport) && proper (v .«fractional_position») && windowed (v .moving .resampler)
+wellFormed v = setUp (v .setup) && finite (v .«playback_rate»)
+    && formedTransport (span (v .setup)) (v .moving .transport) && proper (v .«fractional_position»)
+    && windowed (v .moving .resampler)
 
--- and the lent sound's length, in samples, is the recorded one
+-- and the sound's length, in samples, is the recorded one
 unfoldable pub ours : ℕ → StaticSound → Bool
 unfolding wellFormed
 ours len v = wellFormed v && eqb len (2 * v .setup .«num_frames»)

@@ -1,4 +1,4 @@
-// A voice by value: what it holds, and when it is well formed (kira's StaticSound).
+// The state of a voice, by value, and when it is well formed (kira's StaticSound).
 ghost use mathlib.Core.Path.{_≡_};
 ghost use Rattle.transport.specs.WellFormed.{formedTransport};
 ghost use Rattle.resampler.specs.Windows.{zeroFrame, numbered, windowed};
@@ -11,7 +11,7 @@ use sound_update::Course;
 use sound_update::Moving;
 use transport::Transport;
 
-// What creation fixes and nothing changes afterwards.
+// What creation fixes for good.
 pub struct Setup {
     pub sample_rate: u32,
     pub num_frames: usize,
@@ -28,7 +28,7 @@ pub struct StaticSound {
 }
 
 impl Setup {
-    // The frames that are played: the slice's, or all.
+    // N: the number of frames in the slice, or of all frames.
     pub fn num_frames(self) -> usize
         ensures { λ r. ⌜ r ≡ span self ⌝ }
     {
@@ -39,7 +39,7 @@ impl Setup {
         }
     }
 
-    // Where they begin in the sound.
+    // The index of the slice's first frame in the sound.
     pub fn start(self) -> usize
         ensures { λ r. ⌜ r ≡ offset self ⌝ }
     {
@@ -121,7 +121,7 @@ impl StaticSound {
         }
     }
 
-    // Whether the voice is well formed and the lent sound, of len samples, is as long as the recorded one.
+    // Whether the voice is well formed and the sound, of len samples, is as long as the voice records.
     pub fn is_well_formed(self, len: usize) -> bool
         ensures { λ r. ⌜ r ≡ ours len self ⌝ }
     {

@@ -1,3 +1,3 @@
--- The way of a transport, and the window as its trail.
+-- The track, and windows that are four neighbouring frames of it (trails).
 pub mod Tracks
 pub mod Trails

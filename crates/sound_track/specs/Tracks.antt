@@ -1,4 +1,4 @@
--- The way of a transport that plays on: its places, n steps along them, and the wraps that these count.
+-- The track: the positions that uninterrupted playback passes, n steps along it, and the wraps of these steps.
 use Prim.Native.Nat.{ℕ, zero, suc, _+_, _-_, _≤_, _<_}
 use mathlib.Core.Path.{_≡_}
 use mathlib.Core.Bool.{Bool, true, false, not, _&&_, _||_, cond}
@@ -12,34 +12,51 @@ use Rattle.sound_track.specs.declared.Track.{Track}
 
 -- between the loop's ends, or the sound's
 abbrev pub trackOf : FrameRange → Course → Track
-trackOf Absent c = record { start = c .start; count = c .«num_frames»; low = 0; high = c .«num_frames»; looped = false; backwards = c .backwards }
-trackOf (Frames s e) c = record { start = c .start; count = c .«num_frames»; low = s; high = e; looped = true; backwards = c .backwards }
+trackOf Absent c = record {
+  start = c .start;
+  count = c .«num_frames»;
+  low = 0;
+  high = c .«num_frames»;
+  looped = false;
+  backwards = c .backwards;
+}
+trackOf (Frames s e) c = record {
+  start = c .start;
+  count = c .«num_frames»;
+  low = s;
+  high = e;
+  looped = true;
+  backwards = c .backwards;
+}
 
 -- ---- steps
 
--- the step from q goes round: forward onto the end, backward from the start
+-- whether the step from q wraps: forward onto the end, backward from the start
 abbrev pub turns : Track → ℕ → Bool
 turns k q = cond (k .backwards) (eqb q (k .low)) (eqb (q + 1) (k .high))
 
--- the place after q
+-- the position after q
 abbrev pub next : Track → ℕ → ℕ
 next k q = cond (turns k q) (cond (k .backwards) (k .high - 1) (k .low)) (cond (k .backwards) (q - 1) (q + 1))
 
--- the place n steps on
+-- the position after n steps
 unfoldable pub nexts : ℕ → Track → ℕ → ℕ
 nexts zero k q = q
 nexts (suc n) k q = nexts n k (next k q)
 
 -- the counts after the step from p
 abbrev pub countedAt : Track → ℕ → Wraps → Wraps
-countedAt k p w = record { forward = raised (turns k p && not (k .backwards)) (w .forward); backward = raised (turns k p && k .backwards) (w .backward) }
+countedAt k p w = record {
+  forward = raised (turns k p && not (k .backwards)) (w .forward);
+  backward = raised (turns k p && k .backwards) (w .backward);
+}
 
 -- the counts after n steps from p
 unfoldable pub counts : ℕ → Track → ℕ → Wraps → Wraps
 counts zero k p w = w
 counts (suc n) k p w = counts n k (next k p) (countedAt k p w)
 
--- how often n steps from p go round
+-- how often n steps from p wrap
 unfoldable pub rounds : ℕ → Track → ℕ → ℕ
 rounds zero k p = 0
 rounds (suc n) k p = cond (turns k p) (suc (rounds n k (next k p))) (rounds n k (next k p))
@@ -51,7 +68,7 @@ raisedBy (suc n) c = raisedBy n (raised true c)
 
 -- ---- places
 
--- q is a place of the track: forward below its end, backward not below its start
+-- q is on the track: forward below its end, backward not below its start
 pub record On (k : Track) (q : ℕ) : Type 0 where
   pub here : q < k .count
   pub below : k .backwards ≡ false → q < k .high
@@ -60,10 +77,10 @@ pub record On (k : Track) (q : ℕ) : Type 0 where
   pub inside : k .high ≤ k .count
   pub few : k .count ≤ 16777216
 
--- the same as a test, but for what the sound gives
+-- the same as a test, except for what follows from the sound
 abbrev pub onTrack : Track → ℕ → Bool
 onTrack k q = ltb q (k .count) && cond (k .backwards) (leb (k .low) q) (ltb q (k .high))
 
--- n steps and the window's four end on the track: a loop has no end
+-- n steps and the window's four frames stay on the track; a loop has no end
 abbrev pub roomy : Track → ℕ → ℕ → Bool
 roomy k n q = k .looped || cond (k .backwards) (leb (k .low + 4 + n) q) (ltb (q + 4 + n) (k .high))

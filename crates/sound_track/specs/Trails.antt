@@ -1,4 +1,4 @@
--- Moving parts whose window is the transport's trail: the four frames at the four places last passed.
+-- Trails: moving parts whose window is the four frames at the last four positions of the track.
 use Prim.Native.Nat.{ℕ, _+_, _*_, _≤_, _<_}
 use mathlib.Core.Path.{_≡_}
 use mathlib.Core.Bool.{Bool, true, false, _&&_, cond}
@@ -17,11 +17,11 @@ use Rattle.sound_track.specs.Tracks.{next, On, onTrack, roomy}
 
 -- ---- the trail
 
--- frame p of a sound whose places begin at o, with its number
+-- frame p of a sound whose positions begin at o, with its frame index
 abbrev pub seen : List Float → ℕ → ℕ → RecentFrame
 seen snd o p = record { frame = frameOf snd (o + p); «frame_index» = p }
 
--- the window once the transport has passed q and the three places after it
+-- the window after the transport has passed q and the next three positions
 abbrev pub passed : List Float → Track → ℕ → Resampler
 passed snd k q =
     let b = next k q in
@@ -32,7 +32,7 @@ passed snd k q =
       «time_until_empty» = 4;
     }
 
--- the place that comes after these four
+-- the position after these four
 abbrev pub ahead : Track → ℕ → ℕ
 ahead k q = next k (next k (next k (next k q)))
 
@@ -46,7 +46,7 @@ trailOf snd k m w q =
       resampler = passed snd k q;
     }
 
--- the track lies in the sound
+-- the track is inside the sound
 pub record Lies (snd : List Float) (k : Track) : Type 0 where
   pub some : k .low < k .high
   pub inside : k .high ≤ k .count
@@ -61,7 +61,8 @@ abbrev pub same : Float → Float → Bool
 same a b = cond (eq a b) (eqb (toBits binary32 a) (toBits binary32 b)) false
 
 abbrev pub sameEntry : RecentFrame → RecentFrame → Bool
-sameEntry a b = eqb (a .«frame_index») (b .«frame_index») && same (a .frame .left) (b .frame .left) && same (a .frame .right) (b .frame .right)
+sameEntry a b = eqb (a .«frame_index») (b .«frame_index») && same (a .frame .left) (b .frame .left)
+    && same (a .frame .right) (b .frame .right)
 
 abbrev pub sameWindow : Resampler → Resampler → Bool
 sameWindow a b =
@@ -71,17 +72,18 @@ sameWindow a b =
     && sameEntry (getD (a .frames) 2 blank) (getD (b .frames) 2 blank)
     && sameEntry (getD (a .frames) 3 blank) (getD (b .frames) 3 blank)
 
--- the place that a trail would begin at: entry 0's number
+-- the position at which a trail would begin: entry 0's frame index
 abbrev pub firstPlace : Moving → ℕ
 firstPlace m = (getD (m .resampler .frames) 0 blank) .«frame_index»
 
--- what moves is the trail from its first place on, and the next update pushes a frame
+-- the window is the trail from its first position on, and the next update pushes a frame
 unfoldable pub isTrail : List Float → Track → Moving → Bool
 isTrail snd k m =
     let q = firstPlace m in
-    m .transport .playing && onTrack k q && roomy k 0 q && eqb (m .transport .position) (ahead k q) && sameWindow (m .resampler) (passed snd k q)
+    m .transport .playing && onTrack k q && roomy k 0 q && eqb (m .transport .position) (ahead k q)
+    && sameWindow (m .resampler) (passed snd k q)
 
--- the same by what it gives
+-- the same as named facts
 pub record Trailing (snd : List Float) (k : Track) (m : Moving) : Type 0 where
   pub is : m ≡ trailOf snd k m (m .wraps) (firstPlace m)
   pub on : On k (firstPlace m)

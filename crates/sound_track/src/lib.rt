@@ -1,12 +1,22 @@
-// The window as the transport's own trail. While a sound plays on, the window's four frames are those of the four places last
-// passed; they are then read where they lie in the sound, and a step only moves the place of the first.
+// The track. During uninterrupted playback the window equals four neighbouring frames of the track (a "trail"), so
+// the fast path reads them in the sound and keeps only the position of the first.
 ghost use mathlib.Core.Path.{_≡_};
 ghost use mathlib.Core.Bool.{true, false};
 ghost use Prim.Native.Nat.{_+_, _*_, _<_};
 ghost use lib.ListN.{length};
 ghost use Rattle.frame.specs.Frames.{frameOf};
 ghost use Rattle.sound_track.specs.Tracks.{trackOf, next, nexts, counts, rounds, raisedBy, On, onTrack, roomy};
-ghost use Rattle.sound_track.specs.Trails.{seen, passed, trailOf, Lies, same, sameEntry, sameWindow, isTrail, Trailing};
+ghost use Rattle.sound_track.specs.Trails.{
+  seen,
+  passed,
+  trailOf,
+  Lies,
+  same,
+  sameEntry,
+  sameWindow,
+  isTrail,
+  Trailing,
+};
 use frame::Frame;
 use playback_position::FrameRange;
 use resampler::RecentFrame;
@@ -16,8 +26,8 @@ use sound_update::Moving;
 use sound_update::Wraps;
 use transport::Transport;
 
-// The way of a transport that plays on: forward up to high and on from low, or backward down to low and on from high - 1.
-// Where it does not loop it ends there. Its count places begin at start in the sound.
+// The positions that uninterrupted playback passes: forward up to high and again from low, or backward down to low
+// and again from high - 1. Without a loop it ends there. Its `count` positions begin at `start` in the sound.
 pub struct Track {
     pub start: usize,
     pub count: usize,
@@ -52,7 +62,7 @@ pub fn track_of(loop_region: FrameRange, course: Course) -> Track
 
 // ---- forward
 
-// The place after this one.
+// The next position forward.
 pub fn after(track: Track, at: usize) -> usize
     requires { ⌜ On track at ⌝ }
     requires { ⌜ track .backwards ≡ false ⌝ }
@@ -63,7 +73,7 @@ pub fn after(track: Track, at: usize) -> usize
     if on == track.high { track.low } else { on }
 }
 
-// The place n steps after this one.
+// The position n steps forward.
 pub fn after_steps(track: Track, at: usize, n: usize) -> usize
     requires { ⌜ On track at ⌝ }
     requires { ⌜ n < 1000 ⌝ }
@@ -83,7 +93,7 @@ pub fn after_steps(track: Track, at: usize, n: usize) -> usize
     track.low + over % round
 }
 
-// Whether n steps, and the window's four, end on the track.
+// Whether n steps and the window's four frames stay on the track.
 pub fn has_room_after(track: Track, at: usize, n: usize) -> bool
     requires { ⌜ On track at ⌝ }
     requires { ⌜ n < 1000 ⌝ }
@@ -95,7 +105,7 @@ pub fn has_room_after(track: Track, at: usize, n: usize) -> bool
 
 // ---- backward
 
-// The place before this one.
+// The next position backward.
 pub fn before(track: Track, at: usize) -> usize
     requires { ⌜ On track at ⌝ }
     requires { ⌜ track .backwards ≡ true ⌝ }
@@ -109,7 +119,7 @@ pub fn before(track: Track, at: usize) -> usize
     }
 }
 
-// The place n steps before this one.
+// The position n steps backward.
 pub fn before_steps(track: Track, at: usize, n: usize) -> usize
     requires { ⌜ On track at ⌝ }
     requires { ⌜ n < 1000 ⌝ }
@@ -129,7 +139,7 @@ pub fn before_steps(track: Track, at: usize, n: usize) -> usize
     track.high - 1 - short % round
 }
 
-// Whether n steps, and the window's four, end on the track.
+// Whether n steps and the window's four frames stay on the track.
 pub fn has_room_before(track: Track, at: usize, n: usize) -> bool
     requires { ⌜ On track at ⌝ }
     requires { ⌜ n < 1000 ⌝ }
@@ -174,7 +184,7 @@ fn has_room(track: Track, at: usize) -> bool
     }
 }
 
-// How often n steps go round.
+// How often n steps wrap.
 fn rounds(track: Track, at: usize, n: usize) -> usize
     requires { ⌜ On track at ⌝ }
     requires { ⌜ n < 4294967296 ⌝ }
@@ -193,7 +203,7 @@ fn rounds(track: Track, at: usize, n: usize) -> usize
     1 + (at + n - track.high) / round
 }
 
-// As many more; a count stands still at its limit.
+// A count plus this many; it stays at its limit.
 fn raise_by(count: u32, n: usize) -> u32
     ensures { λ r. ⌜ r ≡ raisedBy n count ⌝ }
 {
@@ -205,7 +215,7 @@ fn raise_by(count: u32, n: usize) -> u32
     }
 }
 
-// The counts of wraps after n steps from a place.
+// The counts of wraps after n steps from a position.
 pub fn wraps_after(track: Track, at: usize, n: usize, wraps: Wraps) -> Wraps
     requires { ⌜ On track at ⌝ }
     requires { ⌜ n < 4294967296 ⌝ }
@@ -238,7 +248,7 @@ pub fn frame_in(sound: &[f32], i: usize) -> Frame
     }
 }
 
-// The frame at a place of the track.
+// The frame at a position of the track.
 pub fn frame_at(sound: &[f32], track: Track, at: usize) -> Frame
     requires { ⌜ Lies (now sound) track ⌝ }
     requires { ⌜ On track at ⌝ }
@@ -258,7 +268,7 @@ fn entry_at(sound: &[f32], track: Track, at: usize) -> RecentFrame
     }
 }
 
-// The moving parts with the trail that begins at a place, and these counts of wraps.
+// The moving part whose window is the trail from a position on, with these counts of wraps.
 pub fn trail_at(moving: Moving, sound: &[f32], track: Track, at: usize, wraps: Wraps) -> Moving
     requires { ⌜ Lies (now sound) track ⌝ }
     requires { ⌜ On track at ⌝ }
@@ -294,7 +304,7 @@ pub fn trail_at(moving: Moving, sound: &[f32], track: Track, at: usize, wraps: W
 
 // ---- the test
 
-// Equal bit for bit. A NaN equals nothing: its window plays frame by frame.
+// Equal bit for bit. A NaN equals nothing, so its window takes the slow path.
 fn is_same(a: f32, b: f32) -> bool
     ensures { λ r. ⌜ r ≡ same a b ⌝ }
     ensures { λ r. ⌜ (r ≡ true → a ≡ b) ⌝ }
@@ -335,7 +345,7 @@ fn is_same_window(a: Resampler, b: Resampler) -> bool
         & is_same_entry(a3, b3)
 }
 
-// Whether what moves is the trail from the window's first place on, with room for the next update.
+// Whether the window is a trail, and the next update pushes a frame.
 pub fn is_trail(moving: Moving, sound: &[f32], track: Track) -> bool
     requires { ⌜ Lies (now sound) track ⌝ }
     requires { ⌜ length (moving .resampler .frames) ≡ 4 ⌝ }

@@ -1,3 +1,3 @@
--- One update of what moves, updates in a row, and the window in two parts.
+-- One update of the moving part, several updates, and the window in two parts.
 pub mod Updates
 pub mod Windows

@@ -1,4 +1,4 @@
--- One update of what moves (docs/assurance/RULES.md, "Creation, commands, block"), and what it asks.
+-- One update of the moving part (docs/assurance/RULES.md, "Creation, commands, block"), and what it requires.
 use Prim.Native.Nat.{ℕ, zero, suc, _+_, _*_, _≤_}
 use mathlib.Core.Bool.{Bool, not, _&&_, cond}
 use mathlib.Core.List.{List}
@@ -20,16 +20,17 @@ use Rattle.sound_update.specs.declared.Wraps.{Wraps}
 use Rattle.sound_update.specs.declared.Moving.{Moving}
 use Rattle.sound_update.specs.declared.Course.{Course}
 
--- frame i of the sound, none when not playing
+-- frame i of the sound, or no frame if not playing
 abbrev pub sounding : List Float → Bool → ℕ → MaybeFrame
 sounding snd playing i = cond playing (maybe.Present (frameOf snd i)) maybe.Absent
 
 -- the window with the frame at the position pushed
 unfoldable pub pushed : List Float → Course → Moving → Resampler
 unfolding push
-pushed snd c m = push (m .resampler) (sounding snd (m .transport .playing) (c .start + m .transport .position)) (m .transport .position)
+pushed snd c m = push (m .resampler) (sounding snd (m .transport .playing) (c .start + m .transport .position))
+    (m .transport .position)
 
--- the transport one step on
+-- the transport after one step
 unfoldable pub stepped : Course → Transport → Transport
 unfolding forward backward
 stepped c t = cond (c .backwards) (backward t) (forward (c .«num_frames») t)
@@ -38,24 +39,33 @@ stepped c t = cond (c .backwards) (backward t) (forward (c .«num_frames») t)
 abbrev pub uncounted : Wraps
 uncounted = record { forward = 0; backward = 0 }
 
--- one more where it is asked for; a count stands still at 4,294,967,295
+-- one more if the flag is set; a count stays at 4,294,967,295
 abbrev pub raised : Bool → ℕ → ℕ
 raised more n = cond (more && ltb n 4294967295) (n + 1) n
 
--- the counts after a step of t: one more for its direction where it takes the wrap, however many lengths it wraps
+-- the counts after a step of t: one more for its direction if it wraps, however many lengths it covers
 unfoldable pub counted : Course → Transport → Wraps → Wraps
 unfolding wraps
 counted c t k =
     let w = wraps (c .backwards) t in
-    record { forward = raised (w && not (c .backwards)) (k .forward); backward = raised (w && c .backwards) (k .backward) }
+    record {
+      forward = raised (w && not (c .backwards)) (k .forward);
+      backward = raised (w && c .backwards) (k .backward);
+    }
 
--- push the frame at the position, step the transport and count its wrap, and if it is not playing and the count is 0, become Stopped
+-- push the frame at the position, step the transport and count its wrap, and if it is not playing and the count is 0,
+-- become Stopped
 unfoldable pub updated : List Float → Course → Moving → Moving
 unfolding pushed stepped counted
 updated snd c m =
     let t = stepped c (m .transport) in
     let w = pushed snd c m in
-    record { state = cond (not (t .playing) && isEmpty w) state.Stopped (m .state); transport = t; resampler = w; wraps = counted c (m .transport) (m .wraps) }
+    record {
+      state = cond (not (t .playing) && isEmpty w) state.Stopped (m .state);
+      transport = t;
+      resampler = w;
+      wraps = counted c (m .transport) (m .wraps);
+    }
 
 -- n updates, one after the other
 unfoldable pub updates : ℕ → List Float → Course → Moving → Moving
@@ -63,7 +73,7 @@ unfolding updated
 updates zero snd c m = m
 updates (suc n) snd c m = updates n snd c (updated snd c m)
 
--- what moves, from its parts: the loop, the state, the place, the counts, and the window
+-- the moving part from its pieces: loop, state, position, counts and window
 abbrev pub movingOf : FrameRange → PlaybackState → ℕ → Bool → Wraps → Resampler → Moving
 movingOf loop s p playing k w =
     record {
@@ -73,7 +83,7 @@ movingOf loop s p playing k w =
       wraps = k;
     }
 
--- what an update asks: a transport formed in its N frames, which lie in the sound
+-- what an update requires: a transport that is well formed in its N frames, which are inside the sound
 pub record Able (snd : List Float) (c : Course) (m : Moving) : Type 0 where
   pub transportFormed : FormedTransport (c .«num_frames») (m .transport)
   pub few : c .«num_frames» ≤ 16777216

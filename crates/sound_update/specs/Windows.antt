@@ -1,4 +1,4 @@
--- The window in two parts, its frames and its numbers, and put together again.
+-- The window split into frames and frame indices, and put together again.
 use Prim.Native.Nat.{ℕ}
 use mathlib.Core.List.{[], _∷_}
 use lib.ListN.{getD}
@@ -10,14 +10,20 @@ use Rattle.sound_update.specs.declared.window.Numbers.{Numbers}
 abbrev pub framesOf : Resampler → Frames
 framesOf w = record { a = nth w 0; b = nth w 1; c = nth w 2; d = nth w 3 }
 
--- the number of entry i
+-- the frame index of entry i
 abbrev pub number : Resampler → ℕ → ℕ
 number w i = (getD (w .frames) i blank) .«frame_index»
 
 abbrev pub numbersOf : Resampler → Numbers
-numbersOf w = record { a = number w 0; b = number w 1; c = number w 2; d = number w 3; «time_until_empty» = w .«time_until_empty» }
+numbersOf w = record {
+  a = number w 0;
+  b = number w 1;
+  c = number w 2;
+  d = number w 3;
+  «time_until_empty» = w .«time_until_empty»;
+}
 
--- the window of four frames and their numbers
+-- the window of four frames and their indices
 abbrev pub windowOf : Frames → Numbers → Resampler
 windowOf f n =
     record {

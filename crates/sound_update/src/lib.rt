@@ -1,11 +1,22 @@
-// What moves in a voice, and one update of it: the frame at the position is pushed, and the transport steps (kira's StaticSound::update_position).
+// The moving part of a voice, and one update: push the frame at the position, then step the transport (kira's
+// StaticSound::update_position).
 ghost use mathlib.Core.Path.{_≡_};
 ghost use mathlib.Core.Bool.{true};
 ghost use Prim.Native.Nat.{_+_, _*_, _<_};
 ghost use lib.ListN.{length};
 ghost use Rattle.frame.specs.Frames.{frameOf};
 ghost use Rattle.transport.specs.WellFormed.{FormedTransport};
-ghost use Rattle.sound_update.specs.Updates.{sounding, pushed, stepped, raised, counted, updated, updates, movingOf, Able};
+ghost use Rattle.sound_update.specs.Updates.{
+  sounding,
+  pushed,
+  stepped,
+  raised,
+  counted,
+  updated,
+  updates,
+  movingOf,
+  Able,
+};
 
 mod window;
 
@@ -19,7 +30,7 @@ use window::frames_of;
 use window::numbers_of;
 use window::window_of;
 
-// How often the loop was wrapped: forward steps that took the wrap, and backward ones.
+// The wraps so far: forward steps that wrapped, and backward ones.
 pub struct Wraps {
     pub forward: u32,
     pub backward: u32,
@@ -33,7 +44,7 @@ pub struct Moving {
     pub wraps: Wraps,
 }
 
-// What an update reads and leaves as it is.
+// What an update reads and does not change.
 pub struct Course {
     pub start: usize,
     pub num_frames: usize,
@@ -73,7 +84,7 @@ fn step(transport: Transport, course: Course) -> Transport
     }
 }
 
-// One more; a count stands still at its limit.
+// One more; a count stays at its limit.
 fn raise(count: u32) -> u32
     ensures { λ r. ⌜ r ≡ raised true count ⌝ }
 {
@@ -101,7 +112,7 @@ fn count(transport: Transport, course: Course, wraps: Wraps) -> Wraps
 }
 
 impl Moving {
-    // Pushes the frame at the position; none when the transport is not playing.
+    // Pushes the frame at the position, or no frame if the transport is not playing.
     pub fn push_frame_to_resampler(self, course: Course, sound: &[f32]) -> Resampler
         requires { ⌜ Able (now sound) course self ⌝ }
         ensures { λ r. ⌜ r ≡ pushed (now (sound .entry)) course self ⌝ }
@@ -112,7 +123,8 @@ impl Moving {
         resampler.push_frame(frame, transport.position)
     }
 
-    // Pushes the frame at the position and steps; where nothing plays and nothing is left to hear, the voice has stopped.
+    // Pushes the frame at the position and steps. If it is not playing and the window is empty, the voice becomes
+    // Stopped.
     pub fn update_position(self, course: Course, sound: &[f32]) -> Moving
         requires { ⌜ Able (now sound) course self ⌝ }
         ensures { λ r. ⌜ r ≡ updated (now (sound .entry)) course self ⌝ }
@@ -139,8 +151,8 @@ impl Moving {
         }
     }
 
-    // As many updates as there are steps. What moves goes round the loop in parts: neither padding nor the loop's own frames
-    // are copied, and no frame number lies beside the samples that are computed with.
+    // As many updates as steps. The loop carries the moving part in pieces, so that neither padding nor the loop
+    // region is copied, and no frame index is in the same vector as the samples.
     pub fn update_positions(self, course: Course, sound: &[f32], steps: usize) -> Moving
         requires { ⌜ Able (now sound) course self ⌝ }
         ensures { λ r. ⌜ r ≡ updates steps (now (sound .entry)) course self ⌝ }
@@ -174,7 +186,7 @@ impl Moving {
     }
 }
 
-// What moves, from its parts: the loop, the state, the place, the counts, and the window.
+// The moving part from its pieces: loop, state, position, counts and window.
 fn moving_of(
     loop_region: FrameRange,
     state: PlaybackState,

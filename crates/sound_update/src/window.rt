@@ -1,4 +1,4 @@
-// The window in two parts, its frames and its numbers, and put together again.
+// The window split into frames and frame indices, and put together again.
 ghost use mathlib.Core.Path.{_≡_};
 ghost use Rattle.sound_update.specs.Windows.{framesOf, numbersOf, windowOf};
 use frame::Frame;
@@ -13,7 +13,7 @@ pub struct Frames {
     pub d: Frame,
 }
 
-// The window's numbers: those of its four frames, and the count.
+// The window's frame indices, and the count.
 pub struct Numbers {
     pub a: usize,
     pub b: usize,

@@ -1,4 +1,5 @@
--- A start that is due at a tick of 32 bits, which wraps (request #112): when it is reached, the answer that a block's start signal gives, and the signal of a block's later part.
+-- A start that is due at a 32-bit tick, which wraps (request #112): when it is reached, the answer of a start signal,
+-- and the signal of a block's later part.
 use Prim.Native.Nat.{ℕ, _+_, _-_, _%_}
 use mathlib.Core.Bool.{Bool, cond}
 use lib.Dec.{ltb}
@@ -18,11 +19,11 @@ half = 2147483648
 abbrev pub since : ℕ → ℕ → ℕ
 since due now = (now + (turn - due)) % turn
 
--- whether a due tick is reached; exactly half a turn off is not
+-- whether a due tick is reached; exactly half the range away is not
 abbrev pub reached : ℕ → ℕ → Bool
 reached due now = ltb (since due now) half
 
--- the answer that a start signal gives: a due tick that is reached says now, any other is still waiting
+-- the answer that a start signal means: a due tick that is reached means now, any other still waiting
 abbrev pub answering : StartSignal → StartAnswer
 answering (start.Answer a) = a
 answering (start.Tick due now) = cond (reached due now) answer.Now answer.Waiting

@@ -1,16 +1,17 @@
-// The sound's own start, as a block brings it: an answer, or a due tick with the tick now, on a counter of 32 bits that wraps.
+// A block's signal for the sound's start: an answer, or a due tick with the current tick, on a 32-bit counter that
+// wraps.
 ghost use mathlib.Core.Path.{_≡_};
 ghost use Rattle.start_time.specs.Ticks.{reached, answering};
 use playback_state_manager::StartAnswer;
 
-// What a block is told of the sound's own start.
+// The start signal of a block.
 pub enum StartSignal {
     Answer(StartAnswer),
-    // the tick at which the start is due, and the tick now
+    // the tick at which the start is due, and the current tick
     Tick(u32, u32),
 }
 
-// Whether a due tick is reached: now minus due, wrapped to 32 bits, is below half a turn.
+// Whether a due tick is reached: now minus due, wrapped to 32 bits, is below half the range.
 fn is_reached(due: u32, now: u32) -> bool
     ensures { λ r. ⌜ r ≡ reached due now ⌝ }
 {
@@ -18,7 +19,7 @@ fn is_reached(due: u32, now: u32) -> bool
 }
 
 impl StartSignal {
-    // The answer that the signal gives: a due tick that is reached says now, any other is still waiting.
+    // The answer that the signal means: a due tick that is reached means now, any other still waiting.
     pub fn answer(self) -> StartAnswer
         ensures { λ r. ⌜ r ≡ answering self ⌝ }
     {

@@ -1,4 +1,5 @@
--- The block's entries, accepted and refused together: block, block into a mix, stretch (docs/assurance/RULES.md, refusals 1 and 9 to 12).
+-- The entries for accepted and refused calls: block, block into a mix, stretch (docs/assurance/RULES.md, refusals 1
+-- and 9 to 12).
 use Prim.Native.Nat.{ℕ, _+_, _-_, _*_, _/_, _%_}
 use mathlib.Core.Bool.{Bool, _&&_, cond}
 use mathlib.Core.List.{List, [], _++_}
@@ -19,7 +20,7 @@ use Rattle.sound_state.specs.Refusals.{unless}
 use Rattle.sound_slow_path.specs.Plays.{Outcome, acceptedWith}
 use Rattle.sound_block.specs.Blocks.{block}
 
--- the number of a refused block, 0 where it is accepted; `placed` says whether the output holds it
+-- the refusal of a block, 0 if it is accepted; `placed` says whether it fits into the output
 unfoldable pub refusedBlock : ℕ → StaticSound → Float → Lanes → Bool → ℕ
 refusedBlock len v dt b placed =
     unless (ours len v) 1
@@ -30,7 +31,10 @@ refusedBlock len v dt b placed =
 
 -- the given state and samples, 0 steps, and 4 for the count
 abbrev pub refusedWith : ℕ → StaticSound → List Float → Outcome
-refusedWith k v out = record { answer = record { refusal = k; sound = v; steps = 0; «lowest_count» = 4 }; samples = out }
+refusedWith k v out = record {
+  answer = record { refusal = k; sound = v; steps = 0; «lowest_count» = 4 };
+  samples = out;
+}
 
 -- the output's length is that of the block
 abbrev pub holds : Lanes → List Float → Bool
@@ -43,11 +47,11 @@ processed snd v dt b g out =
     let p = block snd dt (rows b) g v in
     cond (eqb k 0) (acceptedWith p (p .samples)) (refusedWith k v out)
 
--- the mix has whole frames, and n of them from the frame given on
+-- the mix has whole frames, and n of them from the given frame on
 abbrev pub room : ℕ → ℕ → List Float → Bool
 room from n mix = eqb (length mix % 2) 0 && leb (from + n) (length mix / 2)
 
--- the mix with a block's samples from the frame given on, every other sample unchanged
+-- the mix with a block's samples from the given frame on, every other sample unchanged
 abbrev pub mixed : ℕ → ℕ → List Float → List Float → List Float
 mixed from n mix samples = take (2 * from) mix ++ (samples ++ drop (2 * (from + n)) mix)
 
@@ -59,7 +63,8 @@ processedInto snd v dt b g mix from =
     let p = block snd dt (rows b) g v in
     cond (eqb k 0) (acceptedWith p (mixed from n mix (p .samples))) (refusedWith k v mix)
 
--- a block whose numbers are given once: that of lanes which repeat them, a frame for each two samples of the output
+-- a block whose numbers are given once: the block over lanes that repeat them, one frame for each two samples of the
+-- output
 abbrev pub processedHeld : List Float → StaticSound → Float → Held → Signals → List Float → Outcome
 processedHeld snd v dt x g out = processed snd v dt (once x (length out / 2)) g out
 
@@ -67,19 +72,19 @@ processedHeld snd v dt x g out = processed snd v dt (once x (length out / 2)) g 
 abbrev pub processedHeldInto : List Float → StaticSound → Float → Held → Signals → List Float → ℕ → ℕ → Outcome
 processedHeldInto snd v dt x g mix from n = processedInto snd v dt (once x n) g mix from
 
--- the sound's own part: twice start to twice end of the slice, or all of it
+-- the stretch: samples 2 * start to 2 * end of the slice, or all of them
 abbrev pub sliced : FrameRange → List Float → List Float
 sliced range.Absent snd = snd
 sliced (range.Frames s e) snd = take (2 * e - 2 * s) (drop (2 * s) snd)
 
--- the stretch; refused, the empty part
+-- the stretch; if refused, the empty part
 unfoldable pub stretchOf : List Float → StaticSound → List Float
 stretchOf snd v = cond (ours (length snd) v) (sliced (v .setup .slice) snd) []
 
--- where the stretch begins, in samples; refused, at their start
+-- where the stretch begins, in samples; if refused, at their start
 unfoldable pub stretchAt : ℕ → StaticSound → ℕ
 stretchAt len v = cond (ours len v) (2 * offset (v .setup)) 0
 
--- the place of sample n of those lent at p: a block of memory, and the bytes into it
+-- the address of sample n of the samples at p: a block of memory, and the offset in bytes
 abbrev pub sampleAt : ℕ × ℕ → ℕ → ℕ × ℕ
 sampleAt p n = (p .0, n * 4 + p .1)

@@ -1,4 +1,4 @@
-// A block into an output of its own, judged as a whole before it is played (kira's StaticSound::process).
+// A block into an output of its own: checks the whole input, then plays it (kira's StaticSound::process).
 ghost use mathlib.Core.Path.{_≡_};
 ghost use Prim.Native.Nat.{_*_};
 ghost use lib.Dec.{eqb};
@@ -20,7 +20,7 @@ use sound_slow_path::Timed;
 use sound_state::StaticSound;
 pub use stretches::stretch;
 
-// Whether an output of so many samples is that of so many frames.
+// Whether an output of this many samples has this many frames.
 fn holds(samples: usize, frames: usize) -> bool
     ensures { λ r. ⌜ r ≡ eqb samples (2 * frames) ⌝ }
 {
@@ -38,7 +38,9 @@ fn refusal_of(
     rate: &[f64],
     placed: bool,
 ) -> u32
-    ensures { λ r. ⌜ r ≡ refusedBlock samples (timed .voice) (timed .dt) (five (now (fade .entry)) (now (volume .entry)) (now (left .entry)) (now (right .entry)) (now (rate .entry))) placed ⌝ }
+    ensures { λ r. ⌜ r ≡ refusedBlock samples (timed .voice) (timed .dt)
+        (five (now (fade .entry)) (now (volume .entry)) (now (left .entry)) (now (right .entry)) (now (rate .entry)))
+        placed ⌝ }
 {
     let voice = timed.voice;
     if !voice.is_well_formed(samples) {
@@ -77,7 +79,10 @@ pub fn process(
     signals: Signals,
     out: &mut [f32],
 ) -> Processed
-    ensures { λ r. ⌜ record { answer = r; samples = now (out .exit) } ≡ processed (now (sound .entry)) voice dt (five (now (fade .entry)) (now (volume .entry)) (now (left .entry)) (now (right .entry)) (now (rate .entry))) signals (now (out .entry)) ⌝ }
+    ensures { λ r. ⌜ record { answer = r; samples = now (out .exit) }
+        ≡ processed (now (sound .entry)) voice dt
+        (five (now (fade .entry)) (now (volume .entry)) (now (left .entry)) (now (right .entry)) (now (rate .entry)))
+        signals (now (out .entry)) ⌝ }
 {
     let placed = holds(out.len(), rate.len());
     let refusal = refusal_of(

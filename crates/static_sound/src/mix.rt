@@ -13,7 +13,7 @@ use sound_slow_path::Processed;
 use sound_slow_path::Timed;
 use sound_state::StaticSound;
 
-// Whether a mix of so many samples has whole frames, and so many of them from the frame given on.
+// Whether a mix of this many samples has whole frames, and enough of them from the given frame on.
 pub(crate) fn has_room(from: usize, frames: usize, samples: usize) -> bool
     ensures { λ r. ⌜ r ≡ (eqb (samples % 2) 0 && leb (from + frames) (samples / 2)) ⌝ }
 {
@@ -26,7 +26,7 @@ pub(crate) fn has_room(from: usize, frames: usize, samples: usize) -> bool
     frames <= samples / 2 - from
 }
 
-// A block into the middle of a longer mix, from the frame given on; every other sample stays.
+// A block into the middle of a longer mix, from the given frame on; no other sample changes.
 pub fn process_into(
     voice: StaticSound,
     sound: &[f32],
@@ -40,7 +40,10 @@ pub fn process_into(
     mix: &mut [f32],
     from: usize,
 ) -> Processed
-    ensures { λ r. ⌜ record { answer = r; samples = now (mix .exit) } ≡ processedInto (now (sound .entry)) voice dt (five (now (fade .entry)) (now (volume .entry)) (now (left .entry)) (now (right .entry)) (now (rate .entry))) signals (now (mix .entry)) from ⌝ }
+    ensures { λ r. ⌜ record { answer = r; samples = now (mix .exit) }
+        ≡ processedInto (now (sound .entry)) voice dt
+        (five (now (fade .entry)) (now (volume .entry)) (now (left .entry)) (now (right .entry)) (now (rate .entry)))
+        signals (now (mix .entry)) from ⌝ }
 {
     let placed = has_room(from, rate.len(), mix.len());
     let refusal = refusal_of(

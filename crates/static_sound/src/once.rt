@@ -12,7 +12,8 @@ use sound_slow_path::Processed;
 use sound_slow_path::Timed;
 use sound_state::StaticSound;
 
-// The lowest number that applies to a block of so many frames, 0 for none. Where there are frames, the numbers are judged as one frame's.
+// The lowest number that applies to a block of this many frames, 0 for none. If there are frames, the numbers are
+// checked as one frame's.
 fn refusal_held(timed: Timed, samples: usize, held: Held, frames: usize, placed: bool) -> u32
     ensures { λ r. ⌜ r ≡ refusedBlock samples (timed .voice) (timed .dt) (once held frames) placed ⌝ }
 {
@@ -48,7 +49,7 @@ fn refusal_held(timed: Timed, samples: usize, held: Held, frames: usize, placed:
     )
 }
 
-// A block into an output of its own: as many frames as it has room for.
+// A block into an output of its own: as many frames as fit.
 pub fn process_held(
     voice: StaticSound,
     sound: &[f32],
@@ -57,7 +58,8 @@ pub fn process_held(
     signals: Signals,
     out: &mut [f32],
 ) -> Processed
-    ensures { λ r. ⌜ record { answer = r; samples = now (out .exit) } ≡ processedHeld (now (sound .entry)) voice dt held signals (now (out .entry)) ⌝ }
+    ensures { λ r. ⌜ record { answer = r; samples = now (out .exit) }
+        ≡ processedHeld (now (sound .entry)) voice dt held signals (now (out .entry)) ⌝ }
 {
     let frames = out.len() / 2;
     let placed = holds(out.len(), frames);
@@ -73,7 +75,7 @@ pub fn process_held(
     block_held(Told { voice, dt, signals }, sound, held, out)
 }
 
-// A block of so many frames into the middle of a longer mix, from the frame given on; every other sample stays.
+// A block of this many frames into the middle of a longer mix, from the given frame on; no other sample changes.
 pub fn process_held_into(
     voice: StaticSound,
     sound: &[f32],
@@ -84,7 +86,8 @@ pub fn process_held_into(
     from: usize,
     frames: usize,
 ) -> Processed
-    ensures { λ r. ⌜ record { answer = r; samples = now (mix .exit) } ≡ processedHeldInto (now (sound .entry)) voice dt held signals (now (mix .entry)) from frames ⌝ }
+    ensures { λ r. ⌜ record { answer = r; samples = now (mix .exit) }
+        ≡ processedHeldInto (now (sound .entry)) voice dt held signals (now (mix .entry)) from frames ⌝ }
 {
     let placed = has_room(from, frames, mix.len());
     let refusal = refusal_held(Timed { voice, dt }, sound.len(), held, frames, placed);

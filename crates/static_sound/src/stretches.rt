@@ -1,4 +1,4 @@
-// The part of the lent sound that a voice plays.
+// The part of the sound that a voice plays.
 ghost use mathlib.Core.Path.{_≡_};
 ghost use lib.ListN.{length};
 ghost use denote.Ref.{ptr};
@@ -6,7 +6,8 @@ ghost use Rattle.static_sound.specs.Entries.{stretchOf, stretchAt, sampl
 use playback_position::FrameRange;
 use sound_state::StaticSound;
 
-// The sound's own part, as it is lent and where it lies: that of the slice, or all of it; refused, the empty part at their start.
+// The part of the sound's samples, and where it is: the slice's, or all of them; if refused, the empty part at their
+// start.
 pub fn stretch(voice: StaticSound, sound: &[f32]) -> &[f32]
     ensures { λ r. ⌜ now r ≡ stretchOf (now (sound .entry)) voice ⌝ }
     ensures { λ r. ⌜ ptr r ≡ sampleAt (ptr (sound .entry)) (stretchAt (length (now (sound .entry))) voice) ⌝ }

@@ -1,2 +1,2 @@
--- What the contracts of a table cite.
+-- The definitions that a table's contract cites.
 pub mod Largest

@@ -1,4 +1,5 @@
--- A voice reads a slot and sets that loop by a command set (request #109). The slot is judged over all frames of the sound, the command over the voice's N.
+-- A voice reads a slot and sets that loop by a command set (request #109). The slot's loop must lie inside the sound,
+-- the command's inside N.
 use Prim.Native.Nat.{ℕ}
 use mathlib.Core.Bool.{false, cond}
 use mathlib.Core.List.{List}
@@ -32,10 +33,11 @@ loopCommand s =
       «seek_to» = amount.Absent;
     }
 
--- what follows from a read: the table's refusal, with the given voice and position +0; else the command set's answer
+-- after a read: the table's refusal with the given voice and position +0, otherwise the command set's result
 abbrev pub takenFrom : List Float → StaticSound → LoopFound → Commanded
 takenFrom snd v f =
-    cond (eqb (f .refusal) 0) (commanded snd v (loopCommand (f .slot))) (record { refusal = f .refusal; sound = v; position = positiveZero })
+    cond (eqb (f .refusal) 0) (commanded snd v (loopCommand (f .slot)))
+    (record { refusal = f .refusal; sound = v; position = positiveZero })
 
 unfoldable pub taken : List Float → LoopTable → ℕ → StaticSound → Commanded
 taken snd t k v = takenFrom snd v (found t k)

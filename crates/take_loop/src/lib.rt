@@ -1,4 +1,4 @@
-// A voice takes a loop from the table of two halls: the slot is read, and its loop set by a command set.
+// A voice takes a loop from the table: reads the slot, then sets its loop by a command set.
 ghost use mathlib.Core.Path.{_≡_};
 ghost use Rattle.take_loop.specs.Taking.{loopCommand, taken};
 use loop_table::LoopSlot;

@@ -19,6 +19,8 @@ yes n = ltb 0 n
 abbrev pub walked : Float → Moved
 walked x = record { steps = whole x; rest = part x }
 
--- a fraction moved on by an advance: no steps and positive zero where the fraction is not proper, or the advance is above 256
+-- a fraction moved on by an advance: no steps and positive zero where the fraction is not proper, or the advance is
+-- above 256
 unfoldable pub moved : Float → Float → Moved
-moved f a = cond (proper f && le a (fin false 1 (pos 8))) (walked (add binary64 f a)) (record { steps = 0; rest = positiveZero })
+moved f a = cond (proper f && le a (fin false 1 (pos 8))) (walked (add binary64 f a))
+    (record { steps = 0; rest = positiveZero })

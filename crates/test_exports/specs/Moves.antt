@@ -5,10 +5,18 @@ use Rattle.test_exports.specs.Places.{rangeOf, plainRange}
 use Rattle.test_exports.specs.declared.moves.PlainTransport.{PlainTransport}
 
 abbrev pub transportOf : PlainTransport → Transport
-transportOf t = record { position = t .position; «loop_region» = rangeOf (t .«loop_region»); playing = yes (t .playing) }
+transportOf t = record {
+  position = t .position;
+  «loop_region» = rangeOf (t .«loop_region»);
+  playing = yes (t .playing);
+}
 
 abbrev pub plainTransport : Transport → PlainTransport
-plainTransport t = record { position = t .position; «loop_region» = plainRange (t .«loop_region»); playing = bit (t .playing) }
+plainTransport t = record {
+  position = t .position;
+  «loop_region» = plainRange (t .«loop_region»);
+  playing = bit (t .playing);
+}
 
 -- all zeros: the answer where a move asks for more than it is given
 abbrev pub nowhere : PlainTransport

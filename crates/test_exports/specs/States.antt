@@ -1,7 +1,15 @@
 -- States and start answers from their numbers.
 use Prim.Native.Nat.{ℕ}
 use Rattle.playback_state_manager.specs.declared.PlaybackState.{PlaybackState}
-use Rattle.playback_state_manager.specs.declared.PlaybackState.the-variants.{Playing, Pausing, Paused, WaitingToResume, Resuming, Stopping, Stopped}
+use Rattle.playback_state_manager.specs.declared.PlaybackState.the-variants.{
+  Playing,
+  Pausing,
+  Paused,
+  WaitingToResume,
+  Resuming,
+  Stopping,
+  Stopped,
+}
 use Rattle.playback_state_manager.specs.declared.StartAnswer.{StartAnswer}
 use Rattle.playback_state_manager.specs.declared.StartAnswer.the-variants.{Waiting, Now, Never}
 use mathlib.Core.Bool.{cond}

@@ -1,5 +1,5 @@
-// The leaves under plain names, for the host's tests, which compare them with kira's text and with Rust's own. Each takes any input: where a leaf
-// asks for more, the answer outside is said by the contract.
+// The leaves as C functions, for the host's tests, which compare them with kira's code and with Rust's own. Each
+// accepts any input; if a leaf requires more, the contract states the result outside.
 ghost use mathlib.Core.Path.{_≡_};
 ghost use mathlib.Core.Bool.{cond};
 ghost use Rattle.numbers.specs.Words.{positiveZero, finite, finiteClear, isPositiveZero, negative, proper, narrowed};
@@ -32,7 +32,7 @@ fn is_yes(n: u32) -> bool
     n > 0
 }
 
-// Positive zero where x is no proper fraction.
+// Positive zero if x is not a proper fraction.
 #[no_mangle]
 pub extern "C" fn cableowl_test_narrow(x: f64) -> f32
     ensures { λ r. ⌜ r ≡ cond (proper x) (narrowed x) positiveZero ⌝ }
@@ -44,7 +44,7 @@ pub extern "C" fn cableowl_test_narrow(x: f64) -> f32
     }
 }
 
-// The advance counts without its sign. No steps and positive zero where the fraction is not proper, or the advance is above 256.
+// The advance without its sign. No steps and positive zero if the fraction is not proper or the advance is above 256.
 #[no_mangle]
 pub extern "C" fn cableowl_test_advance_by(fraction: f64, advance: f64) -> Moved
     ensures { λ r. ⌜ r ≡ moved fraction (Words.magnitude advance) ⌝ }

@@ -1,4 +1,4 @@
-// A transport as plain numbers, and its moves. Where a move asks for more than it is given, the answer is all zeros.
+// A transport as plain numbers, and its moves. If a move's requirement is not met, the result is all zeros.
 ghost use mathlib.Core.Path.{_≡_};
 ghost use mathlib.Core.Bool.{cond};
 ghost use lib.Dec.{ltb};
@@ -14,7 +14,7 @@ use super::places::range_of;
 use playback_position::FrameRange;
 use transport::Transport;
 
-// Playing where `playing` is not 0.
+// Playing if `playing` is not 0.
 #[repr(C)]
 pub struct PlainTransport {
     pub position: u64,
@@ -54,7 +54,7 @@ fn plain_transport(t: Transport) -> PlainTransport
     }
 }
 
-// What a step back and a seek ask for.
+// What a step back and a seek require.
 fn is_ordered(loop_region: FrameRange) -> bool
     ensures { λ r. ⌜ r ≡ ordered «loop_region» ⌝ }
 {
@@ -64,7 +64,7 @@ fn is_ordered(loop_region: FrameRange) -> bool
     }
 }
 
-// What a step forward asks for.
+// What a step forward requires.
 fn is_formed_transport(t: Transport, num_frames: usize) -> bool
     ensures { λ r. ⌜ r ≡ formedTransport «num_frames» t ⌝ }
 {
@@ -79,7 +79,8 @@ pub extern "C" fn cableowl_test_increment_position(
     t: PlainTransport,
     num_frames: u64,
 ) -> PlainTransport
-    ensures { λ r. ⌜ r ≡ cond (formedTransport «num_frames» (transportOf t)) (plainTransport (forward «num_frames» (transportOf t))) nowhere ⌝ }
+    ensures { λ r. ⌜ r ≡ cond (formedTransport «num_frames» (transportOf t))
+        (plainTransport (forward «num_frames» (transportOf t))) nowhere ⌝ }
 {
     let given = transport_of(t);
     if is_formed_transport(given, num_frames as usize) {
@@ -91,7 +92,8 @@ pub extern "C" fn cableowl_test_increment_position(
 
 #[no_mangle]
 pub extern "C" fn cableowl_test_decrement_position(t: PlainTransport) -> PlainTransport
-    ensures { λ r. ⌜ r ≡ cond (ordered (transportOf t .«loop_region»)) (plainTransport (backward (transportOf t))) nowhere ⌝ }
+    ensures { λ r. ⌜ r ≡ cond (ordered (transportOf t .«loop_region»))
+        (plainTransport (backward (transportOf t))) nowhere ⌝ }
 {
     let given = transport_of(t);
     let loop_region = given.loop_region;
@@ -108,7 +110,8 @@ pub extern "C" fn cableowl_test_seek_to(
     position: u64,
     num_frames: u64,
 ) -> PlainTransport
-    ensures { λ r. ⌜ r ≡ cond (ordered (transportOf t .«loop_region»)) (plainTransport (seek «num_frames» (transportOf t) position)) nowhere ⌝ }
+    ensures { λ r. ⌜ r ≡ cond (ordered (transportOf t .«loop_region»))
+        (plainTransport (seek «num_frames» (transportOf t) position)) nowhere ⌝ }
 {
     let given = transport_of(t);
     let loop_region = given.loop_region;
@@ -136,7 +139,8 @@ pub extern "C" fn cableowl_test_new_transport(
     reverse: u32,
     num_frames: u64,
 ) -> PlainTransport
-    ensures { λ r. ⌜ r ≡ cond (ltb «start_position» «num_frames») (plainTransport (begun «num_frames» (yes reverse) (rangeOf «loop_region») «start_position»)) nowhere ⌝ }
+    ensures { λ r. ⌜ r ≡ cond (ltb «start_position» «num_frames»)
+        (plainTransport (begun «num_frames» (yes reverse) (rangeOf «loop_region») «start_position»)) nowhere ⌝ }
 {
     if start_position < num_frames {
         plain_transport(Transport::new(

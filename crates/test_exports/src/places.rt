@@ -1,4 +1,4 @@
-// Places and regions as plain numbers, and the frames that they name.
+// Positions and regions as plain numbers, and their frames.
 ghost use mathlib.Core.Path.{_≡_};
 ghost use Rattle.playback_position.specs.Positions.{placed, stretched, lawfulRegion};
 ghost use Rattle.test_exports.specs.Answers.{bit};
@@ -8,7 +8,7 @@ use playback_position::FrameRange;
 use playback_position::PlaybackPosition;
 use playback_position::Region;
 
-// In seconds, or in samples where `in_seconds` is 0.
+// In seconds, or in samples if `in_seconds` is 0.
 #[repr(C)]
 pub struct PlainPosition {
     pub in_seconds: u32,
@@ -16,7 +16,7 @@ pub struct PlainPosition {
     pub samples: u64,
 }
 
-// To the end of audio where `end_given` is 0.
+// To the end of audio if `end_given` is 0.
 #[repr(C)]
 pub struct PlainRegion {
     pub start: PlainPosition,
@@ -24,7 +24,7 @@ pub struct PlainRegion {
     pub end: PlainPosition,
 }
 
-// None where `given` is 0.
+// None if `given` is 0.
 #[repr(C)]
 pub struct PlainRange {
     pub given: u32,

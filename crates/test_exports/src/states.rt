@@ -1,4 +1,4 @@
-// The seven states by their numbers, and what becomes of them. A number above 6 counts as 6, and an answer above 2 as 2.
+// The seven states by their numbers, and their changes. A number above 6 counts as 6, and an answer above 2 as 2.
 ghost use mathlib.Core.Path.{_≡_};
 ghost use Rattle.playback_state_manager.specs.States.{number, advancing, pausing, resuming, stopping, settled};
 ghost use Rattle.playback_state_manager.specs.declared.PlaybackState.the-variants.{Stopped};

@@ -3,7 +3,16 @@ ghost use mathlib.Core.Path.{_≡_};
 ghost use Rattle.frame.specs.Frames.{interpolated};
 ghost use Rattle.resampler.specs.Windows.{fresh, push, reading, heardNumber, isEmpty};
 ghost use Rattle.test_exports.specs.Answers.{bit};
-ghost use Rattle.test_exports.specs.Windows.{frameOf, entryOf, windowOf, givenFrame, plainFrame, plainReading, plainEntry, plainWindow};
+ghost use Rattle.test_exports.specs.Windows.{
+  frameOf,
+  entryOf,
+  windowOf,
+  givenFrame,
+  plainFrame,
+  plainReading,
+  plainEntry,
+  plainWindow,
+};
 use frame::Frame;
 use frame::interpolate_frame;
 use resampler::MaybeFrame;
@@ -126,7 +135,7 @@ pub extern "C" fn cableowl_test_new_window(starting_frame_index: u64) -> PlainWi
     plain_window(Resampler::new(starting_frame_index as usize))
 }
 
-// No frame is pushed where `given` is 0.
+// No frame is pushed if `given` is 0.
 #[no_mangle]
 pub extern "C" fn cableowl_test_push_frame(
     w: PlainWindow,
@@ -168,7 +177,8 @@ pub extern "C" fn cableowl_test_interpolate_frame(
     next_2: PlainFrame,
     fraction: f32,
 ) -> PlainFrame
-    ensures { λ r. ⌜ r ≡ plainFrame (interpolated (frameOf previous) (frameOf current) (frameOf «next_1») (frameOf «next_2») fraction) ⌝ }
+    ensures { λ r. ⌜ r ≡ plainFrame
+        (interpolated (frameOf previous) (frameOf current) (frameOf «next_1») (frameOf «next_2») fraction) ⌝ }
 {
     plain_frame(interpolate_frame(
         frame_of(previous),

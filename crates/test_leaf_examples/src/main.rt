@@ -1,5 +1,5 @@
-// The rules' marked examples that the leaves decide and that no theorem states: each is run, shown and compared.
-// N = 10 and loop (3, 6) unless said. Of a yes or no, 1 is shown for yes.
+// The marked examples of docs/assurance/RULES.md about the leaves that no theorem states: each is run, printed and
+// compared. N = 10 and loop (3, 6) unless stated otherwise. 1 means yes.
 ghost use mathlib.Core.Path.{_≡_};
 ghost use Prim.Native.Nat.{_<_};
 ghost use Rattle.test_leaf_examples.specs.Places.{at, plain};
@@ -22,7 +22,7 @@ fn counted(n: u64) -> u64 {
     if n < 1000 { n + 1 } else { n }
 }
 
-// Shows an example and what came of it, and counts it.
+// Prints an example and its result, and counts it.
 fn show(t: Tally, name: &[u8], got: u64, expected: u64) -> Tally {
     io::write_all(1, name);
     io::write_all(1, b": ");

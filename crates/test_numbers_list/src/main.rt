@@ -1,11 +1,12 @@
-// A fixed list of number cases from standard input, each held to what Rust answers, and how many differ.
-// A line is a kind, the bits of x, a sample rate and the expected answer, in hexadecimal: `r 4004000000000000 0000ac44 000000000001aea4`.
+// Reads a fixed list of number cases from standard input, compares each with Rust's result, and counts the
+// differences. A line is a kind, the bits of x, a sample rate and the expected answer, in hexadecimal: `r
+// 4004000000000000 0000ac44 000000000001aea4`.
 ghost use Prim.Native.Nat.{_+_, _≤_, _<_, _^_};
 ghost use mathlib.Core.Path.{_≡_};
 ghost use Rattle.test_numbers_list.specs.Lines.{digit, number, narrowsTo, right, agrees};
 ghost use Rattle.test_numbers_list.specs.Lines as Lines;
 
-// No list has more lines.
+// The largest number of lines of a list.
 const MOST: u64 = 1_000_000;
 
 // The value of a hexadecimal digit in lower case.
@@ -32,7 +33,7 @@ fn field(line: &[u8; 45], from: usize, count: usize) -> u64
     value
 }
 
-// What is no proper fraction is no case for `narrow`.
+// Only a proper fraction is a case for `narrow`.
 fn narrows_to(x: f64, expected: u64) -> bool
     ensures { λ r. ⌜ r ≡ narrowsTo x expected ⌝ }
 {
@@ -74,7 +75,7 @@ fn is_right(kind: u8, x: f64, rate: u32, expected: u64) -> bool
     false
 }
 
-// Whether a line's answer is right. The pattern of a NaN is no case.
+// Whether a line's result is right. A NaN is not a case.
 fn judge(line: &[u8; 45]) -> bool
     ensures { λ r. ⌜ r ≡ agrees (now (line .entry)) ⌝ }
 {

@@ -1,5 +1,6 @@
-// The rules' marked examples of the sound that no theorem states, and both zeros as held rates: each is run, shown and compared.
-// 1 Hz, rate 1, a time step of 1 and unit lanes unless said. Of a yes or no, 1 is shown for yes.
+// The marked examples of docs/assurance/RULES.md about voices that no theorem states, and both zeros as held rates:
+// each is run, printed and compared. 1 Hz, rate 1, a time step of 1 and unit lanes unless stated otherwise. 1 means
+// yes.
 use playback_position::EndPosition;
 use playback_position::PlaybackPosition;
 use playback_position::Region;
@@ -25,7 +26,7 @@ fn counted(n: u64) -> u64 {
     if n < 1000 { n + 1 } else { n }
 }
 
-// Shows an example and what came of it, and counts it.
+// Prints an example and its result, and counts it.
 fn show(t: Tally, name: &[u8], got: u64, expected: u64) -> Tally {
     io::write_all(1, name);
     io::write_all(1, b": ");
@@ -300,12 +301,12 @@ fn one_frame_more(voice: StaticSound) -> StaticSound {
     made.sound
 }
 
-// A rate told, then a block.
+// A rate command, then a block.
 fn told_before(rate: f64, reverse: bool) -> u64 {
     position(one_frame_more(told_rate(ten_frames(reverse), rate)))
 }
 
-// A rate told between the two parts of a cut block.
+// A rate command between the two parts of a cut block.
 fn told_between(rate: f64, reverse: bool) -> u64 {
     let first = one_frame_more(ten_frames(reverse));
     position(one_frame_more(told_rate(first, rate)))
@@ -354,7 +355,7 @@ fn is_untouched(out: &[f32; 4]) -> bool {
     (out[0] == 9.0) & (out[1] == 9.0) & (out[2] == 9.0) & (out[3] == 9.0)
 }
 
-// A block with a time step of 0: whether nothing is written, and the voice stands where it stood.
+// A block with a time step of 0: whether nothing is written and the voice does not change.
 fn refused_block() -> bool {
     let sound = [1.0f32, 1.0, 2.0, 2.0, 3.0, 3.0];
     let unit = [1.0f32; 2];
@@ -369,7 +370,7 @@ fn refused_block() -> bool {
         & is_untouched(&out)
 }
 
-// A seek to 2^32 frames: whether the voice stands where it stood, and positive zero is reported.
+// A seek to 2^32 frames: whether the voice does not change and positive zero is reported.
 fn refused_command_set() -> bool {
     let sound = [0.0f32; 32];
     let set = commands(LoopCommand::Keep, Amount::Given(97391.55));

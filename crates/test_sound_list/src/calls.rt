@@ -1,4 +1,4 @@
-// The five calls: what the list gives is read, the call is made, and each part of its answer is held to the list.
+// The five calls: reads the input from the list, makes the call, and compares each part of its result with the list.
 use crate::input;
 use crate::states;
 ghost use Rattle.test_sound_list.specs.Counts.{Counts};
@@ -17,7 +17,7 @@ use sound_slow_path::Processed;
 use sound_state::StaticSound;
 use start_time::StartSignal;
 
-// What a call leaves, and whether all of its answer is the list's.
+// The state after a call, and whether its result equals the list's.
 pub struct Answer {
     pub voice: StaticSound,
     pub same: bool,
@@ -154,7 +154,7 @@ fn next_signals() -> Signals {
 
 // ---- the output
 
-// Before a call, sample i of an output is -(i + 1). The list says how many of them are lent.
+// Before a call, sample i of an output is -(i + 1). The list says how many are passed.
 fn prepare(out: &mut [f32]) -> usize
     ensures { λ r. ⌜ Counts r (now (out .exit)) ⌝ }
 {

@@ -1,8 +1,8 @@
-// Numbers from standard input, one a line, and tests of the number that comes next.
+// Numbers from standard input, one per line, and tests of the next number.
 ghost use Prim.Native.Nat.{_≤_};
 ghost use Rattle.test_sound_list.specs.Counts.{Counts};
 
-// A line end where the input has ended.
+// A line end if the input has ended.
 fn next_byte() -> u8 {
     let mut byte = [b'\n'; 1];
     io::read_full(0, &mut byte);
@@ -13,7 +13,7 @@ fn first(byte: &[u8; 1]) -> u8 {
     byte[0]
 }
 
-// The next number, of at most 16 digits; 0 where the input has ended.
+// The next number, of at most 16 digits; 0 if the input has ended.
 pub(crate) fn next() -> u64 {
     let mut value: u64 = 0;
     let mut left: usize = 16;
@@ -62,7 +62,7 @@ pub(crate) fn single() -> f32 {
     float_bits::f32_of(half())
 }
 
-// Samples or amplitudes: a count, then so many numbers, put at the start of `to`.
+// Samples or amplitudes: a count, then that many numbers, written to the start of `to`.
 pub(crate) fn singles(to: &mut [f32]) -> usize
     ensures { λ r. ⌜ Counts r (now (to .exit)) ⌝ }
 {

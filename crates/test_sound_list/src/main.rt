@@ -1,15 +1,15 @@
-// A fixed list of scenarios from standard input, each call of the sound held to what kira's own text answered, and how many
-// differ. The list is a number a line; docs/formats/LISTS.md has its layout.
+// Reads a fixed list of scenarios from standard input, compares each call with what kira's own code returned, and
+// counts the differences. The list has one number per line; docs/formats/LISTS.md has its layout.
 mod calls;
 mod input;
 mod states;
 
 use sound_state::StaticSound;
 
-// No list has more records.
+// The largest number of records of a list.
 const MOST: u64 = 1_000_000;
 
-// What goes on from record to record: the voice, how much of the sound is lent, and the counts.
+// What is kept from record to record: the voice, how much of the sound is passed, and the counts.
 struct Replay {
     voice: StaticSound,
     lent: usize,

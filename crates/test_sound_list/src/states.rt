@@ -1,4 +1,4 @@
-// A whole state as the list has it: 30 numbers, in the order of the fields.
+// A whole state in the list: 30 numbers, in the order of the fields.
 use crate::input;
 use frame::Frame;
 use playback_position::FrameRange;

@@ -1,5 +1,5 @@
--- What most theorems ask of a block, into an output and into a mix: that it is accepted; and of some, that it does not sound.
--- A theorem has one hypothesis, which has a name, and Witnesses has an input that meets it.
+-- The hypothesis of most theorems: a block, into an output or into a mix, is accepted; for some, that it is silent. A
+-- theorem has one hypothesis, which has a name, and Witnesses has an input that meets it.
 use Prim.Native.Nat.{ℕ}
 use mathlib.Core.Path.{_≡_}
 use mathlib.Core.Bool.{false}

@@ -1,5 +1,6 @@
--- Once in the loop, always in the loop, of the archive's own entries, as InTheLoop says of the entries below: each call is given the record that the one before answered.
--- Records, commands and signals are judged by what they mean: a loop command is a `loop_command` that is not 0, a stop command a `stop` that is not 0.
+-- "Once in the loop, always in the loop" for the C entries, as InTheLoop says for the entries below: each call gets
+-- the record that the call before returned. A loop command is a `loop_command` that is not 0, a stop command a `stop`
+-- that is not 0.
 use Prim.Native.Nat.{ℕ}
 use mathlib.Core.Path.{_≡_}
 use mathlib.Core.Bool.{Bool, true, false, _&&_, _||_, not}
@@ -21,15 +22,16 @@ use Rattle.cableowl.specs.Entries.{commandedC, processedC, processedIntoC}
 use Rattle.cableowl.specs.Loops.{takenC}
 use Rattle.theorems.specs.InTheLoop.{changesLoop, isNever, ending}
 
--- all that a call is given but the record
+-- the input of a call, without the record
 pub data CallC : Type 0 where
   Block : (sound : List Float) (dt : Float) (lanes : Lanes) (signals : CableowlSignals) (out : List Float) → CallC
-  Mix : (sound : List Float) (dt : Float) (lanes : Lanes) (signals : CableowlSignals) (mix : List Float) (from : ℕ) → CallC
+  Mix : (sound : List Float) (dt : Float) (lanes : Lanes) (signals : CableowlSignals) (mix : List Float) (from : ℕ)
+      → CallC
   Command : (sound : List Float) (commands : CableowlCommands) → CallC
   Take : (sound : List Float) (table : LoopTable) (slot : ℕ) → CallC
   Stretch : (sound : List Float) → CallC
 
--- the record that a call gives back; a stretch gives back none, so it stays as it is
+-- the record that a call returns; a stretch returns none, so it does not change
 abbrev pub afterC : CallC → CableowlState → CableowlState
 afterC (Block snd dt b g out) c = (processedC snd c dt b g out) .answer .state
 afterC (Mix snd dt b g mix from) c = (processedIntoC snd c dt b g mix from) .answer .state
@@ -44,12 +46,12 @@ acceptedC (Command snd k) c = eqb ((commandedC snd c k) .refusal) 0
 acceptedC (Take snd t k) c = eqb ((takenC snd t k c) .refusal) 0
 acceptedC (Stretch snd) c = true
 
--- a row of calls, the first one first, each on what the one before left
+-- a sequence of calls, each with the record that the one before returned
 unfoldable pub afterAllC : List CallC → CableowlState → CableowlState
 afterAllC [] c = c
 afterAllC (d ∷ ds) c = afterAllC ds (afterC d c)
 
--- whether some accepted call of the row is of a kind
+-- whether some accepted call of the sequence is of a kind
 unfoldable pub someAcceptedC : (CallC → Bool) → List CallC → CableowlState → Bool
 someAcceptedC kind [] c = false
 someAcceptedC kind (d ∷ ds) c = (acceptedC d c && kind d) || someAcceptedC kind ds (afterC d c)
@@ -70,7 +72,7 @@ stopsC (Command snd k) = commandsOf k .stop
 stopsC (Take snd t k) = false
 stopsC (Stretch snd) = false
 
--- the record that the calls leave means a voice that is Stopped
+-- after the calls the record represents a Stopped voice
 abbrev pub EndsStoppedC : List CallC → CableowlState → Type 0
 EndsStoppedC ds c = decoded (afterAllC ds c) .moving .state ≡ Stopped
 
@@ -78,7 +80,7 @@ pub record StaysC (s e : ℕ) (ds : List CallC) (c : CableowlState) : Type 0 whe
   pub inside : Inside s e (decoded (afterAllC ds c) .moving .transport)
   pub stopped : EndsStoppedC ds c → T (someAcceptedC stopsC ds c || ending (decoded c .moving .state))
 
--- what is asked: a record that means nothing means the blank voice, which is not well formed
+-- hypothesis; an unlawful record represents the blank voice, which is not well formed
 pub record EnteredC (s e : ℕ) (ds : List CallC) (c : CableowlState) : Type 0 where
   pub formed : T (wellFormed (decoded c))
   pub inside : Inside s e (decoded c .moving .transport)

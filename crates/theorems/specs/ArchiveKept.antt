@@ -1,6 +1,7 @@
--- What every call of the archive leaves, as Kept says of the entries below: accepted, a record that the next call takes over the same sound; refused, the given record and samples.
--- A record may be read out, saved and given back; one whose bytes mean nothing is refused, and so is every tag that means nothing, by the number of its field.
--- And the part that the stretch answers is the stretch.
+-- What every C call returns, as Kept says for the entries below: if accepted, a record that the next call accepts
+-- over the same sound; if refused, the given record and samples. A record can be saved and passed again. A record
+-- whose bytes represent no state is refused with 1, and an unknown tag with the number of its field. And the part
+-- that the stretch entry returns is the stretch.
 use Prim.Native.Nat.{ℕ, _<_}
 use mathlib.Core.Path.{_≡_}
 use mathlib.Core.Bool.{true, false}
@@ -28,30 +29,33 @@ use Rattle.c_inputs.specs.Inputs.{placeOf, endOf, regionIf, optionalOf, loopOf,
 use Rattle.cableowl.specs.Entries.{OutcomeC, createdC, commandedC, processedC, processedIntoC, partC}
 use Rattle.theorems.specs.Kept.{Either}
 
--- ---- what a call leaves
+-- ---- the result of a call
 
--- a record that the next call takes over this sound
+-- a record that the next call accepts over this sound
 abbrev pub Good : List Float → CableowlState → Type 0
 Good snd c = T (lawful c) × T (ours (length snd) (decoded c))
 
--- of a block's outcome, given the record and the samples before
+-- for a block's outcome, given the record and the samples before
 abbrev pub BlockKeepsC : List Float → CableowlState → List Float → OutcomeC → Type 0
 BlockKeepsC snd c out o =
-    Either (o .answer .refusal) (Good snd (o .answer .state)) ((o .answer .state ≡ c) × (o .answer .steps ≡ 0) × (o .answer .«lowest_count» ≡ 4) × (o .samples ≡ out))
+    Either (o .answer .refusal) (Good snd (o .answer .state)) ((o .answer .state ≡ c) × (o .answer .steps ≡ 0)
+    × (o .answer .«lowest_count» ≡ 4) × (o .samples ≡ out))
 
 pub record ArchiveKeeps : Type 0 where
   pub creation : (snd : List Float) (s : CableowlSettings)
       → let a = createdC snd s in Either (a .refusal) (Good snd (a .state)) (a .state ≡ encoded blankSound)
   pub commands : (snd : List Float) (c : CableowlState) (k : CableowlCommands)
-      → let a = commandedC snd c k in Either (a .refusal) (Good snd (a .state)) ((a .state ≡ c) × (a .position ≡ positiveZero))
+      → let a = commandedC snd c k in Either (a .refusal) (Good snd (a .state)) ((a .state ≡ c)
+      × (a .position ≡ positiveZero))
   pub block : (snd : List Float) (c : CableowlState) (dt : Float) (b : Lanes) (g : CableowlSignals) (out : List Float)
       → BlockKeepsC snd c out (processedC snd c dt b g out)
-  pub mix : (snd : List Float) (c : CableowlState) (dt : Float) (b : Lanes) (g : CableowlSignals) (mix : List Float) (from : ℕ)
+  pub mix : (snd : List Float) (c : CableowlState) (dt : Float) (b : Lanes) (g : CableowlSignals) (mix : List Float)
+      (from : ℕ)
       → BlockKeepsC snd c mix (processedIntoC snd c dt b g mix from)
 
--- ---- read out and given back
+-- ---- saved and passed again
 
--- a record whose bytes have a meaning, and one whose bytes have none
+-- a record whose bytes represent a state, and one whose bytes do not
 abbrev pub Lawful : CableowlState → Type 0
 Lawful c = T (lawful c)
 
@@ -62,26 +66,29 @@ pub record ReadBack : Type 0 where
   pub voice : (v : StaticSound) → decoded (encoded v) ≡ v
   pub numbers : (c : CableowlState) → Lawful c → encoded (decoded c) ≡ c
 
--- ---- bytes that mean nothing
+-- ---- unknown bytes
 
 pub record UnlawfulRefused : Type 0 where
-  pub commands : (snd : List Float) (c : CableowlState) (k : CableowlCommands) → Unlawful c → (commandedC snd c k) .refusal ≡ 1
+  pub commands : (snd : List Float) (c : CableowlState) (k : CableowlCommands) → Unlawful c
+      → (commandedC snd c k) .refusal ≡ 1
   pub block : (snd : List Float) (c : CableowlState) (dt : Float) (b : Lanes) (g : CableowlSignals) → Unlawful c
       → (out : List Float) → (processedC snd c dt b g out) .answer .refusal ≡ 1
   pub mix : (snd : List Float) (c : CableowlState) (dt : Float) (b : Lanes) (g : CableowlSignals) → Unlawful c
       → (mix : List Float) (from : ℕ) → (processedIntoC snd c dt b g mix from) .answer .refusal ≡ 1
   pub stretch : (snd : List Float) (c : CableowlState) → Unlawful c → partC snd c ≡ record { offset = 0; length = 0 }
 
--- a tag above the last that has a meaning
+-- a tag above the last known one
 abbrev pub Unknown : ℕ → ℕ → Type 0
 Unknown last tag = last < tag
 
--- an unknown tag fails the test of its field's number
+-- an unknown tag fails its field's check
 pub record TagsRefused : Type 0 where
   pub place : (p : CableowlPlace) → Unknown 1 (p .kind) → placeable (placeOf p) ≡ false
   pub end : (p : CableowlPlace) → Unknown 2 (p .kind) → endable (endOf p) ≡ false
-  pub start : (hz n : ℕ) (r : CableowlRegion) → Unknown 1 (r .start .kind) → lawfulRegion hz n (regionIf true r) ≡ false
-  pub ending : (hz n : ℕ) (r : CableowlRegion) → Unknown 2 (r .end .kind) → lawfulRegion hz n (regionIf true r) ≡ false
+  pub start : (hz n : ℕ) (r : CableowlRegion) → Unknown 1 (r .start .kind)
+      → lawfulRegion hz n (regionIf true r) ≡ false
+  pub ending : (hz n : ℕ) (r : CableowlRegion) → Unknown 2 (r .end .kind)
+      → lawfulRegion hz n (regionIf true r) ≡ false
   pub optional : (hz n has : ℕ) (r : CableowlRegion) → Unknown 1 has → allowed hz n (optionalOf has r) ≡ false
   pub loop : (v : StaticSound) (k : ℕ) (r : CableowlRegion) → Unknown 2 k → loopable v (loopOf k r) ≡ false
   pub rate : (has : ℕ) (x : Float) → Unknown 1 has → rateable (amountOf has x) ≡ false

@@ -1,4 +1,5 @@
--- Block sizes do not matter to the archive's own entries either, as Schedules says of the entries below: each block is given the state that the one before answered.
+-- Block sizes do not matter for the C entries either, as Schedules says for the entries below: each block gets the
+-- state that the one before returned.
 use Prim.Native.Nat.{ℕ, _+_, _*_}
 use mathlib.Core.Path.{_≡_}
 use mathlib.Core.Bool.{Bool, _&&_}
@@ -18,7 +19,8 @@ use Rattle.theorems.specs.Alike.{bare, awake}
 use Rattle.theorems.specs.Schedules.{LawfulCut, LawfulCutMix}
 use Rattle.theorems.specs.Archive.{quietC}
 
--- what a row of blocks gives: whether each was accepted, the record after, all samples, all steps, the lowest count, and the record at each cut between two blocks
+-- the outcome of a sequence of blocks: whether each was accepted, the record after, all samples, all steps, the
+-- lowest count, and the record at each cut
 pub record RunC : Type 0 where
   pub accepted : Bool
   pub state : CableowlState
@@ -38,7 +40,7 @@ aloneC o =
       cuts = [];
     }
 
--- one block and the row that follows it, with the samples that they leave
+-- one block and the sequence after it, with their samples
 abbrev pub thenC : OutcomeC → RunC → List Float → RunC
 thenC o r samples =
     record {
@@ -51,7 +53,8 @@ thenC o r samples =
     }
 
 -- blocks of cableowl_process, of k frames and then of the sizes that follow
-unfoldable pub playedByC : List Float → Float → ℕ → List ℕ → Lanes → CableowlSignals → CableowlState → List Float → RunC
+unfoldable pub playedByC : List Float → Float → ℕ → List ℕ → Lanes → CableowlSignals → CableowlState → List Float
+    → RunC
 playedByC snd dt k [] b g c out = aloneC (processedC snd c dt (firstLanes k b) g (take (2 * k) out))
 playedByC snd dt k (j ∷ ks) b g c out =
     let o = processedC snd c dt (firstLanes k b) g (take (2 * k) out) in
@@ -59,7 +62,8 @@ playedByC snd dt k (j ∷ ks) b g c out =
     thenC o r (o .samples ++ r .samples)
 
 -- blocks of cableowl_process_into, one after the other from a frame on
-unfoldable pub mixedByC : List Float → Float → ℕ → List ℕ → Lanes → CableowlSignals → CableowlState → List Float → ℕ → RunC
+unfoldable pub mixedByC : List Float → Float → ℕ → List ℕ → Lanes → CableowlSignals → CableowlState → List Float → ℕ
+    → RunC
 mixedByC snd dt k [] b g c mix from = aloneC (processedIntoC snd c dt (firstLanes k b) g mix from)
 mixedByC snd dt k (j ∷ ks) b g c mix from =
     let o = processedIntoC snd c dt (firstLanes k b) g mix from in
@@ -79,38 +83,48 @@ pub record AgreeC (r s : RunC) : Type 0 where
   pub lowest : BothAwakeC r s → r .«lowest_count» ≡ s .«lowest_count»
   pub alike : bare (decoded (r .state)) ≡ bare (decoded (s .state))
 
--- a way to cut a stream, all of whose blocks are accepted, and two such ways
-pub record WayC (snd : List Float) (dt : Float) (b : Lanes) (g : CableowlSignals) (c : CableowlState) (k : ℕ) (ks : List ℕ) (out : List Float) : Type 0 where
+-- hypotheses: a way to cut a stream whose blocks are all accepted, and two such ways
+pub record WayC (snd : List Float) (dt : Float) (b : Lanes) (g : CableowlSignals) (c : CableowlState) (k : ℕ)
+    (ks : List ℕ) (out : List Float) : Type 0 where
   pub all-of-it : k + sum ks ≡ length (b .rate)
   pub accepted : T ((playedByC snd dt k ks b g c out) .accepted)
 
-abbrev pub TwoWaysC : List Float → Float → Lanes → CableowlSignals → CableowlState → ℕ → List ℕ → List Float → ℕ → List ℕ → List Float → Type 0
+abbrev pub TwoWaysC : List Float → Float → Lanes → CableowlSignals → CableowlState → ℕ → List ℕ → List Float → ℕ
+    → List ℕ → List Float → Type 0
 TwoWaysC snd dt b g c k ks out j js other = WayC snd dt b g c k ks out × WayC snd dt b g c j js other
 
-pub record WayMixC (snd : List Float) (dt : Float) (b : Lanes) (g : CableowlSignals) (c : CableowlState) (k : ℕ) (ks : List ℕ) (mix : List Float) (from : ℕ) : Type 0 where
+pub record WayMixC (snd : List Float) (dt : Float) (b : Lanes) (g : CableowlSignals) (c : CableowlState) (k : ℕ)
+    (ks : List ℕ) (mix : List Float) (from : ℕ) : Type 0 where
   pub all-of-it : k + sum ks ≡ length (b .rate)
   pub accepted : T ((mixedByC snd dt k ks b g c mix from) .accepted)
 
-abbrev pub TwoWaysMixC : List Float → Float → Lanes → CableowlSignals → CableowlState → ℕ → List ℕ → ℕ → List ℕ → List Float → ℕ → Type 0
+abbrev pub TwoWaysMixC : List Float → Float → Lanes → CableowlSignals → CableowlState → ℕ → List ℕ → ℕ → List ℕ
+    → List Float → ℕ → Type 0
 TwoWaysMixC snd dt b g c k ks j js mix from = WayMixC snd dt b g c k ks mix from × WayMixC snd dt b g c j js mix from
 
 abbrev pub AnySizesC : Type 0
 AnySizesC =
-    (snd : List Float) (dt : Float) (b : Lanes) (g : CableowlSignals) (c : CableowlState) (k : ℕ) (ks : List ℕ) (out : List Float) (j : ℕ) (js : List ℕ) (other : List Float)
-    → TwoWaysC snd dt b g c k ks out j js other → AgreeC (playedByC snd dt k ks b g c out) (playedByC snd dt j js b g c other)
+    (snd : List Float) (dt : Float) (b : Lanes) (g : CableowlSignals) (c : CableowlState) (k : ℕ) (ks : List ℕ)
+    (out : List Float) (j : ℕ) (js : List ℕ) (other : List Float)
+    → TwoWaysC snd dt b g c k ks out j js other
+    → AgreeC (playedByC snd dt k ks b g c out) (playedByC snd dt j js b g c other)
 
 abbrev pub AnySizesMixC : Type 0
 AnySizesMixC =
-    (snd : List Float) (dt : Float) (b : Lanes) (g : CableowlSignals) (c : CableowlState) (k : ℕ) (ks : List ℕ) (j : ℕ) (js : List ℕ) (mix : List Float) (from : ℕ)
-    → TwoWaysMixC snd dt b g c k ks j js mix from → AgreeC (mixedByC snd dt k ks b g c mix from) (mixedByC snd dt j js b g c mix from)
+    (snd : List Float) (dt : Float) (b : Lanes) (g : CableowlSignals) (c : CableowlState) (k : ℕ) (ks : List ℕ)
+    (j : ℕ) (js : List ℕ) (mix : List Float) (from : ℕ)
+    → TwoWaysMixC snd dt b g c k ks j js mix from
+    → AgreeC (mixedByC snd dt k ks b g c mix from) (mixedByC snd dt j js b g c mix from)
 
 -- every way to cut a lawful stream into blocks of at most 4,096 frames is accepted
 abbrev pub AllAcceptedC : Type 0
 AllAcceptedC =
-    (snd : List Float) (dt : Float) (b : Lanes) (g : CableowlSignals) (c : CableowlState) (k : ℕ) (ks : List ℕ) (out : List Float)
+    (snd : List Float) (dt : Float) (b : Lanes) (g : CableowlSignals) (c : CableowlState) (k : ℕ) (ks : List ℕ)
+    (out : List Float)
     → LawfulCut snd dt b (decoded c) k ks out → T ((playedByC snd dt k ks b g c out) .accepted)
 
 abbrev pub AllAcceptedMixC : Type 0
 AllAcceptedMixC =
-    (snd : List Float) (dt : Float) (b : Lanes) (g : CableowlSignals) (c : CableowlState) (k : ℕ) (ks : List ℕ) (mix : List Float) (from : ℕ)
+    (snd : List Float) (dt : Float) (b : Lanes) (g : CableowlSignals) (c : CableowlState) (k : ℕ) (ks : List ℕ)
+    (mix : List Float) (from : ℕ)
     → LawfulCutMix snd dt b (decoded c) k ks mix from → T ((mixedByC snd dt k ks b g c mix from) .accepted)

@@ -1,4 +1,5 @@
--- docs/assurance/RULES.md, "The window of four": for f = 0 and samples of magnitude at most 8 the value equals b, the sign of a zero aside.
+-- docs/assurance/RULES.md, "The window of four": for f = 0 and samples of magnitude at most 8 the value equals b,
+-- apart from the sign of a zero.
 use mathlib.Core.Path.{_≡_}
 use mathlib.Core.Bool.{true, false}
 use lib.IntN.{pos}
@@ -20,7 +21,7 @@ SmallFrame f = Small (f .left) × Small (f .right)
 abbrev pub Equal : Frame → Frame → Type 0
 Equal f g = (eq (f .left) (g .left) ≡ true) × (eq (f .right) (g .right) ≡ true)
 
--- what is asked of the four entries
+-- hypothesis on the four entries
 abbrev pub SmallFrames : Frame → Frame → Frame → Frame → Type 0
 SmallFrames a b c d = SmallFrame a × SmallFrame b × SmallFrame c × SmallFrame d
 

@@ -1,6 +1,7 @@
--- How much work a block may cost. If each advance of an accepted block of n frames is at most a whole number k from 0 to 256, each of its frames makes at most k + 1 steps,
--- and the block reports at most n times (k + 1); a silent one reports 0. So do both entries, and so does a stream of blocks, however it is cut.
--- The bound is reached: a fraction of 1 - 2 ^ -53 and an advance of 1 make two steps.
+-- The most work that a block can cost. If each advance of an accepted block of n frames is at most a whole number k
+-- from 0 to 256, each of its frames makes at most k + 1 steps, and the block reports at most n * (k + 1); a silent
+-- one reports 0. This holds for both entries, and for a stream of blocks, cut in any way. The bound is reached: a
+-- fraction of 1 - 2 ^ -53 and an advance of 1 make two steps.
 use Prim.Native.Nat.{ℕ, _+_, _*_, _≤_}
 use mathlib.Core.Path.{_≡_}
 use mathlib.Core.Bool.{Bool, false, cond}
@@ -30,26 +31,30 @@ atMost k hz dt l = le (advance hz (l .rate) dt) (ofInt binary64 (pos k))
 abbrev pub Slow : ℕ → StaticSound → Float → Lanes → Type 0
 Slow k v dt b = T (all (atMost k (v .setup .«sample_rate») dt) (rows b))
 
--- of an accepted block's answer
-pub record Within (k : ℕ) (snd : List Float) (v : StaticSound) (dt : Float) (b : Lanes) (g : Signals) (a : Processed) : Type 0 where
-  -- what is reported is what the frames make, each at most k + 1
+-- for an accepted block's result
+pub record Within (k : ℕ) (snd : List Float) (v : StaticSound) (dt : Float) (b : Lanes) (g : Signals)
+    (a : Processed) : Type 0 where
+  -- the reported steps are those of the frames, each at most k + 1
   pub reported : a .steps ≡ cond (live (begun g v)) (sum (stepsOf snd dt (rows b) (begun g v))) 0
   pub frames : T (all (λ (n : ℕ). leb n (k + 1)) (stepsOf snd dt (rows b) (begun g v)))
   pub block : a .steps ≤ length (b .rate) * (k + 1)
   pub silent : Silent g v → a .steps ≡ 0
 
--- what is asked: an accepted block, or an accepted way to cut a stream, with advances of at most k
-pub record SlowBlock (k : ℕ) (snd : List Float) (v : StaticSound) (dt : Float) (b : Lanes) (g : Signals) (out : List Float) : Type 0 where
+-- hypothesis: an accepted block, or an accepted way to cut a stream, with advances of at most k
+pub record SlowBlock (k : ℕ) (snd : List Float) (v : StaticSound) (dt : Float) (b : Lanes) (g : Signals)
+    (out : List Float) : Type 0 where
   pub accepted : AcceptedBlock snd v dt b g out
   pub small : k ≤ 256
   pub slow : Slow k v dt b
 
-pub record SlowMix (k : ℕ) (snd : List Float) (v : StaticSound) (dt : Float) (b : Lanes) (g : Signals) (mix : List Float) (from : ℕ) : Type 0 where
+pub record SlowMix (k : ℕ) (snd : List Float) (v : StaticSound) (dt : Float) (b : Lanes) (g : Signals)
+    (mix : List Float) (from : ℕ) : Type 0 where
   pub accepted : AcceptedMix snd v dt b g mix from
   pub small : k ≤ 256
   pub slow : Slow k v dt b
 
-pub record SlowStream (k : ℕ) (snd : List Float) (dt : Float) (b : Lanes) (g : Signals) (v : StaticSound) (j : ℕ) (js : List ℕ) (out : List Float) : Type 0 where
+pub record SlowStream (k : ℕ) (snd : List Float) (dt : Float) (b : Lanes) (g : Signals) (v : StaticSound) (j : ℕ)
+    (js : List ℕ) (out : List Float) : Type 0 where
   pub way : Way snd dt b g v j js out
   pub small : k ≤ 256
   pub slow : Slow k v dt b
@@ -67,7 +72,8 @@ MixBudget =
 -- a stream of lanes, played in blocks of j frames and then of the sizes that follow
 abbrev pub StreamBudget : Type 0
 StreamBudget =
-    (k : ℕ) (snd : List Float) (dt : Float) (b : Lanes) (g : Signals) (v : StaticSound) (j : ℕ) (js : List ℕ) (out : List Float)
+    (k : ℕ) (snd : List Float) (dt : Float) (b : Lanes) (g : Signals) (v : StaticSound) (j : ℕ) (js : List ℕ)
+    (out : List Float)
     → SlowStream k snd dt b g v j js out → (playedBy snd dt j js b g v out) .steps ≤ length (b .rate) * (k + 1)
 
 -- the bound is reached: 1 - 2 ^ -53 and an advance of 1

@@ -1,6 +1,7 @@
--- Whether a promise says enough (docs/assurance/RULES.md): any two outcomes that one contract allows for one input coincide. A line for each public function,
--- over its contract itself: `Post` is all that the function ensures, of what it is given, what it answers and what the lent buffers hold at its end.
--- The functions that replay a trace are above this crate: crates/theorems_replay/specs/Coincide.antt has their lines.
+-- Whether a promise says enough (docs/assurance/RULES.md): any two outcomes that one contract allows for one input
+-- coincide. A line for each public function, over its contract itself: `Post` is all that the function ensures, of
+-- what it is given, what it answers and what the lent buffers hold at its end. The functions that replay a trace are
+-- above this crate: crates/theorems_replay/specs/Coincide.antt has their lines.
 use mathlib.Core.Path.{_≡_}
 use mathlib.Core.List.{List}
 use denote.Ref.{RefT, now, ptr}
@@ -51,9 +52,11 @@ module _ {K : Type 0} {A R S : K → Type 0} where
   abbrev pub Decides : Allows K A R S → Type 0
   Decides P = (k : K) (a : A k) (x y : R k) (s t : S k) → P k a x s → P k a y t → x ≡ y
 
-  -- and so does what it leaves: all of a buffer or a number that it writes, or the part of a buffer that the answer says is in use
+  -- and so does what it leaves: all of a buffer or a number that it writes, or the part of a buffer that the answer
+  -- says is in use
   abbrev pub DecidesWith : {B : Type 0} (left : (k : K) → R k → S k → B) → Allows K A R S → Type 0
-  DecidesWith left P = (k : K) (a : A k) (x y : R k) (s t : S k) → P k a x s → P k a y t → (x ≡ y) × (left k x s ≡ left k y t)
+  DecidesWith left P = (k : K) (a : A k) (x y : R k) (s t : S k) → P k a x s → P k a y t → (x ≡ y)
+      × (left k x s ≡ left k y t)
 
   -- or what its callers see of the answer coincides
   abbrev pub DecidesAs : {B : Type 0} (seen : (k : K) → A k → R k → B) → Allows K A R S → Type 0
@@ -62,7 +65,8 @@ module _ {K : Type 0} {A R S : K → Type 0} where
 -- a part of what was lent: its samples and its place coincide
 abbrev pub DecidesPart : {K : Type 0} {A S : K → Type 0} → Allows K A (λ (k : K). RefT (List Float)) S → Type 0
 DecidesPart {K} {A} {S} P =
-    (k : K) (a : A k) (x y : RefT (List Float)) (s t : S k) → P k a x s → P k a y t → (now x ≡ now y) × (ptr x ≡ ptr y)
+    (k : K) (a : A k) (x y : RefT (List Float)) (s t : S k) → P k a x s → P k a y t → (now x ≡ now y)
+    × (ptr x ≡ ptr y)
 
 pub record Coincide : Type 0 where
   -- numbers
@@ -79,8 +83,10 @@ pub record Coincide : Type 0 where
   -- frame
   pub frame-interpolate-frame : Decides frame.interpolate_frame.Reads.Post
   -- playback_position
-  pub playback-position-playbackposition-into-samples : Decides playback_position.PlaybackPosition.into_samples.Reads.Post
-  pub playback-position-playbackposition-is-placeable : Decides playback_position.PlaybackPosition.is_placeable.Reads.Post
+  pub playback-position-playbackposition-into-samples :
+      Decides playback_position.PlaybackPosition.into_samples.Reads.Post
+  pub playback-position-playbackposition-is-placeable :
+      Decides playback_position.PlaybackPosition.is_placeable.Reads.Post
   pub playback-position-endposition-into-samples : Decides playback_position.EndPosition.into_samples.Reads.Post
   pub playback-position-endposition-is-endable : Decides playback_position.EndPosition.is_endable.Reads.Post
   pub playback-position-framerange-is-within : Decides playback_position.FrameRange.is_within.Reads.Post
@@ -101,11 +107,13 @@ pub record Coincide : Type 0 where
   pub resampler-resampler-empty : Decides resampler.Resampler.empty.Reads.Post
   -- playback_state_manager
   pub playback-state-manager-playbackstate-number : Decides playback_state_manager.PlaybackState.number.Reads.Post
-  pub playback-state-manager-playbackstate-is-advancing : Decides playback_state_manager.PlaybackState.is_advancing.Reads.Post
+  pub playback-state-manager-playbackstate-is-advancing :
+      Decides playback_state_manager.PlaybackState.is_advancing.Reads.Post
   pub playback-state-manager-playbackstate-pause : Decides playback_state_manager.PlaybackState.pause.Reads.Post
   pub playback-state-manager-playbackstate-resume : Decides playback_state_manager.PlaybackState.resume.Reads.Post
   pub playback-state-manager-playbackstate-stop : Decides playback_state_manager.PlaybackState.stop.Reads.Post
-  pub playback-state-manager-playbackstate-mark-as-stopped : Decides playback_state_manager.PlaybackState.mark_as_stopped.Reads.Post
+  pub playback-state-manager-playbackstate-mark-as-stopped :
+      Decides playback_state_manager.PlaybackState.mark_as_stopped.Reads.Post
   pub playback-state-manager-playbackstate-update : Decides playback_state_manager.PlaybackState.update.Reads.Post
   -- start_time
   pub start-time-startsignal-answer : Decides start_time.StartSignal.answer.Reads.Post
@@ -152,10 +160,13 @@ pub record Coincide : Type 0 where
   pub sound-block-block-held : DecidesWith (λ k r s. s .1 .1 .1 .0 .now) sound_block.block_held.Reads.Post
   pub sound-block-block : DecidesWith (λ k r s. s .1 .1 .1 .1 .1 .1 .1 .0 .now) sound_block.block.Reads.Post
   -- static_sound
-  pub static-sound-process : DecidesWith (λ k r s. s .1 .1 .1 .1 .1 .1 .1 .1 .1 .0 .now) static_sound.process.Reads.Post
-  pub static-sound-process-into : DecidesWith (λ k r s. s .1 .1 .1 .1 .1 .1 .1 .1 .1 .0 .now) static_sound.process_into.Reads.Post
+  pub static-sound-process : DecidesWith
+      (λ k r s. s .1 .1 .1 .1 .1 .1 .1 .1 .1 .0 .now) static_sound.process.Reads.Post
+  pub static-sound-process-into : DecidesWith
+      (λ k r s. s .1 .1 .1 .1 .1 .1 .1 .1 .1 .0 .now) static_sound.process_into.Reads.Post
   pub static-sound-process-held : DecidesWith (λ k r s. s .1 .1 .1 .1 .1 .0 .now) static_sound.process_held.Reads.Post
-  pub static-sound-process-held-into : DecidesWith (λ k r s. s .1 .1 .1 .1 .1 .0 .now) static_sound.process_held_into.Reads.Post
+  pub static-sound-process-held-into : DecidesWith
+      (λ k r s. s .1 .1 .1 .1 .1 .0 .now) static_sound.process_held_into.Reads.Post
   pub static-sound-stretch : DecidesPart static_sound.stretch.Reads.Post
   -- loop_table, loop_copies and take_loop
   pub loop-table-looptable-new : Decides loop_table.LoopTable.new.Reads.Post
@@ -178,7 +189,8 @@ pub record Coincide : Type 0 where
   pub byte-layout-number : Decides byte_layout.number.Reads.Post
   pub byte-layout-put-number : DecidesWith (λ k r s. s .0 .now) byte_layout.put_number.Reads.Post
   pub byte-layout-begin : Decides byte_layout.begin.Reads.Post
-  pub byte-layout-read-rows : DecidesAs (λ k a r. view (now (a .0)) (a .1 .1 .1 .0) r) byte_layout.read_rows.Reads.Post
+  pub byte-layout-read-rows : DecidesAs
+      (λ k a r. view (now (a .0)) (a .1 .1 .1 .0) r) byte_layout.read_rows.Reads.Post
   pub byte-layout-put-rows : DecidesWith (λ k r s. s .0 .now) byte_layout.put_rows.Reads.Post
   pub byte-layout-rows-fit : Decides byte_layout.rows_fit.Reads.Post
   pub byte-layout-rows-length : Decides byte_layout.rows_length.Reads.Post
@@ -206,10 +218,14 @@ pub record Coincide : Type 0 where
   pub cableowl-cableowl-version : Decides cableowl.cableowl_version.Reads.Post
   pub cableowl-cableowl-new : Decides cableowl.cableowl_new.Reads.Post
   pub cableowl-cableowl-on-start-processing : Decides cableowl.cableowl_on_start_processing.Reads.Post
-  pub cableowl-cableowl-process : DecidesWith (λ k r s. s .1 .1 .1 .1 .1 .1 .1 .1 .1 .0 .now) cableowl.cableowl_process.Reads.Post
-  pub cableowl-cableowl-process-into : DecidesWith (λ k r s. s .1 .1 .1 .1 .1 .1 .1 .1 .1 .0 .now) cableowl.cableowl_process_into.Reads.Post
-  pub cableowl-cableowl-process-held : DecidesWith (λ k r s. s .1 .1 .1 .1 .1 .1 .1 .1 .1 .0 .now) cableowl.cableowl_process_held.Reads.Post
-  pub cableowl-cableowl-process-held-into : DecidesWith (λ k r s. s .1 .1 .1 .1 .1 .1 .1 .1 .1 .0 .now) cableowl.cableowl_process_held_into.Reads.Post
+  pub cableowl-cableowl-process : DecidesWith
+      (λ k r s. s .1 .1 .1 .1 .1 .1 .1 .1 .1 .0 .now) cableowl.cableowl_process.Reads.Post
+  pub cableowl-cableowl-process-into : DecidesWith
+      (λ k r s. s .1 .1 .1 .1 .1 .1 .1 .1 .1 .0 .now) cableowl.cableowl_process_into.Reads.Post
+  pub cableowl-cableowl-process-held : DecidesWith
+      (λ k r s. s .1 .1 .1 .1 .1 .1 .1 .1 .1 .0 .now) cableowl.cableowl_process_held.Reads.Post
+  pub cableowl-cableowl-process-held-into : DecidesWith
+      (λ k r s. s .1 .1 .1 .1 .1 .1 .1 .1 .1 .0 .now) cableowl.cableowl_process_held_into.Reads.Post
   pub cableowl-cableowl-stretch : Decides cableowl.cableowl_stretch.Reads.Post
   pub cableowl-cableowl-amplitude : DecidesWith (λ k r s. s .1 .0 .now) cableowl.cableowl_amplitude.Reads.Post
   pub cableowl-cableowl-fade-ramp : DecidesWith (λ k r s. s .1 .1 .1 .0 .now) cableowl.cableowl_fade_ramp.Reads.Post
@@ -222,8 +238,10 @@ pub record Coincide : Type 0 where
   pub cableowl-cableowl-write-copy : Decides cableowl.cableowl_write_copy.Reads.Post
   pub cableowl-cableowl-clear-copy : Decides cableowl.cableowl_clear_copy.Reads.Post
   pub cableowl-cableowl-merge-copies : Decides cableowl.cableowl_merge_copies.Reads.Post
-  pub cableowl-cableowl-store-settings : DecidesWith (λ k r s. s .1 .0 .now) cableowl.cableowl_store_settings.Reads.Post
-  pub cableowl-cableowl-load-settings : DecidesWith (λ k r s. s .1 .1 .0 .now) cableowl.cableowl_load_settings.Reads.Post
+  pub cableowl-cableowl-store-settings : DecidesWith
+      (λ k r s. s .1 .0 .now) cableowl.cableowl_store_settings.Reads.Post
+  pub cableowl-cableowl-load-settings : DecidesWith
+      (λ k r s. s .1 .1 .0 .now) cableowl.cableowl_load_settings.Reads.Post
   pub cableowl-cableowl-settings-of : Decides cableowl.cableowl_settings_of.Reads.Post
   pub cableowl-cableowl-store-half : DecidesWith (λ k r s. s .1 .1 .0 .now) cableowl.cableowl_store_half.Reads.Post
   pub cableowl-cableowl-load-half : DecidesWith (λ k r s. s .1 .0 .now) cableowl.cableowl_load_half.Reads.Post
@@ -231,4 +249,5 @@ pub record Coincide : Type 0 where
   pub cableowl-cableowl-write-record : DecidesWith (λ k r s. s .0 .now) cableowl.cableowl_write_record.Reads.Post
   pub cableowl-cableowl-salvage : DecidesWith (λ k r s. s .1 .0 .now) cableowl.cableowl_salvage.Reads.Post
   pub cableowl-cableowl-replay : Decides cableowl.cableowl_replay.Reads.Post
-  pub cableowl-cableowl-replay-step : DecidesWith {B = List Float × List Float} (λ k r s. (s .1 .1 .1 .0 .now, s .1 .1 .1 .1 .0 .now)) cableowl.cableowl_replay_step.Reads.Post
+  pub cableowl-cableowl-replay-step : DecidesWith {B = List Float
+      × List Float} (λ k r s. (s .1 .1 .1 .0 .now, s .1 .1 .1 .1 .0 .now)) cableowl.cableowl_replay_step.Reads.Post

@@ -1,6 +1,7 @@
--- A block cut in two. Whenever a block is accepted, it may be played in two parts, cut after any of its frames:
--- the first part is given the block's signals and the first k frames of each lane, the second the rest, from the state that the first left, and no signals, but the same tick where the start is due at one.
--- Both parts are accepted, the samples are the first part's and then the second's, and the answers compare as Alike says.
+-- A block cut in two. An accepted block can be played in two parts, cut after any of its frames. The first part gets
+-- the block's signals and the first k frames of each lane. The second part gets the rest and the state that the first
+-- returned, and no signals; if the start is due at a tick, it gets the same tick. Both parts are accepted, the
+-- samples are the first part's and then the second's, and the results compare as Alike says.
 use Prim.Native.Nat.{ℕ, _*_, _≤_}
 use mathlib.Core.Path.{_≡_}
 use mathlib.Core.List.{List, _++_}
@@ -19,8 +20,9 @@ pub record CutInTwo (uncut first rest : Outcome) : Type 0 where
   pub answers : Parts (uncut .answer) (first .answer) (rest .answer)
   pub samples : uncut .samples ≡ first .samples ++ rest .samples
 
--- what is asked: an accepted block, and a number of its frames
-pub record MayCut (snd : List Float) (v : StaticSound) (dt : Float) (b : Lanes) (g : Signals) (out : List Float) (k : ℕ) : Type 0 where
+-- hypothesis: an accepted block, and a number of its frames
+pub record MayCut (snd : List Float) (v : StaticSound) (dt : Float) (b : Lanes) (g : Signals) (out : List Float)
+    (k : ℕ) : Type 0 where
   pub accepted : AcceptedBlock snd v dt b g out
   pub inside : k ≤ length (b .rate)
 

@@ -1,4 +1,5 @@
--- docs/assurance/RULES.md, "Marked examples": all that are marked [P], one table and one statement. N = 10 and loop (3, 6) unless said.
+-- docs/assurance/RULES.md, "Marked examples": all that are marked [P], one table and one statement. N = 10 and loop
+-- (3, 6) unless said.
 use Prim.Native.Nat.{ℕ}
 use mathlib.Core.Path.{_≡_}
 use mathlib.Core.Bool.{Bool, true, false}
@@ -24,7 +25,8 @@ use Rattle.sound_creation.specs.declared.Created.{Created}
 use Rattle.sound_creation.specs.Creation.{created}
 use Rattle.sound_commands.specs.Commands.{targetTo}
 
--- what a row shows: where a transport is and whether it plays on; a frame number; a creation's refusal, window numbers and position; a frame heard
+-- what a row shows: where a transport is and whether it plays on; a frame number; a creation's refusal, window
+-- numbers and position; a frame heard
 pub data Shown : Type 0 where
   moved : ℕ → Bool → Shown
   place : ℕ → Shown
@@ -68,7 +70,8 @@ from start reverse =
     }
 
 abbrev numbers : Created → Shown
-numbers c = window (c .refusal) (map (λ (r : RecentFrame). r .«frame_index») (c .sound .moving .resampler .frames)) (c .sound .moving .transport .position)
+numbers c = window (c .refusal) (map (λ (r : RecentFrame). r .«frame_index») (c .sound .moving .resampler .frames))
+    (c .sound .moving .transport .position)
 
 -- ---- the window
 
@@ -81,7 +84,11 @@ recent x = record { frame = both x; «frame_index» = 0 }
 
 -- the entries 0, 1, 2, 3
 abbrev rising : Resampler
-rising = record { frames = recent positiveZero ∷ recent one ∷ recent (fin false 1 (pos 1)) ∷ recent (fin false 3 (pos 0)) ∷ []; «time_until_empty» = 4 }
+rising = record {
+  frames = recent positiveZero ∷ recent one ∷ recent (fin false 1 (pos 1))
+      ∷ recent (fin false 3 (pos 0)) ∷ [];
+  «time_until_empty» = 4;
+}
 
 -- so many halves
 abbrev halves : ℕ → Float

@@ -1,6 +1,7 @@
--- Blocks whose five numbers are given once. Their definition is the block over lanes that repeat the numbers, so every theorem over blocks holds of them;
--- here by name: cut in two, such a block is two such blocks, into an output or into a mix; what it keeps; the steps that it reports, and how many they are at most.
--- Rows of such blocks are the rows of Schedules over such lanes, and they are calls of InTheLoop.
+-- Blocks whose five numbers are given once. Their definition is the block over lanes that repeat the numbers, so
+-- every theorem about blocks holds for them. Here by name: such a block can be cut into two such blocks, into an
+-- output or into a mix; what it keeps; its steps, and how many they are at most. Sequences of such blocks are those
+-- of Schedules over such lanes, and they are calls of InTheLoop.
 use Prim.Native.Nat.{ℕ, _+_, _-_, _*_, _/_}
 use mathlib.Core.List.{List}
 use lib.ListN.{length, take, drop}
@@ -36,7 +37,8 @@ HeldMixCut =
 
 abbrev pub HeldKeeps : Type 0
 HeldKeeps =
-    (snd : List Float) (v : StaticSound) (dt : Float) (x : Held) (g : Signals) (out : List Float) → BlockKeeps snd v out (processedHeld snd v dt x g out)
+    (snd : List Float) (v : StaticSound) (dt : Float) (x : Held) (g : Signals) (out : List Float)
+    → BlockKeeps snd v out (processedHeld snd v dt x g out)
 
 abbrev pub HeldMixKeeps : Type 0
 HeldMixKeeps =
@@ -46,22 +48,26 @@ HeldMixKeeps =
 abbrev pub HeldSteps : Type 0
 HeldSteps =
     (snd : List Float) (v : StaticSound) (dt : Float) (x : Held) (g : Signals) (out : List Float)
-    → AcceptedBlock snd v dt (once x (length out / 2)) g out → Stepped snd v dt (once x (length out / 2)) g (processedHeld snd v dt x g out)
+    → AcceptedBlock snd v dt (once x (length out / 2)) g out
+    → Stepped snd v dt (once x (length out / 2)) g (processedHeld snd v dt x g out)
 
 abbrev pub HeldMixSteps : Type 0
 HeldMixSteps =
     (snd : List Float) (v : StaticSound) (dt : Float) (x : Held) (g : Signals) (mix : List Float) (from n : ℕ)
-    → AcceptedMix snd v dt (once x n) g mix from → Stepped snd v dt (once x n) g (processedHeldInto snd v dt x g mix from n)
+    → AcceptedMix snd v dt (once x n) g mix from
+    → Stepped snd v dt (once x n) g (processedHeldInto snd v dt x g mix from n)
 
 abbrev pub HeldBudget : Type 0
 HeldBudget =
     (k : ℕ) (snd : List Float) (v : StaticSound) (dt : Float) (x : Held) (g : Signals) (out : List Float)
-    → SlowBlock k snd v dt (once x (length out / 2)) g out → Within k snd v dt (once x (length out / 2)) g ((processedHeld snd v dt x g out) .answer)
+    → SlowBlock k snd v dt (once x (length out / 2)) g out
+    → Within k snd v dt (once x (length out / 2)) g ((processedHeld snd v dt x g out) .answer)
 
 abbrev pub HeldMixBudget : Type 0
 HeldMixBudget =
     (k : ℕ) (snd : List Float) (v : StaticSound) (dt : Float) (x : Held) (g : Signals) (mix : List Float) (from n : ℕ)
-    → SlowMix k snd v dt (once x n) g mix from → Within k snd v dt (once x n) g ((processedHeldInto snd v dt x g mix from n) .answer)
+    → SlowMix k snd v dt (once x n) g mix from
+    → Within k snd v dt (once x n) g ((processedHeldInto snd v dt x g mix from n) .answer)
 
 pub record HeldBlocks : Type 0 where
   pub cut : HeldCut

@@ -1,8 +1,8 @@
--- Once in the loop, always in the loop. Take a well formed voice whose transport plays inside its loop, and any row of calls: blocks, into an output or into a mix,
--- command sets, loops taken from a table and stretches, each with a sound of its own. A loop that is taken counts as a loop command.
--- As long as no accepted one holds a loop command, the transport still plays, inside that loop;
--- and the voice is Stopped only if an accepted one held a stop command or a never answer, or if it was Stopping or Stopped at first.
--- Of refused calls nothing is asked: they may hold anything. Seeks are commands like others, and stay inside.
+-- Once in the loop, always in the loop. Take a well formed voice whose transport plays inside its loop, and any
+-- sequence of blocks, mixes, command sets, loops taken from a table (each counts as a loop command) and stretches,
+-- each with a sound of its own. If no accepted call contains a loop command, the transport still plays inside that
+-- loop. The voice is Stopped only if an accepted call contained a stop command or the answer never, or if it was
+-- Stopping or Stopped at first. Refused calls can contain anything; seeks stay inside.
 use Prim.Native.Nat.{ℕ}
 use mathlib.Core.Path.{_≡_}
 use mathlib.Core.Bool.{Bool, true, false, _&&_, _||_, not}
@@ -10,7 +10,15 @@ use mathlib.Core.List.{List, [], _∷_}
 use lib.Dec.{T, eqb}
 use lib.Ieee.{Float}
 use Rattle.playback_state_manager.specs.declared.PlaybackState.{PlaybackState}
-use Rattle.playback_state_manager.specs.declared.PlaybackState.the-variants.{Playing, Pausing, Paused, WaitingToResume, Resuming, Stopping, Stopped}
+use Rattle.playback_state_manager.specs.declared.PlaybackState.the-variants.{
+  Playing,
+  Pausing,
+  Paused,
+  WaitingToResume,
+  Resuming,
+  Stopping,
+  Stopped,
+}
 use Rattle.playback_state_manager.specs.declared.StartAnswer.{StartAnswer}
 use Rattle.playback_state_manager.specs.declared.StartAnswer.the-variants as answer
 use Rattle.start_time.specs.Ticks.{answering}
@@ -29,7 +37,7 @@ use Rattle.static_sound.specs.Entries.{processed, processedInto}
 
 -- ---- calls
 
--- all that a call is given but the voice
+-- the input of a call, without the voice
 pub data Call : Type 0 where
   Block : (sound : List Float) (dt : Float) (lanes : Lanes) (signals : Signals) (out : List Float) → Call
   Mix : (sound : List Float) (dt : Float) (lanes : Lanes) (signals : Signals) (mix : List Float) (from : ℕ) → Call
@@ -37,7 +45,7 @@ pub data Call : Type 0 where
   Take : (sound : List Float) (table : LoopTable) (slot : ℕ) → Call
   Stretch : (sound : List Float) → Call
 
--- the voice that a call gives back; a stretch gives back none, so it stays as it is
+-- the voice that a call returns; a stretch returns none, so it does not change
 abbrev pub after : Call → StaticSound → StaticSound
 after (Block snd dt b g out) v = (processed snd v dt b g out) .answer .sound
 after (Mix snd dt b g mix from) v = (processedInto snd v dt b g mix from) .answer .sound
@@ -53,17 +61,17 @@ accepted (Command snd c) v = eqb ((commanded snd v c) .refusal) 0
 accepted (Take snd t k) v = eqb ((taken snd t k v) .refusal) 0
 accepted (Stretch snd) v = true
 
--- a row of calls, the first one first, each on what the one before left
+-- a sequence of calls, each with the voice that the one before returned
 unfoldable pub afterAll : List Call → StaticSound → StaticSound
 afterAll [] v = v
 afterAll (c ∷ cs) v = afterAll cs (after c v)
 
--- whether some accepted call of the row is of a kind
+-- whether some accepted call of the sequence is of a kind
 unfoldable pub someAccepted : (Call → Bool) → List Call → StaticSound → Bool
 someAccepted kind [] v = false
 someAccepted kind (c ∷ cs) v = (accepted c v && kind c) || someAccepted kind cs (after c v)
 
--- ---- what they hold
+-- ---- what calls contain
 
 abbrev pub changesLoop : LoopCommand → Bool
 changesLoop loop.Keep = false
@@ -103,7 +111,7 @@ ending Stopped = true
 
 -- ---- what is promised
 
--- the voice that the calls leave is Stopped
+-- after the calls the voice is Stopped
 abbrev pub EndsStopped : List Call → StaticSound → Type 0
 EndsStopped cs v = (afterAll cs v) .moving .state ≡ Stopped
 
@@ -111,7 +119,7 @@ pub record Stays (s e : ℕ) (cs : List Call) (v : StaticSound) : Type 0 where
   pub inside : Inside s e ((afterAll cs v) .moving .transport)
   pub stopped : EndsStopped cs v → T (someAccepted stops cs v || ending (v .moving .state))
 
--- what is asked
+-- hypothesis
 pub record Entered (s e : ℕ) (cs : List Call) (v : StaticSound) : Type 0 where
   pub formed : T (wellFormed v)
   pub inside : Inside s e (v .moving .transport)

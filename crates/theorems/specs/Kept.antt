@@ -1,5 +1,6 @@
--- What every call leaves. An accepted one leaves a state that is well formed over the sound it was given, so refusal 1 never follows from a state that was answered.
--- A refused one leaves the given state and the given samples, with 0 steps, a count of 4 and position +0; a refused creation gives the blank state, which is not well formed.
+-- What every call returns. An accepted call returns a state that is well formed over its sound, so a returned state
+-- is never refused with 1 over the same sound. A refused call returns the given state and leaves the samples, with 0
+-- steps, a count of 4 and position +0; a refused creation returns the blank state, which is not well formed.
 use Prim.Native.Nat.{ℕ}
 use mathlib.Core.Path.{_≡_}
 use mathlib.Core.Bool.{false}
@@ -34,16 +35,19 @@ BlankIsNot = wellFormed blankSound ≡ false
 abbrev pub CommandsKeep : Type 0
 CommandsKeep =
     (snd : List Float) (v : StaticSound) (c : Commands)
-    → let a = commanded snd v c in Either (a .refusal) (T (ours (length snd) (a .sound))) ((a .sound ≡ v) × (a .position ≡ positiveZero))
+    → let a = commanded snd v c in Either (a .refusal) (T (ours (length snd) (a .sound)))
+    ((a .sound ≡ v) × (a .position ≡ positiveZero))
 
--- of a block's outcome, given the state and the samples before
+-- for a block's outcome, given the state and the samples before
 abbrev pub BlockKeeps : List Float → StaticSound → List Float → Outcome → Type 0
 BlockKeeps snd v out o =
-    Either (o .answer .refusal) (T (ours (length snd) (o .answer .sound))) ((o .answer .sound ≡ v) × (o .answer .steps ≡ 0) × (o .answer .«lowest_count» ≡ 4) × (o .samples ≡ out))
+    Either (o .answer .refusal) (T (ours (length snd) (o .answer .sound))) ((o .answer .sound ≡ v)
+    × (o .answer .steps ≡ 0) × (o .answer .«lowest_count» ≡ 4) × (o .samples ≡ out))
 
 abbrev pub BlocksKeep : Type 0
 BlocksKeep =
-    (snd : List Float) (v : StaticSound) (dt : Float) (b : Lanes) (g : Signals) (out : List Float) → BlockKeeps snd v out (processed snd v dt b g out)
+    (snd : List Float) (v : StaticSound) (dt : Float) (b : Lanes) (g : Signals) (out : List Float)
+    → BlockKeeps snd v out (processed snd v dt b g out)
 
 abbrev pub MixesKeep : Type 0
 MixesKeep =

@@ -1,4 +1,4 @@
--- What is shown of the entries beyond each one's own promise: a file a theorem, and their list in Promises.
+-- The theorems about the entry points: one file per theorem, and their list in Promises.
 pub mod Sums
 pub mod Accepted
 pub mod Alike

@@ -1,5 +1,5 @@
--- A block into a mix, cut in two: the first k frames at `from`, then the rest at `from` + k, into what the first part left of the mix.
--- Both parts are accepted, the mix is the same sample by sample, and the answers compare as Alike says.
+-- A block into a mix, cut in two: the first k frames at `from`, then the rest at `from` + k, into the mix after the
+-- first part. Both parts are accepted, the mix is the same, sample by sample, and the results compare as Alike says.
 use Prim.Native.Nat.{ℕ, _+_, _≤_}
 use mathlib.Core.Path.{_≡_}
 use mathlib.Core.List.{List}
@@ -18,8 +18,9 @@ pub record CutInMix (uncut first rest : Outcome) : Type 0 where
   pub answers : Parts (uncut .answer) (first .answer) (rest .answer)
   pub samples : uncut .samples ≡ rest .samples
 
--- what is asked: an accepted block, and a number of its frames
-pub record MayCutMix (snd : List Float) (v : StaticSound) (dt : Float) (b : Lanes) (g : Signals) (mix : List Float) (from : ℕ) (k : ℕ) : Type 0 where
+-- hypothesis: an accepted block, and a number of its frames
+pub record MayCutMix (snd : List Float) (v : StaticSound) (dt : Float) (b : Lanes) (g : Signals) (mix : List Float)
+    (from : ℕ) (k : ℕ) : Type 0 where
   pub accepted : AcceptedMix snd v dt b g mix from
   pub inside : k ≤ length (b .rate)
 

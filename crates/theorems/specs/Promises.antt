@@ -1,12 +1,20 @@
--- All that is promised beyond the functions' own contracts: a field a theorem, each stated in the file that its type comes from.
--- The contract of `promised` is this record, so the prover refuses a field that is false or has no proof.
+-- The list of theorems, one field each; the file of a field's type states it. The contract of `promised` is this
+-- record, so the prover refuses a field that is false or has no proof.
 use Rattle.theorems.specs.Cut.{CutBlocks}
 use Rattle.theorems.specs.Mix.{CutMixes}
 use Rattle.theorems.specs.Schedules.{AnySizes, AnySizesMix, AllAccepted, AllAcceptedMix}
 use Rattle.theorems.specs.Kept.{CreationKeeps, BlankIsNot, CommandsKeep, BlocksKeep, MixesKeep}
 use Rattle.theorems.specs.LawfulEnd.{UpdateEnds, BlockEnds, MixEnds}
 use Rattle.theorems.specs.Steps.{StepsMade, MixStepsMade}
-use Rattle.theorems.specs.Reports.{CreationFeeds, CommandsFeed, BlocksFeed, MixesFeed, BlocksTell, MixesTell, SilenceTells}
+use Rattle.theorems.specs.Reports.{
+  CreationFeeds,
+  CommandsFeed,
+  BlocksFeed,
+  MixesFeed,
+  BlocksTell,
+  MixesTell,
+  SilenceTells,
+}
 use Rattle.theorems.specs.Stays.{SeekStartsNothing, StoppedStays}
 use Rattle.theorems.specs.AnyOrder.{AnyOrder, ThereAndBack, Permutations}
 use Rattle.theorems.specs.InTheLoop.{InTheLoop}
@@ -25,7 +33,7 @@ use Rattle.theorems.specs.Coincide.{Coincide}
 use Rattle.theorems.specs.Witnesses.{Witnesses}
 
 pub record Promises : Type 0 where
-  -- a block cut in two is the same block
+  -- splitting a block does not change it
   pub cut-blocks : CutBlocks
   pub cut-mixes : CutMixes
   -- and so is a stream of blocks of any sizes, each of which is accepted
@@ -33,7 +41,7 @@ pub record Promises : Type 0 where
   pub any-sizes-mix : AnySizesMix
   pub all-accepted : AllAccepted
   pub all-accepted-mix : AllAcceptedMix
-  -- the same of the archive's entries, on records of numbers
+  -- the same for the C entries, on C records
   pub archive-cut-blocks : CutBlocksC
   pub archive-cut-mixes : CutMixesC
   pub archive-any-sizes : AnySizesC
@@ -45,7 +53,7 @@ pub record Promises : Type 0 where
   pub archive-unlawful-refused : UnlawfulRefused
   pub archive-tags-refused : TagsRefused
   pub archive-part-is-stretch : PartIsStretch
-  -- an accepted call leaves a well formed state, a refused one all that it was given
+  -- an accepted call returns a well formed state, a refused one what it was given
   pub creation-keeps : CreationKeeps
   pub blank-is-not : BlankIsNot
   pub commands-keep : CommandsKeep
@@ -55,17 +63,17 @@ pub record Promises : Type 0 where
   pub update-ends : UpdateEnds
   pub block-ends : BlockEnds
   pub mix-ends : MixEnds
-  -- the steps reported are the updates made
+  -- the reported steps are the updates made
   pub steps-made : StepsMade
   pub mix-steps-made : MixStepsMade
-  -- how many they are at most, and that the bound is reached
+  -- their largest number, and an input that reaches it
   pub block-budget : BlockBudget
   pub mix-budget : MixBudget
   pub stream-budget : StreamBudget
   pub two-steps : TwoSteps
-  -- the same of blocks whose numbers are given once
+  -- the same for blocks whose numbers are given once
   pub held-blocks : HeldBlocks
-  -- what the lowest count tells a monitor of a voice that creation and its calls have fed
+  -- what the lowest count means, for a voice that comes from creation by calls with its sound
   pub creation-feeds : CreationFeeds
   pub commands-feed : CommandsFeed
   pub blocks-feed : BlocksFeed
@@ -73,10 +81,10 @@ pub record Promises : Type 0 where
   pub blocks-tell : BlocksTell
   pub mixes-tell : MixesTell
   pub silence-tells : SilenceTells
-  -- what is over stays over
+  -- an ended transport and a Stopped voice stay so
   pub seek-starts-nothing : SeekStartsNothing
   pub stopped-stays : StoppedStays
-  -- a loop is not left by steps, in any order, nor by any row of calls without a loop command
+  -- steps in any order, and any sequence of calls without a loop command, stay inside the loop
   pub any-order : AnyOrder
   pub there-and-back : ThereAndBack
   pub permutations : Permutations
@@ -99,5 +107,5 @@ pub record Promises : Type 0 where
   pub examples-hold : ExamplesHold
   -- each contract says enough: any two outcomes that it allows coincide
   pub coincide : Coincide
-  -- for each theorem that asks something, an input that meets it
+  -- one input for each hypothesis
   pub witnesses : Witnesses

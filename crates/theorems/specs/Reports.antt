@@ -1,7 +1,7 @@
--- What a block's lowest count tells a monitor. 4: at every read of the block the newest entry was a frame of the sound, so no tail had begun.
--- t below 4: at one of its reads 4 - t pushes had been made without a frame (0: at least 4 of them), and the transport had ended.
--- So it is of every voice that creation made and that calls with its own sound led to: each of them leaves a voice that was fed so.
--- Not "four real entries": after creation the oldest entry is the zero that creation put there.
+-- What a block's lowest count means. 4: at every read of the block the newest entry was a frame of the sound. t below
+-- 4: at one of its reads 4 - t pushes had been made without a frame (0: at least 4 of them), and the transport had
+-- ended. This holds for every voice that comes from creation by calls with its own sound; such a voice is "fed" by
+-- its sound. A count of 4 does not mean four real entries: after creation the oldest entry is a zero frame.
 use Prim.Native.Nat.{ℕ, _+_, _-_, _<_}
 use mathlib.Core.Path.{_≡_}
 use mathlib.Core.Bool.{true, false}
@@ -34,7 +34,8 @@ unfoldable pub nones : List ℕ → Resampler → Resampler
 nones [] w = w
 nones (n ∷ ns) w = push (nones ns w) Absent n
 
--- the last frame that was pushed is a frame of the sound, and `since` are the numbers pushed after it without one, once the transport had ended
+-- the last frame that was pushed is a frame of the sound; `since` are the indices of the pushes after it without a
+-- frame, after the transport had ended
 pub record Fed (snd : List Float) (start : ℕ) (m : Moving) : Type 0 where
   pub before : Resampler
   pub number : ℕ
@@ -45,7 +46,7 @@ pub record Fed (snd : List Float) (start : ℕ) (m : Moving) : Type 0 where
 abbrev pub FedVoice : List Float → StaticSound → Type 0
 FedVoice snd v = Fed snd (offset (v .setup)) (v .moving)
 
--- ---- every call leaves a voice that was fed
+-- ---- every call returns a fed voice
 
 -- an accepted creation
 abbrev pub AcceptedNew : List Float → Settings → Type 0
@@ -55,7 +56,8 @@ abbrev pub CreationFeeds : Type 0
 CreationFeeds = (snd : List Float) (s : Settings) → AcceptedNew snd s → FedVoice snd ((created snd s) .sound)
 
 abbrev pub CommandsFeed : Type 0
-CommandsFeed = (snd : List Float) (v : StaticSound) (c : Commands) → FedVoice snd v → FedVoice snd ((commanded snd v c) .sound)
+CommandsFeed = (snd : List Float) (v : StaticSound) (c : Commands) → FedVoice snd v
+    → FedVoice snd ((commanded snd v c) .sound)
 
 abbrev pub BlocksFeed : Type 0
 BlocksFeed =
@@ -76,11 +78,11 @@ atRead snd dt ls u k = (plays snd dt (take k ls) u) .voice
 abbrev pub newest : StaticSound → RecentFrame
 newest v = getD (v .moving .resampler .frames) 3 blank
 
--- the newest entry is a frame of the sound, the one with its number
+-- the newest entry is the frame of the sound with its index
 abbrev pub Sounding : List Float → StaticSound → Type 0
 Sounding snd v = newest v .frame ≡ frameOf snd (offset (v .setup) + newest v .«frame_index»)
 
--- a read at which t is left: 4 less the pushes without a frame
+-- a read with count t: 4 minus the pushes without a frame
 pub record Tail (snd : List Float) (dt : Float) (ls : List Lane) (u : StaticSound) (t : ℕ) : Type 0 where
   pub read : ℕ
   pub within : read < length ls
@@ -95,18 +97,20 @@ Full t ls k = (t ≡ 4) × (k < length ls)
 abbrev pub Short : ℕ → Type 0
 Short t = t < 4
 
--- what t, the lowest count of a block of the lanes ls that begins with u, tells
+-- what the lowest count t of a block with the lanes ls that begins with u means
 pub record Tells (snd : List Float) (dt : Float) (ls : List Lane) (u : StaticSound) (t : ℕ) : Type 0 where
   pub full : (k : ℕ) → Full t ls k → Sounding snd (atRead snd dt ls u k)
   pub tail : Short t → Tail snd dt ls u t
 
--- what is asked: a fed voice, and an accepted block of it that sounds
-pub record Reporting (snd : List Float) (v : StaticSound) (dt : Float) (b : Lanes) (g : Signals) (out : List Float) : Type 0 where
+-- hypothesis: a fed voice, and an accepted block of it that sounds
+pub record Reporting (snd : List Float) (v : StaticSound) (dt : Float) (b : Lanes) (g : Signals)
+    (out : List Float) : Type 0 where
   pub fed : FedVoice snd v
   pub accepted : AcceptedBlock snd v dt b g out
   pub live : live (begun g v) ≡ true
 
-pub record ReportingMix (snd : List Float) (v : StaticSound) (dt : Float) (b : Lanes) (g : Signals) (mix : List Float) (from : ℕ) : Type 0 where
+pub record ReportingMix (snd : List Float) (v : StaticSound) (dt : Float) (b : Lanes) (g : Signals) (mix : List Float)
+    (from : ℕ) : Type 0 where
   pub fed : FedVoice snd v
   pub accepted : AcceptedMix snd v dt b g mix from
   pub live : live (begun g v) ≡ true
@@ -114,14 +118,16 @@ pub record ReportingMix (snd : List Float) (v : StaticSound) (dt : Float) (b : L
 abbrev pub BlocksTell : Type 0
 BlocksTell =
     (snd : List Float) (v : StaticSound) (dt : Float) (b : Lanes) (g : Signals) (out : List Float)
-    → Reporting snd v dt b g out → Tells snd dt (rows b) (begun g v) ((processed snd v dt b g out) .answer .«lowest_count»)
+    → Reporting snd v dt b g out
+    → Tells snd dt (rows b) (begun g v) ((processed snd v dt b g out) .answer .«lowest_count»)
 
 abbrev pub MixesTell : Type 0
 MixesTell =
     (snd : List Float) (v : StaticSound) (dt : Float) (b : Lanes) (g : Signals) (mix : List Float) (from : ℕ)
-    → ReportingMix snd v dt b g mix from → Tells snd dt (rows b) (begun g v) ((processedInto snd v dt b g mix from) .answer .«lowest_count»)
+    → ReportingMix snd v dt b g mix from
+    → Tells snd dt (rows b) (begun g v) ((processedInto snd v dt b g mix from) .answer .«lowest_count»)
 
--- a block that does not sound reports 4, accepted or refused (of every refused block BlocksKeep says so, in Kept)
+-- a block that does not sound reports 4, accepted or refused (for refused blocks see BlocksKeep, in Kept)
 abbrev pub SilenceTells : Type 0
 SilenceTells =
     (snd : List Float) (v : StaticSound) (dt : Float) (b : Lanes) (g : Signals) (out : List Float)

@@ -1,6 +1,6 @@
--- What the counts of wraps mean. Take a voice that plays inside its loop (s, e), L = e - s, and an accepted block. Then positions, steps and wraps fit:
--- forward, the position after it is the one before, plus the steps, less L for each wrap counted in it; backward, the one before, less the steps, plus L for each wrap.
--- As long as the count has not reached its limit, where it stands still. The count of the other direction stays as it is, and no count falls.
+-- What the counts of wraps mean. For a voice that plays inside its loop (s, e), L = e - s, and an accepted block:
+-- position after = position before + steps - L * wraps (forward), or - steps + L * wraps (backward), as long as the
+-- count has not reached its limit. The other direction's count does not change, and no count falls.
 use Prim.Native.Nat.{ℕ, _+_, _-_, _*_, _≤_, _<_}
 use mathlib.Core.Path.{_≡_}
 use mathlib.Core.Bool.{Bool, true, false}
@@ -36,19 +36,22 @@ pub record Fits (s e : ℕ) (backwards : Bool) (steps : ℕ) (m w : Moving) : Ty
       → w .transport .position + (e - s) * (w .wraps .forward - m .wraps .forward) ≡ m .transport .position + steps
   pub backward : CountsBack backwards w
       → w .transport .position + steps ≡ m .transport .position + (e - s) * (w .wraps .backward - m .wraps .backward)
-  pub other : (Onward backwards → w .wraps .backward ≡ m .wraps .backward) × (Back backwards → w .wraps .forward ≡ m .wraps .forward)
+  pub other : (Onward backwards → w .wraps .backward ≡ m .wraps .backward)
+      × (Back backwards → w .wraps .forward ≡ m .wraps .forward)
   pub grows : (m .wraps .forward ≤ w .wraps .forward) × (m .wraps .backward ≤ w .wraps .backward)
 
--- what is asked: inside the loop, which lies in the frames; and of a block, that it is accepted
+-- hypothesis: inside the loop, which is inside the frames; a block is accepted
 pub record MovesInLoop (c : Course) (s e : ℕ) (m : Moving) : Type 0 where
   pub fits : e ≤ c .«num_frames»
   pub inside : Inside s e (m .transport)
 
-pub record BlockInLoop (snd : List Float) (v : StaticSound) (dt : Float) (b : Lanes) (g : Signals) (out : List Float) (s e : ℕ) : Type 0 where
+pub record BlockInLoop (snd : List Float) (v : StaticSound) (dt : Float) (b : Lanes) (g : Signals) (out : List Float)
+    (s e : ℕ) : Type 0 where
   pub accepted : AcceptedBlock snd v dt b g out
   pub inside : Inside s e (v .moving .transport)
 
-pub record MixInLoop (snd : List Float) (v : StaticSound) (dt : Float) (b : Lanes) (g : Signals) (mix : List Float) (from s e : ℕ) : Type 0 where
+pub record MixInLoop (snd : List Float) (v : StaticSound) (dt : Float) (b : Lanes) (g : Signals) (mix : List Float)
+    (from s e : ℕ) : Type 0 where
   pub accepted : AcceptedMix snd v dt b g mix from
   pub inside : Inside s e (v .moving .transport)
 
@@ -60,9 +63,11 @@ UpdatesFit =
 abbrev pub BlocksFit : Type 0
 BlocksFit =
     (snd : List Float) (v : StaticSound) (dt : Float) (b : Lanes) (g : Signals) (out : List Float) (s e : ℕ)
-    → let o = processed snd v dt b g out in BlockInLoop snd v dt b g out s e → Fits s e (courseOf v .backwards) (o .answer .steps) (v .moving) (o .answer .sound .moving)
+    → let o = processed snd v dt b g out in BlockInLoop snd v dt b g out s e
+    → Fits s e (courseOf v .backwards) (o .answer .steps) (v .moving) (o .answer .sound .moving)
 
 abbrev pub MixesFit : Type 0
 MixesFit =
     (snd : List Float) (v : StaticSound) (dt : Float) (b : Lanes) (g : Signals) (mix : List Float) (from s e : ℕ)
-    → let o = processedInto snd v dt b g mix from in MixInLoop snd v dt b g mix from s e → Fits s e (courseOf v .backwards) (o .answer .steps) (v .moving) (o .answer .sound .moving)
+    → let o = processedInto snd v dt b g mix from in MixInLoop snd v dt b g mix from s e
+    → Fits s e (courseOf v .backwards) (o .answer .steps) (v .moving) (o .answer .sound .moving)

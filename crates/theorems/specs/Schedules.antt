@@ -1,7 +1,8 @@
--- Block sizes do not matter. A stream of lanes between two commands, of any length, is cut into blocks: the first is given the signals, the others none, but the same tick where the start is due at one.
--- Any two ways to cut it whose blocks are all accepted write the same samples; they end in states that agree in all but the fraction and the window's frame numbers;
--- and unless the voice has stopped by one of their cuts, they end in the same state, with the same number of steps and the same lowest count.
--- The same holds of blocks into a mix. And every way to cut a lawful stream is such a one, as long as no block has more than 4,096 frames.
+-- Block sizes do not matter. A stream of lanes between two commands is cut into blocks; the first gets the signals,
+-- the others only the same tick, if the start is due at one. Any two ways to cut it whose blocks are all accepted
+-- write the same samples and end in states that agree in everything but the fraction and the window's frame indices.
+-- Unless the voice has stopped by a cut, state, steps and lowest count are the same. The same holds for blocks into a
+-- mix. Every way to cut a lawful stream into blocks of at most 4,096 frames is accepted.
 use Prim.Native.Nat.{ℕ, _+_, _*_}
 use mathlib.Core.Path.{_≡_}
 use mathlib.Core.Bool.{Bool, _&&_}
@@ -20,7 +21,8 @@ use Rattle.static_sound.specs.Entries.{room, processed, processedInto}
 use Rattle.theorems.specs.Sums.{sum}
 use Rattle.theorems.specs.Alike.{bare, awake}
 
--- what a row of blocks gives: whether each was accepted, the state after, all samples, all steps, the lowest count, and the state at each cut between two blocks
+-- the outcome of a sequence of blocks: whether each was accepted, the state after, all samples, all steps, the lowest
+-- count, and the state at each cut
 pub record Run : Type 0 where
   pub accepted : Bool
   pub sound : StaticSound
@@ -41,7 +43,7 @@ alone o =
       cuts = [];
     }
 
--- one block, and the row that follows it
+-- one block, and the sequence after it
 abbrev pub followed : Outcome → Run → Run
 followed o r =
     record {
@@ -53,14 +55,14 @@ followed o r =
       cuts = o .answer .sound ∷ r .cuts;
     }
 
--- blocks of k frames and then of the sizes that follow, out of a stream of lanes, into an output as long
+-- blocks of k frames and then of the following sizes, from a stream of lanes, into an output of that length
 unfoldable pub playedBy : List Float → Float → ℕ → List ℕ → Lanes → Signals → StaticSound → List Float → Run
 playedBy snd dt k [] b g v out = alone (processed snd v dt (firstLanes k b) g (take (2 * k) out))
 playedBy snd dt k (j ∷ ks) b g v out =
     let o = processed snd v dt (firstLanes k b) g (take (2 * k) out) in
     followed o (playedBy snd dt j ks (restLanes k b) (quiet g) (o .answer .sound) (drop (2 * k) out))
 
--- no block of two rows has left a Stopped voice at a cut
+-- in two sequences no voice is Stopped at a cut
 abbrev pub BothAwake : Run → Run → Type 0
 BothAwake r s = T (all awake (r .cuts)) × T (all awake (s .cuts))
 
@@ -71,22 +73,25 @@ pub record Agree (r s : Run) : Type 0 where
   pub alike : bare (r .sound) ≡ bare (s .sound)
 
 -- a way to cut a stream, all of whose blocks are accepted
-pub record Way (snd : List Float) (dt : Float) (b : Lanes) (g : Signals) (v : StaticSound) (k : ℕ) (ks : List ℕ) (out : List Float) : Type 0 where
+pub record Way (snd : List Float) (dt : Float) (b : Lanes) (g : Signals) (v : StaticSound) (k : ℕ) (ks : List ℕ)
+    (out : List Float) : Type 0 where
   pub all-of-it : k + sum ks ≡ length (b .rate)
   pub accepted : T ((playedBy snd dt k ks b g v out) .accepted)
 
--- what is asked: two such ways
-abbrev pub TwoWays : List Float → Float → Lanes → Signals → StaticSound → ℕ → List ℕ → List Float → ℕ → List ℕ → List Float → Type 0
+-- hypothesis: two such ways
+abbrev pub TwoWays : List Float → Float → Lanes → Signals → StaticSound → ℕ → List ℕ → List Float → ℕ → List ℕ
+    → List Float → Type 0
 TwoWays snd dt b g v k ks out j js mix = Way snd dt b g v k ks out × Way snd dt b g v j js mix
 
 abbrev pub AnySizes : Type 0
 AnySizes =
-    (snd : List Float) (dt : Float) (b : Lanes) (g : Signals) (v : StaticSound) (k : ℕ) (ks : List ℕ) (out : List Float) (j : ℕ) (js : List ℕ) (mix : List Float)
+    (snd : List Float) (dt : Float) (b : Lanes) (g : Signals) (v : StaticSound) (k : ℕ) (ks : List ℕ)
+    (out : List Float) (j : ℕ) (js : List ℕ) (mix : List Float)
     → TwoWays snd dt b g v k ks out j js mix → Agree (playedBy snd dt k ks b g v out) (playedBy snd dt j js b g v mix)
 
--- ---- into a mix: the blocks follow each other from a frame on, each into what the one before left of the mix
+-- ---- into a mix: the blocks follow each other from a frame on, each into the mix after the one before
 
--- one block, and the row that follows it: the samples are those of the mix at the end
+-- one block, and the sequence after it; the samples are those of the mix at the end
 abbrev pub onto : Outcome → Run → Run
 onto o r =
     record {
@@ -104,21 +109,26 @@ mixedBy snd dt k (j ∷ ks) b g v mix from =
     let o = processedInto snd v dt (firstLanes k b) g mix from in
     onto o (mixedBy snd dt j ks (restLanes k b) (quiet g) (o .answer .sound) (o .samples) (from + k))
 
-pub record WayMix (snd : List Float) (dt : Float) (b : Lanes) (g : Signals) (v : StaticSound) (k : ℕ) (ks : List ℕ) (mix : List Float) (from : ℕ) : Type 0 where
+pub record WayMix (snd : List Float) (dt : Float) (b : Lanes) (g : Signals) (v : StaticSound) (k : ℕ) (ks : List ℕ)
+    (mix : List Float) (from : ℕ) : Type 0 where
   pub all-of-it : k + sum ks ≡ length (b .rate)
   pub accepted : T ((mixedBy snd dt k ks b g v mix from) .accepted)
 
-abbrev pub TwoWaysMix : List Float → Float → Lanes → Signals → StaticSound → ℕ → List ℕ → ℕ → List ℕ → List Float → ℕ → Type 0
+abbrev pub TwoWaysMix : List Float → Float → Lanes → Signals → StaticSound → ℕ → List ℕ → ℕ → List ℕ → List Float → ℕ
+    → Type 0
 TwoWaysMix snd dt b g v k ks j js mix from = WayMix snd dt b g v k ks mix from × WayMix snd dt b g v j js mix from
 
 abbrev pub AnySizesMix : Type 0
 AnySizesMix =
-    (snd : List Float) (dt : Float) (b : Lanes) (g : Signals) (v : StaticSound) (k : ℕ) (ks : List ℕ) (j : ℕ) (js : List ℕ) (mix : List Float) (from : ℕ)
-    → TwoWaysMix snd dt b g v k ks j js mix from → Agree (mixedBy snd dt k ks b g v mix from) (mixedBy snd dt j js b g v mix from)
+    (snd : List Float) (dt : Float) (b : Lanes) (g : Signals) (v : StaticSound) (k : ℕ) (ks : List ℕ) (j : ℕ)
+    (js : List ℕ) (mix : List Float) (from : ℕ)
+    → TwoWaysMix snd dt b g v k ks j js mix from
+    → Agree (mixedBy snd dt k ks b g v mix from) (mixedBy snd dt j js b g v mix from)
 
--- ---- a row of blocks is accepted
+-- ---- a sequence of blocks is accepted
 
--- a lawful stream: the state is well formed over the sound, the other lanes are as long as the rate lane, and nothing in it is refused by 10 to 12
+-- a lawful stream: the state is well formed over the sound, all lanes have the same length, and 10 to 12 refuse
+-- nothing
 pub record Stream (snd : List Float) (dt : Float) (b : Lanes) (v : StaticSound) : Type 0 where
   pub ours : T (ours (length snd) v)
   pub fade : length (b .fade) ≡ length (b .rate)
@@ -133,14 +143,16 @@ pub record Stream (snd : List Float) (dt : Float) (b : Lanes) (v : StaticSound) 
 abbrev pub short : List ℕ → Bool
 short ks = all (λ (n : ℕ). leb n 4096) ks
 
--- what is asked: a lawful stream, an output as long, or a mix with room for it, and sizes that add up to all of it
-pub record LawfulCut (snd : List Float) (dt : Float) (b : Lanes) (v : StaticSound) (k : ℕ) (ks : List ℕ) (out : List Float) : Type 0 where
+-- hypothesis: a lawful stream, an output of that length or a mix with enough space, and sizes that add up to it
+pub record LawfulCut (snd : List Float) (dt : Float) (b : Lanes) (v : StaticSound) (k : ℕ) (ks : List ℕ)
+    (out : List Float) : Type 0 where
   pub stream : Stream snd dt b v
   pub holds : length out ≡ 2 * length (b .rate)
   pub all-of-it : k + sum ks ≡ length (b .rate)
   pub few : T (short (k ∷ ks))
 
-pub record LawfulCutMix (snd : List Float) (dt : Float) (b : Lanes) (v : StaticSound) (k : ℕ) (ks : List ℕ) (mix : List Float) (from : ℕ) : Type 0 where
+pub record LawfulCutMix (snd : List Float) (dt : Float) (b : Lanes) (v : StaticSound) (k : ℕ) (ks : List ℕ)
+    (mix : List Float) (from : ℕ) : Type 0 where
   pub stream : Stream snd dt b v
   pub holds : T (room from (length (b .rate)) mix)
   pub all-of-it : k + sum ks ≡ length (b .rate)
@@ -148,10 +160,12 @@ pub record LawfulCutMix (snd : List Float) (dt : Float) (b : Lanes) (v : StaticS
 
 abbrev pub AllAccepted : Type 0
 AllAccepted =
-    (snd : List Float) (dt : Float) (b : Lanes) (g : Signals) (v : StaticSound) (k : ℕ) (ks : List ℕ) (out : List Float)
+    (snd : List Float) (dt : Float) (b : Lanes) (g : Signals) (v : StaticSound) (k : ℕ) (ks : List ℕ)
+    (out : List Float)
     → LawfulCut snd dt b v k ks out → T ((playedBy snd dt k ks b g v out) .accepted)
 
 abbrev pub AllAcceptedMix : Type 0
 AllAcceptedMix =
-    (snd : List Float) (dt : Float) (b : Lanes) (g : Signals) (v : StaticSound) (k : ℕ) (ks : List ℕ) (mix : List Float) (from : ℕ)
+    (snd : List Float) (dt : Float) (b : Lanes) (g : Signals) (v : StaticSound) (k : ℕ) (ks : List ℕ)
+    (mix : List Float) (from : ℕ)
     → LawfulCutMix snd dt b v k ks mix from → T ((mixedBy snd dt k ks b g v mix from) .accepted)

@@ -1,6 +1,7 @@
--- Start ticks that wrap (request #112). For any due tick exactly half of all ticks are reached, and moving both ticks by the same amount, past the wrap or not, changes nothing.
--- A voice that an accepted block leaves has started exactly if it had before, or if the block brought a due tick that is reached: in any state and with any number of frames.
--- So a start that has come stays so, though the tick goes on or back. A refused block leaves the voice as it was (Kept).
+-- Start ticks that wrap (request #112). For any due tick exactly half of all ticks are reached, and moving both ticks
+-- by the same amount, past the wrap or not, changes nothing. After an accepted block a voice has started exactly if
+-- it had before or if the block's due tick is reached, in any state and with any number of frames. So a start that
+-- has come stays, even if the tick goes back. A refused block does not change the voice (Kept).
 use Prim.Native.Nat.{ℕ, zero, suc, _+_, _%_, _<_}
 use mathlib.Core.Path.{_≡_}
 use mathlib.Core.Bool.{Bool, _||_, cond}
@@ -32,16 +33,18 @@ HalfReached = (due : ℕ) → IsTick due → howMany (λ (now : ℕ). reached du
 abbrev pub MovedTogether : Type 0
 MovedTogether = (due now k : ℕ) → AreTicks due now → reached ((due + k) % turn) ((now + k) % turn) ≡ reached due now
 
--- what is asked: an accepted block that brings a due tick
-pub record Due (snd : List Float) (v : StaticSound) (dt : Float) (b : Lanes) (g : Signals) (out : List Float) (due now : ℕ) : Type 0 where
+-- hypothesis: an accepted block with a due tick
+pub record Due (snd : List Float) (v : StaticSound) (dt : Float) (b : Lanes) (g : Signals) (out : List Float)
+    (due now : ℕ) : Type 0 where
   pub accepted : AcceptedBlock snd v dt b g out
   pub tick : g .start ≡ Tick due now
 
-pub record DueMix (snd : List Float) (v : StaticSound) (dt : Float) (b : Lanes) (g : Signals) (mix : List Float) (from due now : ℕ) : Type 0 where
+pub record DueMix (snd : List Float) (v : StaticSound) (dt : Float) (b : Lanes) (g : Signals) (mix : List Float)
+    (from due now : ℕ) : Type 0 where
   pub accepted : AcceptedMix snd v dt b g mix from
   pub tick : g .start ≡ Tick due now
 
--- whether the voice that is answered has started
+-- whether the returned voice has started
 abbrev pub StartsBy : StaticSound → ℕ → ℕ → Processed → Type 0
 StartsBy v due now a = a .sound .started ≡ (v .started || reached due now)
 

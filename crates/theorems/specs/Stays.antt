@@ -1,4 +1,5 @@
--- What is over stays over (docs/assurance/RULES.md, "The transport", "States"): a seek never starts playing again, and no command and no signal leads out of Stopped.
+-- A seek never restarts the transport, and no command and no signal leads out of Stopped (docs/assurance/RULES.md,
+-- "The transport", "States").
 use Prim.Native.Nat.{ℕ}
 use mathlib.Core.Path.{_≡_}
 use mathlib.Core.Bool.{Bool, true}

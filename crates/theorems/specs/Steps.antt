@@ -1,5 +1,6 @@
--- The steps that an accepted block reports: per frame the whole part of the sum of fraction and advance, added up; 0 for a silent block; at most 257 a frame.
--- They are the updates made: as many updates of what the block began with give what it ended with.
+-- The steps that an accepted block reports: the sum over its frames of the whole part of fraction plus advance, at
+-- most 257 per frame; 0 for a silent block. They are the updates made: as many updates of the state at the block's
+-- beginning give the state at its end.
 use Prim.Native.Nat.{ℕ, _*_, _≤_}
 use mathlib.Core.Path.{_≡_}
 use mathlib.Core.Bool.{cond}
@@ -23,8 +24,9 @@ unfoldable pub stepsOf : List Float → Float → List Lane → StaticSound → 
 stepsOf snd dt [] v = []
 stepsOf snd dt (l ∷ ls) v = whole (total dt v l) ∷ stepsOf snd dt ls (turned snd dt v l)
 
--- of an accepted block's outcome
-pub record Stepped (snd : List Float) (v : StaticSound) (dt : Float) (b : Lanes) (g : Signals) (o : Outcome) : Type 0 where
+-- for an accepted block's outcome
+pub record Stepped (snd : List Float) (v : StaticSound) (dt : Float) (b : Lanes) (g : Signals)
+    (o : Outcome) : Type 0 where
   pub reported : o .answer .steps ≡ cond (live (begun g v)) (sum (stepsOf snd dt (rows b) (begun g v))) 0
   pub few : o .answer .steps ≤ 257 * length (b .rate)
   pub made : o .answer .sound .moving ≡ updates (o .answer .steps) snd (courseOf v) ((begun g v) .moving)

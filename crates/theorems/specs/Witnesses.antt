@@ -1,6 +1,7 @@
--- For each theorem that asks something, one input that meets it: so none is true merely because no input meets what it asks.
--- A field has its theorem's name in Promises, and its type is the theorem's hypothesis at that input, and each condition that stands in what it promises.
--- The input is the examples' creation: ten frames at 1 Hz in the loop (3, 6), at rate 1. Its blocks have two frames, one step each.
+-- One input for each theorem with a hypothesis, so that none is true only because no input meets its hypothesis. A
+-- field has its theorem's name in Promises. Its type is the theorem's hypothesis at that input, and each condition of
+-- its conclusion at one. The input is the examples' creation: ten frames at 1 Hz in the loop (3, 6), at rate 1. Its
+-- blocks have two frames, one step each.
 use Prim.Native.Nat.{ℕ}
 use mathlib.Core.Bool.{true, false}
 use mathlib.Core.List.{List, [], _∷_}
@@ -58,10 +59,16 @@ use Rattle.theorems.specs.ArchiveInTheLoop.{CallC, EndsStoppedC, Entered
 abbrev pub voice : StaticSound
 voice = created ten (from 0 false) .sound
 
--- the same voice before its start has come
+-- the same voice before it has started
 abbrev pub unstarted : StaticSound
 unstarted =
-    record { setup = voice .setup; «playback_rate» = one; started = false; «fractional_position» = positiveZero; moving = voice .moving }
+    record {
+      setup = voice .setup;
+      «playback_rate» = one;
+      started = false;
+      «fractional_position» = positiveZero;
+      moving = voice .moving;
+    }
 
 -- the same sound played in reverse, and a sound of one frame, without a loop, that ends at once
 abbrev pub reversed : StaticSound
@@ -92,7 +99,7 @@ lanes = let ones = one ∷ one ∷ [] in five ones ones ones ones ones
 abbrev pub ones : Held
 ones = record { fade = one; volume = one; left = one; right = one; rate = one }
 
--- the start is due at tick 4,294,967,295, and the tick now is 0, past the wrap
+-- the start is due at tick 4,294,967,295, and the current tick is 0, after the wrap
 abbrev pub due : Signals
 due = record { finished = false; start = Tick 4294967295 0; resume = Waiting }
 
@@ -103,7 +110,7 @@ waiting = record { finished = false; start = Answer Waiting; resume = Waiting }
 abbrev pub faded : Signals
 faded = record { finished = true; start = Answer Waiting; resume = Waiting }
 
--- room for two frames, and for three
+-- buffers for two frames, and for three
 abbrev pub output : List Float
 output = replicate 4 positiveZero
 
@@ -126,7 +133,7 @@ stop =
 abbrev pub stopping : List Call
 stopping = Command ten stop ∷ Block ten one lanes faded output ∷ []
 
--- the archive's: the voice as a record, one with a state that means nothing, and the signals
+-- for the C entries: the voice as a record, one with an unknown state, and the signals
 abbrev pub state : CableowlState
 state = encoded voice
 
@@ -186,19 +193,28 @@ stoppingC = archive.Command ten stopC ∷ archive.Block ten one lanes fadedC out
 abbrev pub full : Frame
 full = record { left = one; right = one }
 
--- ---- what it meets
+-- ---- the hypotheses that it meets
 
 pub record Witnesses : Type 0 where
-  pub cut-blocks : MayCut ten voice one lanes due output 1 × Awake ((processed ten voice one (firstLanes 1 lanes) due (take 2 output)) .answer .sound)
-  pub cut-mixes : MayCutMix ten voice one lanes due mix 1 1 × Awake ((processedInto ten voice one (firstLanes 1 lanes) due mix 1) .answer .sound)
-  pub any-sizes : TwoWays ten one lanes due voice 1 (1 ∷ []) output 2 [] output × BothAwake (playedBy ten one 1 (1 ∷ []) lanes due voice output) (playedBy ten one 2 [] lanes due voice output)
-  pub any-sizes-mix : TwoWaysMix ten one lanes due voice 1 (1 ∷ []) 2 [] mix 1 × BothAwake (mixedBy ten one 1 (1 ∷ []) lanes due voice mix 1) (mixedBy ten one 2 [] lanes due voice mix 1)
+  pub cut-blocks : MayCut ten voice one lanes due output 1
+      × Awake ((processed ten voice one (firstLanes 1 lanes) due (take 2 output)) .answer .sound)
+  pub cut-mixes : MayCutMix ten voice one lanes due mix 1 1
+      × Awake ((processedInto ten voice one (firstLanes 1 lanes) due mix 1) .answer .sound)
+  pub any-sizes : TwoWays ten one lanes due voice 1 (1 ∷ []) output 2 [] output
+      × BothAwake (playedBy ten one 1 (1 ∷ []) lanes due voice output) (playedBy ten one 2 [] lanes due voice output)
+  pub any-sizes-mix : TwoWaysMix ten one lanes due voice 1 (1 ∷ []) 2 [] mix 1
+      × BothAwake (mixedBy ten one 1 (1 ∷ []) lanes due voice mix 1) (mixedBy ten one 2 [] lanes due voice mix 1)
   pub all-accepted : LawfulCut ten one lanes voice 1 (1 ∷ []) output
   pub all-accepted-mix : LawfulCutMix ten one lanes voice 1 (1 ∷ []) mix 1
-  pub archive-cut-blocks : MayCutC ten state one lanes dueC output 1 × Awake (decoded ((processedC ten state one (firstLanes 1 lanes) dueC (take 2 output)) .answer .state))
-  pub archive-cut-mixes : MayCutMixC ten state one lanes dueC mix 1 1 × Awake (decoded ((processedIntoC ten state one (firstLanes 1 lanes) dueC mix 1) .answer .state))
-  pub archive-any-sizes : TwoWaysC ten one lanes dueC state 1 (1 ∷ []) output 2 [] output × BothAwakeC (playedByC ten one 1 (1 ∷ []) lanes dueC state output) (playedByC ten one 2 [] lanes dueC state output)
-  pub archive-any-sizes-mix : TwoWaysMixC ten one lanes dueC state 1 (1 ∷ []) 2 [] mix 1 × BothAwakeC (mixedByC ten one 1 (1 ∷ []) lanes dueC state mix 1) (mixedByC ten one 2 [] lanes dueC state mix 1)
+  pub archive-cut-blocks : MayCutC ten state one lanes dueC output 1
+      × Awake (decoded ((processedC ten state one (firstLanes 1 lanes) dueC (take 2 output)) .answer .state))
+  pub archive-cut-mixes : MayCutMixC ten state one lanes dueC mix 1 1
+      × Awake (decoded ((processedIntoC ten state one (firstLanes 1 lanes) dueC mix 1) .answer .state))
+  pub archive-any-sizes : TwoWaysC ten one lanes dueC state 1 (1 ∷ []) output 2 [] output
+      × BothAwakeC (playedByC ten one 1 (1 ∷ []) lanes dueC state output)
+      (playedByC ten one 2 [] lanes dueC state output)
+  pub archive-any-sizes-mix : TwoWaysMixC ten one lanes dueC state 1 (1 ∷ []) 2 [] mix 1
+      × BothAwakeC (mixedByC ten one 1 (1 ∷ []) lanes dueC state mix 1) (mixedByC ten one 2 [] lanes dueC state mix 1)
   pub archive-all-accepted : LawfulCut ten one lanes (decoded state) 1 (1 ∷ []) output
   pub archive-all-accepted-mix : LawfulCutMix ten one lanes (decoded state) 1 (1 ∷ []) mix 1
   pub archive-read-back : Lawful state
@@ -206,7 +222,11 @@ pub record Witnesses : Type 0 where
   pub archive-tags-refused : Unknown 1 2 × Unknown 2 3
   pub block-ends : Sounds ten voice one lanes due output 1
   pub mix-ends : SoundsMix ten voice one lanes due mix 1 1
-  pub held-blocks : MayCut ten voice one (once ones 2) due output 1 × Awake ((processed ten voice one (firstLanes 1 (once ones 2)) due (take 2 output)) .answer .sound) × MayCutMix ten voice one (once ones 2) due mix 1 1 × AcceptedBlock ten voice one (once ones 2) due output × AcceptedMix ten voice one (once ones 2) due mix 1 × SlowBlock 1 ten voice one (once ones 2) due output × SlowMix 1 ten voice one (once ones 2) due mix 1 × Silent waiting unstarted
+  pub held-blocks : MayCut ten voice one (once ones 2) due output 1
+      × Awake ((processed ten voice one (firstLanes 1 (once ones 2)) due (take 2 output)) .answer .sound)
+      × MayCutMix ten voice one (once ones 2) due mix 1 1 × AcceptedBlock ten voice one (once ones 2) due output
+      × AcceptedMix ten voice one (once ones 2) due mix 1 × SlowBlock 1 ten voice one (once ones 2) due output
+      × SlowMix 1 ten voice one (once ones 2) due mix 1 × Silent waiting unstarted
   pub steps-made : AcceptedBlock ten voice one lanes due output
   pub mix-steps-made : AcceptedMix ten voice one lanes due mix 1
   pub block-budget : SlowBlock 1 ten voice one lanes due output × Silent waiting unstarted
@@ -216,8 +236,12 @@ pub record Witnesses : Type 0 where
   pub commands-feed : FedVoice ten voice
   pub blocks-feed : FedVoice ten voice
   pub mixes-feed : FedVoice ten voice
-  pub blocks-tell : Reporting ten voice one lanes due output × Full ((processed ten voice one lanes due output) .answer .«lowest_count») (rows lanes) 1 × Short ((processed single ending one lanes waiting output) .answer .«lowest_count»)
-  pub mixes-tell : ReportingMix ten voice one lanes due mix 1 × Full ((processedInto ten voice one lanes due mix 1) .answer .«lowest_count») (rows lanes) 1 × Short ((processedInto single ending one lanes waiting mix 1) .answer .«lowest_count»)
+  pub blocks-tell : Reporting ten voice one lanes due output
+      × Full ((processed ten voice one lanes due output) .answer .«lowest_count») (rows lanes) 1
+      × Short ((processed single ending one lanes waiting output) .answer .«lowest_count»)
+  pub mixes-tell : ReportingMix ten voice one lanes due mix 1
+      × Full ((processedInto ten voice one lanes due mix 1) .answer .«lowest_count») (rows lanes) 1
+      × Short ((processedInto single ending one lanes waiting mix 1) .answer .«lowest_count»)
   pub silence-tells : Silent waiting unstarted
   pub seek-starts-nothing : PlaysAfter 10 (looped 4) 8
   pub any-order : InLoop 10 3 6 (looped 4)
@@ -225,9 +249,21 @@ pub record Witnesses : Type 0 where
   pub permutations : Rearranged 10 3 6 (Forward ∷ Backward ∷ []) (Backward ∷ Forward ∷ []) (looped 4)
   pub in-the-loop : Entered 3 6 stopping voice × EndsStopped stopping voice
   pub archive-in-the-loop : EnteredC 3 6 stoppingC state × EndsStoppedC stoppingC state
-  pub updates-fit : MovesInLoop (courseOf voice) 3 6 (voice .moving) × CountsOnward (courseOf voice .backwards) (updates 4 ten (courseOf voice) (voice .moving)) × CountsBack (courseOf reversed .backwards) (updates 4 ten (courseOf reversed) (reversed .moving)) × Onward (courseOf voice .backwards) × Back (courseOf reversed .backwards)
-  pub blocks-fit : BlockInLoop ten voice one lanes due output 3 6 × CountsOnward (courseOf voice .backwards) ((processed ten voice one lanes due output) .answer .sound .moving) × CountsBack (courseOf reversed .backwards) ((processed ten reversed one lanes due output) .answer .sound .moving) × Onward (courseOf voice .backwards) × Back (courseOf reversed .backwards)
-  pub mixes-fit : MixInLoop ten voice one lanes due mix 1 3 6 × CountsOnward (courseOf voice .backwards) ((processedInto ten voice one lanes due mix 1) .answer .sound .moving) × CountsBack (courseOf reversed .backwards) ((processedInto ten reversed one lanes due mix 1) .answer .sound .moving) × Onward (courseOf voice .backwards) × Back (courseOf reversed .backwards)
+  pub updates-fit : MovesInLoop (courseOf voice) 3 6 (voice .moving)
+      × CountsOnward (courseOf voice .backwards) (updates 4 ten (courseOf voice) (voice .moving))
+      × CountsBack (courseOf reversed .backwards) (updates 4 ten (courseOf reversed) (reversed .moving))
+      × Onward (courseOf voice .backwards) × Back (courseOf reversed .backwards)
+  pub blocks-fit : BlockInLoop ten voice one lanes due output 3 6
+      × CountsOnward (courseOf voice .backwards) ((processed ten voice one lanes due output) .answer .sound .moving)
+      × CountsBack (courseOf reversed .backwards)
+      ((processed ten reversed one lanes due output) .answer .sound .moving) × Onward (courseOf voice .backwards)
+      × Back (courseOf reversed .backwards)
+  pub mixes-fit : MixInLoop ten voice one lanes due mix 1 3 6
+      × CountsOnward (courseOf voice .backwards)
+      ((processedInto ten voice one lanes due mix 1) .answer .sound .moving)
+      × CountsBack (courseOf reversed .backwards)
+      ((processedInto ten reversed one lanes due mix 1) .answer .sound .moving) × Onward (courseOf voice .backwards)
+      × Back (courseOf reversed .backwards)
   pub half-reached : IsTick 4294967295
   pub moved-together : AreTicks 4294967295 0
   pub tick-starts : Due ten unstarted one lanes due output 4294967295 0

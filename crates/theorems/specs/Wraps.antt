@@ -1,4 +1,5 @@
--- docs/assurance/RULES.md, "What must change shape": wherever a loop is not empty, the transport's remainders give what kira's `while` wraps give, in every move and from every place.
+-- docs/assurance/RULES.md, "What must change shape": for every loop that is not empty, the transport's remainders
+-- equal kira's `while` loops, in every move and from every position.
 use Prim.Native.Nat.{ℕ}
 use mathlib.Core.Path.{_≡_}
 use lib.Dec.{T}

@@ -1,4 +1,4 @@
-// What is promised beyond the contracts, as one function's contract: the code is nothing, the proof is every theorem.
+// An empty function whose contract collects all theorems, so that the checker must prove them.
 ghost use Rattle.theorems.specs.Promises.{Promises};
 
 pub fn promised()

@@ -1,5 +1,6 @@
--- Two boxes, one at each hall, each with voices and a copy of the loop table of one sound. A hall calls only at its own box.
--- A box sends its copy at any time. A copy that was sent may be merged never, once or often, late and in any order.
+-- Two boxes, one at each hall, each with voices and a copy of the loop table of one sound. A hall calls only at its
+-- own box. A box sends its copy at any time. A copy that was sent may be merged never, once or often, late and in any
+-- order.
 use mathlib.Core.Path.{_≡_}
 use Prim.Native.Nat.{ℕ, _≤_}
 use mathlib.Core.Bool.{Bool, _&&_, cond}
@@ -12,7 +13,21 @@ use Rattle.loop_table.specs.declared.LoopTable.{LoopTable}
 use Rattle.loop_table.specs.Tables.{emptyTable, same}
 use Rattle.loop_copies.specs.declared.LoopCopy.{LoopCopy}
 use Rattle.loop_copies.specs.Copies.{emptyCopy, changesOf, copyWritten, copyCleared, mergedCopy}
-use Rattle.theorems_loop_table.specs.Calls.{Call, Write, Clear, Read, Play, Event, ByHall, ByVoice, Answer, World, told, next, after}
+use Rattle.theorems_loop_table.specs.Calls.{
+  Call,
+  Write,
+  Clear,
+  Read,
+  Play,
+  Event,
+  ByHall,
+  ByVoice,
+  Answer,
+  World,
+  told,
+  next,
+  after,
+}
 
 -- what a box is asked: a call of the table by its own hall, or a call of one of its voices
 pub data Asked : Type 0 where
@@ -61,7 +76,10 @@ merging b c = record { copy = (mergedCopy (b .copy) c) .copy; voices = b .voices
 abbrev pub stepped : List Float → Boxes → Step → Boxes
 stepped snd w (At h a) = record { box = put h (asked snd h (w .box h) a) (w .box); sent = w .sent }
 stepped snd w (Sends h) = record { box = w .box; sent = (w .box h .copy) ∷ w .sent }
-stepped snd w (Merges h n) = record { box = put h (merging (w .box h) (getD (w .sent) n (w .box h .copy))) (w .box); sent = w .sent }
+stepped snd w (Merges h n) = record {
+  box = put h (merging (w .box h) (getD (w .sent) n (w .box h .copy))) (w .box);
+  sent = w .sent;
+}
 
 abbrev pub afterSteps : List Float → Boxes → List Step → Boxes
 afterSteps snd w [] = w

@@ -1,4 +1,5 @@
--- A merge of two copies by itself: it never goes back, and it does not matter in which order or how often copies are merged.
+-- A merge of two copies by itself: it never goes back, and it does not matter in which order or how often copies are
+-- merged.
 use mathlib.Core.Path.{_≡_}
 use mathlib.Core.Bool.{true}
 use Prim.Native.Nat.{_≤_}
@@ -13,7 +14,7 @@ use Rattle.loop_copies.specs.Copies.{changesOf, refusedMerge, mergedCopy}
 abbrev pub Sixteen : LoopCopy → Type 0
 Sixteen c = length (c .table .slots) ≡ 16
 
--- ---- what is asked
+-- ---- hypotheses
 
 pub record TwoCopies (c d : LoopCopy) : Type 0 where
   pub ours : Sixteen c
@@ -41,7 +42,7 @@ SameNumber c d h = changesOf h ((mergedCopy c d) .copy) ≡ changesOf h c
 
 -- ---- the theorems
 
--- no number falls, and a half changes only where its number rises
+-- no number falls, and a half changes only if its number rises
 pub record Forward (c d : LoopCopy) (h : Hall) : Type 0 where
   pub number : changesOf h c ≤ changesOf h ((mergedCopy c d) .copy)
   pub kept : SameNumber c d h → half h ((mergedCopy c d) .copy .table) ≡ half h (c .table)
@@ -57,4 +58,5 @@ AnyTimes = (c : LoopCopy) → LawfulCopy c → mergedCopy c c ≡ record { copy 
 
 abbrev pub AnyGrouping : Type 0
 AnyGrouping =
-    (c d e : LoopCopy) → MayMergeAll c d e → mergedCopy ((mergedCopy c d) .copy) e ≡ mergedCopy c ((mergedCopy d e) .copy)
+    (c d e : LoopCopy) → MayMergeAll c d e
+    → mergedCopy ((mergedCopy c d) .copy) e ≡ mergedCopy c ((mergedCopy d e) .copy)

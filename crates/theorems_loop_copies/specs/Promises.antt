@@ -1,4 +1,5 @@
--- All theorems on two boxes, one field each. The contract of `promised` is this record, so the checker refuses a field that is false or has no proof.
+-- All theorems on two boxes, one field each. The contract of `promised` is this record, so the checker refuses a
+-- field that is false or has no proof.
 use Rattle.theorems_loop_copies.specs.Merging.{NeverBack, AnyOrder, AnyTimes, AnyGrouping}
 use Rattle.theorems_loop_copies.specs.AsAlone.{AsAlone}
 use Rattle.theorems_loop_copies.specs.Together.{Together, LastCopyCatches, NoneRefused}
@@ -11,11 +12,11 @@ pub record Promises : Type 0 where
   pub any-order : AnyOrder
   pub any-times : AnyTimes
   pub any-grouping : AnyGrouping
-  -- each box behaves as if it stood alone
+  -- each box behaves as if it were alone
   pub as-alone : AsAlone
-  -- both boxes come to hold the table that one shared table would hold
+  -- in the end both boxes hold the table that one shared table would hold
   pub together : Together
   pub last-copy-catches : LastCopyCatches
   pub none-refused : NoneRefused
-  -- an input for each that meets what it asks
+  -- one input for each hypothesis
   pub witnesses : Witnesses

@@ -1,4 +1,5 @@
--- Once each box has merged the other's last copy, both hold the table that one shared table would hold. No merge on the way is refused.
+-- Once each box has merged the other's last copy, both hold the table that one shared table would hold. No merge on
+-- the way is refused.
 use Prim.Native.Nat.{ℕ}
 use mathlib.Core.Path.{_≡_}
 use mathlib.Core.List.{List}
@@ -8,23 +9,36 @@ use Rattle.sound_state.specs.declared.StaticSound.{StaticSound}
 use Rattle.loop_table.specs.declared.Hall.{Hall}
 use Rattle.loop_table.specs.declared.Hall.the-variants as hall
 use Rattle.loop_copies.specs.Copies.{changesOf, refusedMerge}
-use Rattle.theorems_loop_copies.specs.Boxes.{Step, Merges, Boxes, stepped, afterSteps, begun, sharedTable, Few, Caught}
+use Rattle.theorems_loop_copies.specs.Boxes.{
+  Step,
+  Merges,
+  Boxes,
+  stepped,
+  afterSteps,
+  begun,
+  sharedTable,
+  Few,
+  Caught,
+}
 
 abbrev pub reached : List Float → ℕ → (Hall → ℕ → StaticSound) → List Step → Boxes
 reached snd n vs ss = afterSteps snd (begun n vs) ss
 
--- ---- what is asked
+-- ---- hypotheses
 
 -- few steps, after which box g has all changes of both halls
-pub record AllCaught (snd : List Float) (n : ℕ) (vs : Hall → ℕ → StaticSound) (g : Hall) (ss : List Step) : Type 0 where
+pub record AllCaught (snd : List Float) (n : ℕ) (vs : Hall → ℕ
+    → StaticSound) (g : Hall) (ss : List Step) : Type 0 where
   pub few : Few ss
   pub of-a : Caught g hall.A (reached snd n vs ss)
   pub of-b : Caught g hall.B (reached snd n vs ss)
 
 -- few steps, after which the k-th copy that was sent has all of h's changes
-pub record LastCopy (snd : List Float) (n : ℕ) (vs : Hall → ℕ → StaticSound) (g h : Hall) (ss : List Step) (k : ℕ) : Type 0 where
+pub record LastCopy (snd : List Float) (n : ℕ) (vs : Hall → ℕ
+    → StaticSound) (g h : Hall) (ss : List Step) (k : ℕ) : Type 0 where
   pub few : Few ss
-  pub all : changesOf h (getD ((reached snd n vs ss) .sent) k ((reached snd n vs ss) .box g .copy)) ≡ changesOf h ((reached snd n vs ss) .box h .copy)
+  pub all : changesOf h (getD ((reached snd n vs ss) .sent) k ((reached snd n vs ss) .box g .copy))
+      ≡ changesOf h ((reached snd n vs ss) .box h .copy)
 
 -- ---- the theorems
 
@@ -42,4 +56,5 @@ LastCopyCatches =
 abbrev pub NoneRefused : Type 0
 NoneRefused =
     (snd : List Float) (n : ℕ) (vs : Hall → ℕ → StaticSound) (g : Hall) (ss : List Step) (k : ℕ)
-    → Few ss → refusedMerge ((reached snd n vs ss) .box g .copy) (getD ((reached snd n vs ss) .sent) k ((reached snd n vs ss) .box g .copy)) ≡ 0
+    → Few ss → refusedMerge ((reached snd n vs ss) .box g .copy)
+    (getD ((reached snd n vs ss) .sent) k ((reached snd n vs ss) .box g .copy)) ≡ 0

@@ -1,4 +1,4 @@
--- For each theorem that asks something, one input that meets it: two boxes that have made no step, and a copy that was sent.
+-- One input for each hypothesis: two boxes that have made no step, and a copy that was sent.
 use Prim.Native.Nat.{ℕ}
 use mathlib.Core.List.{List, [], _∷_}
 use Rattle.sound_state.specs.declared.StaticSound.{StaticSound}

@@ -1,5 +1,5 @@
--- Calls of two halls and of any number of voices in one row, in the order in which the host lets them through, and what they give.
--- Each call is the entry's own definition; one sound is lent to every voice.
+-- Calls of two halls and of any number of voices in one sequence, in the host's order, and their results. Each call
+-- is the entry's own definition; all voices have the same sound.
 use Prim.Native.Nat.{ℕ}
 use mathlib.Core.Bool.{Bool, cond}
 use mathlib.Core.List.{List, [], _∷_}
@@ -22,20 +22,20 @@ use Rattle.loop_table.specs.declared.LoopFound.{LoopFound}
 use Rattle.loop_table.specs.Tables.{written, cleared, found}
 use Rattle.take_loop.specs.Taking.{taken}
 
--- what a hall asks of the table
+-- a hall's call of the table
 pub data Call : Type 0 where
   -- slot, start, end
   Write : ℕ → ℕ → ℕ → Call
   Clear : ℕ → Call
   Read : ℕ → Call
 
--- what a voice is asked
+-- a voice's call
 pub data Play : Type 0 where
   New : Settings → Play
   -- the loop of a slot
   Take : ℕ → Play
   Command : Commands → Play
-  -- time step, lanes, signals and the lent samples; in a mix, from a frame
+  -- time step, lanes, signals and the output's samples; in a mix, from a frame
   Block : Float → Lanes → Signals → List Float → Play
   Mix : Float → Lanes → Signals → List Float → ℕ → Play
 
@@ -44,7 +44,7 @@ pub data Event : Type 0 where
   ByHall : Hall → Call → Event
   ByVoice : ℕ → Play → Event
 
--- what is answered: a write's or a clear's number, a loop, or all that a voice's call gives
+-- a result: the number of a write or clear, a loop, or the outcome of a voice's call
 pub data Answer : Type 0 where
   Numbered : ℕ → Answer
   Looked : LoopFound → Answer
@@ -75,7 +75,7 @@ voiceTold snd t v (Command c) = Told (commanded snd v c)
 voiceTold snd t v (Block dt b g out) = Played (processed snd v dt b g out)
 voiceTold snd t v (Mix dt b g mix from) = Played (processedInto snd v dt b g mix from)
 
--- the voice that an answer leaves
+-- the voice after a result
 abbrev pub voiceAfter : StaticSound → Answer → StaticSound
 voiceAfter v (Numbered n) = v
 voiceAfter v (Looked f) = v
@@ -90,18 +90,23 @@ told snd w (ByVoice i p) = voiceTold snd (w .table) (w .voices i) p
 abbrev pub next : List Float → World → Event → World
 next snd w (ByHall h c) = record { table = tableAfter (w .table) h c; voices = w .voices }
 next snd w (ByVoice i p) =
-    record { table = w .table; voices = λ j. cond (eqb j i) (voiceAfter (w .voices j) (voiceTold snd (w .table) (w .voices j) p)) (w .voices j) }
+    record {
+      table = w .table;
+      voices = λ j. cond (eqb j i) (voiceAfter (w .voices j) (voiceTold snd (w .table) (w .voices j) p))
+          (w .voices j);
+    }
 
--- ---- a row of calls
+-- ---- a sequence of calls
 
 abbrev pub after : List Float → World → List Event → World
 after snd w [] = w
 after snd w (e ∷ es) = after snd (next snd w e) es
 
--- the answers to those calls that pass a test, in their order
+-- the results of the calls that pass a test, in their order
 abbrev pub answers : List Float → (Event → Bool) → World → List Event → List Answer
 answers snd p w [] = []
-answers snd p w (e ∷ es) = cond (p e) (told snd w e ∷ answers snd p (next snd w e) es) (answers snd p (next snd w e) es)
+answers snd p w (e ∷ es) = cond (p e) (told snd w e ∷ answers snd p (next snd w e) es)
+    (answers snd p (next snd w e) es)
 
 -- those calls themselves
 abbrev pub only : (Event → Bool) → List Event → List Event

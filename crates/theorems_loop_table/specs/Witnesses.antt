@@ -1,4 +1,4 @@
--- For each theorem that asks something, rows of calls that meet it: two halls at an empty table over ten frames.
+-- Sequences of calls that meet each hypothesis: two halls at an empty table over ten frames.
 use Prim.Native.Nat.{ℕ}
 use mathlib.Core.Bool.{true, false}
 use mathlib.Core.List.{List, [], _∷_}
@@ -20,7 +20,8 @@ later = record { table = (written (emptyTable 10) A 0 3 6) .table; voices = λ i
 
 -- B writes and reads its slot 8, and voice 0 takes it; A's calls lie between, or after
 abbrev pub between : List Event
-between = ByHall B (Write 8 3 6) ∷ ByHall A (Write 0 0 2) ∷ ByHall A (Read 8) ∷ ByHall A (Clear 0) ∷ ByVoice 0 (Take 8) ∷ []
+between = ByHall B (Write 8 3 6) ∷ ByHall A (Write 0 0 2) ∷ ByHall A (Read 8) ∷ ByHall A (Clear 0)
+    ∷ ByVoice 0 (Take 8) ∷ []
 
 abbrev pub behind : List Event
 behind = ByHall B (Write 8 3 6) ∷ ByHall A (Read 8) ∷ ByVoice 0 (Take 8) ∷ ByHall A (Write 0 0 2) ∷ []
@@ -43,4 +44,5 @@ pause =
 pub record Witnesses : Type 0 where
   pub halls-apart : SameCalls B 0 between behind
   pub taken-stays : SameVoice 0 evening later (ByHall A (Write 0 0 2) ∷ pause ∷ []) (pause ∷ [])
-  pub reads-follow : Spared A 0 evening (ByHall B (Write 8 3 6) ∷ ByHall A (Read 0) ∷ []) × AcceptedWrite (evening .table) A 0 3 6 × AcceptedClear (evening .table) A 0
+  pub reads-follow : Spared A 0 evening (ByHall B (Write 8 3 6) ∷ ByHall A (Read 0) ∷ [])
+      × AcceptedWrite (evening .table) A 0 3 6 × AcceptedClear (evening .table) A 0

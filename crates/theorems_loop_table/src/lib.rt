@@ -1,4 +1,5 @@
-// What is promised of two halls at one table, as one function's contract: the code is nothing, the proof is every theorem.
+// An empty function whose contract collects all theorems on two halls at one table, so that the checker must prove
+// them.
 ghost use Rattle.theorems_loop_table.specs.Promises.{Promises};
 
 pub fn promised()

@@ -1,5 +1,5 @@
--- The archive's own replay: who gives `cableowl_replay_step` the bytes of a trace, step by step, and prints the line of
--- each answer, prints what the program `replay` prints. So what is said of a whole trace holds of that entry.
+-- The archive's own replay: who gives `cableowl_replay_step` the bytes of a trace, step by step, and prints the line
+-- of each answer, prints what the program `replay` prints. So what is said of a whole trace holds of that entry.
 use Prim.Native.Nat.{ℕ, zero, suc, _+_, _-_, _≤_}
 use mathlib.Core.Path.{_≡_}
 use mathlib.Core.Bool.{cond, not, _||_}
@@ -76,8 +76,8 @@ LinesAlikeC =
 
 -- ---- any cutting of the stream of bytes
 
--- what is asked: bytes, of which a step is shown the first w, and all where it is told that the trace has ended; and an
--- answer other than 1, more bytes are needed
+-- what is asked: bytes, of which a step is shown the first w, and all where it is told that the trace has ended; and
+-- an answer other than 1, more bytes are needed
 pub record WindowC (r : CableowlReplay) (snd out : List Float) (ended w : ℕ) (bs : List ℕ) : Type 0 where
   pub bytes : Bytes bs
   pub all : T (eqb ended 0 || leb (length bs) w)

@@ -1,5 +1,6 @@
--- The same of the functions that replay a trace as crates/theorems/specs/Coincide.antt says of those below: any two outcomes that one contract allows for one
--- input coincide. Of a lent buffer the part in use is compared: the run's samples, and as many bytes of the line as are written.
+-- The same of the functions that replay a trace as crates/theorems/specs/Coincide.antt says of those below: any two
+-- outcomes that one contract allows for one input coincide. Of a lent buffer the part in use is compared: the run's
+-- samples, and as many bytes of the line as are written.
 use Prim.Native.Nat.{ℕ}
 use mathlib.Core.List.{List}
 use lib.ListN.{take}
@@ -32,5 +33,13 @@ pub record Coincide : Type 0 where
   pub trace-lines-put-refused : DecidesWith (λ k r s. s .0 .now) trace_lines.put_refused.Reads.Post
   -- trace_replay
   pub trace-replay-begin : Decides trace_replay.begin.Reads.Post
-  pub trace-replay-turn : DecidesWith {B = InUse} (λ k r s. (take (r .run .samples) (s .1 .1 .1 .0 .now), take (r .written) (s .1 .1 .1 .1 .0 .now))) trace_replay.turn.Reads.Post
-  pub trace-replay-advance : DecidesWith {B = InUse} (λ k r s. (take (r .run .samples) (s .1 .1 .1 .1 .0 .now), take (r .written) (s .1 .1 .1 .1 .1 .0 .now))) trace_replay.advance.Reads.Post
+  pub trace-replay-turn : DecidesWith {B = InUse}
+      (λ k r s. (
+        take (r .run .samples) (s .1 .1 .1 .0 .now),
+        take (r .written) (s .1 .1 .1 .1 .0 .now),
+      )) trace_replay.turn.Reads.Post
+  pub trace-replay-advance : DecidesWith {B = InUse}
+      (λ k r s. (
+        take (r .run .samples) (s .1 .1 .1 .1 .0 .now),
+        take (r .written) (s .1 .1 .1 .1 .1 .0 .now),
+      )) trace_replay.advance.Reads.Post

@@ -1,5 +1,6 @@
--- A traced block cut into two records, the first with the block's signals, the second with none: where the block is accepted both are, the last state and the
--- last position are printed as they were, and the steps add up, unless the voice had stopped by the cut: then nothing more is stepped in the second record.
+-- A traced block cut into two records, the first with the block's signals, the second with none. If the block is
+-- accepted, both are; the last state and position are printed as for the block. The steps add up unless the voice had
+-- stopped by the cut: then the second record makes no steps.
 use Prim.Native.Nat.{ℕ, _+_, _≤_}
 use mathlib.Core.Path.{_≡_}
 use mathlib.Core.Bool.{not}
@@ -32,7 +33,7 @@ pub record Lines (i k m : ℕ) (uncut first rest : List ℕ) : Type 0 where
   pub of-rest : rest ≡ blockLine (more (more i)) m late state position
   pub sum : Going state-between → all ≡ early + late
 
--- what is asked: a block that is accepted, of as many frames as a record may have
+-- hypothesis: an accepted block, with at most as many frames as a record can have
 pub record MayCutRecord (c : Course) (k m a v l r p t f s u : ℕ) : Type 0 where
   pub few : k + m ≤ 1024
   pub accepted : answered (c .sound) (c .voice) (blockOf (blockNumbers (k + m) a v l r p t f s u)) .refusal ≡ 0

@@ -1,5 +1,5 @@
--- The rules' three-frame example as a trace (docs/formats/TRACE.md): a creation of the frames 1, 2, 3 at 1 Hz, then a block of six frames. All that is printed is
--- `block=1 frames=6 steps=6 state=6 position=3`.
+-- The rules' three-frame example as a trace (docs/formats/TRACE.md): a creation of the frames 1, 2, 3 at 1 Hz, then a
+-- block of six frames. All that is printed is `block=1 frames=6 steps=6 state=6 position=3`.
 use Prim.Native.Nat.{ℕ}
 use mathlib.Core.Path.{_≡_}
 use mathlib.Core.List.{List, [], _∷_}

@@ -1,5 +1,5 @@
--- What is printed of a trace depends on a sound only through its frame count: two traces with the same records but for
--- the samples of their creations print the same lines. So a trace can be replayed and audited without its sound.
+-- What is printed of a trace depends on a sound only through its frame count: two traces with the same records but
+-- for the samples of their creations print the same lines. So a trace can be replayed and audited without its sound.
 use Prim.Native.Nat.{ℕ, zero, suc, _-_}
 use mathlib.Core.Path.{_≡_}
 use mathlib.Core.Bool.{cond}

@@ -1,4 +1,4 @@
--- All that is promised of a whole evening played again.
+-- The theorems about a whole trace that is played again, one field each.
 use Rattle.theorems_replay.specs.Streams.{Streams}
 use Rattle.theorems_replay.specs.Cuts.{CutRecords}
 use Rattle.theorems_replay.specs.Example.{ThreeFrames}
@@ -21,5 +21,5 @@ pub record Promises : Type 0 where
   pub archive-lines-alike : LinesAlikeC
   -- each contract of a replay says enough: any two outcomes that it allows coincide
   pub coincide : Coincide
-  -- an input for each that meets what it asks
+  -- one input for each hypothesis
   pub witnesses : Witnesses

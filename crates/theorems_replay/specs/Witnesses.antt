@@ -1,4 +1,4 @@
--- For each theorem that asks something, an input that meets it: the three-frame example, and the voice of the theorems' witnesses.
+-- One input for each hypothesis: the three-frame example, and the voice of the theorems' witnesses.
 use Prim.Native.Nat.{ℕ}
 use mathlib.Core.List.{List, _∷_, _++_}
 use lib.ListN.{take, drop, replicate}
@@ -40,8 +40,10 @@ plainBlock n = 165 ∷ 29 ∷ 3 ∷ 37 ∷ 0 ∷ n ∷ drop 61 threeFrames
 
 pub record Witnesses : Type 0 where
   pub streams : Window 575 threeFrames
-  -- two frames at full volume, rate 1 and 1 Hz, cut after the first: 1065353216 and 4607182418800017408 are the bits of 1 as an f32 and as an f64
-  pub cut-records : MayCutRecord evening 1 1 1065353216 1065353216 1065353216 1065353216 4607182418800017408 4607182418800017408 0 0 0 × Going 0
+  -- two frames at full volume, rate 1 and 1 Hz, cut after the first: 1065353216 and 4607182418800017408 are the bits
+  -- of 1 as an f32 and as an f64
+  pub cut-records : MayCutRecord evening 1 1 1065353216 1065353216 1065353216 1065353216 4607182418800017408
+      4607182418800017408 0 0 0 × Going 0
   pub lines-alike : SameButForSamples threeFrames threeNans
   pub archive-replays : Lent lentSound lentOutput threeFrames
   pub archive-streams : WindowC blankReplay lentSound lentOutput 0 97 threeFrames

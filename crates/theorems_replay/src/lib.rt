@@ -1,4 +1,4 @@
-// What is promised of a whole evening played again, as one function's contract: the code is nothing, the proof is every theorem.
+// An empty function whose contract collects all theorems on replayed traces, so that the checker must prove them.
 ghost use Rattle.theorems_replay.specs.Promises.{Promises};
 
 pub fn promised()

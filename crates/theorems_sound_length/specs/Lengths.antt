@@ -1,5 +1,6 @@
--- Two sounds of equal length and the same calls give the same refusals, steps, lowest counts and positions, and voices
--- that differ in nothing but samples in their windows. So a trace can be replayed and audited without its sound.
+-- Two sounds of equal length and the same calls give the same refusals, steps, lowest counts and positions, and
+-- voices that differ in nothing but samples in their windows. So a trace can be replayed and audited without its
+-- sound.
 use Prim.Native.Nat.{ℕ}
 use mathlib.Core.Path.{_≡_}
 use mathlib.Core.List.{List}

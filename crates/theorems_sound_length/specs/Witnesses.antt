@@ -1,5 +1,5 @@
--- For each theorem that asks something, an input that meets it: the examples' ten frames of +0, and ten frames of NaN.
--- The two voices differ in their windows.
+-- For each theorem that asks something, an input that meets it: the examples' ten frames of +0, and ten frames of
+-- NaN. The two voices differ in their windows.
 use mathlib.Core.Bool.{false}
 use mathlib.Core.List.{List, [], _∷_}
 use lib.ListN.{replicate}

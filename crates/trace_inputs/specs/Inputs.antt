@@ -1,4 +1,4 @@
--- What a record tells the player, from its numbers in the order of docs/formats/TRACE.md.
+-- Settings, a sound, commands or a block from a record's numbers, in the order of docs/formats/TRACE.md.
 use Prim.Native.Nat.{ℕ, suc, _+_, _-_, _*_, _/_, _%_}
 use mathlib.Core.Bool.{Bool, cond, not}
 use mathlib.Core.List.{List, [], _∷_}
@@ -46,17 +46,17 @@ yes n = eqb n 1
 abbrev pub atMost : ℕ → ℕ → ℕ
 atMost m n = cond (leb n m) n m
 
--- ---- places and regions
+-- ---- positions and regions
 
 -- 0 frames, 1 seconds
 abbrev pub placeOf : ℕ → ℕ → PlaybackPosition
 placeOf unit n = cond (eqb unit 0) (Samples n) (Seconds (double n))
 
--- region tags 1 and 2 end where the audio ends, 3 and 4 at a frame number, 5 and 6 at seconds
+-- region tags 1 and 2 end at the end of audio, 3 and 4 at a frame, 5 and 6 at seconds
 abbrev pub endOf : ℕ → ℕ → EndPosition
 endOf tag n = cond (ltb tag 3) EndOfAudio (Custom (placeOf (cond (ltb tag 5) 0 1) n))
 
--- odd region tags begin at a frame number, even ones at seconds
+-- odd region tags begin at a frame, even ones at seconds
 abbrev pub regionOf : ℕ → ℕ → ℕ → Region
 regionOf tag start end = record { start = placeOf (1 - tag % 2) start; end = endOf tag end }
 
@@ -93,7 +93,8 @@ amountOf tag n = cond (eqb tag 0) amount.Absent (amount.Given (double n))
 
 -- 0 keep, 1 clear, else a region: its tag plus 1
 abbrev pub loopOf : ℕ → ℕ → ℕ → LoopCommand
-loopOf tag start end = cond (eqb tag 0) loop.Keep (cond (eqb tag 1) loop.Clear (loop.Set (regionOf (tag - 1) start end)))
+loopOf tag start end = cond (eqb tag 0) loop.Keep
+    (cond (eqb tag 1) loop.Clear (loop.Set (regionOf (tag - 1) start end)))
 
 abbrev pub resumeOf : ℕ → ResumeCommand
 resumeOf n = cond (eqb n 0) resume.Keep (cond (eqb n 1) resume.Now resume.Waiting)
@@ -117,7 +118,11 @@ abbrev pub answerOf : ℕ → StartAnswer
 answerOf n = cond (eqb n 0) answer.Waiting (cond (eqb n 1) answer.Now answer.Never)
 
 abbrev pub signalsOf : ℕ → ℕ → ℕ → Signals
-signalsOf finished start resume = record { finished = yes finished; start = signal.Answer (answerOf start); resume = answerOf resume }
+signalsOf finished start resume = record {
+  finished = yes finished;
+  start = signal.Answer (answerOf start);
+  resume = answerOf resume;
+}
 
 unfoldable pub blockOf : List ℕ → Block
 blockOf vs =

@@ -1,2 +1,2 @@
--- What a record tells the player.
+-- A record's numbers as settings, a sound, commands or a block.
 pub mod Inputs

@@ -1,9 +1,28 @@
-// What a record tells the player: its numbers as settings, a sound, commands, a block. Floats come by their bits, NaN too.
+// A record's numbers as settings, a sound, commands or a block. Floats are stored by their bits, also NaN.
 ghost use mathlib.Core.Path.{_≡_};
 ghost use Prim.Native.Nat.{_≤_};
 ghost use lib.ListN.{length};
 ghost use lib.Seq.{sets};
-ghost use Rattle.trace_inputs.specs.Inputs.{half, single, double, yes, atMost, placeOf, endOf, regionOf, optionalOf, settingsOf, samplesOf, amountOf, loopOf, resumeOf, commandsOf, answerOf, signalsOf, blockOf};
+ghost use Rattle.trace_inputs.specs.Inputs.{
+  half,
+  single,
+  double,
+  yes,
+  atMost,
+  placeOf,
+  endOf,
+  regionOf,
+  optionalOf,
+  settingsOf,
+  samplesOf,
+  amountOf,
+  loopOf,
+  resumeOf,
+  commandsOf,
+  answerOf,
+  signalsOf,
+  blockOf,
+};
 use playback_position::EndPosition;
 use playback_position::PlaybackPosition;
 use playback_position::Region;
@@ -58,7 +77,7 @@ fn at_most(most: u64, n: u64) -> usize
     most as usize
 }
 
-// ---- places and regions
+// ---- positions and regions
 
 fn place_of(unit: u64, n: u64) -> PlaybackPosition
     ensures { λ r. ⌜ r ≡ placeOf unit n ⌝ }
@@ -116,10 +135,11 @@ pub fn settings_of(values: [u64; 80]) -> Settings
     }
 }
 
-// Puts the samples of a creation's sound at the start of out, and says how many they are.
+// Writes the samples of a creation's sound to the start of out, and returns their number.
 pub fn put_samples(values: [u64; 80], out: &mut [f32]) -> usize
     requires { ⌜ 128 ≤ length (now out) ⌝ }
-    ensures { λ r. ⌜ (now (out .exit) ≡ sets (now (out .entry)) 0 (samplesOf values)) × (r ≡ length (samplesOf values)) ⌝ }
+    ensures { λ r. ⌜ (now (out .exit) ≡ sets (now (out .entry)) 0 (samplesOf values))
+        × (r ≡ length (samplesOf values)) ⌝ }
 {
     let n = at_most(64, values[12]);
     let mut k: usize = 0;

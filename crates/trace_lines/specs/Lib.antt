@@ -1,2 +1,2 @@
--- The lines that a replayed trace prints.
+-- The lines that a replay prints.
 pub mod Lines

@@ -1,4 +1,4 @@
--- The lines that a replayed trace prints, as ASCII: docs/formats/TRACE.md, "What is printed".
+-- The lines that a replay prints, as ASCII: docs/formats/TRACE.md, "What is printed".
 use Prim.Native.Nat.{ℕ, zero, suc, _+_, _/_, _%_}
 use mathlib.Core.Bool.{cond}
 use mathlib.Core.List.{List, [], _∷_, _++_}
@@ -42,7 +42,9 @@ told word n = word ++ decimal n
 -- `block=1 frames=6 steps=6 state=6 position=3`
 unfoldable pub blockLine : ℕ → ℕ → ℕ → ℕ → ℕ → List ℕ
 blockLine number frames steps state position =
-    told block·is number ++ (told frames·are frames ++ (told steps·are steps ++ (told state·is state ++ (told position·is position ++ (10 ∷ [])))))
+    told block·is number
+    ++ (told frames·are frames
+    ++ (told steps·are steps ++ (told state·is state ++ (told position·is position ++ (10 ∷ [])))))
 
 -- `block=1 refused=12`
 unfoldable pub refusedBlockLine : ℕ → ℕ → List ℕ

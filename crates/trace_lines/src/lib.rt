@@ -1,23 +1,25 @@
-// The lines that a replayed trace prints, put at the start of a lent buffer of at least 139 bytes.
+// Formats the lines that a replay prints, at the start of a buffer of at least 139 bytes.
 ghost use mathlib.Core.Path.{_≡_};
 ghost use Prim.Native.Nat.{_+_, _≤_};
 ghost use lib.ListN.{length};
 ghost use lib.Seq.{sets};
 ghost use Rattle.trace_lines.specs.Lines.{decimal, told, blockLine, refusedBlockLine, refusedLine};
 
-// Puts the bytes of a text from `at` on, and returns the place after them.
+// Writes the bytes of a text at `at`, and returns the offset after them.
 fn put(line: &mut [u8], at: usize, text: &[u8]) -> usize
     requires { ⌜ at + length (now text) ≤ length (now line) ⌝ }
-    ensures { λ a. ⌜ (now (line .exit) ≡ sets (now (line .entry)) at (now (text .entry))) × (a ≡ at + length (now (text .entry))) ⌝ }
+    ensures { λ a. ⌜ (now (line .exit) ≡ sets (now (line .entry)) at (now (text .entry)))
+        × (a ≡ at + length (now (text .entry))) ⌝ }
 {
     byte_layout::copy(text, 0, text.len(), line, at);
     at + text.len()
 }
 
-// Puts a number in decimal.
+// Writes a number in decimal.
 fn put_decimal(line: &mut [u8], at: usize, n: u64) -> usize
     requires { ⌜ at + 20 ≤ length (now line) ⌝ }
-    ensures { λ a. ⌜ (now (line .exit) ≡ sets (now (line .entry)) at (decimal n)) × (a ≡ at + length (decimal n)) × (a ≤ at + 20) ⌝ }
+    ensures { λ a. ⌜ (now (line .exit) ≡ sets (now (line .entry)) at (decimal n)) × (a ≡ at + length (decimal n))
+        × (a ≤ at + 20) ⌝ }
 {
     let mut digits = [0u8; 20];
     let mut i: usize = 19;
@@ -31,10 +33,11 @@ fn put_decimal(line: &mut [u8], at: usize, n: u64) -> usize
     put(line, at, &digits[i..20])
 }
 
-// Puts a word and a number.
+// Writes a word and a number.
 fn tell(line: &mut [u8], at: usize, word: &[u8], n: u64) -> usize
     requires { ⌜ at + length (now word) + 20 ≤ length (now line) ⌝ }
-    ensures { λ a. ⌜ (now (line .exit) ≡ sets (now (line .entry)) at (told (now (word .entry)) n)) × (a ≡ at + length (told (now (word .entry)) n)) × (a ≤ at + length (now (word .entry)) + 20) ⌝ }
+    ensures { λ a. ⌜ (now (line .exit) ≡ sets (now (line .entry)) at (told (now (word .entry)) n))
+        × (a ≡ at + length (told (now (word .entry)) n)) × (a ≤ at + length (now (word .entry)) + 20) ⌝ }
 {
     let a = put(line, at, word);
     put_decimal(line, a, n)
@@ -50,7 +53,8 @@ pub fn put_block(
     position: u64,
 ) -> usize
     requires { ⌜ 139 ≤ length (now line) ⌝ }
-    ensures { λ a. ⌜ (now (line .exit) ≡ sets (now (line .entry)) 0 (blockLine number frames steps state position)) × (a ≡ length (blockLine number frames steps state position)) × (a ≤ 139) ⌝ }
+    ensures { λ a. ⌜ (now (line .exit) ≡ sets (now (line .entry)) 0 (blockLine number frames steps state position))
+        × (a ≡ length (blockLine number frames steps state position)) × (a ≤ 139) ⌝ }
 {
     let a = tell(line, 0, b"block=", number);
     let b = tell(line, a, b" frames=", frames);
@@ -63,7 +67,8 @@ pub fn put_block(
 // `block=1 refused=12`
 pub fn put_refused_block(line: &mut [u8], number: u64, refusal: u64) -> usize
     requires { ⌜ 139 ≤ length (now line) ⌝ }
-    ensures { λ a. ⌜ (now (line .exit) ≡ sets (now (line .entry)) 0 (refusedBlockLine number refusal)) × (a ≡ length (refusedBlockLine number refusal)) × (a ≤ 139) ⌝ }
+    ensures { λ a. ⌜ (now (line .exit) ≡ sets (now (line .entry)) 0 (refusedBlockLine number refusal))
+        × (a ≡ length (refusedBlockLine number refusal)) × (a ≤ 139) ⌝ }
 {
     let a = tell(line, 0, b"block=", number);
     let b = tell(line, a, b" refused=", refusal);
@@ -73,7 +78,8 @@ pub fn put_refused_block(line: &mut [u8], number: u64, refusal: u64) -> usize
 // `refused=15 at=0`
 pub fn put_refused(line: &mut [u8], refusal: u64, at: u64) -> usize
     requires { ⌜ 139 ≤ length (now line) ⌝ }
-    ensures { λ a. ⌜ (now (line .exit) ≡ sets (now (line .entry)) 0 (refusedLine refusal at)) × (a ≡ length (refusedLine refusal at)) × (a ≤ 139) ⌝ }
+    ensures { λ a. ⌜ (now (line .exit) ≡ sets (now (line .entry)) 0 (refusedLine refusal at))
+        × (a ≡ length (refusedLine refusal at)) × (a ≤ 139) ⌝ }
 {
     let a = tell(line, 0, b"refused=", refusal);
     let b = tell(line, a, b" at=", at);

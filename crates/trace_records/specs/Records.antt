@@ -41,11 +41,16 @@ bodied (good l hs bs) =
 unfoldable pub readRecord : List ℕ → Found
 readRecord bs = bodied (steps headRows (good 5 [] bs))
 
--- as a value: the numbers, then zeros; a refused record has no kind, no numbers, and leaves the place
+-- as a value: the numbers, then zeros; a refused record has no kind and no numbers, and keeps the offset
 unfoldable pub valued : ℕ → ℕ → Found → Record
 valued len at (refused n) = record { refusal = n; kind = 0; next = at; values = replicate 80 0 }
-valued len at (found k ws rest) = record { refusal = 0; kind = k; next = len - length rest; values = ws ++ replicate (80 - length ws) 0 }
+valued len at (found k ws rest) = record {
+  refusal = 0;
+  kind = k;
+  next = len - length rest;
+  values = ws ++ replicate (80 - length ws) 0;
+}
 
--- the record at a place of the bytes
+-- the record at an offset of the bytes
 unfoldable pub recordAt : List ℕ → ℕ → Record
 recordAt s at = valued (length s) at (readRecord (drop at s))

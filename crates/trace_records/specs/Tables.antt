@@ -1,5 +1,5 @@
--- The layouts of docs/formats/TRACE.md: six numbers a row, width, guard, low, least, most, refusal. A row stands if the number of
--- its guard, an earlier row, is at least `low`.
+-- The layouts of docs/formats/TRACE.md: six numbers per row, width, guard, low, least, most, refusal. A row is
+-- present if the number of its guard, an earlier row, is at least `low`.
 use Prim.Native.Nat.{ℕ, zero, suc}
 use mathlib.Core.Bool.{cond}
 use mathlib.Core.List.{List, [], _∷_}
@@ -15,12 +15,13 @@ headTable =
     1 ∷ 0 ∷ 0 ∷ 1 ∷ 3 ∷ 16 ∷
     2 ∷ 0 ∷ 0 ∷ 0 ∷ 65535 ∷ 17 ∷ []
 
--- n frames of a sound from frame k on, eight bytes each: frame k stands if there are more than k
+-- n frames of a sound from frame k on, eight bytes each: frame k is present if there are more than k
 unfoldable pub frameTable : ℕ → ℕ → List ℕ
 frameTable k zero = []
 frameTable k (suc n) = 8 ∷ 12 ∷ suc k ∷ 0 ∷ 18446744073709551615 ∷ 17 ∷ frameTable (suc k) n
 
--- sample rate; slice, its start and end; start's unit, start; loop, its start and end; reverse; rate; start waits; frames
+-- sample rate; slice, its start and end; start's unit, start; loop, its start and end; reverse; rate; start waits;
+-- frames
 unfoldable pub creationTable : List ℕ
 creationTable =
     4 ∷ 0 ∷ 0 ∷ 0 ∷ 4294967295 ∷ 17 ∷

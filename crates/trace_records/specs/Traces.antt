@@ -19,7 +19,7 @@ unfoldable pub traceOf : List Entry → List ℕ
 traceOf [] = []
 traceOf (e ∷ es) = recordOf (e .kind) (e .numbers) ++ traceOf es
 
--- records that a writer takes
+-- records that a writer accepts
 abbrev pub takes : Entry → Bool
 takes e = known (e .kind) && fine (body (e .kind)) [] (e .numbers)
 
@@ -27,7 +27,7 @@ unfoldable pub takesAll : List Entry → Bool
 takesAll [] = true
 takesAll (e ∷ es) = takes e && takesAll es
 
--- records written one after the other into a buffer, from a place on, until one is refused
+-- records written one after the other into a buffer, from an offset on, until one is refused
 unfoldable pub writeAll : List ℕ → ℕ → List Entry → Written
 writeAll buf at [] = record { number = 0; next = at; buffer = buf }
 writeAll buf at (e ∷ es) =
@@ -45,7 +45,7 @@ unfoldable pub onward : ℕ → (ℕ → Story) → Found → Story
 onward n more (refused k) = broken k
 onward n more (found k ws rest) = told (record { kind = k; numbers = ws }) (more (n - length rest))
 
--- a trace read record by record; k bytes of the record in hand are still to pass
+-- a trace read record by record; k bytes of the current record are left
 unfoldable pub readAll : ℕ → List ℕ → Story
 readAll k [] = over
 readAll (suc k) (b ∷ bs) = readAll k bs

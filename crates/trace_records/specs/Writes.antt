@@ -1,4 +1,4 @@
--- A record written: its bytes, and what a write leaves of a buffer.
+-- Writing a record: its bytes, and the buffer after a write.
 use Prim.Native.Nat.{ℕ, _+_, _-_}
 use mathlib.Core.Bool.{Bool, _&&_, cond}
 use mathlib.Core.List.{List, [], _∷_, _++_}
@@ -19,7 +19,7 @@ recordOf k ws = payload headRows [] (headOf k (length (payload (body k) [] ws)))
 abbrev pub known : ℕ → Bool
 known k = leb 1 k && leb k 3
 
--- what a write leaves: its number, the next place, the buffer
+-- the outcome of a write: its refusal, the next offset, the buffer
 pub record Written : Type 0 where
   pub number : ℕ
   pub next : ℕ
@@ -28,14 +28,18 @@ pub record Written : Type 0 where
 abbrev pub sentOf : Sent → List ℕ → Written
 sentOf a buf = record { number = a .refusal; next = a .next; buffer = buf }
 
--- the fields ws written as a record at `at`: 16 no kind, 17 a field beyond its limit, 19 too little room, the buffer untouched;
--- else the record's bytes, and every other byte stays
+-- the fields ws written as a record at `at`: 16 for an unknown kind, 17 for a field above its limit, 19 for too
+-- little space, with the buffer unchanged; otherwise the record's bytes, and every other byte unchanged
 unfoldable pub writeRecord : List ℕ → ℕ → ℕ → List ℕ → Written
 writeRecord buf at k ws =
     cond (known k)
     (cond (fine (body k) [] ws)
     (cond (leb (length (recordOf k ws)) (length buf - at))
-    (record { number = 0; next = at + length (recordOf k ws); buffer = take at buf ++ recordOf k ws ++ drop (at + length (recordOf k ws)) buf })
+    (record {
+      number = 0;
+      next = at + length (recordOf k ws);
+      buffer = take at buf ++ recordOf k ws ++ drop (at + length (recordOf k ws)) buf;
+    })
     (record { number = 19; next = at; buffer = buf }))
     (record { number = 17; next = at; buffer = buf }))
     (record { number = 16; next = at; buffer = buf })

@@ -19,8 +19,8 @@ use tables::HEAD;
 pub use writes::Sent;
 pub use writes::write;
 
-// A record by value: its kind, its numbers in the layout's order and then zeros, and the place after it. Where a record is
-// refused, the number; then every other number is 0 and the place is the record's own.
+// A record by value: its kind, its numbers in the layout's order and then zeros, and the offset after it. If it is
+// refused: the refusal, every other number 0, and the record's own offset.
 #[repr(C)]
 pub struct Record {
     pub refusal: u64,
@@ -82,7 +82,9 @@ fn is_possible(kind: u64, n: u64) -> bool
 // Reads the fields of a kind's payload of n bytes.
 fn read_body(s: &[u8], at: usize, kind: u64, n: usize) -> Parsed
     requires { ⌜ at ≤ length (now s) ⌝ }
-    ensures { λ q. ⌜ (view (now (s .entry)) (fields kind) q ≡ steps (body kind) (good n [] (drop at (now (s .entry))))) × (q .at ≤ length (now (s .entry))) × (drop (fields kind) (q .values) ≡ replicate (80 - fields kind) 0) ⌝ }
+    ensures { λ q. ⌜ (view (now (s .entry)) (fields kind) q
+        ≡ steps (body kind) (good n [] (drop at (now (s .entry))))) × (q .at ≤ length (now (s .entry)))
+        × (drop (fields kind) (q .values) ≡ replicate (80 - fields kind) 0) ⌝ }
 {
     let p = byte_layout::begin(at, n);
     if kind == 1 {
@@ -97,16 +99,17 @@ fn read_body(s: &[u8], at: usize, kind: u64, n: usize) -> Parsed
     byte_layout::read_rows(s, p, &table, 10)
 }
 
-// The head's kind and length, once they are judged.
+// The head's kind and length, once they are checked.
 fn read_head(s: &[u8], at: usize) -> Parsed
     requires { ⌜ at ≤ length (now s) ⌝ }
-    ensures { λ q. ⌜ (view (now (s .entry)) 4 q ≡ steps headRows (good 5 [] (drop at (now (s .entry))))) × (q .at ≤ length (now (s .entry))) ⌝ }
+    ensures { λ q. ⌜ (view (now (s .entry)) 4 q ≡ steps headRows (good 5 [] (drop at (now (s .entry)))))
+        × (q .at ≤ length (now (s .entry))) ⌝ }
 {
     let table = HEAD;
     byte_layout::read_rows(s, byte_layout::begin(at, 5), &table, 4)
 }
 
-// The record at a place of the bytes: any bytes, any place.
+// The record at an offset of the bytes: any bytes, any offset.
 pub fn read(s: &[u8], at: usize) -> Record
     ensures { λ r. ⌜ r ≡ recordAt (now (s .entry)) at ⌝ }
 {
@@ -138,7 +141,7 @@ pub fn read(s: &[u8], at: usize) -> Record
     }
 }
 
-// What is promised beyond the contracts.
+// An empty function whose contract collects the theorems, so that the checker must prove them.
 pub fn promised()
     ensures { λ r. ⌜ Promises ⌝ }
 {}

@@ -1,4 +1,4 @@
-// The layouts of docs/formats/TRACE.md: six numbers a row, width, guard, low, least, most, refusal.
+// The layouts of docs/formats/TRACE.md: six numbers per row, width, guard, low, least, most, refusal.
 
 pub(crate) const HEAD: [u64; 24] = [
     1,

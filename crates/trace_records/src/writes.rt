@@ -1,4 +1,4 @@
-// A record written, from the same tables as it is read.
+// Writes a record, by the same tables as it is read.
 ghost use mathlib.Core.Path.{_≡_};
 ghost use Prim.Native.Nat.{_+_, _≤_};
 ghost use mathlib.Core.List.{[]};
@@ -12,7 +12,7 @@ use crate::tables::COMMANDS;
 use crate::tables::CREATION;
 use crate::tables::HEAD;
 
-// What a write answers: 0 or a refusal, and the place after the record, or its own.
+// The result of a write: 0 or a refusal, and the offset after the record, or its own.
 #[repr(C)]
 pub struct Sent {
     pub refusal: u64,
@@ -25,7 +25,7 @@ fn is_kind(kind: u64) -> bool
     (1 <= kind) & (kind <= 3)
 }
 
-// Whether the kind's rows take the numbers.
+// Whether the kind's rows accept the numbers.
 fn fits(kind: u64, values: [u64; 80]) -> bool
     ensures { λ b. ⌜ b ≡ fine (body kind) [] (take (fields kind) values) ⌝ }
 {
@@ -59,7 +59,8 @@ fn payload_length(kind: u64, values: [u64; 80]) -> usize
 
 fn put_head(buf: &mut [u8], at: usize, kind: u64, n: usize) -> usize
     requires { ⌜ at + 5 ≤ length (now buf) ⌝ }
-    ensures { λ a. ⌜ (now (buf .exit) ≡ sets (now (buf .entry)) at (payload headRows [] (headOf kind n))) × (a ≡ at + 5) ⌝ }
+    ensures { λ a. ⌜ (now (buf .exit) ≡ sets (now (buf .entry)) at (payload headRows [] (headOf kind n)))
+        × (a ≡ at + 5) ⌝ }
 {
     let mut values = [0u64; 80];
     values[0] = 165;
@@ -72,7 +73,9 @@ fn put_head(buf: &mut [u8], at: usize, kind: u64, n: usize) -> usize
 
 fn put_body(buf: &mut [u8], at: usize, kind: u64, values: [u64; 80]) -> usize
     requires { ⌜ at + length (payload (body kind) [] (take (fields kind) values)) ≤ length (now buf) ⌝ }
-    ensures { λ a. ⌜ (now (buf .exit) ≡ sets (now (buf .entry)) at (payload (body kind) [] (take (fields kind) values))) × (a ≡ at + length (payload (body kind) [] (take (fields kind) values))) ⌝ }
+    ensures { λ a. ⌜ (now (buf .exit)
+        ≡ sets (now (buf .entry)) at (payload (body kind) [] (take (fields kind) values)))
+        × (a ≡ at + length (payload (body kind) [] (take (fields kind) values))) ⌝ }
 {
     if kind == 1 {
         let table = CREATION;
@@ -86,9 +89,10 @@ fn put_body(buf: &mut [u8], at: usize, kind: u64, values: [u64; 80]) -> usize
     byte_layout::put_rows(buf, at, values, &table, 10)
 }
 
-// Writes a record at a place of a buffer: any kind, any numbers, any place.
+// Writes a record at an offset of a buffer: any kind, any numbers, any offset.
 pub fn write(buf: &mut [u8], at: usize, kind: u64, values: [u64; 80]) -> Sent
-    ensures { λ a. ⌜ sentOf a (now (buf .exit)) ≡ writeRecord (now (buf .entry)) at kind (take (fields kind) values) ⌝ }
+    ensures { λ a. ⌜ sentOf a (now (buf .exit))
+        ≡ writeRecord (now (buf .entry)) at kind (take (fields kind) values) ⌝ }
 {
     if !is_kind(kind) {
         return Sent {

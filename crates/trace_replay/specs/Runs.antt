@@ -31,50 +31,68 @@ pub record Course : Type 0 where
 abbrev pub blank : Course
 blank = record { voice = blankSound; sound = []; blocks = 0 }
 
--- what the code holds, and the lent sound's samples
+-- what the code holds, and the sound's samples
 abbrev pub courseOf : Run → List Float → Course
 courseOf r snd = record { voice = r .voice; sound = take (r .samples) snd; blocks = r .blocks }
 
--- one block more, as far as 64 bits count
+-- one block more, up to the largest 64-bit number
 abbrev pub more : ℕ → ℕ
 more n = cond (ltb n 18446744073709551615) (n + 1) n
 
 -- a block's lanes: every frame is the same
 abbrev pub lanesOf : Block → Lanes
-lanesOf b = five (replicate (b .frames) (b .fade)) (replicate (b .frames) (b .volume)) (replicate (b .frames) (b .left)) (replicate (b .frames) (b .right)) (replicate (b .frames) (b .rate))
+lanesOf b = five (replicate (b .frames) (b .fade)) (replicate (b .frames) (b .volume))
+    (replicate (b .frames) (b .left)) (replicate (b .frames) (b .right)) (replicate (b .frames) (b .rate))
 
--- the player's answer to a block
+-- the player's result for a block
 unfoldable pub answered : List Float → StaticSound → Block → Processed
-answered snd v b = processed snd v (b .«time_step») (lanesOf b) (b .signals) (replicate (2 * b .frames) positiveZero) .answer
+answered snd v b = processed snd v (b .«time_step») (lanesOf b) (b .signals)
+    (replicate (2 * b .frames) positiveZero) .answer
 
--- the line of a block, from its number, its frames and the player's answer
+-- the line of a block, from its number, its frames and the player's result
 unfoldable pub lineOf : ℕ → ℕ → Processed → List ℕ
-lineOf k n p = cond (eqb (p .refusal) 0) (blockLine k n (p .steps) (number (p .sound .moving .state)) (p .sound .moving .transport .position)) (refusedBlockLine k (p .refusal))
+lineOf k n p = cond (eqb (p .refusal) 0)
+    (blockLine k n (p .steps) (number (p .sound .moving .state))
+    (p .sound .moving .transport .position)) (refusedBlockLine k (p .refusal))
 
 -- a record's end: the run after it, and its line
 pub record Turn : Type 0 where
   pub course : Course
   pub line : List ℕ
 
--- a creation, accepted or refused: a refused one leaves the blank voice
+-- a creation, accepted or refused; a refused one leads to the blank voice
 abbrev pub afterCreation : Course → List ℕ → Turn
-afterCreation c vs = record { course = record { voice = created (samplesOf vs) (settingsOf vs) .sound; sound = samplesOf vs; blocks = c .blocks }; line = [] }
+afterCreation c vs = record {
+  course = record { voice = created (samplesOf vs) (settingsOf vs) .sound; sound = samplesOf vs; blocks = c .blocks };
+  line = [];
+}
 
 -- a command set, accepted or refused
 abbrev pub afterCommands : Course → List ℕ → Turn
-afterCommands c vs = record { course = record { voice = commanded (c .sound) (c .voice) (commandsOf vs) .sound; sound = c .sound; blocks = c .blocks }; line = [] }
+afterCommands c vs = record {
+  course = record {
+    voice = commanded (c .sound) (c .voice) (commandsOf vs) .sound;
+    sound = c .sound;
+    blocks = c .blocks;
+  };
+  line = [];
+}
 
 -- a block, accepted or refused, is counted
 abbrev pub afterBlock : Course → List ℕ → Turn
 afterBlock c vs =
     let p = answered (c .sound) (c .voice) (blockOf vs) in
-    record { course = record { voice = p .sound; sound = c .sound; blocks = more (c .blocks) }; line = lineOf (more (c .blocks)) (blockOf vs .frames) p }
+    record {
+      course = record { voice = p .sound; sound = c .sound; blocks = more (c .blocks) };
+      line = lineOf (more (c .blocks)) (blockOf vs .frames) p;
+    }
 
 -- one record, by its kind
 unfoldable pub after : Course → ℕ → List ℕ → Turn
 after c k vs = cond (eqb k 1) (afterCreation c vs) (cond (eqb k 2) (afterCommands c vs) (afterBlock c vs))
 
--- what the record that bytes begin with makes of the run, at the offset `at`: the run after it, its line, its bytes, and whether the run is over
+-- the record at the beginning of the bytes, at the offset `at`: the run after it, its line, its bytes, and whether
+-- the run is over
 pub record Step : Type 0 where
   pub course : Course
   pub line : List ℕ
@@ -94,11 +112,17 @@ unfoldable pub stepOf : Course → ℕ → List ℕ → Step
 stepOf c at [] = record { course = c; line = []; size = 0; over = true }
 stepOf c at (b ∷ bs) = judged c at (recordAt (b ∷ bs) 0)
 
--- what the code answers of a record that it read at `at`, with the lent sound and the line
+-- the code's result for a record that it read at `at`, with the sound and the line
 abbrev pub advancedOf : Advanced → ℕ → List Float → List ℕ → Step
-advancedOf r at snd line = record { course = courseOf (r .run) snd; line = take (r .written) line; size = r .next - at; over = r .over }
+advancedOf r at snd line = record {
+  course = courseOf (r .run) snd;
+  line = take (r .written) line;
+  size = r .next - at;
+  over = r .over;
+}
 
--- all that is printed, from the offset `at` on, k bytes of the record in hand still to pass: each record's line, until the run is over
+-- all that is printed from the offset `at` on, with k bytes of the current record left: each record's line, until the
+-- run is over
 unfoldable pub printed : Course → ℕ → ℕ → List ℕ → List ℕ
 printed c at k [] = []
 printed c at (suc k) (b ∷ bs) = printed c (suc at) k bs

@@ -1,28 +1,40 @@
-// One record played: from a record and the run so far to the run after it and the line it prints.
+// Plays one record: from a record and the run so far to the run after it and its line.
 ghost use mathlib.Core.Path.{_≡_};
 ghost use Prim.Native.Nat.{_≤_};
 ghost use mathlib.Core.List.{[]};
 ghost use lib.ListN.{length, take, drop, replicate};
 ghost use Rattle.numbers.specs.Words.{positiveZero};
-ghost use Rattle.trace_replay.specs.Runs.{blank, courseOf, more, answered, lineOf, afterCreation, afterCommands, afterBlock, after, advancedOf, stepOf};
+ghost use Rattle.trace_replay.specs.Runs.{
+  blank,
+  courseOf,
+  more,
+  answered,
+  lineOf,
+  afterCreation,
+  afterCommands,
+  afterBlock,
+  after,
+  advancedOf,
+  stepOf,
+};
 use sound_slow_path::Processed;
 use sound_state::StaticSound;
 use trace_inputs::Block;
 
-// The run so far: the voice, how many of the lent samples are its sound, the blocks counted.
+// The run so far: the voice, how many of the buffer's samples are its sound, and the number of blocks.
 pub struct Run {
     pub voice: StaticSound,
     pub samples: usize,
     pub blocks: u64,
 }
 
-// A run after a record, and how many bytes its line has.
+// A run after a record, and the length of its line.
 pub struct Turned {
     pub run: Run,
     pub written: usize,
 }
 
-// A run after the record at a place of the bytes: the place after it, how many bytes its line has, and whether the run is over.
+// A run after the record at an offset: the offset after it, the length of its line, and whether the run is over.
 pub struct Advanced {
     pub run: Run,
     pub next: usize,
@@ -59,7 +71,7 @@ fn silence() -> [f32; 2048]
     [0.0; 2048]
 }
 
-// The player's answer to a block of equal frames.
+// The player's result for a block of equal frames.
 fn answer(voice: StaticSound, sound: &[f32], block: Block) -> Processed
     requires { ⌜ block .frames ≤ 1024 ⌝ }
     ensures { λ r. ⌜ r ≡ answered (now (sound .entry)) voice block ⌝ }
@@ -87,10 +99,11 @@ fn answer(voice: StaticSound, sound: &[f32], block: Block) -> Processed
     )
 }
 
-// The line of a block, and how many bytes it has.
+// The line of a block, and its length.
 fn put_line(line: &mut [u8], number: u64, frames: usize, processed: Processed) -> usize
     requires { ⌜ 139 ≤ length (now line) ⌝ }
-    ensures { λ r. ⌜ (take r (now (line .exit)) ≡ lineOf number frames processed) × (r ≤ length (now (line .exit))) ⌝ }
+    ensures { λ r. ⌜ (take r (now (line .exit)) ≡ lineOf number frames processed)
+        × (r ≤ length (now (line .exit))) ⌝ }
 {
     if processed.refusal == 0 {
         let voice = processed.sound;
@@ -111,7 +124,9 @@ fn put_line(line: &mut [u8], number: u64, frames: usize, processed: Processed) -
 
 fn create(run: Run, values: [u64; 80], sound: &mut [f32]) -> Run
     requires { ⌜ 128 ≤ length (now sound) ⌝ }
-    ensures { λ r. ⌜ (courseOf r (now (sound .exit)) ≡ afterCreation (courseOf run (now (sound .entry))) values .course) × (r .samples ≤ length (now (sound .exit))) ⌝ }
+    ensures { λ r. ⌜ (courseOf r (now (sound .exit))
+        ≡ afterCreation (courseOf run (now (sound .entry))) values .course)
+        × (r .samples ≤ length (now (sound .exit))) ⌝ }
 {
     let samples = trace_inputs::put_samples(values, sound);
     let created = sound_creation::new(trace_inputs::settings_of(values), &sound[..samples]);
@@ -125,7 +140,9 @@ fn create(run: Run, values: [u64; 80], sound: &mut [f32]) -> Run
 
 fn command(run: Run, values: [u64; 80], sound: &[f32]) -> Run
     requires { ⌜ run .samples ≤ length (now sound) ⌝ }
-    ensures { λ r. ⌜ (courseOf r (now (sound .entry)) ≡ afterCommands (courseOf run (now (sound .entry))) values .course) × (r .samples ≤ length (now (sound .entry))) ⌝ }
+    ensures { λ r. ⌜ (courseOf r (now (sound .entry))
+        ≡ afterCommands (courseOf run (now (sound .entry))) values .course)
+        × (r .samples ≤ length (now (sound .entry))) ⌝ }
 {
     let before = run.voice;
     let samples = run.samples;
@@ -140,7 +157,10 @@ fn command(run: Run, values: [u64; 80], sound: &[f32]) -> Run
 
 fn play(run: Run, values: [u64; 80], sound: &[f32], line: &mut [u8]) -> Turned
     requires { ⌜ (run .samples ≤ length (now sound)) × (139 ≤ length (now line)) ⌝ }
-    ensures { λ r. ⌜ (courseOf (r .run) (now (sound .entry)) ≡ afterBlock (courseOf run (now (sound .entry))) values .course) × (take (r .written) (now (line .exit)) ≡ afterBlock (courseOf run (now (sound .entry))) values .line) × (r .run .samples ≤ length (now (sound .entry))) × (r .written ≤ length (now (line .exit))) ⌝ }
+    ensures { λ r. ⌜ (courseOf (r .run) (now (sound .entry))
+        ≡ afterBlock (courseOf run (now (sound .entry))) values .course)
+        × (take (r .written) (now (line .exit)) ≡ afterBlock (courseOf run (now (sound .entry))) values .line)
+        × (r .run .samples ≤ length (now (sound .entry))) × (r .written ≤ length (now (line .exit))) ⌝ }
 {
     let before = run.voice;
     let samples = run.samples;
@@ -162,7 +182,10 @@ fn play(run: Run, values: [u64; 80], sound: &[f32], line: &mut [u8]) -> Turned
 // One record: the run after it, and its line.
 pub fn turn(run: Run, kind: u64, values: [u64; 80], sound: &mut [f32], line: &mut [u8]) -> Turned
     requires { ⌜ (128 ≤ length (now sound)) × (run .samples ≤ length (now sound)) × (139 ≤ length (now line)) ⌝ }
-    ensures { λ r. ⌜ (courseOf (r .run) (now (sound .exit)) ≡ after (courseOf run (now (sound .entry))) kind values .course) × (take (r .written) (now (line .exit)) ≡ after (courseOf run (now (sound .entry))) kind values .line) × (r .run .samples ≤ length (now (sound .exit))) × (r .written ≤ length (now (line .exit))) ⌝ }
+    ensures { λ r. ⌜ (courseOf (r .run) (now (sound .exit))
+        ≡ after (courseOf run (now (sound .entry))) kind values .course)
+        × (take (r .written) (now (line .exit)) ≡ after (courseOf run (now (sound .entry))) kind values .line)
+        × (r .run .samples ≤ length (now (sound .exit))) × (r .written ≤ length (now (line .exit))) ⌝ }
 {
     if kind == 1 {
         return Turned {
@@ -179,7 +202,7 @@ pub fn turn(run: Run, kind: u64, values: [u64; 80], sound: &mut [f32], line: &mu
     play(run, values, sound, line)
 }
 
-// The record at a place of the bytes, which is `place` in the whole trace: the run after it, and its line.
+// The record at an offset of the bytes, which is `place` in the whole trace: the run after it, and its line.
 pub fn advance(
     run: Run,
     bytes: &[u8],
@@ -188,8 +211,12 @@ pub fn advance(
     sound: &mut [f32],
     line: &mut [u8],
 ) -> Advanced
-    requires { ⌜ (at ≤ length (now bytes)) × (128 ≤ length (now sound)) × (run .samples ≤ length (now sound)) × (139 ≤ length (now line)) ⌝ }
-    ensures { λ r. ⌜ (advancedOf r at (now (sound .exit)) (now (line .exit)) ≡ stepOf (courseOf run (now (sound .entry))) place (drop at (now (bytes .entry)))) × (r .next ≤ length (now (bytes .entry))) × (r .run .samples ≤ length (now (sound .exit))) × (r .written ≤ length (now (line .exit))) × (at ≤ r .next) ⌝ }
+    requires { ⌜ (at ≤ length (now bytes)) × (128 ≤ length (now sound)) × (run .samples ≤ length (now sound))
+        × (139 ≤ length (now line)) ⌝ }
+    ensures { λ r. ⌜ (advancedOf r at (now (sound .exit)) (now (line .exit))
+        ≡ stepOf (courseOf run (now (sound .entry))) place (drop at (now (bytes .entry))))
+        × (r .next ≤ length (now (bytes .entry))) × (r .run .samples ≤ length (now (sound .exit)))
+        × (r .written ≤ length (now (line .exit))) × (at ≤ r .next) ⌝ }
 {
     if at == bytes.len() {
         return Advanced {

@@ -1,3 +1,3 @@
--- Salvage of a broken trace.
+-- Salvage of a damaged trace.
 pub mod Salvage
 pub mod Promises

@@ -1,5 +1,6 @@
--- What is promised of salvage beyond its contract (request #114): all bytes are kept or skipped, an undamaged trace comes out equal, a second run changes nothing,
--- what comes out is a trace that is read to its end, and every record before the first hole is kept.
+-- The theorems about salvage (request #114): every byte is kept or skipped, an undamaged trace is copied unchanged, a
+-- second run changes nothing, the output is a trace that is read to its end, and every record before the first damage
+-- is kept.
 use Prim.Native.Nat.{ℕ, _+_}
 use mathlib.Core.Path.{_≡_}
 use mathlib.Core.Bool.{true}
@@ -10,24 +11,25 @@ use Rattle.trace_records.specs.Traces.{readAll, entries, isWhole}
 use Rattle.trace_records.specs.Promises.{Whole, pauseRecord}
 use Rattle.trace_salvage.specs.Salvage.{kept, skipped, records, first, sizeOf}
 
--- an undamaged trace comes out equal, with nothing skipped
+-- an undamaged trace is copied unchanged, with nothing skipped
 pub record Same (bs : List ℕ) : Type 0 where
   pub bytes : kept sizeOf bs 0 ≡ bs
   pub none : skipped sizeOf bs 0 ≡ 0
   pub place : first sizeOf 0 bs 0 ≡ length bs
 
--- what comes out is read to its end, and has as many records as are said to be kept
+-- the output is read to its end, and has as many records as salvage reports
 pub record Mended (bs : List ℕ) : Type 0 where
   pub to-the-end : isWhole (readAll 0 (kept sizeOf bs 0)) ≡ true
   pub count : length (entries (readAll 0 (kept sizeOf bs 0))) ≡ records sizeOf bs 0
 
--- up to the first byte skipped, at p, there are records alone, all that a reader finds before it is stopped, and they come out first, as they are
+-- before the first skipped byte, at p, there are only records: those that a reader finds; they are the beginning of
+-- the output, unchanged
 pub record Before (bs : List ℕ) (p : ℕ) : Type 0 where
   pub to-the-hole : isWhole (readAll 0 (take p bs)) ≡ true
   pub all : entries (readAll 0 bs) ≡ entries (readAll 0 (take p bs))
   pub kept-first : kept sizeOf bs 0 ≡ take p bs ++ kept sizeOf (drop p bs) 0
 
--- bytes that meet what is asked: an undamaged trace, and one with a byte too many before it
+-- inputs that meet the hypotheses: an undamaged trace, and one with an extra byte before it
 pub record Witnesses : Type 0 where
   pub whole-kept : Whole pauseRecord
   pub again : Bytes (0 ∷ pauseRecord)
@@ -37,8 +39,9 @@ pub record Witnesses : Type 0 where
 pub record Promises : Type 0 where
   pub all-bytes : (bs : List ℕ) → length (kept sizeOf bs 0) + skipped sizeOf bs 0 ≡ length bs
   pub whole-kept : (bs : List ℕ) → Whole bs → Same bs
-  pub again : (bs : List ℕ) → Bytes bs → (kept sizeOf (kept sizeOf bs 0) 0 ≡ kept sizeOf bs 0) × (skipped sizeOf (kept sizeOf bs 0) 0 ≡ 0)
+  pub again : (bs : List ℕ) → Bytes bs → (kept sizeOf (kept sizeOf bs 0) 0 ≡ kept sizeOf bs 0)
+      × (skipped sizeOf (kept sizeOf bs 0) 0 ≡ 0)
   pub mended : (bs : List ℕ) → Bytes bs → Mended bs
   pub before-the-hole : (bs : List ℕ) → Bytes bs → Before bs (first sizeOf 0 bs 0)
-  -- an input for each that meets what it asks
+  -- one input for each hypothesis
   pub witnesses : Witnesses

@@ -1,5 +1,5 @@
--- Salvage of a broken trace. `size` gives the bytes of the complete record that a list begins with, 0 if there is none; k bytes
--- of a record are still to be copied.
+-- Salvage of a damaged trace. `size` is the length of the complete record at the beginning of a list, 0 if there is
+-- none; k bytes of the current record are left to copy.
 use Prim.Native.Nat.{ℕ, zero, suc, _+_, _-_, _≤_, _<_}
 use mathlib.Core.Bool.{Bool, true, false, cond}
 use mathlib.Core.List.{List, [], _∷_, _++_}
@@ -21,15 +21,17 @@ kept size (b ∷ bs) zero = cond (eqb (size (b ∷ bs)) 0) (kept size bs 0) (b �
 unfoldable pub skipped : (List ℕ → ℕ) → List ℕ → ℕ → ℕ
 skipped size [] k = 0
 skipped size (b ∷ bs) (suc k) = skipped size bs k
-skipped size (b ∷ bs) zero = cond (eqb (size (b ∷ bs)) 0) (suc (skipped size bs 0)) (skipped size bs (size (b ∷ bs) - 1))
+skipped size (b ∷ bs) zero = cond (eqb (size (b ∷ bs)) 0) (suc (skipped size bs 0))
+    (skipped size bs (size (b ∷ bs) - 1))
 
 -- how many records are kept
 unfoldable pub records : (List ℕ → ℕ) → List ℕ → ℕ → ℕ
 records size [] k = 0
 records size (b ∷ bs) (suc k) = records size bs k
-records size (b ∷ bs) zero = cond (eqb (size (b ∷ bs)) 0) (records size bs 0) (suc (records size bs (size (b ∷ bs) - 1)))
+records size (b ∷ bs) zero = cond (eqb (size (b ∷ bs)) 0)
+    (records size bs 0) (suc (records size bs (size (b ∷ bs) - 1)))
 
--- the place of the first byte skipped, the end if none is; the list begins at the place `at`
+-- the offset of the first skipped byte, or the end if none is skipped; the list begins at the offset `at`
 unfoldable pub first : (List ℕ → ℕ) → ℕ → List ℕ → ℕ → ℕ
 first size at [] k = at
 first size at (b ∷ bs) (suc k) = first size (suc at) bs k
@@ -43,7 +45,7 @@ sizeIn n (found k ws rest) = n - length rest
 unfoldable pub sizeOf : List ℕ → ℕ
 sizeOf bs = sizeIn (length bs) (readRecord bs)
 
--- what salvage leaves: its number, records kept, bytes skipped, the first skipped place, the output
+-- the outcome of a salvage: refusal, records kept, bytes skipped, first skipped offset, output
 pub record Salvaged : Type 0 where
   pub number : ℕ
   pub count : ℕ
@@ -54,18 +56,25 @@ pub record Salvaged : Type 0 where
 abbrev pub savedOf : Saved → List ℕ → Salvaged
 savedOf r out = record { number = r .refusal; count = r .records; skip = r .skipped; place = r .first; output = out }
 
--- 25 an output shorter than the input, all numbers 0; else the kept bytes, and the rest of the output unchanged
+-- 25 if the output is shorter than the input, with all numbers 0; otherwise the kept bytes, and the rest of the
+-- output unchanged
 unfoldable pub salvageOf : List ℕ → List ℕ → Salvaged
 salvageOf s out =
     cond (ltb (length out) (length s))
     (record { number = 25; count = 0; skip = 0; place = 0; output = out })
-    (record { number = 0; count = records sizeOf s 0; skip = skipped sizeOf s 0; place = first sizeOf 0 s 0; output = sets out 0 (kept sizeOf s 0) })
+    (record {
+      number = 0;
+      count = records sizeOf s 0;
+      skip = skipped sizeOf s 0;
+      place = first sizeOf 0 s 0;
+      output = sets out 0 (kept sizeOf s 0);
+    })
 
--- the first place, once something was skipped
+-- the first offset, once something was skipped
 abbrev pub placed : Turn → List ℕ → ℕ
 placed t s = cond (eqb (t .skip) 0) (first sizeOf (t .at) (drop (t .at) s) 0) (t .first)
 
--- one turn: what is left to do goes down, and what it all comes to stays
+-- one iteration: what is left to do decreases, and the final outcome does not change
 pub record Turned (s out new : List ℕ) (t r : Turn) : Type 0 where
   pub inside : r .at ≤ length s
   pub on : t .at < r .at

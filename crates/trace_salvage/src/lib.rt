@@ -1,4 +1,4 @@
-// Salvage of a broken trace: complete records are copied, any other byte is skipped, one at a time.
+// Salvage of a damaged trace: copies complete records and skips every other byte, one at a time.
 ghost use mathlib.Core.Path.{_≡_};
 ghost use Prim.Native.Nat.{_≤_, _<_};
 ghost use mathlib.Core.Bool.{cond};
@@ -7,8 +7,8 @@ ghost use lib.ListN.{length, drop};
 ghost use Rattle.trace_salvage.specs.Promises.{Promises};
 ghost use Rattle.trace_salvage.specs.Salvage.{sizeOf, savedOf, salvageOf, Turned};
 
-// A salvage in progress: the place in the input and in the output, the bytes skipped, the records kept, and the place of the
-// first byte skipped.
+// A salvage in progress: the offsets in the input and in the output, the bytes skipped, the records kept, and the
+// offset of the first skipped byte.
 pub struct Turn {
     pub at: usize,
     pub w: usize,
@@ -17,7 +17,7 @@ pub struct Turn {
     pub first: usize,
 }
 
-// What salvage answers: 0 or a refusal, the records kept, the bytes skipped, the place of the first of them.
+// The result of a salvage: 0 or a refusal, the records kept, the bytes skipped, and the offset of the first of them.
 #[repr(C)]
 pub struct Saved {
     pub refusal: u64,
@@ -26,7 +26,8 @@ pub struct Saved {
     pub first: usize,
 }
 
-// The bytes of the complete record at a place, or 0. A record begins with A5: the reader is not asked at any other byte.
+// The length of the complete record at an offset, or 0. A record begins with A5, so the reader is not called at any
+// other byte.
 fn record_size(s: &[u8], at: usize) -> usize
     ensures { λ n. ⌜ n ≡ sizeOf (drop at (now (s .entry))) ⌝ }
 {
@@ -47,7 +48,7 @@ fn record_size(s: &[u8], at: usize) -> usize
     next - at
 }
 
-// The place of the first byte skipped, when one is skipped at a place.
+// The offset of the first skipped byte, when one is skipped at an offset.
 fn first_of(t: Turn) -> usize
     ensures { λ n. ⌜ n ≡ cond (eqb (t .skip) 0) (t .at) (t .first) ⌝ }
 {
@@ -57,9 +58,10 @@ fn first_of(t: Turn) -> usize
     t.first
 }
 
-// Copies the record at the place, or skips a byte.
+// Copies the record at the offset, or skips a byte.
 fn step(s: &[u8], out: &mut [u8], t: Turn) -> Turn
-    requires { ⌜ (t .at < length (now s)) × (t .w ≤ t .at) × (t .skip ≤ t .at) × (t .records ≤ t .at) × (length (now s) ≤ length (now out)) ⌝ }
+    requires { ⌜ (t .at < length (now s)) × (t .w ≤ t .at) × (t .skip ≤ t .at) × (t .records ≤ t .at)
+        × (length (now s) ≤ length (now out)) ⌝ }
     ensures { λ r. ⌜ Turned (now (s .entry)) (now (out .entry)) (now (out .exit)) t r ⌝ }
 {
     let at = t.at;
@@ -115,7 +117,7 @@ pub fn salvage(s: &[u8], out: &mut [u8]) -> Saved
     }
 }
 
-// What is promised beyond the contract.
+// An empty function whose contract collects the theorems, so that the checker must prove them.
 pub fn promised()
     ensures { λ r. ⌜ Promises ⌝ }
 {}

@@ -1,6 +1,6 @@
--- What is promised of sealed records and of reader 2 beyond the contracts: what is written is read back as the same fields
--- and lanes, whatever follows it; what is read would be written again byte for byte; kinds 1 to 3 are read as reader 1
--- reads them; and no more than 24,598 bytes are looked at.
+-- What is promised of sealed records and of reader 2 beyond the contracts: what is written is read back as the same
+-- fields and lanes, whatever follows it; what is read would be written again byte for byte; kinds 1 to 3 are read as
+-- reader 1 reads them; and no more than 24,598 bytes are looked at.
 use Prim.Native.Nat.{ℕ, _+_, _≤_}
 use mathlib.Core.Path.{_≡_}
 use mathlib.Core.Bool.{true, false}

@@ -21,8 +21,8 @@ inSteps n low high by = leb low n && leb n high && eqb ((n - low) % by) 0
 unfoldable pub possible : ℕ → ℕ → Bool
 possible k n = cond (eqb k 4) (inSteps n 65 97 8) (inSteps n 41 24593 24)
 
--- what is wrong with w bytes of lanes and the checksum's place, 0 for nothing: `left` bytes of payload are left before
--- the checksum, `input` bytes of input
+-- what is wrong with w bytes of lanes and the checksum's place, 0 for nothing: `left` bytes of payload are left
+-- before the checksum, `input` bytes of input
 unfoldable pub tail : ℕ → ℕ → ℕ → ℕ
 tail w left input =
     cond (leb w left)
@@ -83,7 +83,8 @@ sealedAt s at = valued (length s) at (readSealed (drop at s))
 unfoldable pub anyAt : List ℕ → ℕ → Record
 anyAt s at = cond (isSealed (drop at s)) (sealedAt s at) (recordAt s at)
 
--- fields that were read of a record at a place: the numbers in hand, zeros behind them, and what is left of the payload
+-- fields that were read of a record at a place: the numbers in hand, zeros behind them, and what is left of the
+-- payload
 pub record Fields (s : List ℕ) (at k n : ℕ) (p : Parsed) : Type 0 where
   pub place : at + 2 ≤ length s
   pub some : 4 ≤ n

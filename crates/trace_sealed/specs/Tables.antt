@@ -1,5 +1,5 @@
--- The layouts of sealed records (docs/formats/TRACE.md, "Version 2"): six numbers a row, width, guard, low, least, most,
--- refusal.
+-- The layouts of sealed records (docs/formats/TRACE.md, "Version 2"): six numbers a row, width, guard, low, least,
+-- most, refusal.
 use Prim.Native.Nat.{ℕ, _*_}
 use mathlib.Core.Bool.{cond}
 use mathlib.Core.List.{List, [], _∷_}
@@ -16,8 +16,8 @@ headTable =
     1 ∷ 0 ∷ 0 ∷ 4 ∷ 5 ∷ 16 ∷
     2 ∷ 0 ∷ 0 ∷ 0 ∷ 65535 ∷ 17 ∷ []
 
--- sample rate; slice, its start and end; start's unit, start; loop, its start and end; reverse; rate; start waits; frames;
--- digest
+-- sample rate; slice, its start and end; start's unit, start; loop, its start and end; reverse; rate; start waits;
+-- frames; digest
 unfoldable pub givenTable : List ℕ
 givenTable =
     4 ∷ 0 ∷ 0 ∷ 0 ∷ 4294967295 ∷ 17 ∷

@@ -1,4 +1,4 @@
--- What contracts and laws on the transport cite, and the crates above.
+-- The definitions that contracts on the transport cite, here and in the crates above.
 pub mod Moves
 pub mod WellFormed
 pub mod Rust

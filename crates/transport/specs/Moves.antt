@@ -1,4 +1,5 @@
--- docs/assurance/RULES.md, "The transport": its first place and its three moves, by remainders. Loop (s, e), end exclusive, L = e - s.
+-- docs/assurance/RULES.md, "The transport": the first position and the three moves, by remainders. Loop (s, e), end
+-- exclusive, L = e - s.
 use Prim.Native.Nat.{ℕ, suc, _+_, _-_, _%_}
 use mathlib.Core.Bool.{Bool, true, false, not, _&&_, cond}
 use lib.Dec.{leb, ltb, eqb}
@@ -10,27 +11,27 @@ use Rattle.transport.specs.declared.Transport.{Transport}
 abbrev pub cycled : ℕ → ℕ → ℕ → ℕ
 cycled a b l = cond (leb b a) ((a - b) % l) (l - 1 - (b - a - 1) % l)
 
--- where the place p lies once it may not reach the loop's end
+-- p, wrapped into the loop if it is at or past the loop's end
 abbrev pub under : FrameRange → ℕ → ℕ
 under Absent p = p
 under (Frames s e) p = cond (leb e p) (s + cycled p s (e - s)) p
 
--- where the place p lies once it may not fall below the loop's start
+-- p, wrapped into the loop if it is below the loop's start
 abbrev pub over : FrameRange → ℕ → ℕ
 over Absent p = p
 over (Frames s e) p = cond (ltb p s) (s + cycled p s (e - s)) p
 
--- where a step back from p leads; without a loop 0 stays 0
+-- the position after a step back from p; without a loop 0 stays 0
 abbrev pub back : FrameRange → ℕ → ℕ
 back Absent p = p - 1
 back (Frames s e) p = cond (leb p s) (s + cycled p (suc s) (e - s)) (p - 1)
 
--- a step back from p meets the sound's beginning
+-- whether a step back from p passes the sound's beginning
 abbrev pub first : FrameRange → ℕ → Bool
 first Absent p = eqb p 0
 first (Frames s e) p = false
 
--- the transport at q: a place from n on ends playing, and nothing starts it again
+-- the transport at q: at or past n it stops playing; nothing restarts it
 abbrev pub landed : ℕ → Transport → ℕ → Transport
 landed n t q = record { position = q; «loop_region» = t .«loop_region»; playing = t .playing && ltb q n }
 
@@ -42,24 +43,29 @@ forward n t = cond (t .playing) (landed n t (under (t .«loop_region») (t .posi
 unfoldable pub backward : Transport → Transport
 backward t =
     cond (t .playing)
-    (record { position = back (t .«loop_region») (t .position); «loop_region» = t .«loop_region»; playing = not (first (t .«loop_region») (t .position)) })
+    (record {
+      position = back (t .«loop_region») (t .position);
+      «loop_region» = t .«loop_region»;
+      playing = not (first (t .«loop_region») (t .position));
+    })
     t
 
--- the place p is at the loop's end or past it
+-- whether p is at or past the loop's end
 abbrev pub atEnd : FrameRange → ℕ → Bool
 atEnd Absent p = false
 atEnd (Frames s e) p = leb e p
 
--- the place p is at the loop's start or before it
+-- whether p is at or before the loop's start
 abbrev pub atStart : FrameRange → ℕ → Bool
 atStart Absent p = false
 atStart (Frames s e) p = leb p s
 
--- the next step takes the wrap: backward from the loop's start or before it, forward onto its end or past it
+-- whether the next step wraps: backward from the loop's start or before it, forward onto its end or past it
 unfoldable pub wraps : Bool → Transport → Bool
-wraps backwards t = t .playing && cond backwards (atStart (t .«loop_region») (t .position)) (atEnd (t .«loop_region») (t .position + 1))
+wraps backwards t = t .playing
+    && cond backwards (atStart (t .«loop_region») (t .position)) (atEnd (t .«loop_region») (t .position + 1))
 
--- a seek to q in n frames: up to the loop's end when it goes up, down to its start when not
+-- a seek to q in n frames: upward it wraps at the loop's end, downward at its start
 unfoldable pub seek : ℕ → Transport → ℕ → Transport
 seek n t q = landed n t (cond (ltb (t .position) q) (under (t .«loop_region») q) (over (t .«loop_region») q))
 

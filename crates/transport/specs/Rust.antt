@@ -1,5 +1,6 @@
--- docs/assurance/RULES.md, "What must change shape": kira's `while` wraps, as they stand in transport.rs, for comparison with the remainders.
--- A `while` takes at most k turns here. As many as the place (down) or the bound (up) are enough, since a loop is not empty.
+-- docs/assurance/RULES.md, "What must change shape": kira's `while` loops of transport.rs, to compare with the
+-- remainders. A `while` runs at most k times here. As many as the position (down) or the bound (up) are enough, since
+-- a loop is not empty.
 use Prim.Native.Nat.{ℕ, zero, suc, _+_, _-_}
 use mathlib.Core.Bool.{false, cond}
 use lib.Dec.{leb, ltb, eqb}
@@ -36,7 +37,11 @@ whileAtStart (Frames s e) p = raised (suc s) (suc s) (e - s) p
 -- if position == 0 { playing = false } else { position -= 1 }
 abbrev pub lessOne : Transport → ℕ → Transport
 lessOne t p =
-    record { position = cond (eqb p 0) p (p - 1); «loop_region» = t .«loop_region»; playing = cond (eqb p 0) false (t .playing) }
+    record {
+      position = cond (eqb p 0) p (p - 1);
+      «loop_region» = t .«loop_region»;
+      playing = cond (eqb p 0) false (t .playing);
+    }
 
 -- increment_position
 unfoldable pub incrementPosition : ℕ → Transport → Transport

@@ -1,4 +1,5 @@
--- docs/assurance/RULES.md, "Numbers and their refusals", what is well formed of a transport over n frames: as a test, and as a record of facts.
+-- docs/assurance/RULES.md, "Well formed": when a transport over n frames is well formed, as a test and as a record of
+-- facts.
 use Prim.Native.Nat.{ℕ, _≤_, _<_}
 use mathlib.Core.Path.{_≡_}
 use mathlib.Core.Bool.{Bool, true, not, _&&_, _||_}
@@ -8,9 +9,10 @@ use Rattle.playback_position.specs.declared.FrameRange.the-variants.{Frames}
 use Rattle.playback_position.specs.Positions.{within}
 use Rattle.transport.specs.declared.Transport.{Transport}
 
--- its loop lies in the n frames; playing implies position < n; position at most 4,294,967,296
+-- its loop is inside the n frames; playing implies position < n; position at most 4,294,967,296
 abbrev pub formedTransport : ℕ → Transport → Bool
-formedTransport n t = within n (t .«loop_region») && (not (t .playing) || ltb (t .position) n) && leb (t .position) most
+formedTransport n t = within n (t .«loop_region») && (not (t .playing) || ltb (t .position) n)
+    && leb (t .position) most
 
 -- the same, fact by fact
 pub record FormedTransport (n : ℕ) (t : Transport) : Type 0 where

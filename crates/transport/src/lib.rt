@@ -1,21 +1,34 @@
-// The transport: where a sound plays, its loop, and whether it plays at all. It goes by value: each move hands back the next one.
+// The transport: position, loop, and whether it is playing. It is passed by value: each move returns the next
+// transport.
 ghost use mathlib.Core.Path.{_≡_};
 ghost use Prim.Native.Nat.{_≤_, _<_};
 ghost use lib.Dec.{T};
 ghost use Rattle.numbers.specs.Frames.{most};
 ghost use Rattle.playback_position.specs.Positions.{ordered};
-ghost use Rattle.transport.specs.Moves.{under, over, landed, forward, backward, atEnd, atStart, wraps, seek, reloop, begun};
+ghost use Rattle.transport.specs.Moves.{
+  under,
+  over,
+  landed,
+  forward,
+  backward,
+  atEnd,
+  atStart,
+  wraps,
+  seek,
+  reloop,
+  begun,
+};
 ghost use Rattle.transport.specs.WellFormed.{FormedTransport};
 use playback_position::FrameRange;
 
 pub struct Transport {
     pub position: usize,
-    // The frames that are looped. The end is not in the loop.
+    // The frames that are looped. The end is exclusive.
     pub loop_region: FrameRange,
     pub playing: bool,
 }
 
-// Where the place p lies once it may not reach the loop's end.
+// p, wrapped into the loop if it is at or past the loop's end.
 fn below_end(loop_region: FrameRange, p: usize) -> usize
     requires { ⌜ T (ordered «loop_region») ⌝ }
     ensures { λ r. ⌜ r ≡ under «loop_region» p ⌝ }
@@ -26,7 +39,7 @@ fn below_end(loop_region: FrameRange, p: usize) -> usize
             if p < end {
                 return p;
             }
-            // A step meets the end itself, and needs no division.
+            // A step lands exactly on the end, so the common case needs no division.
             if p == end {
                 return start;
             }
@@ -35,7 +48,7 @@ fn below_end(loop_region: FrameRange, p: usize) -> usize
     }
 }
 
-// Where the place p lies once it may not fall below the loop's start.
+// p, wrapped into the loop if it is below the loop's start.
 fn from_start(loop_region: FrameRange, p: usize) -> usize
     requires { ⌜ T (ordered «loop_region») ⌝ }
     ensures { λ r. ⌜ r ≡ over «loop_region» p ⌝ }
@@ -52,7 +65,7 @@ fn from_start(loop_region: FrameRange, p: usize) -> usize
     }
 }
 
-// Whether the place p is at the loop's end or past it.
+// Whether p is at or past the loop's end.
 fn is_at_end(loop_region: FrameRange, p: usize) -> bool
     ensures { λ r. ⌜ r ≡ atEnd «loop_region» p ⌝ }
 {
@@ -62,7 +75,7 @@ fn is_at_end(loop_region: FrameRange, p: usize) -> bool
     }
 }
 
-// Whether the place p is at the loop's start or before it.
+// Whether p is at or before the loop's start.
 fn is_at_start(loop_region: FrameRange, p: usize) -> bool
     ensures { λ r. ⌜ r ≡ atStart «loop_region» p ⌝ }
 {
@@ -103,7 +116,7 @@ impl Transport {
         }
     }
 
-    // A place from the sound's end on ends playing.
+    // Stops playing if the position is at or past the sound's end.
     fn ended_from(mut self, num_frames: usize) -> Transport
         ensures { λ r. ⌜ r ≡ landed «num_frames» self (self .position) ⌝ }
     {
@@ -133,7 +146,7 @@ impl Transport {
             let loop_region = self.loop_region;
             if let FrameRange::Frames(start, end) = loop_region {
                 if self.position <= start {
-                    // A step meets the start itself, and needs no division.
+                    // A step starts exactly at the start, so the common case needs no division.
                     if self.position == start {
                         self.position = end - 1;
                         return self;
@@ -151,7 +164,7 @@ impl Transport {
         self
     }
 
-    // Whether the next step takes the wrap: asked as the step itself asks, so that the two tests become one.
+    // Whether the next step wraps. It tests as the step itself does, so that the compiler merges the two tests.
     pub fn wraps(self, backwards: bool) -> bool
         requires { ⌜ self .position ≤ most ⌝ }
         ensures { λ r. ⌜ r ≡ wraps backwards self ⌝ }
