@@ -30,15 +30,15 @@ use Rattle.cableowl.specs.Entries.{after}
 abbrev pub blankReplay : CableowlReplay
 blankReplay = record { voice = encoded blankSound; samples = 0; blocks = 0; offset = 0; reader = 1; given = 0 }
 
--- one block more, as far as 64 bits count
+-- one block more, up to the largest 64-bit number
 abbrev pub more : ℕ → ℕ
 more n = cond (ltb n 18446744073709551615) (n + 1) n
 
--- n bytes on, as far as 64 bits count
+-- n bytes further, up to the largest 64-bit number
 abbrev pub onward : ℕ → ℕ → ℕ
 onward at n = cond (leb n (18446744073709551615 - at)) (at + n) 18446744073709551615
 
--- behind a record of n bytes
+-- the replay after a record of n bytes
 abbrev pub behind : CableowlReplay → ℕ → CableowlState → ℕ → ℕ → CableowlReplay
 behind r n v samples blocks =
     record {
@@ -52,7 +52,7 @@ behind r n v samples blocks =
 
 -- ---- answers
 
--- 0: a record was played; its bytes, its kind, and what the player answered
+-- 0: a record was played; its size, its kind, and the player's result
 abbrev pub playedAs : CableowlReplay → ℕ → ℕ → ℕ → ℕ → ℕ → ℕ → CableowlReplayed
 playedAs r size kind refusal frames steps lowest =
     record {
@@ -81,7 +81,7 @@ unplayed r what refusal =
       «lowest_count» = 4;
     }
 
--- what a step leaves: its answer, every sample of the lent sound, and every sample of the lent output
+-- the outcome of a step: its result, every sample of the buffer for the sound, and every sample of the output
 pub record StepC : Type 0 where
   pub answer : CableowlReplayed
   pub sound : List Float
@@ -89,7 +89,7 @@ pub record StepC : Type 0 where
 
 -- ---- the three kinds
 
--- a creation, accepted or refused: a refused one leaves the blank voice; no block is forgotten
+-- a creation, accepted or refused; a refused one leads to the blank voice; the number of blocks stays
 unfoldable pub creationC : CableowlReplay → ℕ → List ℕ → CableowlReplayed
 creationC r n vs =
     let c = created (samplesOf vs) (settingsOf vs) in
@@ -107,7 +107,7 @@ lanesOf b =
     five (replicate (b .frames) (b .fade)) (replicate (b .frames) (b .volume)) (replicate (b .frames) (b .left))
     (replicate (b .frames) (b .right)) (replicate (b .frames) (b .rate))
 
--- what the player makes of a block
+-- the player's outcome of a block
 abbrev pub blockOutcome : List Float → CableowlState → Block → List Float → Outcome
 blockOutcome snd v b out = processed snd (decoded v) (b .«time_step») (lanesOf b) (b .signals) out
 
@@ -131,7 +131,7 @@ blockStep r n vs snd out =
       samples = o .samples ++ drop (2 * b .frames) out;
     }
 
--- one record, by its kind; a creation puts its sound at the start of the lent one
+-- one record, by its kind; a creation writes its sound to the start of the buffer for it
 unfoldable pub turned : CableowlReplay → Record → List Float → List Float → StepC
 turned r d snd out =
     let vs = d .values in
@@ -141,8 +141,8 @@ turned r d snd out =
     (record { answer = commandsC (take (r .samples) snd) r (d .next) vs; sound = snd; samples = out })
     (blockStep r (d .next) vs snd out))
 
--- a record that was read is played; one whose end is missing waits for it while more bytes may come; any other
--- refusal is final
+-- a complete record is played; if its end is missing, the step asks for more bytes as long as more may come; any
+-- other refusal is final
 unfoldable pub judged : CableowlReplay → ℕ → Record → List Float → List Float → StepC
 judged r ended d snd out =
     cond (eqb (d .refusal) 0) (turned r d snd out)
@@ -152,7 +152,7 @@ judged r ended d snd out =
       samples = out;
     })
 
--- the record that the bytes begin with; where there are none the trace has ended, or more may come
+-- the record that the bytes begin with; if there are none, the trace has ended or more may come
 unfoldable pub begun : CableowlReplay → ℕ → List ℕ → List Float → List Float → StepC
 begun r ended [] snd out = record {
   answer = cond (eqb ended 0) (unplayed r 1 0) (unplayed r 2 0);
@@ -161,8 +161,8 @@ begun r ended [] snd out = record {
 }
 begun r ended (b ∷ bs) snd out = judged r ended (recordAt (b ∷ bs) 0) snd out
 
--- the number of a refused call, 0 where it is accepted: 1 the numbers are no replay's over this sound, 19 too little
--- room
+-- the refusal of a call, 0 if it is accepted: 1 if the numbers are no replay over this buffer, 19 if a buffer is too
+-- short
 unfoldable pub refusedStep : CableowlReplay → ℕ → ℕ → ℕ
 refusedStep r snd out =
     unless (eqb (r .reader) 1 && eqb (r .given) 0 && leb (r .samples) snd) 1

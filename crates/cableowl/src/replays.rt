@@ -28,9 +28,9 @@ use sound_held::Held;
 use trace_inputs::Block;
 use trace_records::Record;
 
-// A replay: the voice, how many samples of the lent sound are its sound, the blocks counted, and the place of the
-// next record in the trace. The reader is 1, the version of the traces that it reads; given is 0: reader 1 knows no
-// sound but the recorded one.
+// A replay between two records: the voice, how many samples at the start of the caller's buffer are its sound, the
+// number of blocks so far, and the offset of the next record in the trace. `reader` is 1, the trace version that it
+// reads. `given` is 0: reader 1 plays only the recorded sound.
 #[repr(C)]
 pub struct CableowlReplay {
     pub voice: CableowlState,
@@ -41,9 +41,9 @@ pub struct CableowlReplay {
     pub given: u32,
 }
 
-// What a step did: 0 it played a record, 1 it needs more bytes, 2 the trace has ended, 3 the record is refused, 4 the
-// call is. Of a record its bytes, its kind and the player's refusal; of a block its frames, its steps and its lowest
-// count.
+// The result of a step. `what` is 0 if it played a record, 1 if it needs more bytes, 2 if the trace has ended, 3 if
+// the record is refused and 4 if the call is refused. For a record: its size in bytes, its kind and the player's
+// refusal. For a block also its frames, its steps and its lowest count.
 #[repr(C)]
 pub struct CableowlReplayed {
     pub replay: CableowlReplay,
@@ -131,7 +131,7 @@ fn not_played(replay: CableowlReplay, what: u64, refusal: u64) -> CableowlReplay
     }
 }
 
-// A creation: its sound is put at the start of the lent one.
+// Plays a creation record: writes its sound to the start of the buffer `sound`.
 fn create(
     replay: CableowlReplay,
     size: u64,
@@ -149,7 +149,7 @@ fn create(
     played(after, size, 1, created.refusal, 0, 0, 4)
 }
 
-// A command set.
+// Plays a command set record.
 fn command(replay: CableowlReplay, size: u64, values: [u64; 80], sound: &[f32]) -> CableowlReplayed
     ensures { λ r. ⌜ r ≡ commandsC (now (sound .entry)) replay size values ⌝ }
 {
@@ -184,7 +184,7 @@ fn held_of(block: Block) -> Held
     }
 }
 
-// A block into the first samples of the output.
+// Plays a block record into the first samples of the output.
 fn play(
     replay: CableowlReplay,
     size: u64,
@@ -224,7 +224,7 @@ fn play(
     )
 }
 
-// One record, by its kind.
+// Plays one record, by its kind.
 fn turn(
     replay: CableowlReplay,
     read: Record,
@@ -259,7 +259,7 @@ fn refusal_of(replay: CableowlReplay, sound: usize, out: usize) -> u64
     0
 }
 
-// Before any record.
+// The replay before the first record.
 #[no_mangle]
 pub extern "C" fn cableowl_replay() -> CableowlReplay
     ensures { λ r. ⌜ r ≡ blankReplay ⌝ }
@@ -274,7 +274,7 @@ pub extern "C" fn cableowl_replay() -> CableowlReplay
     }
 }
 
-// The next record of a trace: what it did, and the replay after it.
+// Reads and plays the next record of a trace; returns what it did and the replay after it.
 #[no_mangle]
 pub extern "C" fn cableowl_replay_step(
     replay: CableowlReplay,

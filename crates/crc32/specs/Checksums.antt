@@ -1,12 +1,12 @@
 -- CRC-32, the checksum of IEEE 802.3, bit by bit. A register of 32 bits begins with ones. Each byte, lowest bit
--- first, goes into its low end. The checksum is the register with every bit turned round.
+-- first, goes into its low end. The checksum is the register with every bit inverted.
 use Prim.Native.Nat.{ℕ, zero, suc, _*_, _/_, _%_, _<_}
 use mathlib.Core.Path.{_≡_}
 use mathlib.Core.List.{List, [], _∷_}
 use lib.Bits.{bitXor}
 use lib.ListN.{length, getD}
 
--- one bit: the register moves down by one, and a 1 that falls out brings the polynomial EDB88320 in
+-- one bit: shift the register right by one; if the bit that falls out is 1, xor with the polynomial EDB88320
 unfoldable pub bit : ℕ → ℕ
 bit c = bitXor (c % 2 * 3988292384) (c / 2)
 

@@ -1,4 +1,4 @@
-// CRC-32, the checksum of IEEE 802.3: bytes that a flash fault changed are found.
+// CRC-32, the checksum of IEEE 802.3. It shows whether a flash fault has changed bytes.
 ghost use mathlib.Core.Path.{_≡_};
 ghost use lib.ListN.{take, drop};
 ghost use Rattle.crc32.specs.Checksums as Checksums;

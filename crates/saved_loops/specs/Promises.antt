@@ -22,7 +22,7 @@ pub record Stores (ws names buffer : List ℕ) : Type 0 where
   pub small : Bytes names
   pub takes : storeRefusal ws (length names) (length buffer) ≡ 0
 
--- bytes that load as these words, and a buffer with room for them
+-- bytes that load as these words, and a buffer that is long enough for them
 pub record Loads (ws bytes buffer : List ℕ) : Type 0 where
   pub small : Bytes bytes
   pub shows : loaded bytes ≡ whole ws
@@ -53,7 +53,7 @@ pub record Kept (ws names bytes : List ℕ) : Type 0 where
 pub record Promises : Type 0 where
   -- what `store` leaves in the buffer is what `load` shows
   pub store-loads : (ws names buffer : List ℕ) → Stores ws names buffer → Kept ws names (stored ws names buffer)
-  -- and what `load` shows, `store` writes as the same bytes where there is room
+  -- and what `load` shows, `store` writes as the same bytes if the buffer is long enough
   pub load-stores : (ws bytes buffer : List ℕ) → Loads ws bytes buffer
       → stored ws (namesIn bytes) buffer ≡ sets buffer 0 (take 666 bytes)
   -- an input for each that meets what it asks

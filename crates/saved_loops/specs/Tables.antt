@@ -1,5 +1,5 @@
 -- The layout of docs/formats/LOOPS.md up to the names: six numbers a row, width, guard, low, least, most, refusal.
--- Every row stands.
+-- Every row is present.
 use Prim.Native.Nat.{ℕ}
 use mathlib.Core.List.{List, [], _∷_}
 use Rattle.byte_layout.specs.declared.Row.{Row}

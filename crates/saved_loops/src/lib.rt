@@ -1,5 +1,5 @@
 // A hall's half of a loop table as bytes, stored and loaded: docs/formats/LOOPS.md has their layout. The names are
-// bytes here; whether they are text, the host judges.
+// bytes here; the host checks whether they are text.
 ghost use mathlib.Core.Path.{_≡_};
 ghost use mathlib.Core.List.{[]};
 ghost use Prim.Native.Nat.{_≤_, _<_};
@@ -111,7 +111,7 @@ fn show(ok: bool, words: [u64; 19]) -> LoadedHalf
     refused(24)
 }
 
-// Any bytes; what follows the record is not read.
+// Loads a half from any bytes. It does not read what follows the record.
 pub fn load(s: &[u8]) -> LoadedHalf
     ensures { λ r. ⌜ r ≡ loaded (now (s .entry)) ⌝ }
 {
@@ -180,7 +180,8 @@ fn put(words: [u64; 19], names: &[u8], buffer: &mut [u8])
     byte_layout::put_number(buffer, 662, 4, crc as u64);
 }
 
-// The refusal's number, or 0 and the record stands at the buffer's start. The names are 64 bytes a slot.
+// Writes the record to the start of the buffer and returns 0, or returns a refusal and writes nothing. The names have
+// 64 bytes for each slot.
 pub fn store(words: [u64; 19], names: &[u8], buffer: &mut [u8]) -> u32
     ensures { λ r. ⌜ (r ≡ storeRefusal words (length (now (names .entry))) (length (now (buffer .entry))))
         × (now (buffer .exit) ≡ stored words (now (names .entry)) (now (buffer .entry))) ⌝ }

@@ -1,5 +1,6 @@
--- The archive's own replay: who gives `cableowl_replay_step` the bytes of a trace, step by step, and prints the line
--- of each answer, prints what the program `replay` prints. So what is said of a whole trace holds of that entry.
+-- The archive's own replay. A caller that passes the bytes of a trace to `cableowl_replay_step`, step by step, and
+-- prints the line of each result prints what the program `replay` prints. So each theorem on whole traces holds of
+-- that entry.
 use Prim.Native.Nat.{ℕ, zero, suc, _+_, _-_, _≤_}
 use mathlib.Core.Path.{_≡_}
 use mathlib.Core.Bool.{cond, not, _||_}
@@ -44,7 +45,7 @@ printedC r snd out zero (b ∷ bs) =
 
 -- ---- the whole trace
 
--- what is asked: room for a sound and for a block, and bytes whose places 64 bits can tell
+-- what is asked: buffers long enough for a sound and for a block, and bytes whose offsets fit in 64 bits
 pub record Lent (snd out : List Float) (bs : List ℕ) : Type 0 where
   pub sound : 128 ≤ length snd
   pub output : 2048 ≤ length out
@@ -76,14 +77,14 @@ LinesAlikeC =
 
 -- ---- any cutting of the stream of bytes
 
--- what is asked: bytes, of which a step is shown the first w, and all where it is told that the trace has ended; and
--- an answer other than 1, more bytes are needed
+-- what is asked: a step gets the first w of the bytes, or all of them if it is called with `ended`; and its result is
+-- not 1 (more bytes are needed)
 pub record WindowC (r : CableowlReplay) (snd out : List Float) (ended w : ℕ) (bs : List ℕ) : Type 0 where
   pub bytes : Bytes bs
   pub all : T (eqb ended 0 || leb (length bs) w)
   pub answers : T (not (eqb (steppedC r (take w bs) ended snd out .answer .what) 1))
 
--- the line of the step that is shown these bytes, then what is printed of the bytes behind its record
+-- the line of the step that gets these bytes, then what is printed of the bytes after its record
 abbrev pub StreamsC : Type 0
 StreamsC =
     (r : CableowlReplay) (snd out : List Float) (ended w : ℕ) (bs : List ℕ) → WindowC r snd out ended w bs

@@ -34,8 +34,9 @@ pub record Sealable (k : ℕ) (vs lanes : List ℕ) : Type 0 where
   pub whole : length lanes ≡ laneBytes k vs
   pub bytes : Bytes lanes
 
--- numbers and lanes written as a sealed record at `at`: 17 a number beyond its limit or lanes of another length, 19
--- too little room, the buffer untouched; else the record's bytes, and every other byte stays
+-- numbers and lanes written as a sealed record at `at`: 17 if a number is beyond its limit or the lanes have another
+-- length, 19 if the buffer is too short, both with the buffer unchanged; otherwise the record's bytes, and every other
+-- byte stays
 unfoldable pub writeSealed : List ℕ → ℕ → ℕ → List ℕ → List ℕ → Written
 writeSealed buf at k vs lanes =
     cond (fine (fieldRows k) [] vs)
