@@ -20,10 +20,11 @@ use crate::{Hall, LoopHalf, LoopTable, Refusal};
 /// lock and no daemon is needed: a file is written beside its place and renamed, so a reader sees the
 /// old half or the new one, and a half that comes late, twice or out of order does no harm.
 ///
-/// After each call that fails the table is as it was before.
+/// If a call fails, the table is as it was before. There is one exception: if the file was replaced
+/// and only the folder could not be synced, the change stays, because the other box may have read it.
 ///
-/// These calls read and write files, so they belong on a thread of the host's, not on the audio
-/// thread. That one takes a copy of the [`table`](Self::table), which is a plain value.
+/// These calls read and write files, so call them on a thread of your own and not on the audio
+/// thread. The audio thread gets a copy of the [`table`](Self::table), which is a plain value.
 ///
 /// ```
 /// use cableowl::{Hall, SharedLoops, Start, Theirs};
@@ -194,7 +195,7 @@ impl From<Refusal> for LoopsFault {
 }
 
 impl SharedLoops {
-    /// The table of a hall's own box, over a sound of so many frames.
+    /// Opens the table of a hall's own box, over a sound of `num_frames` frames.
     ///
     /// The own half is read here, once: from the own file or from one of the `copies`, which are
     /// other folders such as a backup, whichever has made more changes. A copy's half is written to
@@ -292,8 +293,8 @@ impl SharedLoops {
         self.keep(self.ours.changed(&copy, slot, "")?)
     }
 
-    /// Reads the other hall's file, and takes its half if it is newer. It opens and reads one short
-    /// file, so once a second costs nothing to speak of.
+    /// Reads the other hall's file, and takes its half if it is newer. It opens and reads one file of
+    /// 666 bytes, so a call every second is cheap.
     ///
     /// # Errors
     ///

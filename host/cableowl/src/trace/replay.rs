@@ -1,5 +1,5 @@
-//! A trace played again. The archive's step reads and plays each record; this holds its room and
-//! gives its numbers names.
+//! A trace played again. The proved archive reads and plays each record; this module holds the
+//! buffers for it and gives names to its numbers.
 
 use std::{
     io::{self, Read, Write},
@@ -43,12 +43,12 @@ impl Step {
     }
 }
 
-/// A run of a trace: takes its records one after the other, plays them, and tells the line of each
-/// block. The proved archive does it (`cableowl_replay_step` in C).
+/// Plays the records of a trace one after the other and returns the line of each block. The proved
+/// archive does the work (`cableowl_replay_step` in C).
 ///
 /// Before any creation, and after a refused one, there is no voice, and a block is refused with 1. A
 /// refused creation or command set has no line. The counter counts refused blocks, and no creation
-/// resets it. All room is allocated by [`Replay::new`].
+/// resets it. Only [`Replay::new`] allocates.
 #[derive(Debug, Clone)]
 pub struct Replay {
     replay: ffi::Replay,
@@ -60,7 +60,7 @@ pub struct Replay {
 }
 
 impl Replay {
-    /// Before any record.
+    /// A replay before its first record.
     #[must_use]
     pub fn new() -> Self {
         let replay = ffi::replay();
@@ -74,8 +74,8 @@ impl Replay {
         }
     }
 
-    /// Reads the record that the bytes begin with, plays it, and says what it did and how many bytes
-    /// it has. `ended` says that the trace has no bytes behind these.
+    /// Reads the record that the bytes begin with, plays it, and returns what it did and its size in
+    /// bytes. Pass `ended` if the trace has no bytes after these.
     ///
     /// ```
     /// use cableowl::{Commands, Refusal, trace::{Record, Replay, Step, write}};
@@ -118,7 +118,7 @@ impl Replay {
             }
             (1, _) => Step::More,
             (2, _) => Step::End,
-            // What is left is a refused record: this room and this replay are never refused.
+            // Only a refused record is left: these buffers and this replay are never refused.
             _ => Step::Refused(Refused {
                 refusal: answer.err().unwrap_or(Refusal::State),
                 at: did.replay.offset,
@@ -133,8 +133,8 @@ impl Replay {
         }
     }
 
-    /// Plays a record as its bytes, and tells the line of a block. A record that cannot be written is
-    /// refused, and the replay stays as it is.
+    /// Writes a record as bytes, plays them, and returns the line of a block. A record that cannot be
+    /// written is refused, and the replay does not change.
     pub fn play(&mut self, record: &Record) -> Option<Line> {
         let mut bytes = [0; MAX_RECORD_BYTES];
         match write(record, &mut bytes, 0) {
@@ -146,15 +146,15 @@ impl Replay {
         }
     }
 
-    /// The samples of the last block, left and right in turn; none where it was refused.
+    /// The samples of the last block, left and right in turn; none if it was refused.
     #[must_use]
     pub fn heard(&self) -> &[f32] {
         &self.out[..self.heard]
     }
 
-    /// What the last block reports, up to the frame in which its voice stopped where it ran off its
-    /// sound: so the sums over blocks do not depend on how they are cut. What a block of no frames
-    /// reports where it was refused.
+    /// The counts of the last block. If its voice ran past the end of its sound, they end with the
+    /// frame in which it stopped, so that sums over blocks do not depend on how they are cut. If the
+    /// block was refused, they are those of a block without frames.
     #[must_use]
     pub fn counts(&self) -> Processed {
         self.last.counts(&self.sound)
