@@ -62,14 +62,13 @@ fn finding_2_minutes_do_not_depend_on_block_size() {
     assert_eq!(minutes[0][1], "0.129");
 }
 
-/// A looped voice and blocks of these lengths.
-fn blocks(lengths: &[usize]) -> Vec<Record> {
-    let voice = creation(Settings::new(44_100).loop_region(..), 64);
-    let block = |frames: &usize| Record::Block(Block::new(*frames, 1.0 / 48_000.0));
-    [voice]
-        .into_iter()
-        .chain(lengths.iter().map(block))
-        .collect()
+/// The trace of a looped voice and of blocks of these lengths.
+fn blocks(lengths: &[usize]) -> Vec<u8> {
+    let mut bytes = trace(&[creation(Settings::new(44_100).loop_region(..), 64)]);
+    for frames in lengths {
+        bytes.extend(trace(&[Record::Block(Block::new(*frames, 1.0 / 48_000.0))]));
+    }
+    bytes
 }
 
 /// Audits a trace against this log.
@@ -86,8 +85,8 @@ fn replayed(room: &Room, trace: &[u8]) -> String {
 #[test]
 fn finding_3_a_log_cut_otherwise_than_its_trace_agrees() {
     let room = Room::new("finding-3-cut");
-    let recorded = trace(&blocks(&[512; 8]));
-    let log = replayed(&room, &trace(&blocks(&[1_024; 4])));
+    let recorded = blocks(&[512; 8]);
+    let log = replayed(&room, &blocks(&[1_024; 4]));
     let ran = audited(&room, &recorded, &log);
     assert_eq!((ran.status, &*ran.err), (0, ""), "{}", ran.out);
     assert!(ran.out.starts_with("AGREES: "), "{}", ran.out);
@@ -96,8 +95,8 @@ fn finding_3_a_log_cut_otherwise_than_its_trace_agrees() {
 #[test]
 fn finding_3_a_log_that_cannot_be_aligned_says_nothing_of_the_box() {
     let room = Room::new("finding-3-aligned");
-    let recorded = trace(&blocks(&[500, 500]));
-    let log = replayed(&room, &trace(&blocks(&[300, 300])));
+    let recorded = blocks(&[500, 500]);
+    let log = replayed(&room, &blocks(&[300, 300]));
     let ran = audited(&room, &recorded, &log);
     assert_eq!((ran.status, &*ran.err), (3, ""), "{}", ran.out);
     assert!(ran.out.contains("nothing is said of the box"));
@@ -135,11 +134,10 @@ fn finding_3_a_block_in_which_the_sound_ends_is_compared_by_state_and_position()
 #[test]
 fn finding_3_the_audit_names_the_hole_and_goes_on_behind_a_creation() {
     let room = Room::new("finding-3-hole");
-    let students = [blocks(&[100; 3]), blocks(&[100; 3])].concat();
-    let mut recorded = trace(&students);
+    let mut recorded = [blocks(&[100; 3]), blocks(&[100; 3])].concat();
     let log = room.run_on(&["replay", "--log", "3", "-"], &recorded).out;
     // The second block of the first student.
-    let at = trace(&students[..2]).len();
+    let at = blocks(&[100]).len();
     recorded[at] = 0;
     let ran = audited(&room, &recorded, &log);
     assert_eq!((ran.status, &*ran.err), (3, ""), "{}", ran.out);
@@ -152,7 +150,7 @@ fn finding_3_the_audit_names_the_hole_and_goes_on_behind_a_creation() {
         ran.out
     );
     // Without the second student nothing is compared behind the hole.
-    let mut recorded = trace(&students[..4]);
+    let mut recorded = blocks(&[100; 3]);
     let log = room.run_on(&["replay", "--log", "3", "-"], &recorded).out;
     recorded[at] = 0;
     let ran = audited(&room, &recorded, &log);
