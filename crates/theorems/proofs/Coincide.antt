@@ -154,6 +154,7 @@ coincide =
       trace-records-read = λ k a x y s t p q. same p q;
       trace-records-write = λ k a x y s t p q. sent (same p q);
       trace-salvage-salvage = λ k a x y s t p q. saved (same p q);
+      trace-salvage-salvage-by = λ k a x y s t p q. saved (same p q);
       c-state-decode = λ k a x y s t p q. same p q;
       c-state-encode = λ k a x y s t p q. same p q;
       c-inputs-settings-of = λ k a x y s t p q. same p q;
@@ -188,6 +189,7 @@ coincide =
       cableowl-cableowl-read-record-v2 = λ k a x y s t p q. same p q;
       cableowl-cableowl-write-record-v2 = λ k a x y s t p q. sent (same p q);
       cableowl-cableowl-salvage = λ k a x y s t p q. saved (same p q);
+      cableowl-cableowl-salvage-v2 = λ k a x y s t p q. saved (same p q);
       cableowl-cableowl-replay = λ k a x y s t p q. same p q;
       cableowl-cableowl-replay-step = λ k a x y s t p q. stepped (same p q);
     }
