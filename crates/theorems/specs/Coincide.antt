@@ -208,7 +208,7 @@ pub record Coincide : Type 0 where
   pub trace-records-read : Decides trace_records.read.Reads.Post
   pub trace-records-write : DecidesWith (λ k r s. s .0 .now) trace_records.write.Reads.Post
   pub trace-salvage-salvage : DecidesWith (λ k r s. s .1 .0 .now) trace_salvage.salvage.Reads.Post
-  pub trace-salvage-salvage-by : DecidesWith (λ k r s. s .1 .0 .now) trace_salvage.salvage_by.Reads.Post
+  pub trace-salvage-salvage-by : DecidesWith (λ k r s. s .1 .1 .0 .now) trace_salvage.salvage_by.Reads.Post
   -- c_state and c_inputs
   pub c-state-decode : Decides c_state.decode.Reads.Post
   pub c-state-encode : Decides c_state.encode.Reads.Post
