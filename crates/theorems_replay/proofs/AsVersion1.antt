@@ -215,9 +215,26 @@ module _ (host : ℕ → Offer) where
       go true e = none (false≢true e)
       go false e = refl
 
-  printed-same : (bs : List ℕ) → Small bs → (k : ℕ) (r : CableowlReplay) (snd out : List Float) → isVersion1 k bs ≡ true
+  abbrev Same : List ℕ → Type 0
+  Same bs =
+      (k : ℕ) (r : CableowlReplay) (snd out : List Float) → isVersion1 k bs ≡ true
       → printedV2 host (ofReader 2 r) snd out k bs ≡ printedC (ofReader 1 r) snd out k bs
-  unfolding printedV2 printedC
+
+  rest-same : (bs : List ℕ) → Same bs → (r : CableowlReplay) (snd out : List Float) (o : StepC) → Reads r snd out bs o
+      → cond (eqb (o .answer .what) 0) (printedV2 host (ofReader 2 (o .answer .replay)) (o .sound) (o .samples) (o .answer .size - 1) bs) []
+      ≡ cond (eqb (o .answer .what) 0) (printedC (o .answer .replay) (o .sound) (o .samples) (o .answer .size - 1) bs) []
+  rest-same bs h r snd out o x = go (eqb (o .answer .what) 0) refl
+    where
+      go : (t : Bool) → eqb (o .answer .what) 0 ≡ t
+          → cond t (printedV2 host (ofReader 2 (o .answer .replay)) (o .sound) (o .samples) (o .answer .size - 1) bs) []
+          ≡ cond t (printedC (o .answer .replay) (o .sound) (o .samples) (o .answer .size - 1) bs) []
+      go true e =
+          h (o .answer .size - 1) (o .answer .replay) (o .sound) (o .samples) (x .goes-on (eqb-true (o .answer .what) 0 e))
+          ∙ ap (λ (q : CableowlReplay). printedC q (o .sound) (o .samples) (o .answer .size - 1) bs) (sym (x .stays .replay))
+      go false e = refl
+
+  printed-same : (bs : List ℕ) → Small bs → Same bs
+  unfolding printedV2 printedC isVersion1
   printed-same [] s k r snd out h = refl
   printed-same (b ∷ bs) s (suc k) r snd out h = printed-same bs (λ i. s (suc i)) k r snd out h
   printed-same (b ∷ bs) s zero r snd out h =
@@ -227,15 +244,7 @@ module _ (host : ℕ → Offer) where
       let x = step-reads r snd out b bs h in
       ap (onwardV2 bs) (as-version-1 r (b ∷ bs) 1 snd (g .samples) (g .sounds) out (unsealed b bs s h))
       ∙ ap (λ (l : List ℕ). l ++ cond (eqb (a .what) 0) (printedV2 host (ofReader 2 (a .replay)) (o .sound) (o .samples) (a .size - 1) bs) []) (x .stays .line)
-      ∙ ap (λ (l : List ℕ). lineC a ++ l) (go o x (eqb (a .what) 0) refl)
-    where
-      go : (o : StepC) → Reads r snd out bs o → (t : Bool) → eqb (o .answer .what) 0 ≡ t
-          → cond t (printedV2 host (ofReader 2 (o .answer .replay)) (o .sound) (o .samples) (o .answer .size - 1) bs) []
-          ≡ cond t (printedC (o .answer .replay) (o .sound) (o .samples) (o .answer .size - 1) bs) []
-      go o x true e =
-          printed-same bs (λ i. s (suc i)) (o .answer .size - 1) (o .answer .replay) (o .sound) (o .samples) (x .goes-on (eqb-true (o .answer .what) 0 e))
-          ∙ ap (λ (q : CableowlReplay). printedC q (o .sound) (o .samples) (o .answer .size - 1) bs) (sym (x .stays .replay))
-      go o x false e = refl
+      ∙ ap (λ (l : List ℕ). lineC a ++ l) (rest-same bs (printed-same bs (λ i. s (suc i))) r snd out o x)
 
 pub archive-replays-v2 : ArchiveReplaysV2
 archive-replays-v2 host snd out bs h =

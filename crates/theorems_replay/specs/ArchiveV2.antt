@@ -1,12 +1,12 @@
 -- The archive's replay of version 2. On kinds 1 to 3 its steps are those of version 1, so a trace of these kinds prints
 -- the same. Two given sounds of equal length give the same answers but for samples, so the lines of a trace depend on
 -- a given sound only through its frame count.
-use Prim.Native.Nat.{ℕ, zero, suc, _-_}
+use Prim.Native.Nat.{ℕ, zero, suc, _+_, _-_, _*_, _≤_}
 use mathlib.Core.Path.{_≡_}
-use mathlib.Core.Bool.{Bool, true, cond, not, _&&_, _||_}
+use mathlib.Core.Bool.{Bool, true, false, cond, not, _&&_, _||_}
 use mathlib.Core.List.{List, [], _∷_, _++_}
 use lib.Dec.{eqb}
-use lib.ListN.{length}
+use lib.ListN.{length, take, drop}
 use lib.Ieee.{Float}
 use Rattle.byte_layout.specs.Numbers.{Bytes}
 use Rattle.trace_lines.specs.Lines.{told, at·is, refusedLine}
@@ -14,10 +14,15 @@ use Rattle.trace_records.specs.declared.Record.{Record}
 use Rattle.trace_records.specs.Records.{recordAt}
 use Rattle.trace_sealed.specs.Records.{isSealed}
 use Rattle.trace_replay.specs.Runs.{replayed}
+use Rattle.trace_inputs.specs.declared.LanedBlock.{LanedBlock}
+use Rattle.sound_state.specs.declared.StaticSound.{StaticSound}
+use Rattle.sound_block.specs.declared.Signals.{Signals}
+use Rattle.sound_block.specs.Blocks.{quiet}
+use Rattle.theorems.specs.Cut.{CutInTwo}
 use Rattle.cableowl.specs.declared.replays.CableowlReplay.{CableowlReplay}
 use Rattle.cableowl.specs.declared.replays.CableowlReplayed.{CableowlReplayed}
 use Rattle.cableowl.specs.Replays.{StepC, steppedC}
-use Rattle.cableowl.specs.ReplaysV2.{blankReplayV2, steppedV2}
+use Rattle.cableowl.specs.ReplaysV2.{blankReplayV2, lanedOutcome, steppedV2}
 use Rattle.theorems_sound_length.specs.Lengths.{SameLength}
 use Rattle.theorems_sound_length.specs.Archive.{mutedState}
 use Rattle.theorems_replay.specs.Archive.{blockLineC, Lent}
@@ -142,10 +147,10 @@ mutedReplayed a =
     }
 
 -- what is asked: replays that differ in nothing but samples of their voices' windows, and buffers of equal lengths
-pub record OtherGiven (r q : CableowlReplay) (snd tnd given other out into : List Float) : Type 0 where
+pub record OtherGiven (r q : CableowlReplay) (snd tnd mine theirs out into : List Float) : Type 0 where
   pub replays : mutedReplay r ≡ mutedReplay q
   pub sound : SameLength snd tnd
-  pub given : SameLength given other
+  pub given : SameLength mine theirs
   pub output : SameLength out into
 
 abbrev pub StepsAlike : Type 0
@@ -166,3 +171,40 @@ abbrev pub LinesAlikeV2 : Type 0
 LinesAlikeV2 =
     (host other : ℕ → Offer) (snd tnd out into : List Float) (bs : List ℕ) → OtherHost host other snd tnd out into
     → printedV2 host blankReplayV2 snd out 0 bs ≡ printedV2 other blankReplayV2 tnd into 0 bs
+
+-- ---- a stream of bytes
+
+-- what is asked: as many bytes as the longest record has
+abbrev pub WideV2 : ℕ → Type 0
+WideV2 w = 24598 ≤ w
+
+-- a step that gets the first w bytes of a stream does what it does with all of them
+abbrev pub StreamsV2 : Type 0
+StreamsV2 =
+    (r : CableowlReplay) (bs : List ℕ) (ended w : ℕ) (snd given : List Float) (sounds : ℕ) (out : List Float)
+    → WideV2 w
+    → steppedV2 r (take w bs) ended snd given sounds out ≡ steppedV2 r bs ended snd given sounds out
+
+-- ---- a block with a value for each frame cut in two
+
+-- a part of it: so many frames, with these signals
+abbrev pub partOf : LanedBlock → ℕ → Signals → LanedBlock
+partOf b n g = record { frames = n; «time_step» = b .«time_step»; signals = g }
+
+-- what is asked: an accepted block of k + m frames, whose frames begin at byte 18 of xs; and the bytes of two records,
+-- ys with its first k frames, zs with the others
+pub record MayCutLanes (snd : List Float) (v : StaticSound) (b : LanedBlock) (xs ys zs : List ℕ) (out : List Float)
+    (k m : ℕ) : Type 0 where
+  pub accepted : lanedOutcome snd v (partOf b (k + m) (b .signals)) xs out .answer .refusal ≡ 0
+  pub first : take (24 * k) (drop 18 ys) ≡ take (24 * k) (drop 18 xs)
+  pub rest : take (24 * m) (drop 18 zs) ≡ take (24 * m) (drop (18 + 24 * k) xs)
+
+-- the first part gets the signals; samples and states are those of the block, as Cut (crates/theorems) says
+abbrev pub CutLanes : Type 0
+CutLanes =
+    (snd : List Float) (v : StaticSound) (b : LanedBlock) (xs ys zs : List ℕ) (out : List Float) (k m : ℕ)
+    → MayCutLanes snd v b xs ys zs out k m
+    → let first = lanedOutcome snd v (partOf b k (b .signals)) ys (take (2 * k) out) in
+    let part = partOf b m (quiet (b .signals)) in
+    CutInTwo (lanedOutcome snd v (partOf b (k + m) (b .signals)) xs out) first
+    (lanedOutcome snd (first .answer .sound) part zs (drop (2 * k) out))

@@ -320,3 +320,70 @@ fn any_end_of_the_bytes() {
         );
     }
 }
+
+/// Any bytes as a replay, any number of sounds, any lengths: a call is refused and changes nothing, or it is answered.
+#[test]
+fn any_bytes_are_a_replay() {
+    let mut seed = 1_u64;
+    let mut word = move || {
+        seed ^= seed << 13;
+        seed ^= seed >> 7;
+        seed ^= seed << 17;
+        seed
+    };
+    let records = [
+        creation(),
+        block(),
+        bytes(THREE_FRAMES),
+        bytes(THREE_FRAMES)[55..].to_vec(),
+    ];
+    let mut seen = [0; 5];
+    for _ in 0..20_000 {
+        let mut host = Host::new();
+        for record in &records[..word() as usize % 3] {
+            host.step(record, &SOUND, word() as u32 % 3);
+        }
+        let mut state = host.replay.to_bytes();
+        for _ in 0..word() % 3 {
+            state[word() as usize % state.len()] = word() as u8;
+        }
+        host.replay = CableowlReplay::from_bytes(state);
+        host.sound.truncate(if word() % 8 == 0 { 127 } else { 128 });
+        host.out
+            .truncate(if word() % 8 == 0 { 2_047 } else { 2_048 });
+        let given = &SOUND[..word() as usize % 7];
+        let mut record = records[word() as usize % 4].clone();
+        if word() % 4 == 0 {
+            let at = word() as usize % record.len();
+            record[at] = word() as u8;
+        }
+        record.truncate(
+            record
+                .len()
+                .saturating_sub((word() % 2 * (word() % 70)) as usize),
+        );
+        let (before, sound, out) = (host.replay, host.sound.clone(), host.out.clone());
+        let did = host.step(&record, given, word() as u32 % 4);
+        seen[did.what as usize] += 1;
+        assert_eq!(host.sound.len(), sound.len());
+        if did.what != PLAYED {
+            assert_eq!(did.replay.to_bytes(), before.to_bytes());
+            assert_eq!(
+                (did.size, did.kind, did.frames, did.steps, did.lowest_count),
+                (0, 0, 0, 0, 4)
+            );
+            let bits = |samples: &[f32]| samples.iter().map(|x| x.to_bits()).collect::<Vec<_>>();
+            assert_eq!(
+                (bits(&host.sound), bits(&host.out)),
+                (bits(&sound), bits(&out))
+            );
+        }
+        if did.what == REFUSED {
+            assert!(matches!(did.refusal, 1 | 19));
+        }
+    }
+    assert!(
+        seen[0] > 1_000 && seen[3] > 1_000 && seen[4] > 1_000,
+        "{seen:?}"
+    );
+}
