@@ -27,7 +27,7 @@ pub creation-read : recordAt threeFrames 0 ≡ read 1 55 creationNumbers
 unfolding recordAt valued readRecord bodied ended possible steps step taken stands within num headRows creationRows rows rowAt headTable creationTable frameTable
 creation-read = refl
 
-six-read : recordAt (165 ∷ drop 56 threeFrames) 0 ≡ read 3 42 sixNumbers
+pub six-read : recordAt (165 ∷ drop 56 threeFrames) 0 ≡ read 3 42 sixNumbers
 unfolding recordAt valued readRecord bodied ended possible steps step taken stands within num headRows blockRows rows rowAt headTable blockTable
 six-read = refl
 

@@ -1,10 +1,11 @@
 -- What is asked, at its inputs: by computing. Assumes nothing.
 use mathlib.Core.Path.{_≡_, refl, ap, _∙_}
-use Prim.Native.Nat.{ℕ, _≤_}
+use Prim.Native.Nat.{ℕ, zero, suc, _-_, _≤_}
 use native.Mathlib.Omega.{arith}
-use mathlib.Core.List.{List, _∷_}
-use lib.Dec.{T}
-use lib.ListN.{length, drop, length-replicate}
+use mathlib.Core.Bool.{Bool, true, false, cond, not, _&&_}
+use mathlib.Core.List.{List, [], _∷_}
+use lib.Dec.{T, eqb}
+use lib.ListN.{length, drop, replicate, length-replicate}
 use lib.Ieee.{mul, lt, le, eq, ofInt, ofBits, nanBits}
 use Rattle.float_bits.specs.Patterns.{floatOf}
 use Rattle.byte_layout.specs.Numbers.{num}
@@ -15,7 +16,7 @@ use Rattle.trace_records.specs.declared.Record.{Record}
 use Rattle.trace_records.specs.Tables.{headTable, blockTable, headRows, blockRows}
 use Rattle.trace_records.specs.Records.{possible, bodied, readRecord, valued, recordAt}
 use Rattle.trace_records.specs.Records as records
-use Rattle.trace_inputs.specs.Inputs.{blockOf}
+use Rattle.trace_inputs.specs.Inputs.{laneOf, blockOf}
 use Rattle.numbers.specs.Frames.{rounded}
 use Rattle.numbers.specs.Words.{magnitude, positiveZero, advance}
 use Rattle.playback_position.specs.Positions.{placed, ended, stretched, lawfulRegion}
@@ -30,10 +31,15 @@ use Rattle.c_state.proofs.Inverse.{decoded-encoded}
 use Rattle.cableowl.specs.Replays.{StepC, blankReplay, creationC, turned, judged, steppedC}
 use Rattle.theorems_replay.specs.Cuts.{MayCutRecord, blockNumbers}
 use Rattle.theorems_replay.specs.Example.{threeFrames}
-use Rattle.theorems_replay.specs.Witnesses.{threeNans, evening, lentSound, lentOutput, going, plainBlock, Witnesses}
+use Rattle.theorems_replay.specs.Witnesses.{threeNans, evening, lentSound, lentOutput, going, plainBlock, given, falling, fallingBytes, Witnesses}
 use Rattle.theorems_replay.specs.Archive.{Lent, Fit, BlockAt}
+use Rattle.theorems_replay.specs.ArchiveV2.{isVersion1, partOf}
+use Rattle.cableowl.specs.ReplaysV2.{lanedOutcome}
+use Rattle.trace_sealed.specs.Records.{isSealed}
+use Rattle.theorems_sound_length.proofs.Promises as lengths
 use Rattle.theorems_replay.proofs.Archive.{goes-on, blank-fit, step-refusal}
-use Rattle.theorems_replay.proofs.Example.{creation-read}
+use Rattle.theorems_replay.proofs.Played.{creationNumbers, sixNumbers}
+use Rattle.theorems_replay.proofs.Example.{read, creation-read, six-read}
 use Rattle.theorems_replay.proofs.OtherSamples.{same-but-for-samples}
 
 -- two frames and one at full volume, rate 1 and 1 Hz, without signals
@@ -79,6 +85,37 @@ going-accepted =
     ∙ ap (λ (v : StaticSound). answered ten v (blockOf (plainNumbers 2)) .refusal) (decoded-encoded voice)
     ∙ accepted
 
+-- ---- of version 2
+
+old-first : (b : ℕ) (bs : List ℕ) (d : Record) → recordAt (b ∷ bs) 0 ≡ d → isSealed (b ∷ bs) ≡ false
+    → isVersion1 0 (b ∷ bs) ≡ cond (eqb (d .refusal) 0) (isVersion1 (d .next - 1) bs) true
+unfolding isVersion1
+old-first b bs d e f =
+    ap (λ (t : Bool). not t && cond (eqb (recordAt (b ∷ bs) 0 .refusal) 0) (isVersion1 (recordAt (b ∷ bs) 0 .next - 1) bs) true) f
+    ∙ ap (λ (x : Record). cond (eqb (x .refusal) 0) (isVersion1 (x .next - 1) bs) true) e
+
+-- the bytes of a record are passed
+old-on : (k : ℕ) (bs : List ℕ) → isVersion1 k bs ≡ isVersion1 0 (drop k bs)
+unfolding isVersion1
+old-on zero bs = refl
+old-on (suc k) [] = refl
+old-on (suc k) (b ∷ bs) = old-on k bs
+
+old-end : isVersion1 41 (drop 56 threeFrames) ≡ true
+unfolding isVersion1
+old-end = refl
+
+three-frames-old : isVersion1 0 threeFrames ≡ true
+three-frames-old =
+    old-first 165 (drop 1 threeFrames) (read 1 55 creationNumbers) creation-read refl
+    ∙ old-on 54 (drop 1 threeFrames)
+    ∙ old-first 165 (drop 56 threeFrames) (read 3 42 sixNumbers) six-read refl
+    ∙ old-end
+
+falling-accepted : lanedOutcome ten voice (partOf falling 2 (falling .signals)) fallingBytes (replicate 4 positiveZero) .answer .refusal ≡ 0
+unfolding laneOf num processed refusedBlock ours wellFormed created made refusedNew placed ended stretched lawfulRegion rounded magnitude advance floatOf mul lt le eq ofInt ofBits nanBits
+falling-accepted = refl
+
 pub witnesses : Witnesses
 witnesses =
     record {
@@ -105,4 +142,10 @@ witnesses =
       );
       archive-three-frames = lent threeFrames tt refl;
       archive-lines-alike = record { first = lent threeFrames tt refl; second = lent threeNans tt refl; same = same-but-for-samples };
+      archive-as-version-1 = record { bytes = small-of threeFrames tt; old = refl };
+      archive-replays-v2 = record { lent = lent threeFrames tt refl; kinds = three-frames-old };
+      archive-steps-alike-v2 = record { replays = ap given (lengths.promises .witnesses .archive-rows-alike .states); sound = refl; given = refl; output = refl };
+      archive-lines-alike-v2 = record { sounds = λ at. refl; given = λ at. refl; sound = refl; output = refl };
+      archive-streams-v2 = omega arith;
+      archive-cut-lanes = record { accepted = falling-accepted; first = refl; rest = refl };
     }

@@ -4,6 +4,7 @@ pub mod Cuts
 pub mod Example
 pub mod Lengths
 pub mod Archive
+pub mod ArchiveV2
 pub mod Coincide
 pub mod Witnesses
 pub mod Promises

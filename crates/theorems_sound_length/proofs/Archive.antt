@@ -51,7 +51,7 @@ encoded-muted v =
     ap (withWindow (encoded v))
     (sym (map-first entryOf mutedEntry mutedEntryC (λ (x : RecentFrame). refl) (v .moving .resampler .«time_until_empty») (v .moving .resampler .frames)))
 
-after-muted : (k : ℕ) (v : StaticSound) (c : CableowlState) → mutedState (after k v c) ≡ after k (muted v) (mutedState c)
+pub after-muted : (k : ℕ) (v : StaticSound) (c : CableowlState) → mutedState (after k v c) ≡ after k (muted v) (mutedState c)
 unfolding after
 after-muted k v c = go (eqb k 0)
   where
@@ -59,7 +59,7 @@ after-muted k v c = go (eqb k 0)
     go true = encoded-muted v
     go false = refl
 
-means-alike : (c d : CableowlState) → mutedState c ≡ mutedState d → muted (decoded c) ≡ muted (decoded d)
+pub means-alike : (c d : CableowlState) → mutedState c ≡ mutedState d → muted (decoded c) ≡ muted (decoded d)
 means-alike c d e = sym (decoded-muted c) ∙ ap decoded e ∙ decoded-muted d
 
 -- ---- answers

@@ -453,7 +453,7 @@ fn c_has_the_sentences_of_rust() {
 }
 
 #[test]
-fn a_call_needs_4_kilobytes_of_stack_at_most_and_one_of_a_trace_12() {
+fn a_call_needs_4_kilobytes_of_stack_at_most_one_of_a_trace_12_of_version_2_64() {
     run_c("stack", "");
 }
 

@@ -231,6 +231,28 @@ int main(void) {
     replay.given = 1;
     expect(cableowl_replay_step(replay, trace, 60, 1, recorded, 128, replayed, 2048).refusal == 1, "replay_step: state");
 
+    /* The creation over a given sound of three frames of docs/formats/TRACE.md. */
+    static const uint8_t lesson[70] = {
+        0xa5, 0x1d, 4,    65,   0,    1,    0,    0,    0,    0,    0,    0,    0,    0,    0,    0,    0,    0,
+        0,    0,    0,    0,    0,    0,    0,    0,    0,    0xf0, 0x3f, 0,    3,    0,    0,    0,    0x46, 0x84,
+        0xaf, 0xa9, 0xfd, 0xf3, 0x69, 0xfc, 0xad, 0x25, 0xc4, 0xa4, 0xc5, 0xff, 0x53, 0x5f, 0xd8, 0x1a, 0x53, 0xfb,
+        0x02, 0xf7, 0xd4, 0xb5, 0x4f, 0x47, 0xa9, 0x83, 0x23, 0xa3, 0x0a, 0x09, 0xe8, 0xd8, 0xce, 0xd6};
+    static const float given[6] = {1, 1, 2, 2, 3, 3};
+    replay = cableowl_replay_v2();
+    expect(replay.reader == 2 && replay.given == 0 && replay.samples == 0, "replay_v2: begins");
+    CableowlReplayed step =
+        cableowl_replay_step_v2(replay, lesson, 70, 1, recorded, 128, given, 6, CABLEOWL_SOUNDS_FITS, replayed, 2048);
+    expect(step.what == CABLEOWL_REPLAY_PLAYED && step.kind == 4 && step.refusal == 0, "replay_step_v2: created");
+    expect(step.replay.given == 1 && step.replay.samples == 6 && step.replay.offset == 70, "replay_step_v2: its sound");
+    step = cableowl_replay_step_v2(step.replay, trace + 3, 57, 0, recorded, 128, given, 6, 0, replayed, 2048);
+    expect(step.kind == CABLEOWL_KIND_BLOCK && step.refusal == 10 && step.replay.blocks == 1, "replay_step_v2: a block");
+    step = cableowl_replay_step_v2(step.replay, lesson, 70, 1, recorded, 128, given, 4, CABLEOWL_SOUNDS_NONE, replayed, 2048);
+    expect(step.what == CABLEOWL_REPLAY_REFUSED && step.refusal == 19, "replay_step_v2: short silence");
+    step = cableowl_replay_step_v2(step.replay, lesson, 70, 1, recorded, 128, given, 6, CABLEOWL_SOUNDS_OTHER, replayed, 2048);
+    expect(step.what == CABLEOWL_REPLAY_PLAYED && step.refusal == 26 && step.replay.samples == 0, "replay_step_v2: 26");
+    expect(cableowl_replay_step_v2(cableowl_replay(), lesson, 70, 1, recorded, 128, given, 6, 1, replayed, 2048).refusal == 1,
+           "replay_step_v2: reader 1");
+
     printf("%d differ\n", faults);
     return faults == 0 ? 0 : 1;
 }

@@ -8,7 +8,16 @@
 
 #include "cableowl.h"
 
-enum { STACK = 1 << 18, PAINT = 0xa5, PLAYER = 4096, TRACE = 12288, TRACE_2 = 16384, SOUND = 2 * 4800, FRAMES = CABLEOWL_MAX_BLOCK_FRAMES };
+enum {
+    STACK = 1 << 18,
+    PAINT = 0xa5,
+    PLAYER = 4096,
+    TRACE = 12288,
+    TRACE_2 = 16384,
+    LANED = 65536,
+    SOUND = 2 * 4800,
+    FRAMES = CABLEOWL_MAX_BLOCK_FRAMES
+};
 
 static float sound[SOUND], ones[FRAMES], out[2 * FRAMES], mix[2 * FRAMES + 6];
 static double slow[FRAMES], fast[FRAMES];
@@ -68,6 +77,30 @@ static float lent[128], heard[2048];
 static void replay_step(void) {
     refusal = (uint32_t)cableowl_replay_step(replay, trace, sizeof trace, 1, lent, 128, heard, 2048).refusal;
 }
+/* The longest block with a value for each frame, sealed by its checksum. */
+static CableowlReplay replay_v2;
+static uint8_t laned[5 + 24593];
+static void seal_laned(void) {
+    const uint8_t head[18] = {0xa5, 0x1d, 5, 0x11, 0x60, 0, 4, 0, 0, 0, 0, 0, 0, 0xf0, 0x3f};
+    const float gains[4] = {1, 1, 1, 1};
+    const double rate = 256;
+    memcpy(laned, head, sizeof head);
+    for (int i = 0; i < 1024; i += 1) {
+        memcpy(laned + 18 + 24 * i, gains, sizeof gains);
+        memcpy(laned + 34 + 24 * i, &rate, sizeof rate);
+    }
+    uint32_t crc = 0xffffffff;
+    for (size_t i = 2; i < sizeof laned - 4; i += 1) {
+        crc ^= laned[i];
+        for (int bit = 0; bit < 8; bit += 1) crc = crc >> 1 ^ (crc & 1 ? 0xedb88320 : 0);
+    }
+    for (int i = 0; i < 4; i += 1) laned[sizeof laned - 4 + i] = (uint8_t)(~crc >> 8 * i);
+}
+static void replay_step_v2(void) {
+    const CableowlReplayed did =
+        cableowl_replay_step_v2(replay_v2, laned, sizeof laned, 1, lent, 128, sound, SOUND, 0, heard, 2048);
+    refusal = did.what == CABLEOWL_REPLAY_PLAYED && did.kind == 5 ? (uint32_t)did.refusal : 99;
+}
 static void stretch(void) { refusal = cableowl_stretch(voice, sound, SOUND).length == SOUND ? 0 : 1; }
 
 static void *run(void *call) {
@@ -122,6 +155,7 @@ int main(void) {
         {"write_record_v2, lanes", write_lanes, TRACE_2, 0},
         {"salvage_v2", salvage_v2, TRACE_2, 0},
         {"replay_step", replay_step, TRACE, 2},
+        {"replay_step_v2", replay_step_v2, LANED, 0},
     };
     for (int i = 0; i < FRAMES; i += 1) {
         ones[i] = 1;
@@ -144,6 +178,11 @@ int main(void) {
     broken.count = 5;
 
     replay = cableowl_replay();
+    replay_v2 = cableowl_replay_v2();
+    replay_v2.voice = voice;
+    replay_v2.given = 1;
+    replay_v2.samples = SOUND;
+    seal_laned();
 
     /* The longest record there is. */
     numbers[1] = numbers[6] = 3;
