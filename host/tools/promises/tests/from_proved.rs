@@ -278,5 +278,5 @@ fn errors_given_to_the_wrong_edit_are_seen_by_the_control() {
     assert_eq!(room.tried(&[]).0, "one 1\n");
     let (said, _) = room.tried(&[("BLAMED", "second")]);
     assert_eq!(said, "one 2\n");
-    assert!(room.log("one").contains("the control has an error"));
+    assert!(room.log("one").contains("a control has an error"));
 }

@@ -122,7 +122,6 @@ impl Room {
             "together",
             "apply-edit",
             "controls/accepted",
-            "controls/first",
         ] {
             fs::copy(tools.join(tool), path.join("tools").join(tool)).unwrap();
         }
