@@ -116,7 +116,13 @@ impl Room {
             fs::write(path.join(file), text).unwrap();
         }
         let tools = Path::new(env!("CARGO_MANIFEST_DIR")).join("../../../tools");
-        for tool in ["gate", "from-proved", "controls/accepted"] {
+        for tool in [
+            "gate",
+            "from-proved",
+            "together",
+            "apply-edit",
+            "controls/accepted",
+        ] {
             fs::copy(tools.join(tool), path.join("tools").join(tool)).unwrap();
         }
         Self(path)
