@@ -123,7 +123,9 @@ impl Commands {
         self
     }
 
-    /// The same, when a block passes the answer ([`Signals::resume`](crate::Signals::resume)).
+    /// The same, when a block passes the answer ([`Signals::resume`](crate::Signals::resume)): kira's
+    /// `resume_at`.
+    #[doc(alias = "resume_at")]
     #[must_use]
     pub fn resume_waiting(mut self) -> Self {
         self.resume = ResumeCommand::Waiting;

@@ -77,7 +77,8 @@ impl Level {
     }
 
     /// What a sample is multiplied by: e / 2^24 exactly, for the largest whole number e with
-    /// (e / 2^24)^200 * 10^tenths at most 1, and 0 for silence.
+    /// (e / 2^24)^200 * 10^tenths at most 1, and 0 for silence. kira's `Decibels::as_amplitude`.
+    #[doc(alias = "as_amplitude")]
     #[must_use]
     pub fn amplitude(self) -> f32 {
         let mut amplitude = 0.0;

@@ -51,7 +51,7 @@
 //!
 //! | kira's name | here |
 //! |---|---|
-//! | `AudioManager::play`, `StaticSoundData` | [`Player::play`], with interleaved samples |
+//! | `AudioManager::play`, `StaticSoundData` | [`Player::play`], with interleaved samples; the host decodes files (`from_file`, `from_cursor`) |
 //! | `StaticSoundHandle` | [`Player`] itself; from another thread a [`Command`] through the host's channel |
 //! | `StaticSoundSettings` | [`Settings`]; `volume` and `panning` are commands before the first frame, `fade_in_tween` is [`Player::fade_in_tween`] |
 //! | `set_loop_region(None)` | [`Player::clear_loop_region`] |
@@ -62,7 +62,9 @@
 //! | `Tween::start_time` with `StartTime::Delayed` | [`Tween::delay`] |
 //! | `start_time` of a sound, `StartTime::Delayed` | [`Settings::start_waits`](Settings::start_waits()) and [`Player::start_after`] |
 //! | `StartTime::ClockTime` | [`Player::start_at_tick`] |
-//! | `resume_at`, modulators, effects, tracks, streams | not here |
+//! | the trait `Sound` | [`StaticSound`], with its `on_start_processing`, `process` and `finished` |
+//! | `resume_at` | [`Commands::resume_waiting`] of the voice; a player has none |
+//! | modulators, effects, tracks, streams | not here |
 //!
 //! A host can record the calls of a voice as bytes and play them again: [`trace`].
 //!

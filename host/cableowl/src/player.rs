@@ -112,6 +112,8 @@ impl Player {
     /// Refusals 2 to 7, as for [`StaticSound::new`]; then [`Refusal::OutputRate`] for an output rate of 0,
     /// and [`Refusal::TooFast`] for a playback rate that is too fast.
     #[doc(alias = "AudioManager")]
+    #[doc(alias = "from_file")]
+    #[doc(alias = "from_cursor")]
     pub fn play(settings: Settings, output_rate: u32, sound: &[f32]) -> Result<Self, Refusal> {
         let voice = StaticSound::new(settings, sound)?;
         Self::of(voice, settings.playback_rate, output_rate)
@@ -322,8 +324,8 @@ impl Player {
     }
 
     /// Starts a sound that waits ([`Settings::start_waits`](Settings::start_waits())) at the first frame
-    /// whose tick has reached this one; [`StartSignal`](crate::StartSignal) says when that is. A later
-    /// call replaces it.
+    /// whose tick has reached this one; [`StartSignal`](crate::StartSignal) says when that is: kira's
+    /// `StartTime::ClockTime`. A later call replaces it.
     ///
     /// ```
     /// use cableowl::{Player, Settings, Ticks};
@@ -336,6 +338,7 @@ impl Player {
     /// assert_eq!(out.iter().position(|sample| *sample != 0.0), Some(2 * 6));
     /// # Ok::<(), cableowl::Refusal>(())
     /// ```
+    #[doc(alias = "ClockTime")]
     pub fn start_at_tick(&mut self, tick: u32, ticks: Ticks) {
         let reached = ticks.now.wrapping_sub(tick) < 1 << 31;
         let to_go = u64::from(tick.wrapping_sub(ticks.now)) * u64::from(self.output_rate);

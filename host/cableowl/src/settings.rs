@@ -109,6 +109,7 @@ impl Settings {
     /// player starts it by [`Player::start_after`](crate::Player::start_after) or
     /// [`Player::start_at_tick`](crate::Player::start_at_tick).
     #[doc(alias = "start_time")]
+    #[doc(alias = "Immediate")]
     #[must_use]
     pub fn start_waits(mut self, start_waits: bool) -> Self {
         self.start_waits = start_waits;

@@ -116,7 +116,9 @@ impl Processed {
 /// A voice: one sound being played.
 ///
 /// It owns only its state. Each call borrows the sound, interleaved samples, left then right, which must
-/// be the same each time. A refused call changes no state and writes nothing.
+/// be the same each time. A refused call changes no state and writes nothing. The calls have the names of
+/// kira's trait `Sound`.
+#[doc(alias = "Sound")]
 #[derive(Clone)]
 pub struct StaticSound {
     state: ffi::State,

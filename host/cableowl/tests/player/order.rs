@@ -37,38 +37,6 @@ fn position(player: &Player) -> usize {
 }
 
 #[test]
-fn resume_then_pause_pauses_in_one_block_as_in_two() {
-    for between in [0, 1] {
-        let (sound, mut player) = player();
-        player.resume(millis(2));
-        player.process(&sound, &mut vec![0.0; 2 * between]).unwrap();
-        player.pause(millis(2));
-        player.process(&sound, &mut [0.0; 8]).unwrap();
-        assert_eq!(player.state(), PlaybackState::Paused, "{between}");
-    }
-}
-
-#[test]
-fn two_steps_back_before_one_block_go_back_twice() {
-    let (sound, mut player) = player();
-    assert_eq!(position(&player), 23);
-    // Eight frames and a half, so that no rounding matters: the half is cut off.
-    player.seek_by(-0.0085).unwrap();
-    player.seek_by(-0.0085).unwrap();
-    player.process(&sound, &mut [0.0; 2]).unwrap();
-    assert_eq!(position(&player), 5 + 1);
-}
-
-#[test]
-fn a_seek_to_and_then_a_seek_by_both_count() {
-    let (sound, mut player) = player();
-    player.seek_to(0.002).unwrap();
-    player.seek_by(0.0035).unwrap();
-    player.process(&sound, &mut [0.0; 2]).unwrap();
-    assert_eq!(position(&player), 5 + 1);
-}
-
-#[test]
 fn a_loop_set_after_a_seek_does_not_wrap_it() {
     let (sound, mut player) = player();
     player.seek_to(0.030).unwrap();
@@ -96,31 +64,6 @@ fn a_parameters_last_target_counts_from_its_value_before_the_frame() {
     player.process(&sound, &mut [0.0; 2]).unwrap();
     let now = (player.volume().tenths(), player.playback_rate());
     assert_eq!(now, (50, 0.75));
-}
-
-#[test]
-fn a_seek_is_judged_over_what_is_queued_before_it() {
-    let sound = [0.5; 20];
-    let player = || Player::play(Settings::new(1), 1, &sound).unwrap();
-    let last = 4_294_967_295.0;
-    let mut far = player();
-    assert_eq!(far.seek_by(1.0), Ok(()));
-    assert_eq!(far.seek_to(last), Ok(()));
-    assert_eq!(far.seek_by(1.0), Err(Refusal::Seek), "from the last frame");
-    far.process(&sound, &mut [0.0; 2]).unwrap();
-    // It is there now: a seek by one is refused, until one goes back before it.
-    assert_eq!(far.seek_by(1.0), Err(Refusal::Seek));
-    assert_eq!(far.seek_to(3.0), Ok(()));
-    assert_eq!(far.seek_by(1.0), Ok(()));
-    far.process(&sound, &mut [0.0; 2]).unwrap();
-    assert_eq!(position(&far), 4);
-    // A loop in the queue wraps the far place, so a step on from it is accepted.
-    let mut looped = player();
-    looped.set_loop_region(Frames(2)..Frames(6)).unwrap();
-    looped.seek_to(last).unwrap();
-    assert_eq!(looped.seek_by(1.0), Ok(()));
-    looped.process(&sound, &mut [0.0; 2]).unwrap();
-    assert_eq!(looped.counts().steps, 1);
 }
 
 #[test]

@@ -1,9 +1,6 @@
-// A whole player as bytes, and a voice's state given to a player.
+// A whole player as bytes. A voice's state given to a player: ../findings/finding_9.rs.
 
-use cableowl::{
-    Command, Commands, Easing, Frames, Level, PlaybackState, Player, Settings, SharedPlayer, State,
-    StaticSound, Tween, Unreadable,
-};
+use cableowl::{Command, Easing, Frames, Player, Settings, SharedPlayer, Tween, Unreadable};
 use random::Random;
 
 use crate::evening::{Evening, bits, seeds};
@@ -207,66 +204,4 @@ fn a_shared_player_is_made_from_bytes() {
     again.process(&mut other).unwrap();
     assert_eq!(bits(&out), bits(&other));
     assert!(out[0] > 0.0 && out[19] < 0.1, "it fades in");
-}
-
-/// A state of a voice over 100 frames at 1,000 frames a second, after these commands.
-fn state_after(commands: Commands, sound: &[f32]) -> State {
-    let settings = Settings::new(1_000).loop_region(..);
-    let mut voice = StaticSound::new(settings, sound).unwrap();
-    voice.on_start_processing(sound, commands).unwrap();
-    voice.state()
-}
-
-#[test]
-fn a_restored_fade_goes_on_from_its_first_level_to_its_end() {
-    let sound = [1.0; 200];
-    let level = |tenths| Level::new(tenths).unwrap().amplitude();
-    let falling = [level(60), level(120)];
-    let rising = [level(540), level(480)];
-    let commands = Commands::new();
-    for (commands, first, last, end) in [
-        (commands.pause(), falling, 0.0, PlaybackState::Paused),
-        (commands.resume(), rising, 1.0, PlaybackState::Playing),
-        (commands.stop(), falling, 0.0, PlaybackState::Stopped),
-    ] {
-        let state = state_after(commands, &sound);
-        // Whatever the player did before.
-        for paused in [false, true] {
-            let settings = Settings::new(1_000).loop_region(..);
-            let mut player = Player::play(settings, 1_000, &sound).unwrap();
-            if paused {
-                player.pause(Tween::AT_ONCE);
-                player.process(&sound, &mut [0.0; 20]).unwrap();
-            }
-            player.resume(Tween::from_millis(100));
-            player.restore(state, &sound).unwrap();
-            let mut out = [9.0; 20];
-            // 10 milliseconds are 10 frames: the tenth ends the fade, 601 tenths over them.
-            player.process(&sound, &mut out).unwrap();
-            assert_eq!([out[0], out[2]], first, "{end:?}");
-            assert_eq!((out[18], player.state()), (last, end));
-            assert!(out[16] > 0.0 && out[16] < 1.0);
-        }
-    }
-}
-
-#[test]
-fn a_playing_state_in_a_paused_player_is_heard() {
-    let sound = [1.0; 200];
-    let playing = state_after(Commands::new(), &sound);
-    let settings = Settings::new(1_000).loop_region(..);
-    let mut player = Player::play(settings, 1_000, &sound).unwrap();
-    player.pause(Tween::AT_ONCE);
-    let mut out = [9.0; 20];
-    player.process(&sound, &mut out).unwrap();
-    let paused = player.voice().state();
-    player.restore(playing, &sound).unwrap();
-    player.process(&sound, &mut out).unwrap();
-    assert_eq!((out, player.state()), ([1.0; 20], PlaybackState::Playing));
-    player.restore(paused, &sound).unwrap();
-    player.process(&sound, &mut out).unwrap();
-    assert_eq!((out, player.state()), ([0.0; 20], PlaybackState::Paused));
-    player.resume(Tween::from_millis(2));
-    player.process(&sound, &mut out).unwrap();
-    assert_eq!(out[2..], [1.0; 18]);
 }

@@ -1,11 +1,10 @@
 // What each word does, frame by frame; what is refused, and that it is what the voice would refuse.
 
-use std::{sync::Arc, time::Duration};
+use std::time::Duration;
 
 use cableowl::{
-    Commands, Easing, EndPosition, Frames, Hall, Lanes, Level, LoopTable, PlaybackPosition,
-    PlaybackState, Player, Refusal, Region, Settings, SharedPlayer, Signals, StartSignal,
-    StaticSound, Ticks, Tween,
+    Commands, EndPosition, Frames, Lanes, Level, PlaybackPosition, PlaybackState, Player, Refusal,
+    Region, Settings, SharedPlayer, Signals, StartSignal, StaticSound, Ticks, Tween,
 };
 use random::Random;
 
@@ -135,104 +134,6 @@ fn a_fade_in_leaves_the_state_playing() {
 }
 
 #[test]
-fn a_shared_player_fades_in() {
-    let sound: Arc<[f32]> = vec![1.0; 200].into();
-    let play = || SharedPlayer::play(Settings::new(1_000), 1_000, Arc::clone(&sound));
-    let mut player = play().unwrap().fade_in_tween(frames(2));
-    let mut out = [9.0; 4];
-    player.process(&mut out).unwrap();
-    let half = Level::new(300).unwrap().amplitude();
-    assert_eq!(out, [half, half, 1.0, 1.0]);
-}
-
-#[test]
-fn a_player_takes_a_loop_from_a_table() {
-    let (sound, mut player) = counting(10, |settings| settings.slice(Frames(0)..Frames(8)));
-    let mut table = LoopTable::new(10);
-    table.write(Hall::A, 3, 2..6).unwrap();
-    table.write(Hall::B, 9, 2..10).unwrap();
-    player.take_loop(&table, 3).unwrap();
-    assert_eq!(player.take_loop(&table, 4), Err(Refusal::EmptySlot));
-    assert_eq!(player.take_loop(&table, 16), Err(Refusal::LoopSlot));
-    assert_eq!(
-        player.take_loop(&table, 9),
-        Err(Refusal::LoopRegion),
-        "past the slice"
-    );
-    table.clear(Hall::A, 3).unwrap();
-    heard(&mut player, &sound, 1);
-    assert_eq!(player.voice().state().loop_region, Some((2, 6)));
-}
-
-#[test]
-fn a_range_of_frames_names_its_unit() {
-    // `6..11` does not compile: the example of `Frames` says so.
-    let looped = |region: Region| {
-        let sound = vec![0.5; 40];
-        let settings = Settings::new(1).loop_region(region);
-        let state = StaticSound::new(settings, &sound).unwrap().state();
-        state.loop_region
-    };
-    assert_eq!(looped((Frames(6)..Frames(11)).into()), Some((6, 11)));
-    assert_eq!(looped((6.0..11.0).into()), Some((6, 11)));
-    assert_eq!(looped((Frames(6)..).into()), Some((6, 20)));
-    assert_eq!(looped((..Frames(11)).into()), Some((0, 11)));
-}
-
-#[test]
-fn a_level_in_decibels_is_its_nearest_tenth() {
-    for tenths in 0..=600 {
-        let decibels = -(tenths as f32) / 10.0;
-        assert_eq!(Level::decibels(decibels), Level::new(tenths));
-    }
-    let tenths = |decibels| Level::decibels(decibels).map(Level::tenths);
-    assert_eq!(tenths(-6.04), Ok(60));
-    assert_eq!(tenths(-6.06), Ok(61));
-    assert_eq!(tenths(-0.0), Ok(0));
-    assert_eq!(tenths(-60.04), Ok(600));
-    assert_eq!(tenths(-60.06), Ok(601));
-    assert_eq!(tenths(-1.0e30), Ok(601));
-    for bad in [0.01, f32::INFINITY, f32::NAN] {
-        assert_eq!(tenths(bad), Err(Refusal::Decibels));
-    }
-}
-
-#[test]
-fn a_tween_follows_its_curve_after_its_delay() {
-    let (sound, mut player) = counting(100, |settings| settings);
-    let tween = frames(4)
-        .easing(Easing::OutPowi(2))
-        .delayed(Duration::from_millis(2));
-    player.set_playback_rate(3.0, tween).unwrap();
-    player.pause(tween);
-    let mut rates = Vec::new();
-    let mut states = Vec::new();
-    for _ in 0..7 {
-        heard(&mut player, &sound, 1);
-        rates.push(player.playback_rate());
-        states.push(player.state());
-    }
-    // 7/16, 12/16 and 15/16 of the way from 1 to 3.
-    assert_eq!(rates, [1.0, 1.0, 1.875, 2.5, 2.875, 3.0, 3.0]);
-    use PlaybackState::{Paused, Pausing};
-    let paused = [Paused; 2];
-    assert_eq!(states, [&[Pausing; 5][..], &paused].concat());
-}
-
-#[test]
-fn a_start_is_delayed_by_a_duration() {
-    for delay in [0, 1, 7, 50] {
-        let (sound, mut player) = counting(100, |settings| settings.start_waits(true));
-        heard(&mut player, &sound, 3);
-        player.start_after(Duration::from_millis(delay));
-        let heard = heard(&mut player, &sound, 80);
-        let first = heard.iter().position(|sample| *sample != 0.0).unwrap();
-        // Frame 0 of the sound is 0.
-        assert_eq!(first as u64, delay + 1);
-    }
-}
-
-#[test]
 fn position_and_counts() {
     let (sound, mut player) = counting(5, |settings| settings);
     assert_eq!(player.position(), 0.0);
@@ -282,44 +183,6 @@ fn what_is_bad_is_refused_at_once() {
     assert_eq!(play(Settings::new(1).playback_rate(256.1), 1), too_fast);
     assert_eq!(play(Settings::new(768_000), 3_000), Ok(()));
     assert_eq!(play(Settings::new(768_000), 2_999), too_fast);
-}
-
-#[test]
-fn a_refusal_names_what_the_caller_gave() {
-    let (sound, mut player) = counting(10, |settings| settings);
-    let play = |settings, rate| Player::play(settings, rate, &sound).unwrap_err();
-    let too_fast = Settings::new(1_000).playback_rate(300.0);
-    for (refusal, number, word) in [
-        (
-            player.set_panning(f32::NAN, frames(1)).unwrap_err(),
-            11,
-            "panning",
-        ),
-        (
-            player.process(&sound, &mut [0.0; 3]).unwrap_err(),
-            9,
-            "output",
-        ),
-        (player.mix(&sound, &mut [0.0; 3]).unwrap_err(), 9, "output"),
-        (play(Settings::new(1_000), 0), 10, "output rate"),
-        (play(too_fast, 1_000), 12, "playback rate"),
-        (
-            player.set_playback_rate(-300.0, frames(1)).unwrap_err(),
-            12,
-            "playback rate",
-        ),
-    ] {
-        let said = refusal.to_string();
-        assert_eq!(refusal.number(), number);
-        assert!(
-            said.starts_with(&format!("refusal {number}: the {word}")),
-            "{said}"
-        );
-        assert!(
-            !said.contains("lane") && !said.contains("time step"),
-            "{said}"
-        );
-    }
 }
 
 #[test]

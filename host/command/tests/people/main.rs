@@ -6,6 +6,7 @@ mod cuttings;
 mod exact;
 mod explain;
 mod files;
+mod findings;
 mod hints;
 mod log;
 mod loops;

@@ -54,15 +54,6 @@ fn an_empty_trace_and_one_without_records() {
 }
 
 #[test]
-fn salvage_of_one_byte_writes_an_empty_file() {
-    let room = Room::new("salvage-a5");
-    room.put("in", b"\xa5");
-    room.run(&["salvage", "in", "out"])
-        .says("in: 0 records kept, 1 byte skipped, the first at byte 0; written to out\n");
-    assert_eq!(room.read("out"), "");
-}
-
-#[test]
 fn nothing_is_overwritten_whatever_the_name() {
     let room = Room::new("salvage-names");
     room.put("in", three());
