@@ -25,6 +25,15 @@ use loop_table::LoopChanged;
 use loop_table::LoopSlot;
 use loop_table::LoopTable;
 
+// Refusal: a copy's table is not well formed.
+const REFUSAL_STATE: u32 = 1;
+
+// Refusal: two tables over different numbers of frames.
+const REFUSAL_OTHER_FRAMES: u32 = 27;
+
+// Refusal: two halves that differ and have the same number of changes.
+const REFUSAL_TWO_HALVES: u32 = 28;
+
 // The table, and how many writes and clears each hall has made.
 #[repr(C)]
 pub struct LoopCopy {
@@ -172,19 +181,19 @@ impl LoopCopy {
         let ours = self.table;
         let other = theirs.table;
         if !ours.is_lawful() {
-            return 1;
+            return REFUSAL_STATE;
         }
         if !other.is_lawful() {
-            return 1;
+            return REFUSAL_STATE;
         }
         if ours.num_frames != other.num_frames {
-            return 27;
+            return REFUSAL_OTHER_FRAMES;
         }
         if !self.agrees(theirs, Hall::A, 0) {
-            return 28;
+            return REFUSAL_TWO_HALVES;
         }
         if !self.agrees(theirs, Hall::B, 8) {
-            return 28;
+            return REFUSAL_TWO_HALVES;
         }
         0
     }

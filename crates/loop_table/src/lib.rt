@@ -18,6 +18,21 @@ ghost use Rattle.loop_table.specs.Tables.{
   found,
 };
 
+// Refusal: the table is not well formed.
+const REFUSAL_STATE: u32 = 1;
+
+// Refusal: not start < end <= all frames.
+const REFUSAL_LOOP_REGION: u32 = 6;
+
+// Refusal: a slot above 15.
+const REFUSAL_LOOP_SLOT: u32 = 20;
+
+// Refusal: a slot of the other hall.
+const REFUSAL_OTHER_HALL: u32 = 21;
+
+// Refusal: an empty slot.
+const REFUSAL_EMPTY_SLOT: u32 = 22;
+
 pub enum Hall {
     A,
     B,
@@ -87,10 +102,10 @@ impl Hall {
         ensures { λ r. ⌜ r ≡ refusedSlot self slot ⌝ }
     {
         if slot > 15 {
-            return 20;
+            return REFUSAL_LOOP_SLOT;
         }
         if !self.owns(slot) {
-            return 21;
+            return REFUSAL_OTHER_HALL;
         }
         0
     }
@@ -149,10 +164,10 @@ impl LoopTable {
         ensures { λ r. ⌜ r ≡ refusedWrite self hall slot start end ⌝ }
     {
         if !self.is_lawful() {
-            return 1;
+            return REFUSAL_STATE;
         }
         if !is_loop(self.num_frames, start, end) {
-            return 6;
+            return REFUSAL_LOOP_REGION;
         }
         hall.refusal_of(slot)
     }
@@ -161,7 +176,7 @@ impl LoopTable {
         ensures { λ r. ⌜ r ≡ refusedClear self hall slot ⌝ }
     {
         if !self.is_lawful() {
-            return 1;
+            return REFUSAL_STATE;
         }
         hall.refusal_of(slot)
     }
@@ -188,13 +203,13 @@ impl LoopTable {
         if !self.is_lawful() {
             return LoopFound {
                 slot: none,
-                refusal: 1,
+                refusal: REFUSAL_STATE,
             };
         }
         if slot > 15 {
             return LoopFound {
                 slot: none,
-                refusal: 20,
+                refusal: REFUSAL_LOOP_SLOT,
             };
         }
         let slots = self.slots;
@@ -202,7 +217,7 @@ impl LoopTable {
         if held.is_empty() {
             return LoopFound {
                 slot: none,
-                refusal: 22,
+                refusal: REFUSAL_EMPTY_SLOT,
             };
         }
         LoopFound {

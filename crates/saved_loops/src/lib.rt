@@ -29,6 +29,15 @@ mod tables;
 use byte_layout::Parsed;
 use tables::HALF;
 
+// Refusal: the bytes end too early.
+const REFUSAL_TRUNCATED: u32 = 18;
+
+// Refusal: the buffer is too short.
+const REFUSAL_ROOM: u32 = 19;
+
+// Refusal: a number that no half has, or a wrong checksum.
+const REFUSAL_SAVED_FIELD: u32 = 24;
+
 // The words of a half, or a refusal's number and every word 0.
 pub struct LoadedHalf {
     pub words: [u64; 19],
@@ -108,7 +117,7 @@ fn show(ok: bool, words: [u64; 19]) -> LoadedHalf
     if ok {
         return LoadedHalf { words, refusal: 0 };
     }
-    refused(24)
+    refused(REFUSAL_SAVED_FIELD)
 }
 
 // Loads a half from any bytes. It does not read what follows the record.
@@ -120,7 +129,7 @@ pub fn load(s: &[u8]) -> LoadedHalf
         return refused(p.refused as u32);
     }
     if s.len() < 666 {
-        return refused(18);
+        return refused(REFUSAL_TRUNCATED);
     }
     let values = p.values;
     let words = words_of(values);
@@ -140,9 +149,9 @@ fn refusal_of(words: [u64; 19], named: usize, room: usize) -> u32
     ensures { λ r. ⌜ r ≡ storeRefusal words named room ⌝ }
 {
     if !is_storable(words, named) {
-        return 24;
+        return REFUSAL_SAVED_FIELD;
     }
-    if room < 666 { 19 } else { 0 }
+    if room < 666 { REFUSAL_ROOM } else { 0 }
 }
 
 fn numbers(words: [u64; 19]) -> [u64; 80]

@@ -34,6 +34,12 @@ use byte_layout::Parsed;
 use tables::FIRST;
 use tables::SECOND;
 
+// Refusal: the buffer is too short.
+const REFUSAL_ROOM: u32 = 19;
+
+// Refusal: a number that no saved settings have.
+const REFUSAL_SAVED_FIELD: u32 = 24;
+
 // Frames, the rate by its bits, the pitch in semitones in two's complement. Without a loop both loop numbers are 0.
 pub struct SavedSettings {
     pub start: u64,
@@ -152,7 +158,7 @@ fn show(version: u64, settings: SavedSettings) -> Loaded
             refusal: 0,
         };
     }
-    refused(24)
+    refused(REFUSAL_SAVED_FIELD)
 }
 
 fn read_first(s: &[u8]) -> Parsed
@@ -222,9 +228,13 @@ fn refusal_of(version: u64, s: SavedSettings, room: usize) -> u32
     ensures { λ r. ⌜ r ≡ storeRefusal version s room ⌝ }
 {
     if !is_storable(version, s) {
-        return 24;
+        return REFUSAL_SAVED_FIELD;
     }
-    if room < size_of(version) { 19 } else { 0 }
+    if room < size_of(version) {
+        REFUSAL_ROOM
+    } else {
+        0
+    }
 }
 
 fn first_numbers(s: SavedSettings) -> [u64; 80]

@@ -16,7 +16,7 @@ const STEPS: [u32; 5] = [0, 1, 2, 3, 4];
 #[must_use]
 pub fn table() -> String {
     let mut text = String::from(
-        "| block | calls a second | a command is heard within | 0 steps | 1 | 2 | 3 | 4 |\n|---|---|---|---|---|---|---|---|\n",
+        "| block | calls per second | longest wait of a command | 0 steps | 1 | 2 | 3 | 4 |\n|---|---|---|---|---|---|---|---|\n",
     );
     let sound = Looped::Long.sound();
     for block in BLOCKS {
