@@ -31,7 +31,7 @@ pub fn block_held(told: Told, sound: &[f32], held: Held, out: &mut [f32]) -> Pro
             voice: begun,
             dt: told.dt,
         };
-        return sound_held::play(timed, sound, held, out);
+        return sound_fast_path::play_held(timed, sound, held, out);
     }
     silence(out);
     Processed {

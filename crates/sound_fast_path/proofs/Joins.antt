@@ -39,10 +39,10 @@ use Rattle.sound_fast_path.proofs.Rides.{Heard}
 
 -- ---- the lanes from frame i on, as code cuts them
 
-part-is : (i : ℕ) (l : List Float) → take (length l - i) (drop i l) ≡ drop i l
+pub part-is : (i : ℕ) (l : List Float) → take (length l - i) (drop i l) ≡ drop i l
 part-is i l = take-all (length l - i) (drop i l) (le-of-eq (length-drop i l))
 
-abbrev cut : ℕ → List Float → List Float
+abbrev pub cut : ℕ → List Float → List Float
 cut i l = take (length l - i) (drop i l)
 
 abbrev pub partLanes : ℕ → Lanes → Lanes

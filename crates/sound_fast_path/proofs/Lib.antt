@@ -1,3 +1,4 @@
 -- Laws of rides.
 pub mod Rides
 pub mod Joins
+pub mod After

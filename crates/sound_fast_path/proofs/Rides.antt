@@ -29,7 +29,7 @@ use Rattle.sound_track.proofs.Counts.{counts-add}
 use Rattle.sound_track.proofs.Trails.{Fits, inside-of, updates-trail}
 use Rattle.sound_fast_reading.specs.declared.Way.{Way}
 use Rattle.sound_fast_reading.specs.declared.Ridden.{Ridden}
-use Rattle.sound_fast_reading.specs.Rides.{Ride, rides, readOn, Rideable, Rode}
+use Rattle.sound_fast_reading.specs.Rides.{Ride, rides, readOn, begun, Rideable, Rode}
 use Rattle.sound_fast_reading.proofs.Moves.{roomy-first, roomy-rest}
 use Rattle.sound_fast_reading.proofs.Rides.{rode-none}
 use Rattle.sound_gains.specs.Gained.{gained}
@@ -39,7 +39,7 @@ use Rattle.sound_slow_path.specs.Turns.{Playable}
 use Rattle.sound_slow_path.proofs.Lowest.{lower-four}
 use Rattle.sound_slow_path.proofs.Loops.{played}
 use Rattle.sound_slow_path.proofs.Keeps.{plays-formed}
-use Rattle.sound_fast_path.specs.Rides.{begun, Tracked, riddenTo}
+use Rattle.sound_fast_path.specs.Rides.{Tracked, riddenTo}
 
 pub fits-of : (snd : List Float) (v : StaticSound) (k : Track) → Tracked snd v k → Formed v → Fits k (v .moving .transport .«loop_region») (courseOf v)
 fits-of snd v k t w = record { is = t .is; held = w .transportFormed .loop }

@@ -1,4 +1,4 @@
--- A block along a track: where a ride begins, the moving part after it, and the rest of the block.
+-- A block along a track: the moving part after a ride, and the rest of the block.
 use Prim.Native.Nat.{ℕ, _*_}
 use mathlib.Core.Path.{_≡_}
 use mathlib.Core.List.{List, _++_}
@@ -11,13 +11,7 @@ use Rattle.sound_state.specs.Voices.{courseOf}
 use Rattle.sound_track.specs.declared.Track.{Track}
 use Rattle.sound_track.specs.Tracks.{trackOf, counts}
 use Rattle.sound_track.specs.Trails.{Lies, trailOf}
-use Rattle.sound_fast_reading.specs.declared.Way.{Way}
-use Rattle.sound_fast_reading.specs.declared.Ridden.{Ridden}
 use Rattle.sound_slow_path.specs.Plays.{plays, Outcome, acceptedWith}
-
--- the beginning of a ride
-abbrev pub begun : Way → Ridden
-begun w = record { at = w .at; «fractional_position» = w .«fractional_position»; steps = 0; next = 0 }
 
 -- the track is the voice's, and it is inside the sound
 pub record Tracked (snd : List Float) (v : StaticSound) (k : Track) : Type 0 where

@@ -5,11 +5,14 @@ ghost use mathlib.Core.Path.{_≡_};
 ghost use Prim.Native.Nat.{_≤_};
 ghost use lib.ListN.{length};
 ghost use Rattle.sound_lanes.specs.Lanes.{five, rows};
-ghost use Rattle.sound_fast_reading.specs.Moves.{Slow, Steady};
-ghost use Rattle.sound_fast_reading.specs.Rides.{Rideable, Rode};
+ghost use Rattle.sound_fast_reading.specs.Rides.{begun, Rideable, Rode};
 ghost use Rattle.sound_slow_path.specs.Plays.{plays, acceptedAs};
 ghost use Rattle.sound_slow_path.specs.Turns.{Playable};
-ghost use Rattle.sound_fast_path.specs.Rides.{begun, playedFrom};
+ghost use Rattle.sound_fast_path.specs.Rides.{playedFrom};
+
+mod held;
+
+pub use held::play_held;
 use sound_fast_reading::Ridden;
 use sound_fast_reading::Way;
 use sound_slow_path::Processed;
@@ -39,31 +42,6 @@ fn stretch(way: Way, from: Ridden, sound: &[f32], rate: &[f64], out: &mut [f32])
     sound_fast_wrapping::round_on(way, ones, sound, rate, out)
 }
 
-// The same if every frame has the same advance.
-fn stretch_held(
-    way: Way,
-    from: Ridden,
-    sound: &[f32],
-    advance: f64,
-    rate: &[f64],
-    out: &mut [f32],
-) -> Ridden
-    requires { ⌜ Rideable (now sound) way (now rate) ⌝ }
-    requires { ⌜ Rode (now sound) way (now rate) from (now out) ⌝ }
-    requires { ⌜ Slow advance ⌝ }
-    requires { ⌜ Steady (way .«sample_rate») (way .dt) advance (now rate) ⌝ }
-    ensures { λ r. ⌜ Rode (now (sound .entry)) way (now (rate .entry)) r (now (out .exit)) ⌝ }
-{
-    if way.track.backwards {
-        let fours = sound_fast_straight::held_back(way, from, sound, advance, rate, out);
-        let ones = sound_fast_straight::ones_back(way, fours, sound, rate, out);
-        return sound_fast_wrapping::round_back(way, ones, sound, rate, out);
-    }
-    let fours = sound_fast_straight::held_on(way, from, sound, advance, rate, out);
-    let ones = sound_fast_straight::ones_on(way, fours, sound, rate, out);
-    sound_fast_wrapping::round_on(way, ones, sound, rate, out)
-}
-
 // To the track's end, with rates that differ.
 fn ride_varied(way: Way, sound: &[f32], rate: &[f64], out: &mut [f32]) -> Ridden
     requires { ⌜ Rideable (now sound) way (now rate) ⌝ }
@@ -84,37 +62,15 @@ fn ride_varied(way: Way, sound: &[f32], rate: &[f64], out: &mut [f32]) -> Ridden
     }
     r
 }
-// To the track's end, with the same advance for every frame.
-fn ride_held(way: Way, sound: &[f32], advance: f64, rate: &[f64], out: &mut [f32]) -> Ridden
-    requires { ⌜ Rideable (now sound) way (now rate) ⌝ }
-    requires { ⌜ Rode (now sound) way (now rate) (begun way) (now out) ⌝ }
-    requires { ⌜ Slow advance ⌝ }
-    requires { ⌜ Steady (way .«sample_rate») (way .dt) advance (now rate) ⌝ }
-    ensures { λ r. ⌜ Rode (now (sound .entry)) way (now (rate .entry)) r (now (out .exit)) ⌝ }
-{
-    let mut r = Ridden {
-        at: way.at,
-        fractional_position: way.fractional_position,
-        steps: 0,
-        next: 0,
-    };
-    let mut more = true;
-    while more {
-        let s = stretch_held(way, r, sound, advance, rate, out);
-        more = (r.next < s.next) & (s.next < rate.len());
-        r = s;
-    }
-    r
-}
-// From a trail to the track's end. If all rates are the same, the advance is computed once.
+
+// To the track's end. If all rates are the same, the advance is computed once.
 fn ride(way: Way, sound: &[f32], rate: &[f64], out: &mut [f32]) -> Ridden
     requires { ⌜ Rideable (now sound) way (now rate) ⌝ }
     requires { ⌜ Rode (now sound) way (now rate) (begun way) (now out) ⌝ }
     ensures { λ r. ⌜ Rode (now (sound .entry)) way (now (rate .entry)) r (now (out .exit)) ⌝ }
 {
     if sound_fast_reading::is_steady(rate) {
-        let advance = sound_fast_reading::advance_of(way.sample_rate, way.dt, rate[0]);
-        return ride_held(way, sound, advance, rate, out);
+        return sound_fast_held::ride_held(way, sound, rate[0], rate.len(), out);
     }
     ride_varied(way, sound, rate, out)
 }

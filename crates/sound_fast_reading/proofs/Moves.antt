@@ -1,13 +1,13 @@
 -- One frame's steps along a track: they are few, leave a fraction, and stay where the track has room. Assumes nothing.
-use mathlib.Core.Path.{_≡_, refl, sym, ap, _∙_, subst}
-use Prim.Native.Nat.{ℕ, _+_, _-_, _*_, _≤_, _<_}
+use mathlib.Core.Path.{_≡_, refl, sym, ap, ap₂, _∙_, subst}
+use Prim.Native.Nat.{ℕ, suc, _+_, _-_, _*_, _≤_, _<_}
 use native.Mathlib.Nat.{le-refl}
 use native.Mathlib.Omega.{arith}
 use mathlib.Core.Bool.{Bool, true, false, not, _&&_, _||_, cond}
 use mathlib.Core.List.{List, [], _∷_}
 use lib.Dec.{T, leb, ltb}
 use lib.IntN.{pos}
-use lib.ListN.{getD}
+use lib.ListN.{length, getD, replicate}
 use lib.Ieee.{Float, nan, inf, fin, binary64, add, mul, ofInt, lt, le, isNan}
 use lib.Ieee.Fits.{and-i, and-l, and-r}
 use borrow.Author.Tests.{le-leb, lt-ltb, ltb-true, ltb-false}
@@ -22,7 +22,7 @@ use Rattle.sound_track.specs.Tracks.{nexts, On, roomy}
 use Rattle.sound_track.proofs.Tracks.{far, on-nexts, nexts-within}
 use Rattle.sound_track.proofs.Same.{first-of, second-of}
 use Rattle.sound_track.proofs.Trails.{Inside, inside-of, inside-first, inside-rest}
-use Rattle.sound_fast_reading.specs.Moves.{Slow, Move, Steady, number, Same}
+use Rattle.sound_fast_reading.specs.Moves.{Slow, Move, number, Same}
 
 -- ---- the sum
 
@@ -97,8 +97,17 @@ all-numbers hz dt [] h = tt
 all-numbers hz dt (q ∷ qs) h =
     and-i (number q) (all number qs) (slow-number hz dt q (and-l (slow hz dt q) (all (slow hz dt) qs) h)) (all-numbers hz dt qs (and-r (slow hz dt q) (all (slow hz dt) qs) h))
 
-pub same-steady : (hz : ℕ) (dt a : Float) (rates : List Float) → a ≡ advance hz (getD rates 0 nan) dt → Same rates → Steady hz dt a rates
-same-steady hz dt a rates e s = record { each = λ i h. ap (λ (r : Float). advance hz r dt) (s .each i h) ∙ sym e }
+-- a list of one number
+pub same-list : (l : List Float) (a : Float) → ((i : ℕ) → i < length l → getD l i nan ≡ a) → l ≡ replicate (length l) a
+same-list [] a h = refl
+same-list (x ∷ l) a h =
+    ap₂ (λ (y : Float) (k : List Float). y ∷ k) (h 0 (first (length l))) (same-list l a (λ i k. h (suc i) (more i (length l) k)))
+  where
+    more : (i n : ℕ) → i < n → suc i < suc n
+    more i n k = omega arith
+
+    first : (n : ℕ) → 0 < suc n
+    first n = omega arith
 
 -- one rate more
 pub same-more : (rates : List Float) (i : ℕ) (b s : Bool) → (s ≡ true → (j : ℕ) → j < i → getD rates j nan ≡ getD rates 0 nan) → (b ≡ true → getD rates i nan ≡ getD rates 0 nan)

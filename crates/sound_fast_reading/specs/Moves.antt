@@ -5,10 +5,10 @@ use mathlib.Core.Bool.{Bool, false, not}
 use mathlib.Core.List.{List}
 use lib.Dec.{T}
 use lib.IntN.{pos}
-use lib.ListN.{length, getD}
+use lib.ListN.{length, getD, replicate}
 use lib.Ieee.{Float, nan, fin, binary64, add, le, isNan}
 use Rattle.numbers.specs.declared.Stepped.{Stepped}
-use Rattle.numbers.specs.Words.{proper, finiteClear, stepped, advance}
+use Rattle.numbers.specs.Words.{proper, finiteClear, stepped}
 
 -- an advance that is finite, not negative and at most 256
 pub record Slow (a : Float) : Type 0 where
@@ -21,10 +21,6 @@ pub record Move (f a : Float) (s : Stepped) : Type 0 where
   pub few : s .steps < 258
   pub below : T (proper (s .rest))
 
--- every frame has the advance a
-pub record Steady (hz : ℕ) (dt a : Float) (rates : List Float) : Type 0 where
-  pub each : (i : ℕ) → i < length rates → advance hz (getD rates i nan) dt ≡ a
-
 -- not a NaN
 abbrev pub number : Float → Bool
 number x = not (isNan x)
@@ -32,4 +28,4 @@ number x = not (isNan x)
 -- at least one rate, all equal to the first
 pub record Same (rates : List Float) : Type 0 where
   pub some : 0 < length rates
-  pub each : (i : ℕ) → i < length rates → getD rates i nan ≡ getD rates 0 nan
+  pub each : rates ≡ replicate (length rates) (getD rates 0 nan)

@@ -52,6 +52,10 @@ rides snd k hz dt (r ∷ rs) q f =
 abbrev pub ridesOn : List Float → Way → List Float → Ride
 ridesOn snd w rates = rides snd (w .track) (w .«sample_rate») (w .dt) rates (w .at) (w .«fractional_position»)
 
+-- the beginning of a ride
+abbrev pub begun : Way → Ridden
+begun w = record { at = w .at; «fractional_position» = w .«fractional_position»; steps = 0; next = 0 }
+
 -- what a ride requires
 pub record Rideable (snd : List Float) (w : Way) (rates : List Float) : Type 0 where
   pub lies : Lies snd (w .track)

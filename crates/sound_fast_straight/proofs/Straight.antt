@@ -5,7 +5,7 @@ use native.Mathlib.Omega.{arith}
 use mathlib.Core.Bool.{Bool, true, false, _||_, cond}
 use mathlib.Core.List.{List}
 use lib.Dec.{T, leb, ltb}
-use lib.ListN.{length, getD, set}
+use lib.ListN.{length, getD, set, replicate, getD-replicate}
 use lib.Ieee.{Float, nan, binary64, add}
 use borrow.Author.Tests.{le-leb, lt-ltb}
 use Rattle.numbers.specs.declared.Stepped.{Stepped}
@@ -15,7 +15,7 @@ use Rattle.sound_track.specs.declared.Track.{Track}
 use Rattle.sound_track.specs.Tracks.{next, nexts, On, roomy}
 use Rattle.sound_track.proofs.Tracks.{on-next, forth-on, after-on, back-on, before-on}
 use Rattle.sound_fast_reading.specs.declared.Way.{Way}
-use Rattle.sound_fast_reading.specs.Moves.{Move, Steady}
+use Rattle.sound_fast_reading.specs.Moves.{Move}
 use Rattle.sound_fast_reading.specs.Rides.{readOn, Rideable, Rode}
 use Rattle.sound_fast_reading.proofs.Rides.{place, rode-more}
 use Rattle.sound_fast_straight.specs.declared.Moves.{Moves}
@@ -32,8 +32,10 @@ abbrev stored : List Float → ℕ → Frame → List Float
 stored out i x = set (set out (2 * i) (x .left)) (2 * i + 1) (x .right)
 
 -- where all rates make one advance, a frame's steps are those of that advance
-pub steady-move : (hz : ℕ) (dt a : Float) (rates : List Float) {f : Float} (s : Stepped) → Steady hz dt a rates → (i : ℕ) → i < length rates → Move f a s → Move f (advance hz (getD rates i nan) dt) s
-steady-move hz dt a rates {f} s st i h m = subst (λ (a : Float). Move f a s) (sym (st .each i h)) m
+pub held-move : (hz : ℕ) (dt a : Float) (n : ℕ) (r : Float) {f : Float} (s : Stepped) → a ≡ advance hz r dt → (i : ℕ) → i < n → Move f a s
+    → Move f (advance hz (getD (replicate n r) i nan) dt) s
+held-move hz dt a n r {f} s e i h m =
+    subst (λ (a : Float). Move f a s) (e ∙ ap (λ (q : Float). advance hz q dt) (sym (getD-replicate n i r nan h))) m
 
 -- ---- forward
 

@@ -3,9 +3,9 @@ ghost use mathlib.Core.Path.{_≡_};
 ghost use mathlib.Core.Bool.{true};
 ghost use Prim.Native.Nat.{_+_, _*_, _<_};
 ghost use lib.Dec.{T};
-ghost use lib.ListN.{length};
+ghost use lib.ListN.{length, replicate};
 ghost use Rattle.numbers.specs.Words.{proper};
-ghost use Rattle.sound_fast_reading.specs.Moves.{Slow, Steady};
+ghost use Rattle.sound_lanes.specs.Lanes.{slow};
 ghost use Rattle.sound_fast_reading.specs.Rides.{Rideable, Rode};
 ghost use Rattle.sound_fast_straight.specs.Readings.{readFrom};
 use crate::four_held;
@@ -80,22 +80,22 @@ pub fn straight_back(way: Way, from: Ridden, sound: &[f32], rate: &[f64], out: &
     }
 }
 
-// The same if every frame has the same advance.
+// The same if all frames have the same rate.
 pub fn held_back(
     way: Way,
     from: Ridden,
     sound: &[f32],
-    advance: f64,
-    rate: &[f64],
+    rate: f64,
+    frames: usize,
     out: &mut [f32],
 ) -> Ridden
-    requires { ⌜ Rideable (now sound) way (now rate) ⌝ }
-    requires { ⌜ Rode (now sound) way (now rate) from (now out) ⌝ }
+    requires { ⌜ Rideable (now sound) way (replicate frames rate) ⌝ }
+    requires { ⌜ Rode (now sound) way (replicate frames rate) from (now out) ⌝ }
     requires { ⌜ way .track .backwards ≡ true ⌝ }
-    requires { ⌜ Slow advance ⌝ }
-    requires { ⌜ Steady (way .«sample_rate») (way .dt) advance (now rate) ⌝ }
-    ensures { λ r. ⌜ Rode (now (sound .entry)) way (now (rate .entry)) r (now (out .exit)) ⌝ }
+    requires { ⌜ T (slow (way .«sample_rate») (way .dt) rate) ⌝ }
+    ensures { λ r. ⌜ Rode (now (sound .entry)) way (replicate frames rate) r (now (out .exit)) ⌝ }
 {
+    let advance = sound_fast_reading::advance_of(way.sample_rate, way.dt, rate);
     if from.at < way.track.low + 4 {
         return from;
     }
@@ -105,7 +105,7 @@ pub fn held_back(
     let mut p = first;
     let mut fractional_position = from.fractional_position;
     let mut i = from.next;
-    while i + 3 < rate.len() {
+    while i + 3 < frames {
         let m = four_held(fractional_position, advance);
         let n1 = m.first.steps;
         let n2 = n1 + m.second.steps;

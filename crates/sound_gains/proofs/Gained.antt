@@ -5,7 +5,7 @@ use native.Mathlib.Nat.{not-suc-le-zero, le-of-suc-le-suc}
 use native.Mathlib.Numerals.{add-one}
 use native.Mathlib.Omega.{arith}
 use mathlib.Core.List.{List, [], _∷_}
-use lib.ListN.{length, getD, take, drop, set}
+use lib.ListN.{length, getD, take, drop, set, replicate, getD-replicate}
 use lib.Ieee.{Float, nan}
 use Rattle.frame.specs.declared.Frame.{Frame}
 use Rattle.sound_gains.specs.declared.Gains.{Gains}
@@ -115,9 +115,21 @@ first fs vs ls rs (suc n) (suc (suc m)) (x ∷ y ∷ out) e =
 pub gained-take : (fs vs ls rs : List Float) (n : ℕ) (out : List Float) → take (2 * n) (gained fs vs ls rs n out) ≡ gained fs vs ls rs n (take (2 * n) out)
 gained-take fs vs ls rs n out = first fs vs ls rs n (2 * n) out refl
 
--- a frame as code writes it: gains read, readings scaled, and stored
-pub written : (fs vs ls rs : List Float) (i : ℕ) (o out out′ : List Float) (x : Frame) (g : Gains) → g ≡ gainsAt fs vs ls rs i → x ≡ scaled (getD o (2 * i) nan) (getD o (2 * i + 1) nan) g
-    → out′ ≡ set (set out (2 * i) (x .left)) (2 * i + 1) (x .right) → out′ ≡ gainedAt fs vs ls rs i o out
-written fs vs ls rs i o out out′ x g eg ex e =
-    e
-    ∙ ap (λ (x : Frame). set (set out (2 * i) (x .left)) (2 * i + 1) (x .right)) (ex ∙ ap (scaled (getD o (2 * i) nan) (getD o (2 * i + 1) nan)) eg)
+-- ---- gains given once
+
+-- every frame has them
+pub gains-once : (g : Gains) (n i : ℕ) → i < n → gainsAt (replicate n (g .fade)) (replicate n (g .volume)) (replicate n (g .left)) (replicate n (g .right)) i ≡ g
+gains-once g n i h =
+    rw (getD-replicate n i (g .fade) nan h, getD-replicate n i (g .volume) nan h, getD-replicate n i (g .left) nan h, getD-replicate n i (g .right) nan h)
+
+-- lanes that are longer than the frames make no difference
+pub gained-fewer : (f v l r : Float) (k n : ℕ) (out : List Float) → k ≤ n
+    → gained (replicate k f) (replicate k v) (replicate k l) (replicate k r) k out ≡ gained (replicate n f) (replicate n v) (replicate n l) (replicate n r) k out
+unfolding gained
+gained-fewer f v l r zero n out h = refl
+gained-fewer f v l r (suc k) zero out h = absurd (not-suc-le-zero h)
+gained-fewer f v l r (suc k) (suc n) [] h = refl
+gained-fewer f v l r (suc k) (suc n) (x ∷ []) h = refl
+gained-fewer f v l r (suc k) (suc n) (x ∷ y ∷ out) h =
+    let z = scaled x y (record { fade = f; volume = v; left = l; right = r }) in
+    ap (λ (o : List Float). z .left ∷ z .right ∷ o) (gained-fewer f v l r k n out (le-of-suc-le-suc h))

@@ -29,8 +29,12 @@ gained fs vs ls rs (suc n) (x ∷ y ∷ out) =
     let f = scaled x y (gainsAt fs vs ls rs 0) in
     f .left ∷ f .right ∷ gained (drop 1 fs) (drop 1 vs) (drop 1 ls) (drop 1 rs) n out
 
--- frame i of the readings o times its gains, written into an output
-abbrev pub gainedAt : List Float → List Float → List Float → List Float → ℕ → List Float → List Float → List Float
-gainedAt fs vs ls rs i o out =
-    let x = scaled (getD o (2 * i) nan) (getD o (2 * i + 1) nan) (gainsAt fs vs ls rs i) in
+-- frame i of the readings o times some gains, written into an output
+abbrev pub scaledAt : Gains → ℕ → List Float → List Float → List Float
+scaledAt g i o out =
+    let x = scaled (getD o (2 * i) nan) (getD o (2 * i + 1) nan) g in
     set (set out (2 * i) (x .left)) (2 * i + 1) (x .right)
+
+-- the same by its gains in the lanes
+abbrev pub gainedAt : List Float → List Float → List Float → List Float → ℕ → List Float → List Float → List Float
+gainedAt fs vs ls rs i o out = scaledAt (gainsAt fs vs ls rs i) i o out

@@ -1,11 +1,11 @@
 // Multiplies the readings in the output by their gains, in place: fade, then volume, then the channel's gain.
 ghost use mathlib.Core.Path.{_≡_};
 ghost use Prim.Native.Nat.{_+_, _*_, _≤_, _<_};
-ghost use lib.ListN.{length};
-ghost use Rattle.sound_gains.specs.Gained.{gainsAt, scaled, gainedAt, gained};
+ghost use lib.ListN.{length, replicate};
+ghost use Rattle.sound_gains.specs.Gained.{gainsAt, scaled, scaledAt, gainedAt, gained};
 use frame::Frame;
 
-// What a frame's reading is multiplied by.
+// The four numbers that a frame's reading is multiplied by.
 pub struct Gains {
     pub fade: f32,
     pub volume: f32,
@@ -38,7 +38,17 @@ fn scale(left: f32, right: f32, gains: Gains) -> Frame
     }
 }
 
-// Frame i of the output times its gains.
+// Multiplies frame i of the output by these gains.
+fn gain_by(gains: Gains, i: usize, out: &mut [f32])
+    requires { ⌜ 2 * i + 1 < length (now out) ⌝ }
+    requires { ⌜ i < 4096 ⌝ }
+    ensures { λ _. ⌜ now (out .exit) ≡ scaledAt gains i (now (out .entry)) (now (out .entry)) ⌝ }
+{
+    let x = scale(out[2 * i], out[2 * i + 1], gains);
+    sound_fast_reading::store(out, 2 * i, x);
+}
+
+// Multiplies frame i of the output by its gains.
 fn gain_one(fade: &[f32], volume: &[f32], left: &[f32], right: &[f32], i: usize, out: &mut [f32])
     requires { ⌜ i < length (now fade) ⌝ }
     requires { ⌜ i < length (now volume) ⌝ }
@@ -51,8 +61,7 @@ fn gain_one(fade: &[f32], volume: &[f32], left: &[f32], right: &[f32], i: usize,
         (now (out .entry)) (now (out .entry)) ⌝ }
 {
     let gains = gains_at(fade, volume, left, right, i);
-    let x = scale(out[2 * i], out[2 * i + 1], gains);
-    sound_fast_reading::store(out, 2 * i, x);
+    gain_by(gains, i, out);
 }
 
 // Multiplies the first n frames of the output by their gains; clang vectorises it.
@@ -77,6 +86,21 @@ pub fn by_frame(
     let mut i: usize = 0;
     while i < n {
         gain_one(fade, volume, left, right, i, out);
+        i += 1;
+    }
+}
+
+// Multiplies the first n frames of the output by the same gains.
+pub fn once(gains: Gains, n: usize, out: &mut [f32])
+    requires { ⌜ 2 * n ≤ length (now out) ⌝ }
+    requires { ⌜ n ≤ 4096 ⌝ }
+    ensures { λ _. ⌜ now (out .exit)
+        ≡ gained (replicate n (gains .fade)) (replicate n (gains .volume)) (replicate n (gains .left))
+        (replicate n (gains .right)) n (now (out .entry)) ⌝ }
+{
+    let mut i: usize = 0;
+    while i < n {
+        gain_by(gains, i, out);
         i += 1;
     }
 }

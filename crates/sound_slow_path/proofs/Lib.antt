@@ -3,4 +3,5 @@ pub mod Keeps
 pub mod Loops
 pub mod Lowest
 pub mod Plays
+pub mod Spread
 pub mod Turns

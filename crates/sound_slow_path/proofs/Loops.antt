@@ -61,7 +61,7 @@ onward snd dt l p =
     (lower (p .«lowest_count») (readBy (p .voice) .count))
 
 -- the frame that the code makes
-abbrev framed : Moving → Float → Lane → Frame
+abbrev pub framed : Moving → Float → Lane → Frame
 framed m f l =
     let w = m .resampler in
     frameAt (nth w 0) (nth w 1) (nth w 2) (nth w 3) f (l .fade) (l .volume) (l .left) (l .right)

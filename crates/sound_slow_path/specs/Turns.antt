@@ -1,9 +1,10 @@
 -- One frame of a block over the moving part, as the code's loop has it; and what the loop requires.
 use Prim.Native.Nat.{ℕ, _*_}
 use mathlib.Core.Path.{_≡_}
+use mathlib.Core.Bool.{cond}
 use mathlib.Core.List.{List}
-use lib.Dec.{T}
-use lib.ListN.{length, getD}
+use lib.Dec.{T, eqb}
+use lib.ListN.{length, getD, replicate}
 use lib.Ieee.{Float, nan, binary32, binary64, add, mul, lt}
 use Rattle.numbers.specs.Words.{positiveZero, proper, narrowed, whole, part, advance}
 use Rattle.numbers.specs.Lists.{all}
@@ -12,7 +13,7 @@ use Rattle.frame.specs.Frames.{interpolated}
 use Rattle.resampler.specs.declared.Reading.{Reading}
 use Rattle.resampler.specs.declared.Resampler.{Resampler}
 use Rattle.resampler.specs.Windows.{nth, reading}
-use Rattle.sound_lanes.specs.Lanes.{Lanes, rows, sized, near, slow}
+use Rattle.sound_lanes.specs.Lanes.{Lanes, five, rows, sized, near, slow}
 use Rattle.sound_update.specs.declared.Course.{Course}
 use Rattle.sound_update.specs.declared.Moving.{Moving}
 use Rattle.sound_state.specs.declared.StaticSound.{StaticSound}
@@ -50,6 +51,22 @@ pub record Turning (snd : List Float) (c : Course) (hz : ℕ) (rate dt : Float) 
   pub below : T (proper f)
   pub timeStep : T (lt positiveZero dt)
   pub slow : T (slow hz dt rate)
+
+-- every lane has as many numbers as the rates
+pub record Alike (b : Lanes) : Type 0 where
+  pub fade : length (b .fade) ≡ length (b .rate)
+  pub volume : length (b .volume) ≡ length (b .rate)
+  pub left : length (b .left) ≡ length (b .rate)
+  pub right : length (b .right) ≡ length (b .rate)
+
+-- n frames of one number
+abbrev pub again : ℕ → List Float → List Float
+again n l = replicate n (getD l 0 nan)
+
+-- the lanes of n frames: lanes of one frame are repeated, all others are as they are
+unfoldable pub spread : ℕ → Lanes → Lanes
+spread n b = cond (eqb (length (b .rate)) 1)
+    (five (again n (b .fade)) (again n (b .volume)) (again n (b .left)) (again n (b .right)) (again n (b .rate))) b
 
 -- what holds of an accepted block; m is the output's length
 pub record Playable (snd : List Float) (v : StaticSound) (dt : Float) (b : Lanes) (m : ℕ) : Type 0 where

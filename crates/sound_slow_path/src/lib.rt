@@ -1,12 +1,13 @@
 // The slow path: a block of a started, advancing voice, frame by frame (the loop of kira's StaticSound::process).
 ghost use mathlib.Core.Path.{_≡_};
-ghost use Prim.Native.Nat.{_<_};
-ghost use lib.Dec.{T};
+ghost use Prim.Native.Nat.{_/_, _<_};
+ghost use mathlib.Core.Bool.{cond};
+ghost use lib.Dec.{T, eqb};
 ghost use lib.ListN.{length};
 ghost use Rattle.numbers.specs.Words.{proper};
 ghost use Rattle.sound_lanes.specs.Lanes.{five, rows};
 ghost use Rattle.sound_slow_path.specs.Plays.{lower, plays, acceptedAs};
-ghost use Rattle.sound_slow_path.specs.Turns.{heardAt, turnOf, Turning, Playable};
+ghost use Rattle.sound_slow_path.specs.Turns.{heardAt, turnOf, Turning, Alike, spread, Playable};
 use frame::Frame;
 use resampler::Reading;
 use resampler::Resampler;
@@ -98,8 +99,15 @@ fn turn(
     }
 }
 
-// A started, advancing block.
-pub fn play(
+// The frame of its lanes that frame i of a block reads: lanes of one frame apply to every frame.
+fn lane_frame(frames: usize, i: usize) -> usize
+    ensures { λ r. ⌜ r ≡ cond (eqb frames 1) 0 i ⌝ }
+{
+    if frames == 1 { 0 } else { i }
+}
+
+// A started, advancing block; lanes of one frame apply to every frame.
+pub fn play_spread(
     timed: Timed,
     sound: &[f32],
     fade: &[f32],
@@ -109,23 +117,27 @@ pub fn play(
     rate: &[f64],
     out: &mut [f32],
 ) -> Processed
+    requires { ⌜ Alike (five (now fade) (now volume) (now left) (now right) (now rate)) ⌝ }
     requires { ⌜ Playable (now sound) (timed .voice) (timed .dt)
-        (five (now fade) (now volume) (now left) (now right) (now rate)) (length (now out)) ⌝ }
+        (spread (length (now out) / 2) (five (now fade) (now volume) (now left) (now right) (now rate)))
+        (length (now out)) ⌝ }
     ensures { λ r. ⌜ record { answer = r; samples = now (out .exit) }
         ≡ acceptedAs (plays (now (sound .entry)) (timed .dt)
-        (rows (five (now (fade .entry)) (now (volume .entry)) (now (left .entry)) (now (right .entry))
-        (now (rate .entry)))) (timed .voice)) ⌝ }
+        (rows (spread (length (now (out .entry)) / 2) (five (now (fade .entry)) (now (volume .entry))
+        (now (left .entry)) (now (right .entry)) (now (rate .entry))))) (timed .voice)) ⌝ }
 {
     let voice = timed.voice;
     let course = voice.course();
+    let frames = out.len() / 2;
     let mut moving = voice.moving;
     let mut fractional_position = voice.fractional_position;
     let mut steps: usize = 0;
     let mut lowest_count: usize = 4;
     let mut i: usize = 0;
-    while i < rate.len() {
+    while i < frames {
         let window = moving.resampler;
-        let read = frame_heard(window, fractional_position, fade, volume, left, right, i);
+        let j = lane_frame(rate.len(), i);
+        let read = frame_heard(window, fractional_position, fade, volume, left, right, j);
         out[2 * i] = read.frame.left;
         out[2 * i + 1] = read.frame.right;
         lowest_count = lower(lowest_count, read.count);
@@ -134,7 +146,7 @@ pub fn play(
             fractional_position,
             course,
             voice.setup.sample_rate,
-            rate[i],
+            rate[j],
             timed.dt,
             sound,
         );
@@ -153,4 +165,25 @@ pub fn play(
         steps,
         lowest_count,
     }
+}
+
+// A started, advancing block.
+pub fn play(
+    timed: Timed,
+    sound: &[f32],
+    fade: &[f32],
+    volume: &[f32],
+    left: &[f32],
+    right: &[f32],
+    rate: &[f64],
+    out: &mut [f32],
+) -> Processed
+    requires { ⌜ Playable (now sound) (timed .voice) (timed .dt)
+        (five (now fade) (now volume) (now left) (now right) (now rate)) (length (now out)) ⌝ }
+    ensures { λ r. ⌜ record { answer = r; samples = now (out .exit) }
+        ≡ acceptedAs (plays (now (sound .entry)) (timed .dt)
+        (rows (five (now (fade .entry)) (now (volume .entry)) (now (left .entry)) (now (right .entry))
+        (now (rate .entry)))) (timed .voice)) ⌝ }
+{
+    play_spread(timed, sound, fade, volume, left, right, rate, out)
 }

@@ -19,8 +19,8 @@ use Rattle.sound_slow_path.specs.declared.Processed.{Processed}
 use Rattle.sound_slow_path.specs.Plays.{Outcome, acceptedAs}
 use Rattle.sound_slow_path.specs.Turns.{Playable}
 use Rattle.sound_block.specs.Blocks.{block}
-use Rattle.static_sound.specs.Entries.{refusedBlock, refusedWith, room, processedHeld, processedHeldInto}
-use Rattle.static_sound.proofs.Calls.{refused-is, processed-is, playable-out, refused-into, processed-into, playable-part, inside}
+use Rattle.static_sound.specs.Entries.{refusedBlock, refusedWith, room, processedHeldInto}
+use Rattle.static_sound.proofs.Calls.{refused-into, processed-into, playable-part, inside}
 
 -- ---- the judging
 
@@ -62,27 +62,11 @@ judged-some hz dt x (suc n) h = sym (judged-once hz dt x n)
 pub judged-none : (hz : ℕ) (dt : Float) (x : Held) (n : ℕ) → n ≡ 0 → 0 ≡ judged hz dt (once x n)
 judged-none hz dt x n e = ap (λ (k : ℕ). judged hz dt (once x k)) (sym e)
 
--- ---- the two entries
+-- ---- into a mix
 
 module _ (snd : List Float) (v : StaticSound) (dt : Float) (x : Held) (g : Signals) where
   abbrev number : ℕ → Bool → ℕ
   number n placed = refusedBlock (length snd) v dt (once x n) placed
-
-  module _ (out : List Float) where
-    abbrev n : ℕ
-    n = length out / 2
-
-    as-held : number n (eqb (length out) (2 * n)) ≡ number n (eqb (length out) (2 * length (replicate n (x .rate))))
-    as-held = ap (λ (k : ℕ). number n (eqb (length out) (2 * k))) (sym (length-replicate n (x .rate)))
-
-    pub refused-held : (k : ℕ) → k ≡ number n (eqb (length out) (2 * n)) → (k ≡ 0 → ⊥) → refusedWith k v out ≡ processedHeld snd v dt x g out
-    refused-held k e h = refused-is snd v dt (once x n) g out k (e ∙ as-held) h
-
-    pub playable-held : number n (eqb (length out) (2 * n)) ≡ 0 → Playable snd v dt (once x n) (length out)
-    playable-held e = playable-out snd v dt (once x n) g out (sym as-held ∙ e)
-
-    pub held-is : (o : Outcome) → number n (eqb (length out) (2 * n)) ≡ 0 → o ≡ acceptedAs (block snd dt (rows (once x n)) g v) → o ≡ processedHeld snd v dt x g out
-    held-is o e h = processed-is snd v dt (once x n) g out o (sym as-held ∙ e) h
 
   module _ (mix : List Float) (from n : ℕ) where
     long : length (replicate n (x .rate)) ≡ n

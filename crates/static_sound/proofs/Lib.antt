@@ -4,3 +4,4 @@ pub mod Entries
 pub mod Held
 pub mod Places
 pub mod Refusals
+pub mod Whole

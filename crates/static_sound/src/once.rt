@@ -2,7 +2,6 @@
 ghost use mathlib.Core.Path.{_≡_};
 ghost use Rattle.sound_held.specs.Held.{once};
 ghost use Rattle.static_sound.specs.Entries.{refusedBlock, processedHeld, processedHeldInto};
-use crate::holds;
 use crate::mix::has_room;
 use sound_block::Signals;
 use sound_block::Told;
@@ -49,7 +48,7 @@ fn refusal_held(timed: Timed, samples: usize, held: Held, frames: usize, placed:
     )
 }
 
-// A block into an output of its own: as many frames as fit.
+// A block into an output of its own: as many frames as fit, from frame 0 on.
 pub fn process_held(
     voice: StaticSound,
     sound: &[f32],
@@ -62,17 +61,7 @@ pub fn process_held(
         ≡ processedHeld (now (sound .entry)) voice dt held signals (now (out .entry)) ⌝ }
 {
     let frames = out.len() / 2;
-    let placed = holds(out.len(), frames);
-    let refusal = refusal_held(Timed { voice, dt }, sound.len(), held, frames, placed);
-    if refusal != 0 {
-        return Processed {
-            refusal,
-            sound: voice,
-            steps: 0,
-            lowest_count: 4,
-        };
-    }
-    block_held(Told { voice, dt, signals }, sound, held, out)
+    process_held_into(voice, sound, held, dt, signals, out, 0, frames)
 }
 
 // A block of this many frames into the middle of a longer mix, from the given frame on; no other sample changes.

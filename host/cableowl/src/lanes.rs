@@ -193,6 +193,27 @@ impl<'a> BlockLanes<'a> {
         Ok(block.with_signals(signals))
     }
 
+    /// The five numbers, where each lane is a constant.
+    pub(crate) fn held(&self) -> Option<ffi::Held> {
+        use Lane::Constant;
+        let (Constant(fade), Constant(volume)) = (self.fade, self.volume) else {
+            return None;
+        };
+        let (Constant(left), Constant(right)) = (self.left, self.right) else {
+            return None;
+        };
+        let Constant(rate) = self.rate else {
+            return None;
+        };
+        Some(ffi::Held {
+            fade,
+            volume,
+            left,
+            right,
+            rate,
+        })
+    }
+
     pub(crate) fn lend(self) -> ffi::Lanes<'a> {
         let (room, frames) = (self.room, self.frames);
         ffi::Lanes {

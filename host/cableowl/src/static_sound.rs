@@ -239,8 +239,20 @@ impl StaticSound {
         signals: Signals,
         out: &mut [f32],
     ) -> Result<Processed, Refusal> {
-        let still = lanes.still();
-        let (lanes, signals) = (lanes.lend(), signals.into());
+        let (still, frames) = (lanes.still(), lanes.count());
+        let signals = signals.into();
+        // Constants need no lanes. Where the block is refused, lanes tell which lane and frame is wrong.
+        if let Some(held) = lanes.held()
+            && out.len().is_multiple_of(2)
+            && out.len() / 2 == frames
+        {
+            let answer =
+                float_mode::plain(|| ffi::process_held(self.state, sound, held, dt, signals, out));
+            if answer.refusal == 0 {
+                return Ok(self.keep(answer, frames, still));
+            }
+        }
+        let lanes = lanes.lend();
         let answer = float_mode::plain(|| ffi::process(self.state, sound, lanes, dt, signals, out));
         self.take(answer, dt, lanes, still)
     }
@@ -274,8 +286,18 @@ impl StaticSound {
         mix: &mut [f32],
         from: usize,
     ) -> Result<Processed, Refusal> {
-        let still = lanes.still();
-        let (lanes, signals, from) = (lanes.lend(), signals.into(), from as u64);
+        let (still, frames) = (lanes.still(), lanes.count());
+        let (signals, from) = (signals.into(), from as u64);
+        if let Some(held) = lanes.held() {
+            let count = frames as u64;
+            let answer = float_mode::plain(|| {
+                ffi::process_held_into(self.state, sound, held, dt, signals, mix, from, count)
+            });
+            if answer.refusal == 0 {
+                return Ok(self.keep(answer, frames, still));
+            }
+        }
+        let lanes = lanes.lend();
         let answer = float_mode::plain(|| {
             ffi::process_into(self.state, sound, lanes, dt, signals, mix, from)
         });
@@ -415,16 +437,14 @@ impl StaticSound {
         still: u64,
     ) -> Result<Processed, Refusal> {
         Refusal::check_block(answer.refusal, self.state.sample_rate, dt, lanes)?;
+        Ok(self.keep(answer, lanes.rate.len(), still))
+    }
+
+    /// Keeps the state of an accepted block.
+    fn keep(&mut self, answer: ffi::Processed, frames: usize, still: u64) -> Processed {
         self.state = answer.state;
-        let (steps, frames) = (answer.steps, lanes.rate.len() as u64);
-        let lowest = answer.lowest_count;
-        Ok(Processed::of_block(
-            &self.state,
-            frames,
-            still,
-            steps,
-            lowest,
-        ))
+        let (steps, lowest) = (answer.steps, answer.lowest_count);
+        Processed::of_block(&self.state, frames as u64, still, steps, lowest)
     }
 }
 

@@ -195,6 +195,16 @@ pub struct Lanes<'a> {
     pub rate: &'a [f64],
 }
 
+/// The five numbers of a block whose frames all have the same.
+#[derive(Debug, Clone, Copy)]
+pub struct Held {
+    pub fade: f32,
+    pub volume: f32,
+    pub left: f32,
+    pub right: f32,
+    pub rate: f64,
+}
+
 unsafe extern "C" {
     pub safe fn cableowl_version() -> u32;
 
@@ -400,6 +410,65 @@ pub fn process_into(
             mix.as_mut_ptr(),
             mix.len(),
             from,
+        )
+    }
+}
+
+#[inline]
+pub fn process_held(
+    state: State,
+    sound: &[f32],
+    held: Held,
+    dt: f64,
+    signals: Signals,
+    out: &mut [f32],
+) -> Processed {
+    unsafe {
+        cableowl_process_held(
+            state,
+            sound.as_ptr(),
+            sound.len(),
+            held.fade,
+            held.volume,
+            held.left,
+            held.right,
+            held.rate,
+            dt,
+            signals,
+            out.as_mut_ptr(),
+            out.len(),
+        )
+    }
+}
+
+#[inline]
+#[expect(clippy::too_many_arguments, reason = "those of the C entry")]
+pub fn process_held_into(
+    state: State,
+    sound: &[f32],
+    held: Held,
+    dt: f64,
+    signals: Signals,
+    mix: &mut [f32],
+    from: u64,
+    frames: u64,
+) -> Processed {
+    unsafe {
+        cableowl_process_held_into(
+            state,
+            sound.as_ptr(),
+            sound.len(),
+            held.fade,
+            held.volume,
+            held.left,
+            held.right,
+            held.rate,
+            dt,
+            signals,
+            mix.as_mut_ptr(),
+            mix.len(),
+            from,
+            frames,
         )
     }
 }

@@ -8,7 +8,7 @@ use lib.Ieee.{nan}
 use denote.Ref.{now}
 use borrow.Author.Needs.{needs}
 use Rattle.sound_fast_reading.specs.Moves.{number}
-use Rattle.sound_fast_reading.proofs.Moves.{same-more}
+use Rattle.sound_fast_reading.proofs.Moves.{same-more, same-list}
 use Rattle.sound_fast_reading.proofs.Rides.{all-at}
 use Rattle.sound_fast_reading.proofs.is_steady.Statement.{statement}
 use Rattle.sound_fast_reading.proofs.is_steady.Tie as tie
@@ -83,7 +83,7 @@ loop-again : tie.Need-loop-again Inv-loop μ-loop
 loop-again c = (on _ _ ((c .before .before) .loop-test .taken), same-more (now ((c .before .before .before .before .before .before .before .before .before .before) .args .rate)) ((c .before .before .before) .loop .i) _ _ ((c .before .before .before) .loop .inv .1) (c .is-same-rate2 .ensures))
 
 returns-3 : tie.Need-returns-3 Inv-loop μ-loop
-returns-3 c = λ e. record { some = some _ ((c .before .before .before .before .before .before) .if1 .left); each = λ i h. (c .before) .loop .inv .1 e i (below _ _ _ h (c .loop-test .left)) }
+returns-3 c = λ e. record { some = some _ ((c .before .before .before .before .before .before) .if1 .left); each = same-list _ _ (λ i h. (c .before) .loop .inv .1 e i (below _ _ _ h (c .loop-test .left))) }
 
 pub is-steady-spec : {M : Type 1} → statement M
 is-steady-spec =

@@ -169,15 +169,15 @@ Measured on {}.
 /// Where the rest of the time is, and what others take.
 const REST: &str = "## Where the time is
 
-A frame costs these instructions, counted by callgrind in blocks of 512 at rate 0.93. On Arm: 48.8 with one rate for the whole block (kira's text 121), 51.6 if the rates vary, 74.8 in a loop of 3 frames, which goes round two frames per iteration. On x86-64: 69.1, 68.8 and, at rate -0.93, 97.2 (kira's text 135, 135 and 131); with numbers given once 193.0, through the safe crate's constant lanes 69.8. A call costs about 1,000 instructions of its own: the state's check and its translation, the window's check, the answer. Most of a call's fixed time is spent on copies of the voice between functions. What is left to half of kira's time: constant lanes are not recognised, both entries have a body of their own, and lanes given once are played by a plain loop. Below 1 a rate spares kira's text updates and ours nothing: our frames cost the same at 0.5 as at 1. A block is played frame by frame, at 1.25 to 1.5 of kira's time, if its window is not four neighbouring frames of the track: the first block after creation, one after a seek, the last frames of a sound without a loop, a window with a NaN.
+A frame costs these instructions, counted by callgrind in blocks of 512 at rate 0.93. On Arm: 48.8 with one rate for the whole block (kira's text 121), 51.6 if the rates vary, 74.8 in a loop of 3 frames, which goes round two frames per iteration. On x86-64: 69.1, 68.8 and, at rate -0.93, 97.2 (kira's text 135, 135 and 131); with numbers given once 47.7, and 67.1 in blocks of 64 (193.0 and 207.0 before they had the fast path; counted with a C program that calls the entry, less a run of four blocks). A call costs about 1,000 instructions of its own: the state's check and its translation, the window's check, the answer. Most of a call's fixed time is spent on copies of the voice between functions. What is left to half of kira's time: constant lanes that are given per frame are not recognised, and the entries with lanes have a body each. Below 1 a rate spares kira's text updates and ours nothing: our frames cost the same at 0.5 as at 1. A block is played frame by frame, at 1.25 to 1.5 of kira's time, if its window is not four neighbouring frames of the track: the first block after creation, one after a seek, the last frames of a sound without a loop, a window with a NaN.
 
 Ratios differ between processors more than instructions do. With the form before this one a Neoverse N1 took 0.65 of kira's time at 0.93 and 512, and a Neoverse V1 0.85: kira's text is twice as fast on the V1, ours 1.45 times.
 
-The first table's ratios, on both processors. The Intel Xeon (x86-64, \"Intel(R) Xeon(R) Processor\", rustc 1.95.0, 2026-11-16) was shared with other work, so only its least times count.
+The first table's ratios, on both processors. The Intel Xeon (x86-64, \"Intel(R) Xeon(R) Processor\", rustc 1.95.0, 2026-11-16) was shared with other work, so only its least times count. Numbers given once were measured on the V1 before they had the fast path, and on the Xeon with it [20ddcd2]; the V1's rows of \"given once\" above are of the plain loop too.
 
 | lanes | V1, 512 and 4,096 | V1, 64 | Xeon, 512 and 4,096 | Xeon, 64 |
 |---|---|---|---|---|
-| given once | 1.98 to 2.24 | 2.07 to 2.34 | 1.20 to 1.50 | 1.37 to 1.68 |
+| given once | 1.98 to 2.24 (plain loop) | 2.07 to 2.34 (plain loop) | 0.32 to 0.44 | 0.52 to 0.67 |
 | constant | 0.58 to 0.70 | 0.76 to 0.91 | 0.47 to 0.62 | 0.68 to 0.87 |
 | per frame, one rate | 0.58 to 0.70 | 0.76 to 0.92 | 0.48 to 0.62 | 0.68 to 0.87 |
 | per frame, rates vary | 0.64 to 0.77 | 0.83 to 0.97 | 0.49 to 0.65 | 0.69 to 0.88 |

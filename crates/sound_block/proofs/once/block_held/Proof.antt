@@ -14,7 +14,6 @@ use Rattle.sound_block.proofs.once.block_held.Lts as lts
 use Rattle.sound_block.proofs.begin.Reads as begin-reads
 use Rattle.sound_block.proofs.is_live.Reads as is-live-reads
 use Rattle.sound_block.proofs.silence.Reads as silence-reads
-use Rattle.sound_held.proofs.play.Reads as play-reads
 
 abbrev start : tie.After-begin → tie.Start
 start c = c .before .before .before .before .before
@@ -28,8 +27,8 @@ begin-requires c κs = search needs
 is-live-requires : tie.Need-is-live-requires
 is-live-requires c κs = search needs
 
-play-requires : tie.Need-play-requires
-play-requires c κs =
+play-held-requires : tie.Need-play-held-requires
+play-held-requires c κs =
     let b = c .before .before .before in
     let s = start b in
     let a = s .args in
@@ -43,7 +42,7 @@ returns c =
     let l = c .before .before .before .before in
     let b = l .before .before in
     let a = start b .args in
-    sounds (now (a .sound)) (a .told .dt) (lent b) (a .told .signals) (a .told .voice) _ (b .begin .ensures) (sym (l .before .is-live .ensures) ∙ l .if1 .taken) _ (c .before .before .play .ensures)
+    sounds (now (a .sound)) (a .told .dt) (lent b) (a .told .signals) (a .told .voice) _ (b .begin .ensures) (sym (l .before .is-live .ensures) ∙ l .if1 .taken) _ (c .before .before .play-held .ensures)
 
 silence-requires : tie.Need-silence-requires
 silence-requires c κs = search needs
@@ -65,7 +64,7 @@ block-held-spec =
     (tie.spec
     begin-requires
     is-live-requires
-    play-requires
+    play-held-requires
     same-length
     returns
     silence-requires

@@ -3,16 +3,18 @@ use Prim.Native.Nat.{ℕ, _+_, _-_, _*_, _^_, _≤_, _<_}
 use mathlib.Core.Path.{_≡_, refl, sym, ap, _∙_, subst}
 use mathlib.Core.List.{List}
 use native.Mathlib.Omega.{arith}
-use lib.ListN.{length}
+use lib.ListN.{length, replicate, length-replicate}
 use lib.Ieee.{Float}
 use denote.Ref.{now}
 use borrow.Author.Needs.{needs}
 use Rattle.sound_fast_reading.specs.declared.Way.{Way}
 use Rattle.sound_fast_reading.specs.declared.Ridden.{Ridden}
 use Rattle.sound_fast_reading.specs.Rides.{Rideable, Rode}
+use Rattle.numbers.specs.Words.{advance}
 use Rattle.sound_lanes.specs.Lanes.{slow}
+use Rattle.sound_fast_reading.proofs.Moves.{slow-advance}
 use Rattle.sound_fast_reading.proofs.Rides.{place, rode-more, all-at, stored-at, stored-length}
-use Rattle.sound_fast_straight.proofs.Straight.{back-four, steady-move}
+use Rattle.sound_fast_straight.proofs.Straight.{back-four, held-move}
 use Rattle.sound_fast_straight.proofs.backward.held_back.Statement.{statement}
 use Rattle.sound_fast_straight.proofs.backward.held_back.Tie as tie
 
@@ -24,18 +26,36 @@ record Going (snd : List Float) (way : Way) (rates : List Float) (from : Ridden)
   below : from .at < way .track .count
 
 abbrev Inv-loop : tie.InvT-loop
-Inv-loop way from sound advance rate out₀ start end first p₀ fractional-position₀ i₀ out p fractional-position i =
-    Going sound way rate from out p fractional-position i
+Inv-loop way from sound rate frames out₀ advance start limit first p₀ fractional-position₀ i₀ out p fractional-position i =
+    Going sound way (replicate frames rate) from out p fractional-position i
 
 abbrev μ-loop : tie.MeasureT-loop
-μ-loop way from sound advance rate out₀ start end first p₀ fractional-position₀ i₀ out p fractional-position i =
-    length rate - i
+μ-loop way from sound rate frames out₀ advance start limit first p₀ fractional-position₀ i₀ out p fractional-position i =
+    frames - i
 
 lowly : (l h k : ℕ) → l < h → h ≤ k → l < k
 lowly l h k a b = omega arith
 
 abbrev begin : tie.At-loop Inv-loop μ-loop → tie.Start Inv-loop μ-loop
 begin c = c .before .before .before .before .before .before .before .before .before
+
+-- the frames are few, and the output has two samples for each
+most : (st : tie.Start Inv-loop μ-loop) → st .args .frames ≤ 4096
+most st = subst (λ (n : ℕ). n ≤ 4096) (length-replicate (st .args .frames) (st .args .rate)) (st .pre .0 .most)
+
+long : (c : tie.At-loop Inv-loop μ-loop) → length (c .loop .out) ≡ 2 * begin c .args .frames
+long c = let a = begin c .args in c .loop .inv .rode .asLong ∙ ap (λ (n : ℕ). 2 * n) (length-replicate (a .frames) (a .rate))
+
+-- the advance of every frame
+abbrev called : tie.At-loop Inv-loop μ-loop → tie.After-advance-of Inv-loop μ-loop
+called c = c .before .before .before .before .before .before
+
+made : (c : tie.At-loop Inv-loop μ-loop) → (let a = begin c .args in called c .advance-of .result ≡ advance (a .way .«sample_rate») (a .rate) (a .way .dt))
+made c = called c .advance-of .ensures
+
+-- so many places of the rate are in a list of it
+counted : (n : ℕ) (r : Float) {i : ℕ} → i < n → i < length (replicate n r)
+counted n r {i} h = subst (λ (m : ℕ). i < m) (sym (length-replicate n r)) h
 
 record Numbers (p s h k l f i n b : ℕ) : Type 0 where
   over : s + h < p
@@ -48,12 +68,12 @@ record Numbers (p s h k l f i n b : ℕ) : Type 0 where
   most : n ≤ 4096
   few : b + (s + f - 3 - p) ≤ 257 * i
 
-numbers : (c : tie.At-loop Inv-loop μ-loop) → let a = begin c .args in Numbers (c .loop .p) (a .way .track .start) (a .way .track .low) (a .way .track .count) (length (now (a .sound))) (a .from .at) (c .loop .i) (length (now (a .rate))) (a .from .steps)
+numbers : (c : tie.At-loop Inv-loop μ-loop) → let a = begin c .args in Numbers (c .loop .p) (a .way .track .start) (a .way .track .low) (a .way .track .count) (length (now (a .sound))) (a .from .at) (c .loop .i) (a .frames) (a .from .steps)
 numbers c =
     let st = begin c in
     let y = st .pre .0 .lies in
     let v = c .loop .inv in
-    record { over = v .over; inside = lowly _ _ _ (y .some) (y .inside); lent = y .lent; small = y .short; here = v .here; below = v .below; within = v .rode .within; most = st .pre .0 .most; few = v .rode .few }
+    record { over = v .over; inside = lowly _ _ _ (y .some) (y .inside); lent = y .lent; small = y .short; here = v .here; below = v .below; within = subst (λ (n : ℕ). c .loop .i ≤ n) (length-replicate (st .args .frames) (st .args .rate)) (v .rode .within); most = most st; few = v .rode .few }
 
 deep2 : (s k l q : ℕ) → 2 * (s + k) ≤ l → l ≤ 33554432 → q < k → s + q < 2 ^ 64
 deep2 s k l q a b c = omega arith
@@ -154,6 +174,9 @@ less2 i n h = omega arith
 less3 : (i n : ℕ) → i + 3 < n → i + 3 < n
 less3 i n h = h
 
+advance-of-requires : tie.Need-advance-of-requires Inv-loop μ-loop
+advance-of-requires c κs = search needs
+
 add-if1 : tie.Need-add-if1 Inv-loop μ-loop
 add-if1 c = record { fits = deep3 _ _ ((c .before .before .before .before) .pre .0 .lies .some) ((c .before .before .before .before) .pre .0 .lies .inside) ((c .before .before .before .before) .pre .0 .lies .few) }
 
@@ -176,7 +199,7 @@ add-loop : tie.Need-add-loop Inv-loop μ-loop
 add-loop c = omega (arith, numbers c)
 
 four-held-requires : tie.Need-four-held-requires Inv-loop μ-loop
-four-held-requires c κs = ((c .before) .loop .inv .rode .below, (c .before .before .before .before .before .before .before .before .before .before) .pre .1 .1 .1 .0)
+four-held-requires c κs = let st = begin (c .before) in ((c .before) .loop .inv .rode .below, slow-advance _ _ _ _ (made (c .before)) (st .pre .0 .timeStep) (st .pre .1 .1 .1))
 
 add-n2 : tie.Need-add-n2 Inv-loop μ-loop
 add-n2 c = omega (arith, (c .before) .four-held .ensures .0 .few, (c .before) .four-held .ensures .1 .0 .few)
@@ -233,7 +256,7 @@ mul-store : tie.Need-mul-store Inv-loop μ-loop
 mul-store c = omega (arith, numbers (c .before .before .before .before .before .before .before .before .before .before .before), (c .before .before .before .before .before .before .before .before .before .before) .loop-test .taken)
 
 store-requires : tie.Need-store-requires Inv-loop μ-loop
-store-requires c κs = stores0 _ (length ((c .before .before .before .before .before .before .before .before .before .before .before) .loop .out)) _ _ refl ((c .before .before .before .before .before .before .before .before .before .before .before) .loop .inv .rode .asLong) ((c .before .before .before .before .before .before .before .before .before .before) .loop-test .taken) ((c .before .before .before .before .before .before .before .before .before .before .before .before .before .before .before .before .before .before .before .before) .pre .0 .most)
+store-requires c κs = stores0 _ (length ((c .before .before .before .before .before .before .before .before .before .before .before) .loop .out)) _ _ refl (long (c .before .before .before .before .before .before .before .before .before .before .before)) ((c .before .before .before .before .before .before .before .before .before .before) .loop-test .taken) (most (c .before .before .before .before .before .before .before .before .before .before .before .before .before .before .before .before .before .before .before .before))
 
 mul-store-2 : tie.Need-mul-store-2 Inv-loop μ-loop
 mul-store-2 c = omega (arith, numbers (c .before .before .before .before .before .before .before .before .before .before .before .before .before .before .before), (c .before .before .before .before .before .before .before .before .before .before .before .before .before .before) .loop-test .taken)
@@ -242,7 +265,7 @@ add-store : tie.Need-add-store Inv-loop μ-loop
 add-store c = omega (arith, numbers (c .before .before .before .before .before .before .before .before .before .before .before .before .before .before .before), (c .before .before .before .before .before .before .before .before .before .before .before .before .before .before) .loop-test .taken)
 
 store-requires-2 : tie.Need-store-requires-2 Inv-loop μ-loop
-store-requires-2 c κs = stores1 _ (length ((c .before .before .before .before .before .before .before .before .before .before .before .before .before .before .before) .loop .out)) _ _ (stored-length ((c .before .before .before) .store .last .0) ((c .before .before .before .before .before .before .before .before .before .before .before .before .before .before .before) .loop .out) ((c .before .before .before .before .before .before .before .before .before .before .before .before .before .before .before) .loop .i) ((c .before .before .before .before .before .before .before .before) .read-back .result) (stored-at ((c .before .before .before) .store .last .0) ((c .before .before .before .before .before .before .before .before .before .before .before .before .before .before .before) .loop .out) (2 * (c .before .before .before .before .before .before .before .before .before .before .before .before .before .before .before) .loop .i) ((c .before .before .before .before .before .before .before .before .before .before .before .before .before .before .before) .loop .i) ((c .before .before .before .before .before .before .before .before) .read-back .result) refl ((c .before .before .before) .store .ensures))) ((c .before .before .before .before .before .before .before .before .before .before .before .before .before .before .before) .loop .inv .rode .asLong) ((c .before .before .before .before .before .before .before .before .before .before .before .before .before .before) .loop-test .taken) ((c .before .before .before .before .before .before .before .before .before .before .before .before .before .before .before .before .before .before .before .before .before .before .before .before) .pre .0 .most)
+store-requires-2 c κs = stores1 _ (length ((c .before .before .before .before .before .before .before .before .before .before .before .before .before .before .before) .loop .out)) _ _ (stored-length ((c .before .before .before) .store .last .0) ((c .before .before .before .before .before .before .before .before .before .before .before .before .before .before .before) .loop .out) ((c .before .before .before .before .before .before .before .before .before .before .before .before .before .before .before) .loop .i) ((c .before .before .before .before .before .before .before .before) .read-back .result) (stored-at ((c .before .before .before) .store .last .0) ((c .before .before .before .before .before .before .before .before .before .before .before .before .before .before .before) .loop .out) (2 * (c .before .before .before .before .before .before .before .before .before .before .before .before .before .before .before) .loop .i) ((c .before .before .before .before .before .before .before .before .before .before .before .before .before .before .before) .loop .i) ((c .before .before .before .before .before .before .before .before) .read-back .result) refl ((c .before .before .before) .store .ensures))) (long (c .before .before .before .before .before .before .before .before .before .before .before .before .before .before .before)) ((c .before .before .before .before .before .before .before .before .before .before .before .before .before .before) .loop-test .taken) (most (c .before .before .before .before .before .before .before .before .before .before .before .before .before .before .before .before .before .before .before .before .before .before .before .before))
 
 mul-store-3 : tie.Need-mul-store-3 Inv-loop μ-loop
 mul-store-3 c = omega (arith, numbers (c .before .before .before .before .before .before .before .before .before .before .before .before .before .before .before .before .before .before .before), (c .before .before .before .before .before .before .before .before .before .before .before .before .before .before .before .before .before .before) .loop-test .taken)
@@ -251,7 +274,7 @@ add-store-2 : tie.Need-add-store-2 Inv-loop μ-loop
 add-store-2 c = omega (arith, numbers (c .before .before .before .before .before .before .before .before .before .before .before .before .before .before .before .before .before .before .before), (c .before .before .before .before .before .before .before .before .before .before .before .before .before .before .before .before .before .before) .loop-test .taken)
 
 store-requires-3 : tie.Need-store-requires-3 Inv-loop μ-loop
-store-requires-3 c κs = stores2 _ (length ((c .before .before .before .before .before .before .before .before .before .before .before .before .before .before .before .before .before .before .before) .loop .out)) _ _ (stored-length ((c .before .before .before) .store2 .last .0) ((c .before .before .before .before .before .before .before) .store .last .0) ((c .before .before .before .before .before .before .before .before .before .before .before .before .before .before .before .before .before .before .before) .loop .i + 1) ((c .before .before .before .before .before .before .before .before .before .before .before) .read-back2 .result) (stored-at ((c .before .before .before) .store2 .last .0) ((c .before .before .before .before .before .before .before) .store .last .0) (2 * (c .before .before .before .before .before .before .before .before .before .before .before .before .before .before .before .before .before .before .before) .loop .i + 2) ((c .before .before .before .before .before .before .before .before .before .before .before .before .before .before .before .before .before .before .before) .loop .i + 1) ((c .before .before .before .before .before .before .before .before .before .before .before) .read-back2 .result) (even1 _) ((c .before .before .before) .store2 .ensures)) ∙ stored-length ((c .before .before .before .before .before .before .before) .store .last .0) ((c .before .before .before .before .before .before .before .before .before .before .before .before .before .before .before .before .before .before .before) .loop .out) ((c .before .before .before .before .before .before .before .before .before .before .before .before .before .before .before .before .before .before .before) .loop .i) ((c .before .before .before .before .before .before .before .before .before .before .before .before) .read-back .result) (stored-at ((c .before .before .before .before .before .before .before) .store .last .0) ((c .before .before .before .before .before .before .before .before .before .before .before .before .before .before .before .before .before .before .before) .loop .out) (2 * (c .before .before .before .before .before .before .before .before .before .before .before .before .before .before .before .before .before .before .before) .loop .i) ((c .before .before .before .before .before .before .before .before .before .before .before .before .before .before .before .before .before .before .before) .loop .i) ((c .before .before .before .before .before .before .before .before .before .before .before .before) .read-back .result) refl ((c .before .before .before .before .before .before .before) .store .ensures))) ((c .before .before .before .before .before .before .before .before .before .before .before .before .before .before .before .before .before .before .before) .loop .inv .rode .asLong) ((c .before .before .before .before .before .before .before .before .before .before .before .before .before .before .before .before .before .before) .loop-test .taken) ((c .before .before .before .before .before .before .before .before .before .before .before .before .before .before .before .before .before .before .before .before .before .before .before .before .before .before .before .before) .pre .0 .most)
+store-requires-3 c κs = stores2 _ (length ((c .before .before .before .before .before .before .before .before .before .before .before .before .before .before .before .before .before .before .before) .loop .out)) _ _ (stored-length ((c .before .before .before) .store2 .last .0) ((c .before .before .before .before .before .before .before) .store .last .0) ((c .before .before .before .before .before .before .before .before .before .before .before .before .before .before .before .before .before .before .before) .loop .i + 1) ((c .before .before .before .before .before .before .before .before .before .before .before) .read-back2 .result) (stored-at ((c .before .before .before) .store2 .last .0) ((c .before .before .before .before .before .before .before) .store .last .0) (2 * (c .before .before .before .before .before .before .before .before .before .before .before .before .before .before .before .before .before .before .before) .loop .i + 2) ((c .before .before .before .before .before .before .before .before .before .before .before .before .before .before .before .before .before .before .before) .loop .i + 1) ((c .before .before .before .before .before .before .before .before .before .before .before) .read-back2 .result) (even1 _) ((c .before .before .before) .store2 .ensures)) ∙ stored-length ((c .before .before .before .before .before .before .before) .store .last .0) ((c .before .before .before .before .before .before .before .before .before .before .before .before .before .before .before .before .before .before .before) .loop .out) ((c .before .before .before .before .before .before .before .before .before .before .before .before .before .before .before .before .before .before .before) .loop .i) ((c .before .before .before .before .before .before .before .before .before .before .before .before) .read-back .result) (stored-at ((c .before .before .before .before .before .before .before) .store .last .0) ((c .before .before .before .before .before .before .before .before .before .before .before .before .before .before .before .before .before .before .before) .loop .out) (2 * (c .before .before .before .before .before .before .before .before .before .before .before .before .before .before .before .before .before .before .before) .loop .i) ((c .before .before .before .before .before .before .before .before .before .before .before .before .before .before .before .before .before .before .before) .loop .i) ((c .before .before .before .before .before .before .before .before .before .before .before .before) .read-back .result) refl ((c .before .before .before .before .before .before .before) .store .ensures))) (long (c .before .before .before .before .before .before .before .before .before .before .before .before .before .before .before .before .before .before .before)) ((c .before .before .before .before .before .before .before .before .before .before .before .before .before .before .before .before .before .before) .loop-test .taken) (most (c .before .before .before .before .before .before .before .before .before .before .before .before .before .before .before .before .before .before .before .before .before .before .before .before .before .before .before .before))
 
 mul-store-4 : tie.Need-mul-store-4 Inv-loop μ-loop
 mul-store-4 c = omega (arith, numbers (c .before .before .before .before .before .before .before .before .before .before .before .before .before .before .before .before .before .before .before .before .before .before .before), (c .before .before .before .before .before .before .before .before .before .before .before .before .before .before .before .before .before .before .before .before .before .before) .loop-test .taken)
@@ -260,7 +283,7 @@ add-store-3 : tie.Need-add-store-3 Inv-loop μ-loop
 add-store-3 c = omega (arith, numbers (c .before .before .before .before .before .before .before .before .before .before .before .before .before .before .before .before .before .before .before .before .before .before .before), (c .before .before .before .before .before .before .before .before .before .before .before .before .before .before .before .before .before .before .before .before .before .before) .loop-test .taken)
 
 store-requires-4 : tie.Need-store-requires-4 Inv-loop μ-loop
-store-requires-4 c κs = stores3 _ (length ((c .before .before .before .before .before .before .before .before .before .before .before .before .before .before .before .before .before .before .before .before .before .before .before) .loop .out)) _ _ (stored-length ((c .before .before .before) .store3 .last .0) ((c .before .before .before .before .before .before .before) .store2 .last .0) ((c .before .before .before .before .before .before .before .before .before .before .before .before .before .before .before .before .before .before .before .before .before .before .before) .loop .i + 2) ((c .before .before .before .before .before .before .before .before .before .before .before .before .before .before) .read-back3 .result) (stored-at ((c .before .before .before) .store3 .last .0) ((c .before .before .before .before .before .before .before) .store2 .last .0) (2 * (c .before .before .before .before .before .before .before .before .before .before .before .before .before .before .before .before .before .before .before .before .before .before .before) .loop .i + 4) ((c .before .before .before .before .before .before .before .before .before .before .before .before .before .before .before .before .before .before .before .before .before .before .before) .loop .i + 2) ((c .before .before .before .before .before .before .before .before .before .before .before .before .before .before) .read-back3 .result) (even2 _) ((c .before .before .before) .store3 .ensures)) ∙ stored-length ((c .before .before .before .before .before .before .before) .store2 .last .0) ((c .before .before .before .before .before .before .before .before .before .before .before) .store .last .0) ((c .before .before .before .before .before .before .before .before .before .before .before .before .before .before .before .before .before .before .before .before .before .before .before) .loop .i + 1) ((c .before .before .before .before .before .before .before .before .before .before .before .before .before .before .before) .read-back2 .result) (stored-at ((c .before .before .before .before .before .before .before) .store2 .last .0) ((c .before .before .before .before .before .before .before .before .before .before .before) .store .last .0) (2 * (c .before .before .before .before .before .before .before .before .before .before .before .before .before .before .before .before .before .before .before .before .before .before .before) .loop .i + 2) ((c .before .before .before .before .before .before .before .before .before .before .before .before .before .before .before .before .before .before .before .before .before .before .before) .loop .i + 1) ((c .before .before .before .before .before .before .before .before .before .before .before .before .before .before .before) .read-back2 .result) (even1 _) ((c .before .before .before .before .before .before .before) .store2 .ensures)) ∙ stored-length ((c .before .before .before .before .before .before .before .before .before .before .before) .store .last .0) ((c .before .before .before .before .before .before .before .before .before .before .before .before .before .before .before .before .before .before .before .before .before .before .before) .loop .out) ((c .before .before .before .before .before .before .before .before .before .before .before .before .before .before .before .before .before .before .before .before .before .before .before) .loop .i) ((c .before .before .before .before .before .before .before .before .before .before .before .before .before .before .before .before) .read-back .result) (stored-at ((c .before .before .before .before .before .before .before .before .before .before .before) .store .last .0) ((c .before .before .before .before .before .before .before .before .before .before .before .before .before .before .before .before .before .before .before .before .before .before .before) .loop .out) (2 * (c .before .before .before .before .before .before .before .before .before .before .before .before .before .before .before .before .before .before .before .before .before .before .before) .loop .i) ((c .before .before .before .before .before .before .before .before .before .before .before .before .before .before .before .before .before .before .before .before .before .before .before) .loop .i) ((c .before .before .before .before .before .before .before .before .before .before .before .before .before .before .before .before) .read-back .result) refl ((c .before .before .before .before .before .before .before .before .before .before .before) .store .ensures))) ((c .before .before .before .before .before .before .before .before .before .before .before .before .before .before .before .before .before .before .before .before .before .before .before) .loop .inv .rode .asLong) ((c .before .before .before .before .before .before .before .before .before .before .before .before .before .before .before .before .before .before .before .before .before .before) .loop-test .taken) ((c .before .before .before .before .before .before .before .before .before .before .before .before .before .before .before .before .before .before .before .before .before .before .before .before .before .before .before .before .before .before .before .before) .pre .0 .most)
+store-requires-4 c κs = stores3 _ (length ((c .before .before .before .before .before .before .before .before .before .before .before .before .before .before .before .before .before .before .before .before .before .before .before) .loop .out)) _ _ (stored-length ((c .before .before .before) .store3 .last .0) ((c .before .before .before .before .before .before .before) .store2 .last .0) ((c .before .before .before .before .before .before .before .before .before .before .before .before .before .before .before .before .before .before .before .before .before .before .before) .loop .i + 2) ((c .before .before .before .before .before .before .before .before .before .before .before .before .before .before) .read-back3 .result) (stored-at ((c .before .before .before) .store3 .last .0) ((c .before .before .before .before .before .before .before) .store2 .last .0) (2 * (c .before .before .before .before .before .before .before .before .before .before .before .before .before .before .before .before .before .before .before .before .before .before .before) .loop .i + 4) ((c .before .before .before .before .before .before .before .before .before .before .before .before .before .before .before .before .before .before .before .before .before .before .before) .loop .i + 2) ((c .before .before .before .before .before .before .before .before .before .before .before .before .before .before) .read-back3 .result) (even2 _) ((c .before .before .before) .store3 .ensures)) ∙ stored-length ((c .before .before .before .before .before .before .before) .store2 .last .0) ((c .before .before .before .before .before .before .before .before .before .before .before) .store .last .0) ((c .before .before .before .before .before .before .before .before .before .before .before .before .before .before .before .before .before .before .before .before .before .before .before) .loop .i + 1) ((c .before .before .before .before .before .before .before .before .before .before .before .before .before .before .before) .read-back2 .result) (stored-at ((c .before .before .before .before .before .before .before) .store2 .last .0) ((c .before .before .before .before .before .before .before .before .before .before .before) .store .last .0) (2 * (c .before .before .before .before .before .before .before .before .before .before .before .before .before .before .before .before .before .before .before .before .before .before .before) .loop .i + 2) ((c .before .before .before .before .before .before .before .before .before .before .before .before .before .before .before .before .before .before .before .before .before .before .before) .loop .i + 1) ((c .before .before .before .before .before .before .before .before .before .before .before .before .before .before .before) .read-back2 .result) (even1 _) ((c .before .before .before .before .before .before .before) .store2 .ensures)) ∙ stored-length ((c .before .before .before .before .before .before .before .before .before .before .before) .store .last .0) ((c .before .before .before .before .before .before .before .before .before .before .before .before .before .before .before .before .before .before .before .before .before .before .before) .loop .out) ((c .before .before .before .before .before .before .before .before .before .before .before .before .before .before .before .before .before .before .before .before .before .before .before) .loop .i) ((c .before .before .before .before .before .before .before .before .before .before .before .before .before .before .before .before) .read-back .result) (stored-at ((c .before .before .before .before .before .before .before .before .before .before .before) .store .last .0) ((c .before .before .before .before .before .before .before .before .before .before .before .before .before .before .before .before .before .before .before .before .before .before .before) .loop .out) (2 * (c .before .before .before .before .before .before .before .before .before .before .before .before .before .before .before .before .before .before .before .before .before .before .before) .loop .i) ((c .before .before .before .before .before .before .before .before .before .before .before .before .before .before .before .before .before .before .before .before .before .before .before) .loop .i) ((c .before .before .before .before .before .before .before .before .before .before .before .before .before .before .before .before) .read-back .result) refl ((c .before .before .before .before .before .before .before .before .before .before .before) .store .ensures))) (long (c .before .before .before .before .before .before .before .before .before .before .before .before .before .before .before .before .before .before .before .before .before .before .before)) ((c .before .before .before .before .before .before .before .before .before .before .before .before .before .before .before .before .before .before .before .before .before .before) .loop-test .taken) (most (c .before .before .before .before .before .before .before .before .before .before .before .before .before .before .before .before .before .before .before .before .before .before .before .before .before .before .before .before .before .before .before .before))
 
 sub-p : tie.Need-sub-p Inv-loop μ-loop
 sub-p c = lower4 _ _ _ _ _ _ ((c .before .before .before .before .before .before .before .before .before .before .before .before .before .before .before .before .before .before .before .before) .if2 .left)
@@ -277,8 +300,8 @@ loop-again c =
     let a = (c .before .before .before .before .before .before .before .before .before .before .before .before .before .before .before .before .before .before .before .before .before .before .before .before .before .before .before .before .before .before .before .before .before .before .before) .args in
     let m = (c .before .before .before .before .before .before .before .before .before .before .before .before .before .before .before .before .before .before .before .before .before .before .before .before) .four-held in
     record {
-      rode = back-four (now (a .sound)) (a .way) (now (a .rate)) ((c .before .before .before .before .before .before .before .before .before .before .before .before .before .before .before .before .before .before .before .before .before .before .before .before .before .before .before .before .before .before .before .before .before .before .before) .pre .0) ((c .before .before .before .before .before .before .before .before .before .before .before .before .before .before .before .before .before .before .before .before .before .before .before .before .before .before .before .before .before .before .before .before .before .before .before) .pre .1 .1 .0) (at .loop .i) (a .from .steps + (a .way .track .start + a .from .at - 3 - at .loop .p)) (at .loop .p) (at .loop .fractional-position) (at .loop .out) (m .result) ((c .before .before .before .before .before .before .before .before .before .before .before .before .before .before .before .before .before .before .before) .read-back .result) ((c .before .before .before .before .before .before .before .before .before .before .before .before .before .before .before .before .before .before) .read-back2 .result) ((c .before .before .before .before .before .before .before .before .before .before .before .before .before .before .before .before .before) .read-back3 .result) ((c .before .before .before .before .before .before .before .before .before .before .before .before .before .before .before .before) .read-back4 .result) (m .result .first .steps) (m .result .first .steps + m .result .second .steps) (m .result .first .steps + m .result .second .steps + m .result .third .steps) (m .result .first .steps + m .result .second .steps + m .result .third .steps + m .result .fourth .steps) _ _ ((c .before .before .before .before .before .before .before .before .before .before .before .before .before .before) .store .last .0) ((c .before .before .before .before .before .before .before .before .before .before) .store2 .last .0) ((c .before .before .before .before .before .before) .store3 .last .0) ((c .before .before) .store4 .last .0)
-          (at .loop .inv .rode) ((c .before .before .before .before .before .before .before .before .before .before .before .before .before .before .before .before .before .before .before .before .before .before .before .before .before) .loop-test .taken) (steady-move _ _ _ (now ((c .before .before .before .before .before .before .before .before .before .before .before .before .before .before .before .before .before .before .before .before .before .before .before .before .before .before .before .before .before .before .before .before .before .before .before) .args .rate)) _ ((c .before .before .before .before .before .before .before .before .before .before .before .before .before .before .before .before .before .before .before .before .before .before .before .before .before .before .before .before .before .before .before .before .before .before .before) .pre .1 .1 .1 .1) (at .loop .i) (less0 _ _ ((c .before .before .before .before .before .before .before .before .before .before .before .before .before .before .before .before .before .before .before .before .before .before .before .before .before) .loop-test .taken)) (m .ensures .0)) (steady-move _ _ _ (now ((c .before .before .before .before .before .before .before .before .before .before .before .before .before .before .before .before .before .before .before .before .before .before .before .before .before .before .before .before .before .before .before .before .before .before .before) .args .rate)) _ ((c .before .before .before .before .before .before .before .before .before .before .before .before .before .before .before .before .before .before .before .before .before .before .before .before .before .before .before .before .before .before .before .before .before .before .before) .pre .1 .1 .1 .1) (at .loop .i + 1) (less1 _ _ ((c .before .before .before .before .before .before .before .before .before .before .before .before .before .before .before .before .before .before .before .before .before .before .before .before .before) .loop-test .taken)) (m .ensures .1 .0)) (steady-move _ _ _ (now ((c .before .before .before .before .before .before .before .before .before .before .before .before .before .before .before .before .before .before .before .before .before .before .before .before .before .before .before .before .before .before .before .before .before .before .before) .args .rate)) _ ((c .before .before .before .before .before .before .before .before .before .before .before .before .before .before .before .before .before .before .before .before .before .before .before .before .before .before .before .before .before .before .before .before .before .before .before) .pre .1 .1 .1 .1) (at .loop .i + 2) (less2 _ _ ((c .before .before .before .before .before .before .before .before .before .before .before .before .before .before .before .before .before .before .before .before .before .before .before .before .before) .loop-test .taken)) (m .ensures .1 .1 .0)) (steady-move _ _ _ (now ((c .before .before .before .before .before .before .before .before .before .before .before .before .before .before .before .before .before .before .before .before .before .before .before .before .before .before .before .before .before .before .before .before .before .before .before) .args .rate)) _ ((c .before .before .before .before .before .before .before .before .before .before .before .before .before .before .before .before .before .before .before .before .before .before .before .before .before .before .before .before .before .before .before .before .before .before .before) .pre .1 .1 .1 .1) (at .loop .i + 3) (less3 _ _ ((c .before .before .before .before .before .before .before .before .before .before .before .before .before .before .before .before .before .before .before .before .before .before .before .before .before) .loop-test .taken)) (m .ensures .1 .1 .1)) refl refl refl refl ((c .before .before .before .before .before .before .before .before .before .before .before .before .before .before .before .before .before .before .before .before) .if2 .left)
+      rode = back-four (now (a .sound)) (a .way) (replicate (a .frames) (a .rate)) ((c .before .before .before .before .before .before .before .before .before .before .before .before .before .before .before .before .before .before .before .before .before .before .before .before .before .before .before .before .before .before .before .before .before .before .before) .pre .0) ((c .before .before .before .before .before .before .before .before .before .before .before .before .before .before .before .before .before .before .before .before .before .before .before .before .before .before .before .before .before .before .before .before .before .before .before) .pre .1 .1 .0) (at .loop .i) (a .from .steps + (a .way .track .start + a .from .at - 3 - at .loop .p)) (at .loop .p) (at .loop .fractional-position) (at .loop .out) (m .result) ((c .before .before .before .before .before .before .before .before .before .before .before .before .before .before .before .before .before .before .before) .read-back .result) ((c .before .before .before .before .before .before .before .before .before .before .before .before .before .before .before .before .before .before) .read-back2 .result) ((c .before .before .before .before .before .before .before .before .before .before .before .before .before .before .before .before .before) .read-back3 .result) ((c .before .before .before .before .before .before .before .before .before .before .before .before .before .before .before .before) .read-back4 .result) (m .result .first .steps) (m .result .first .steps + m .result .second .steps) (m .result .first .steps + m .result .second .steps + m .result .third .steps) (m .result .first .steps + m .result .second .steps + m .result .third .steps + m .result .fourth .steps) _ _ ((c .before .before .before .before .before .before .before .before .before .before .before .before .before .before) .store .last .0) ((c .before .before .before .before .before .before .before .before .before .before) .store2 .last .0) ((c .before .before .before .before .before .before) .store3 .last .0) ((c .before .before) .store4 .last .0)
+          (at .loop .inv .rode) (counted (a .frames) (a .rate) ((c .before .before .before .before .before .before .before .before .before .before .before .before .before .before .before .before .before .before .before .before .before .before .before .before .before) .loop-test .taken)) (held-move _ _ _ (a .frames) (a .rate) _ (made at) (at .loop .i) (less0 _ _ ((c .before .before .before .before .before .before .before .before .before .before .before .before .before .before .before .before .before .before .before .before .before .before .before .before .before) .loop-test .taken)) (m .ensures .0)) (held-move _ _ _ (a .frames) (a .rate) _ (made at) (at .loop .i + 1) (less1 _ _ ((c .before .before .before .before .before .before .before .before .before .before .before .before .before .before .before .before .before .before .before .before .before .before .before .before .before) .loop-test .taken)) (m .ensures .1 .0)) (held-move _ _ _ (a .frames) (a .rate) _ (made at) (at .loop .i + 2) (less2 _ _ ((c .before .before .before .before .before .before .before .before .before .before .before .before .before .before .before .before .before .before .before .before .before .before .before .before .before) .loop-test .taken)) (m .ensures .1 .1 .0)) (held-move _ _ _ (a .frames) (a .rate) _ (made at) (at .loop .i + 3) (less3 _ _ ((c .before .before .before .before .before .before .before .before .before .before .before .before .before .before .before .before .before .before .before .before .before .before .before .before .before) .loop-test .taken)) (m .ensures .1 .1 .1)) refl refl refl refl ((c .before .before .before .before .before .before .before .before .before .before .before .before .before .before .before .before .before .before .before .before) .if2 .left)
           ((c .before .before .before .before .before .before .before .before .before .before .before .before .before .before .before .before .before .before .before) .read-back .ensures) ((c .before .before .before .before .before .before .before .before .before .before .before .before .before .before .before .before .before .before) .read-back2 .ensures) ((c .before .before .before .before .before .before .before .before .before .before .before .before .before .before .before .before .before) .read-back3 .ensures) ((c .before .before .before .before .before .before .before .before .before .before .before .before .before .before .before .before) .read-back4 .ensures)
           (stored-at ((c .before .before .before .before .before .before .before .before .before .before .before .before .before .before) .store .last .0) ((c .before .before .before .before .before .before .before .before .before .before .before .before .before .before .before .before .before .before .before .before .before .before .before .before .before .before) .loop .out) (2 * (c .before .before .before .before .before .before .before .before .before .before .before .before .before .before .before .before .before .before .before .before .before .before .before .before .before .before) .loop .i) ((c .before .before .before .before .before .before .before .before .before .before .before .before .before .before .before .before .before .before .before .before .before .before .before .before .before .before) .loop .i) ((c .before .before .before .before .before .before .before .before .before .before .before .before .before .before .before .before .before .before .before) .read-back .result) refl ((c .before .before .before .before .before .before .before .before .before .before .before .before .before .before) .store .ensures)) (stored-at ((c .before .before .before .before .before .before .before .before .before .before) .store2 .last .0) ((c .before .before .before .before .before .before .before .before .before .before .before .before .before .before) .store .last .0) (2 * (c .before .before .before .before .before .before .before .before .before .before .before .before .before .before .before .before .before .before .before .before .before .before .before .before .before .before) .loop .i + 2) ((c .before .before .before .before .before .before .before .before .before .before .before .before .before .before .before .before .before .before .before .before .before .before .before .before .before .before) .loop .i + 1) ((c .before .before .before .before .before .before .before .before .before .before .before .before .before .before .before .before .before .before) .read-back2 .result) (even1 _) ((c .before .before .before .before .before .before .before .before .before .before) .store2 .ensures)) (stored-at ((c .before .before .before .before .before .before) .store3 .last .0) ((c .before .before .before .before .before .before .before .before .before .before) .store2 .last .0) (2 * (c .before .before .before .before .before .before .before .before .before .before .before .before .before .before .before .before .before .before .before .before .before .before .before .before .before .before) .loop .i + 4) ((c .before .before .before .before .before .before .before .before .before .before .before .before .before .before .before .before .before .before .before .before .before .before .before .before .before .before) .loop .i + 2) ((c .before .before .before .before .before .before .before .before .before .before .before .before .before .before .before .before .before) .read-back3 .result) (even2 _) ((c .before .before .before .before .before .before) .store3 .ensures)) (stored-at ((c .before .before) .store4 .last .0) ((c .before .before .before .before .before .before) .store3 .last .0) (2 * (c .before .before .before .before .before .before .before .before .before .before .before .before .before .before .before .before .before .before .before .before .before .before .before .before .before .before) .loop .i + 6) ((c .before .before .before .before .before .before .before .before .before .before .before .before .before .before .before .before .before .before .before .before .before .before .before .before .before .before) .loop .i + 3) ((c .before .before .before .before .before .before .before .before .before .before .before .before .before .before .before .before) .read-back4 .result) (even3 _) ((c .before .before) .store4 .ensures)) (further _ _ _ _ _ _ _ _ _ (at .loop .inv .here) ((c .before .before .before .before .before .before .before .before .before .before .before .before .before .before .before .before .before .before .before .before) .if2 .left)) refl;
       here = on _ _ _ (at .loop .inv .here);
@@ -286,17 +309,17 @@ loop-again c =
       below = at .loop .inv .below;
     }
 
-add-t22 : tie.Need-add-t22 Inv-loop μ-loop
-add-t22 c = omega (arith, numbers (c .before))
-
-sub-t40 : tie.Need-sub-t40 Inv-loop μ-loop
-sub-t40 c = omega (arith, numbers (c .before .before))
+add-t23 : tie.Need-add-t23 Inv-loop μ-loop
+add-t23 c = omega (arith, numbers (c .before))
 
 sub-t41 : tie.Need-sub-t41 Inv-loop μ-loop
 sub-t41 c = omega (arith, numbers (c .before .before))
 
-add-t42 : tie.Need-add-t42 Inv-loop μ-loop
-add-t42 c = omega (arith, numbers (c .before .before .before))
+sub-t42 : tie.Need-sub-t42 Inv-loop μ-loop
+sub-t42 c = omega (arith, numbers (c .before .before))
+
+add-t43 : tie.Need-add-t43 Inv-loop μ-loop
+add-t43 c = omega (arith, numbers (c .before .before .before))
 
 same-length-2 : tie.Need-same-length-2 Inv-loop μ-loop
 same-length-2 c = (c .before .before .before) .loop .inv .rode .asLong ∙ sym ((c .before .before .before .before .before .before .before .before .before .before .before .before) .pre .1 .0 .asLong)
@@ -310,6 +333,7 @@ held-back-spec =
     (tie.spec
     Inv-loop
     μ-loop
+    advance-of-requires
     add-if1
     returns
     add-limit
@@ -350,9 +374,9 @@ held-back-spec =
     add-i
     loop-less
     loop-again
-    add-t22
-    sub-t40
+    add-t23
     sub-t41
-    add-t42
+    sub-t42
+    add-t43
     same-length-2
     returns-3)

@@ -3,16 +3,18 @@ use Prim.Native.Nat.{ℕ, _+_, _-_, _*_, _^_, _≤_, _<_}
 use mathlib.Core.Path.{_≡_, refl, sym, ap, _∙_, subst}
 use mathlib.Core.List.{List}
 use native.Mathlib.Omega.{arith}
-use lib.ListN.{length}
+use lib.ListN.{length, replicate, length-replicate}
 use lib.Ieee.{Float}
 use denote.Ref.{now}
 use borrow.Author.Needs.{needs}
 use Rattle.sound_fast_reading.specs.declared.Way.{Way}
 use Rattle.sound_fast_reading.specs.declared.Ridden.{Ridden}
 use Rattle.sound_fast_reading.specs.Rides.{Rideable, Rode}
+use Rattle.numbers.specs.Words.{advance}
 use Rattle.sound_lanes.specs.Lanes.{slow}
+use Rattle.sound_fast_reading.proofs.Moves.{slow-advance}
 use Rattle.sound_fast_reading.proofs.Rides.{place, rode-more, all-at, stored-at, stored-length}
-use Rattle.sound_fast_straight.proofs.Straight.{on-four, steady-move}
+use Rattle.sound_fast_straight.proofs.Straight.{on-four, held-move}
 use Rattle.sound_fast_straight.proofs.forward.held_on.Statement.{statement}
 use Rattle.sound_fast_straight.proofs.forward.held_on.Tie as tie
 
@@ -23,15 +25,33 @@ record Going (snd : List Float) (way : Way) (rates : List Float) (from : Ridden)
   short : p + 4 < way .track .start + way .track .high
 
 abbrev Inv-loop : tie.InvT-loop
-Inv-loop way from sound advance rate out₀ start end first p₀ fractional-position₀ i₀ out p fractional-position i =
-    Going sound way rate from out p fractional-position i
+Inv-loop way from sound rate frames out₀ advance start limit first p₀ fractional-position₀ i₀ out p fractional-position i =
+    Going sound way (replicate frames rate) from out p fractional-position i
 
 abbrev μ-loop : tie.MeasureT-loop
-μ-loop way from sound advance rate out₀ start end first p₀ fractional-position₀ i₀ out p fractional-position i =
-    length rate - i
+μ-loop way from sound rate frames out₀ advance start limit first p₀ fractional-position₀ i₀ out p fractional-position i =
+    frames - i
 
 abbrev begin : tie.At-loop Inv-loop μ-loop → tie.Start Inv-loop μ-loop
 begin c = c .before .before .before .before .before .before .before .before .before
+
+-- the frames are few, and the output has two samples for each
+most : (st : tie.Start Inv-loop μ-loop) → st .args .frames ≤ 4096
+most st = subst (λ (n : ℕ). n ≤ 4096) (length-replicate (st .args .frames) (st .args .rate)) (st .pre .0 .most)
+
+long : (c : tie.At-loop Inv-loop μ-loop) → length (c .loop .out) ≡ 2 * begin c .args .frames
+long c = let a = begin c .args in c .loop .inv .rode .asLong ∙ ap (λ (n : ℕ). 2 * n) (length-replicate (a .frames) (a .rate))
+
+-- the advance of every frame
+abbrev called : tie.At-loop Inv-loop μ-loop → tie.After-advance-of Inv-loop μ-loop
+called c = c .before .before .before .before .before .before
+
+made : (c : tie.At-loop Inv-loop μ-loop) → (let a = begin c .args in called c .advance-of .result ≡ advance (a .way .«sample_rate») (a .rate) (a .way .dt))
+made c = called c .advance-of .ensures
+
+-- so many places of the rate are in a list of it
+counted : (n : ℕ) (r : Float) {i : ℕ} → i < n → i < length (replicate n r)
+counted n r {i} h = subst (λ (m : ℕ). i < m) (sym (length-replicate n r)) h
 
 record Numbers (p s h k l f i n b : ℕ) : Type 0 where
   short : p + 4 < s + h
@@ -43,12 +63,12 @@ record Numbers (p s h k l f i n b : ℕ) : Type 0 where
   most : n ≤ 4096
   few : b + (p - (s + f)) ≤ 257 * i
 
-numbers : (c : tie.At-loop Inv-loop μ-loop) → let a = begin c .args in Numbers (c .loop .p) (a .way .track .start) (a .way .track .high) (a .way .track .count) (length (now (a .sound))) (a .from .at) (c .loop .i) (length (now (a .rate))) (a .from .steps)
+numbers : (c : tie.At-loop Inv-loop μ-loop) → let a = begin c .args in Numbers (c .loop .p) (a .way .track .start) (a .way .track .high) (a .way .track .count) (length (now (a .sound))) (a .from .at) (c .loop .i) (a .frames) (a .from .steps)
 numbers c =
     let st = begin c in
     let y = st .pre .0 .lies in
     let v = c .loop .inv in
-    record { short = v .short; inside = y .inside; lent = y .lent; small = y .short; here = v .here; within = v .rode .within; most = st .pre .0 .most; few = v .rode .few }
+    record { short = v .short; inside = y .inside; lent = y .lent; small = y .short; here = v .here; within = subst (λ (n : ℕ). c .loop .i ≤ n) (length-replicate (st .args .frames) (st .args .rate)) (v .rode .within); most = most st; few = v .rode .few }
 
 tall : (q : ℕ) {k : ℕ} → q < k → k ≤ 16777216 → q + 4 < 2 ^ 64
 tall q h l = omega arith
@@ -148,6 +168,9 @@ less2 i n h = omega arith
 less3 : (i n : ℕ) → i + 3 < n → i + 3 < n
 less3 i n h = h
 
+advance-of-requires : tie.Need-advance-of-requires Inv-loop μ-loop
+advance-of-requires c κs = search needs
+
 add-if1 : tie.Need-add-if1 Inv-loop μ-loop
 add-if1 c = record { fits = tall _ ((c .before .before .before .before) .pre .1 .0 .on .here) ((c .before .before .before .before) .pre .1 .0 .on .few) }
 
@@ -170,7 +193,7 @@ add-loop : tie.Need-add-loop Inv-loop μ-loop
 add-loop c = omega (arith, numbers c)
 
 four-held-requires : tie.Need-four-held-requires Inv-loop μ-loop
-four-held-requires c κs = ((c .before) .loop .inv .rode .below, (c .before .before .before .before .before .before .before .before .before .before) .pre .1 .1 .1 .0)
+four-held-requires c κs = let st = begin (c .before) in ((c .before) .loop .inv .rode .below, slow-advance _ _ _ _ (made (c .before)) (st .pre .0 .timeStep) (st .pre .1 .1 .1))
 
 add-p1 : tie.Need-add-p1 Inv-loop μ-loop
 add-p1 c = omega (arith, numbers (c .before .before .before), (c .before) .four-held .ensures .0 .few)
@@ -215,7 +238,7 @@ mul-store : tie.Need-mul-store Inv-loop μ-loop
 mul-store c = omega (arith, numbers (c .before .before .before .before .before .before .before .before .before .before .before .before), (c .before .before .before .before .before .before .before .before .before .before .before) .loop-test .taken)
 
 store-requires : tie.Need-store-requires Inv-loop μ-loop
-store-requires c κs = stores0 _ (length ((c .before .before .before .before .before .before .before .before .before .before .before .before) .loop .out)) _ _ refl ((c .before .before .before .before .before .before .before .before .before .before .before .before) .loop .inv .rode .asLong) ((c .before .before .before .before .before .before .before .before .before .before .before) .loop-test .taken) ((c .before .before .before .before .before .before .before .before .before .before .before .before .before .before .before .before .before .before .before .before .before) .pre .0 .most)
+store-requires c κs = stores0 _ (length ((c .before .before .before .before .before .before .before .before .before .before .before .before) .loop .out)) _ _ refl (long (c .before .before .before .before .before .before .before .before .before .before .before .before)) ((c .before .before .before .before .before .before .before .before .before .before .before) .loop-test .taken) (most (c .before .before .before .before .before .before .before .before .before .before .before .before .before .before .before .before .before .before .before .before .before))
 
 mul-store-2 : tie.Need-mul-store-2 Inv-loop μ-loop
 mul-store-2 c = omega (arith, numbers (c .before .before .before .before .before .before .before .before .before .before .before .before .before .before .before .before), (c .before .before .before .before .before .before .before .before .before .before .before .before .before .before .before) .loop-test .taken)
@@ -224,7 +247,7 @@ add-store : tie.Need-add-store Inv-loop μ-loop
 add-store c = omega (arith, numbers (c .before .before .before .before .before .before .before .before .before .before .before .before .before .before .before .before), (c .before .before .before .before .before .before .before .before .before .before .before .before .before .before .before) .loop-test .taken)
 
 store-requires-2 : tie.Need-store-requires-2 Inv-loop μ-loop
-store-requires-2 c κs = stores1 _ (length ((c .before .before .before .before .before .before .before .before .before .before .before .before .before .before .before .before) .loop .out)) _ _ (stored-length ((c .before .before .before) .store .last .0) ((c .before .before .before .before .before .before .before .before .before .before .before .before .before .before .before .before) .loop .out) ((c .before .before .before .before .before .before .before .before .before .before .before .before .before .before .before .before) .loop .i) ((c .before .before .before .before .before .before .before .before) .read-on .result) (stored-at ((c .before .before .before) .store .last .0) ((c .before .before .before .before .before .before .before .before .before .before .before .before .before .before .before .before) .loop .out) (2 * (c .before .before .before .before .before .before .before .before .before .before .before .before .before .before .before .before) .loop .i) ((c .before .before .before .before .before .before .before .before .before .before .before .before .before .before .before .before) .loop .i) ((c .before .before .before .before .before .before .before .before) .read-on .result) refl ((c .before .before .before) .store .ensures))) ((c .before .before .before .before .before .before .before .before .before .before .before .before .before .before .before .before) .loop .inv .rode .asLong) ((c .before .before .before .before .before .before .before .before .before .before .before .before .before .before .before) .loop-test .taken) ((c .before .before .before .before .before .before .before .before .before .before .before .before .before .before .before .before .before .before .before .before .before .before .before .before .before) .pre .0 .most)
+store-requires-2 c κs = stores1 _ (length ((c .before .before .before .before .before .before .before .before .before .before .before .before .before .before .before .before) .loop .out)) _ _ (stored-length ((c .before .before .before) .store .last .0) ((c .before .before .before .before .before .before .before .before .before .before .before .before .before .before .before .before) .loop .out) ((c .before .before .before .before .before .before .before .before .before .before .before .before .before .before .before .before) .loop .i) ((c .before .before .before .before .before .before .before .before) .read-on .result) (stored-at ((c .before .before .before) .store .last .0) ((c .before .before .before .before .before .before .before .before .before .before .before .before .before .before .before .before) .loop .out) (2 * (c .before .before .before .before .before .before .before .before .before .before .before .before .before .before .before .before) .loop .i) ((c .before .before .before .before .before .before .before .before .before .before .before .before .before .before .before .before) .loop .i) ((c .before .before .before .before .before .before .before .before) .read-on .result) refl ((c .before .before .before) .store .ensures))) (long (c .before .before .before .before .before .before .before .before .before .before .before .before .before .before .before .before)) ((c .before .before .before .before .before .before .before .before .before .before .before .before .before .before .before) .loop-test .taken) (most (c .before .before .before .before .before .before .before .before .before .before .before .before .before .before .before .before .before .before .before .before .before .before .before .before .before))
 
 mul-store-3 : tie.Need-mul-store-3 Inv-loop μ-loop
 mul-store-3 c = omega (arith, numbers (c .before .before .before .before .before .before .before .before .before .before .before .before .before .before .before .before .before .before .before .before), (c .before .before .before .before .before .before .before .before .before .before .before .before .before .before .before .before .before .before .before) .loop-test .taken)
@@ -233,7 +256,7 @@ add-store-2 : tie.Need-add-store-2 Inv-loop μ-loop
 add-store-2 c = omega (arith, numbers (c .before .before .before .before .before .before .before .before .before .before .before .before .before .before .before .before .before .before .before .before), (c .before .before .before .before .before .before .before .before .before .before .before .before .before .before .before .before .before .before .before) .loop-test .taken)
 
 store-requires-3 : tie.Need-store-requires-3 Inv-loop μ-loop
-store-requires-3 c κs = stores2 _ (length ((c .before .before .before .before .before .before .before .before .before .before .before .before .before .before .before .before .before .before .before .before) .loop .out)) _ _ (stored-length ((c .before .before .before) .store2 .last .0) ((c .before .before .before .before .before .before .before) .store .last .0) ((c .before .before .before .before .before .before .before .before .before .before .before .before .before .before .before .before .before .before .before .before) .loop .i + 1) ((c .before .before .before .before .before .before .before .before .before .before .before) .read-on2 .result) (stored-at ((c .before .before .before) .store2 .last .0) ((c .before .before .before .before .before .before .before) .store .last .0) (2 * (c .before .before .before .before .before .before .before .before .before .before .before .before .before .before .before .before .before .before .before .before) .loop .i + 2) ((c .before .before .before .before .before .before .before .before .before .before .before .before .before .before .before .before .before .before .before .before) .loop .i + 1) ((c .before .before .before .before .before .before .before .before .before .before .before) .read-on2 .result) (even1 _) ((c .before .before .before) .store2 .ensures)) ∙ stored-length ((c .before .before .before .before .before .before .before) .store .last .0) ((c .before .before .before .before .before .before .before .before .before .before .before .before .before .before .before .before .before .before .before .before) .loop .out) ((c .before .before .before .before .before .before .before .before .before .before .before .before .before .before .before .before .before .before .before .before) .loop .i) ((c .before .before .before .before .before .before .before .before .before .before .before .before) .read-on .result) (stored-at ((c .before .before .before .before .before .before .before) .store .last .0) ((c .before .before .before .before .before .before .before .before .before .before .before .before .before .before .before .before .before .before .before .before) .loop .out) (2 * (c .before .before .before .before .before .before .before .before .before .before .before .before .before .before .before .before .before .before .before .before) .loop .i) ((c .before .before .before .before .before .before .before .before .before .before .before .before .before .before .before .before .before .before .before .before) .loop .i) ((c .before .before .before .before .before .before .before .before .before .before .before .before) .read-on .result) refl ((c .before .before .before .before .before .before .before) .store .ensures))) ((c .before .before .before .before .before .before .before .before .before .before .before .before .before .before .before .before .before .before .before .before) .loop .inv .rode .asLong) ((c .before .before .before .before .before .before .before .before .before .before .before .before .before .before .before .before .before .before .before) .loop-test .taken) ((c .before .before .before .before .before .before .before .before .before .before .before .before .before .before .before .before .before .before .before .before .before .before .before .before .before .before .before .before .before) .pre .0 .most)
+store-requires-3 c κs = stores2 _ (length ((c .before .before .before .before .before .before .before .before .before .before .before .before .before .before .before .before .before .before .before .before) .loop .out)) _ _ (stored-length ((c .before .before .before) .store2 .last .0) ((c .before .before .before .before .before .before .before) .store .last .0) ((c .before .before .before .before .before .before .before .before .before .before .before .before .before .before .before .before .before .before .before .before) .loop .i + 1) ((c .before .before .before .before .before .before .before .before .before .before .before) .read-on2 .result) (stored-at ((c .before .before .before) .store2 .last .0) ((c .before .before .before .before .before .before .before) .store .last .0) (2 * (c .before .before .before .before .before .before .before .before .before .before .before .before .before .before .before .before .before .before .before .before) .loop .i + 2) ((c .before .before .before .before .before .before .before .before .before .before .before .before .before .before .before .before .before .before .before .before) .loop .i + 1) ((c .before .before .before .before .before .before .before .before .before .before .before) .read-on2 .result) (even1 _) ((c .before .before .before) .store2 .ensures)) ∙ stored-length ((c .before .before .before .before .before .before .before) .store .last .0) ((c .before .before .before .before .before .before .before .before .before .before .before .before .before .before .before .before .before .before .before .before) .loop .out) ((c .before .before .before .before .before .before .before .before .before .before .before .before .before .before .before .before .before .before .before .before) .loop .i) ((c .before .before .before .before .before .before .before .before .before .before .before .before) .read-on .result) (stored-at ((c .before .before .before .before .before .before .before) .store .last .0) ((c .before .before .before .before .before .before .before .before .before .before .before .before .before .before .before .before .before .before .before .before) .loop .out) (2 * (c .before .before .before .before .before .before .before .before .before .before .before .before .before .before .before .before .before .before .before .before) .loop .i) ((c .before .before .before .before .before .before .before .before .before .before .before .before .before .before .before .before .before .before .before .before) .loop .i) ((c .before .before .before .before .before .before .before .before .before .before .before .before) .read-on .result) refl ((c .before .before .before .before .before .before .before) .store .ensures))) (long (c .before .before .before .before .before .before .before .before .before .before .before .before .before .before .before .before .before .before .before .before)) ((c .before .before .before .before .before .before .before .before .before .before .before .before .before .before .before .before .before .before .before) .loop-test .taken) (most (c .before .before .before .before .before .before .before .before .before .before .before .before .before .before .before .before .before .before .before .before .before .before .before .before .before .before .before .before .before))
 
 mul-store-4 : tie.Need-mul-store-4 Inv-loop μ-loop
 mul-store-4 c = omega (arith, numbers (c .before .before .before .before .before .before .before .before .before .before .before .before .before .before .before .before .before .before .before .before .before .before .before .before), (c .before .before .before .before .before .before .before .before .before .before .before .before .before .before .before .before .before .before .before .before .before .before .before) .loop-test .taken)
@@ -242,7 +265,7 @@ add-store-3 : tie.Need-add-store-3 Inv-loop μ-loop
 add-store-3 c = omega (arith, numbers (c .before .before .before .before .before .before .before .before .before .before .before .before .before .before .before .before .before .before .before .before .before .before .before .before), (c .before .before .before .before .before .before .before .before .before .before .before .before .before .before .before .before .before .before .before .before .before .before .before) .loop-test .taken)
 
 store-requires-4 : tie.Need-store-requires-4 Inv-loop μ-loop
-store-requires-4 c κs = stores3 _ (length ((c .before .before .before .before .before .before .before .before .before .before .before .before .before .before .before .before .before .before .before .before .before .before .before .before) .loop .out)) _ _ (stored-length ((c .before .before .before) .store3 .last .0) ((c .before .before .before .before .before .before .before) .store2 .last .0) ((c .before .before .before .before .before .before .before .before .before .before .before .before .before .before .before .before .before .before .before .before .before .before .before .before) .loop .i + 2) ((c .before .before .before .before .before .before .before .before .before .before .before .before .before .before) .read-on3 .result) (stored-at ((c .before .before .before) .store3 .last .0) ((c .before .before .before .before .before .before .before) .store2 .last .0) (2 * (c .before .before .before .before .before .before .before .before .before .before .before .before .before .before .before .before .before .before .before .before .before .before .before .before) .loop .i + 4) ((c .before .before .before .before .before .before .before .before .before .before .before .before .before .before .before .before .before .before .before .before .before .before .before .before) .loop .i + 2) ((c .before .before .before .before .before .before .before .before .before .before .before .before .before .before) .read-on3 .result) (even2 _) ((c .before .before .before) .store3 .ensures)) ∙ stored-length ((c .before .before .before .before .before .before .before) .store2 .last .0) ((c .before .before .before .before .before .before .before .before .before .before .before) .store .last .0) ((c .before .before .before .before .before .before .before .before .before .before .before .before .before .before .before .before .before .before .before .before .before .before .before .before) .loop .i + 1) ((c .before .before .before .before .before .before .before .before .before .before .before .before .before .before .before) .read-on2 .result) (stored-at ((c .before .before .before .before .before .before .before) .store2 .last .0) ((c .before .before .before .before .before .before .before .before .before .before .before) .store .last .0) (2 * (c .before .before .before .before .before .before .before .before .before .before .before .before .before .before .before .before .before .before .before .before .before .before .before .before) .loop .i + 2) ((c .before .before .before .before .before .before .before .before .before .before .before .before .before .before .before .before .before .before .before .before .before .before .before .before) .loop .i + 1) ((c .before .before .before .before .before .before .before .before .before .before .before .before .before .before .before) .read-on2 .result) (even1 _) ((c .before .before .before .before .before .before .before) .store2 .ensures)) ∙ stored-length ((c .before .before .before .before .before .before .before .before .before .before .before) .store .last .0) ((c .before .before .before .before .before .before .before .before .before .before .before .before .before .before .before .before .before .before .before .before .before .before .before .before) .loop .out) ((c .before .before .before .before .before .before .before .before .before .before .before .before .before .before .before .before .before .before .before .before .before .before .before .before) .loop .i) ((c .before .before .before .before .before .before .before .before .before .before .before .before .before .before .before .before) .read-on .result) (stored-at ((c .before .before .before .before .before .before .before .before .before .before .before) .store .last .0) ((c .before .before .before .before .before .before .before .before .before .before .before .before .before .before .before .before .before .before .before .before .before .before .before .before) .loop .out) (2 * (c .before .before .before .before .before .before .before .before .before .before .before .before .before .before .before .before .before .before .before .before .before .before .before .before) .loop .i) ((c .before .before .before .before .before .before .before .before .before .before .before .before .before .before .before .before .before .before .before .before .before .before .before .before) .loop .i) ((c .before .before .before .before .before .before .before .before .before .before .before .before .before .before .before .before) .read-on .result) refl ((c .before .before .before .before .before .before .before .before .before .before .before) .store .ensures))) ((c .before .before .before .before .before .before .before .before .before .before .before .before .before .before .before .before .before .before .before .before .before .before .before .before) .loop .inv .rode .asLong) ((c .before .before .before .before .before .before .before .before .before .before .before .before .before .before .before .before .before .before .before .before .before .before .before) .loop-test .taken) ((c .before .before .before .before .before .before .before .before .before .before .before .before .before .before .before .before .before .before .before .before .before .before .before .before .before .before .before .before .before .before .before .before .before) .pre .0 .most)
+store-requires-4 c κs = stores3 _ (length ((c .before .before .before .before .before .before .before .before .before .before .before .before .before .before .before .before .before .before .before .before .before .before .before .before) .loop .out)) _ _ (stored-length ((c .before .before .before) .store3 .last .0) ((c .before .before .before .before .before .before .before) .store2 .last .0) ((c .before .before .before .before .before .before .before .before .before .before .before .before .before .before .before .before .before .before .before .before .before .before .before .before) .loop .i + 2) ((c .before .before .before .before .before .before .before .before .before .before .before .before .before .before) .read-on3 .result) (stored-at ((c .before .before .before) .store3 .last .0) ((c .before .before .before .before .before .before .before) .store2 .last .0) (2 * (c .before .before .before .before .before .before .before .before .before .before .before .before .before .before .before .before .before .before .before .before .before .before .before .before) .loop .i + 4) ((c .before .before .before .before .before .before .before .before .before .before .before .before .before .before .before .before .before .before .before .before .before .before .before .before) .loop .i + 2) ((c .before .before .before .before .before .before .before .before .before .before .before .before .before .before) .read-on3 .result) (even2 _) ((c .before .before .before) .store3 .ensures)) ∙ stored-length ((c .before .before .before .before .before .before .before) .store2 .last .0) ((c .before .before .before .before .before .before .before .before .before .before .before) .store .last .0) ((c .before .before .before .before .before .before .before .before .before .before .before .before .before .before .before .before .before .before .before .before .before .before .before .before) .loop .i + 1) ((c .before .before .before .before .before .before .before .before .before .before .before .before .before .before .before) .read-on2 .result) (stored-at ((c .before .before .before .before .before .before .before) .store2 .last .0) ((c .before .before .before .before .before .before .before .before .before .before .before) .store .last .0) (2 * (c .before .before .before .before .before .before .before .before .before .before .before .before .before .before .before .before .before .before .before .before .before .before .before .before) .loop .i + 2) ((c .before .before .before .before .before .before .before .before .before .before .before .before .before .before .before .before .before .before .before .before .before .before .before .before) .loop .i + 1) ((c .before .before .before .before .before .before .before .before .before .before .before .before .before .before .before) .read-on2 .result) (even1 _) ((c .before .before .before .before .before .before .before) .store2 .ensures)) ∙ stored-length ((c .before .before .before .before .before .before .before .before .before .before .before) .store .last .0) ((c .before .before .before .before .before .before .before .before .before .before .before .before .before .before .before .before .before .before .before .before .before .before .before .before) .loop .out) ((c .before .before .before .before .before .before .before .before .before .before .before .before .before .before .before .before .before .before .before .before .before .before .before .before) .loop .i) ((c .before .before .before .before .before .before .before .before .before .before .before .before .before .before .before .before) .read-on .result) (stored-at ((c .before .before .before .before .before .before .before .before .before .before .before) .store .last .0) ((c .before .before .before .before .before .before .before .before .before .before .before .before .before .before .before .before .before .before .before .before .before .before .before .before) .loop .out) (2 * (c .before .before .before .before .before .before .before .before .before .before .before .before .before .before .before .before .before .before .before .before .before .before .before .before) .loop .i) ((c .before .before .before .before .before .before .before .before .before .before .before .before .before .before .before .before .before .before .before .before .before .before .before .before) .loop .i) ((c .before .before .before .before .before .before .before .before .before .before .before .before .before .before .before .before) .read-on .result) refl ((c .before .before .before .before .before .before .before .before .before .before .before) .store .ensures))) (long (c .before .before .before .before .before .before .before .before .before .before .before .before .before .before .before .before .before .before .before .before .before .before .before .before)) ((c .before .before .before .before .before .before .before .before .before .before .before .before .before .before .before .before .before .before .before .before .before .before .before) .loop-test .taken) (most (c .before .before .before .before .before .before .before .before .before .before .before .before .before .before .before .before .before .before .before .before .before .before .before .before .before .before .before .before .before .before .before .before .before))
 
 add-i : tie.Need-add-i Inv-loop μ-loop
 add-i c = omega (arith, numbers (c .before .before .before .before .before .before .before .before .before .before .before .before .before .before .before .before .before .before .before .before .before .before .before .before .before .before .before), (c .before .before .before .before .before .before .before .before .before .before .before .before .before .before .before .before .before .before .before .before .before .before .before .before .before .before) .loop-test .taken)
@@ -256,22 +279,22 @@ loop-again c =
     let a = (c .before .before .before .before .before .before .before .before .before .before .before .before .before .before .before .before .before .before .before .before .before .before .before .before .before .before .before .before .before .before .before .before .before .before .before .before) .args in
     let m = (c .before .before .before .before .before .before .before .before .before .before .before .before .before .before .before .before .before .before .before .before .before .before .before .before .before) .four-held in
     record {
-      rode = on-four (now (a .sound)) (a .way) (now (a .rate)) ((c .before .before .before .before .before .before .before .before .before .before .before .before .before .before .before .before .before .before .before .before .before .before .before .before .before .before .before .before .before .before .before .before .before .before .before .before) .pre .0) ((c .before .before .before .before .before .before .before .before .before .before .before .before .before .before .before .before .before .before .before .before .before .before .before .before .before .before .before .before .before .before .before .before .before .before .before .before) .pre .1 .1 .0) (at .loop .i) (a .from .steps + (at .loop .p - (a .way .track .start + a .from .at))) (at .loop .p) (at .loop .fractional-position) (at .loop .out) (m .result) ((c .before .before .before .before .before .before .before .before .before .before .before .before .before .before .before .before .before .before .before) .read-on .result) ((c .before .before .before .before .before .before .before .before .before .before .before .before .before .before .before .before .before .before) .read-on2 .result) ((c .before .before .before .before .before .before .before .before .before .before .before .before .before .before .before .before .before) .read-on3 .result) ((c .before .before .before .before .before .before .before .before .before .before .before .before .before .before .before .before) .read-on4 .result) (at .loop .p + m .result .first .steps) (at .loop .p + m .result .first .steps + m .result .second .steps) (at .loop .p + m .result .first .steps + m .result .second .steps + m .result .third .steps) (at .loop .p + m .result .first .steps + m .result .second .steps + m .result .third .steps + m .result .fourth .steps) _ _ ((c .before .before .before .before .before .before .before .before .before .before .before .before .before .before) .store .last .0) ((c .before .before .before .before .before .before .before .before .before .before) .store2 .last .0) ((c .before .before .before .before .before .before) .store3 .last .0) ((c .before .before) .store4 .last .0)
-          (at .loop .inv .rode) (above _ _ _ (at .loop .inv .here)) ((c .before .before .before .before .before .before .before .before .before .before .before .before .before .before .before .before .before .before .before .before .before .before .before .before .before .before) .loop-test .taken) (steady-move _ _ _ (now ((c .before .before .before .before .before .before .before .before .before .before .before .before .before .before .before .before .before .before .before .before .before .before .before .before .before .before .before .before .before .before .before .before .before .before .before .before) .args .rate)) _ ((c .before .before .before .before .before .before .before .before .before .before .before .before .before .before .before .before .before .before .before .before .before .before .before .before .before .before .before .before .before .before .before .before .before .before .before .before) .pre .1 .1 .1 .1) (at .loop .i) (less0 _ _ ((c .before .before .before .before .before .before .before .before .before .before .before .before .before .before .before .before .before .before .before .before .before .before .before .before .before .before) .loop-test .taken)) (m .ensures .0)) (steady-move _ _ _ (now ((c .before .before .before .before .before .before .before .before .before .before .before .before .before .before .before .before .before .before .before .before .before .before .before .before .before .before .before .before .before .before .before .before .before .before .before .before) .args .rate)) _ ((c .before .before .before .before .before .before .before .before .before .before .before .before .before .before .before .before .before .before .before .before .before .before .before .before .before .before .before .before .before .before .before .before .before .before .before .before) .pre .1 .1 .1 .1) (at .loop .i + 1) (less1 _ _ ((c .before .before .before .before .before .before .before .before .before .before .before .before .before .before .before .before .before .before .before .before .before .before .before .before .before .before) .loop-test .taken)) (m .ensures .1 .0)) (steady-move _ _ _ (now ((c .before .before .before .before .before .before .before .before .before .before .before .before .before .before .before .before .before .before .before .before .before .before .before .before .before .before .before .before .before .before .before .before .before .before .before .before) .args .rate)) _ ((c .before .before .before .before .before .before .before .before .before .before .before .before .before .before .before .before .before .before .before .before .before .before .before .before .before .before .before .before .before .before .before .before .before .before .before .before) .pre .1 .1 .1 .1) (at .loop .i + 2) (less2 _ _ ((c .before .before .before .before .before .before .before .before .before .before .before .before .before .before .before .before .before .before .before .before .before .before .before .before .before .before) .loop-test .taken)) (m .ensures .1 .1 .0)) (steady-move _ _ _ (now ((c .before .before .before .before .before .before .before .before .before .before .before .before .before .before .before .before .before .before .before .before .before .before .before .before .before .before .before .before .before .before .before .before .before .before .before .before) .args .rate)) _ ((c .before .before .before .before .before .before .before .before .before .before .before .before .before .before .before .before .before .before .before .before .before .before .before .before .before .before .before .before .before .before .before .before .before .before .before .before) .pre .1 .1 .1 .1) (at .loop .i + 3) (less3 _ _ ((c .before .before .before .before .before .before .before .before .before .before .before .before .before .before .before .before .before .before .before .before .before .before .before .before .before .before) .loop-test .taken)) (m .ensures .1 .1 .1)) refl refl refl refl (ends _ _ _ ((c .before .before .before .before .before .before .before .before .before .before .before .before .before .before .before .before .before .before .before .before) .if2 .left))
+      rode = on-four (now (a .sound)) (a .way) (replicate (a .frames) (a .rate)) ((c .before .before .before .before .before .before .before .before .before .before .before .before .before .before .before .before .before .before .before .before .before .before .before .before .before .before .before .before .before .before .before .before .before .before .before .before) .pre .0) ((c .before .before .before .before .before .before .before .before .before .before .before .before .before .before .before .before .before .before .before .before .before .before .before .before .before .before .before .before .before .before .before .before .before .before .before .before) .pre .1 .1 .0) (at .loop .i) (a .from .steps + (at .loop .p - (a .way .track .start + a .from .at))) (at .loop .p) (at .loop .fractional-position) (at .loop .out) (m .result) ((c .before .before .before .before .before .before .before .before .before .before .before .before .before .before .before .before .before .before .before) .read-on .result) ((c .before .before .before .before .before .before .before .before .before .before .before .before .before .before .before .before .before .before) .read-on2 .result) ((c .before .before .before .before .before .before .before .before .before .before .before .before .before .before .before .before .before) .read-on3 .result) ((c .before .before .before .before .before .before .before .before .before .before .before .before .before .before .before .before) .read-on4 .result) (at .loop .p + m .result .first .steps) (at .loop .p + m .result .first .steps + m .result .second .steps) (at .loop .p + m .result .first .steps + m .result .second .steps + m .result .third .steps) (at .loop .p + m .result .first .steps + m .result .second .steps + m .result .third .steps + m .result .fourth .steps) _ _ ((c .before .before .before .before .before .before .before .before .before .before .before .before .before .before) .store .last .0) ((c .before .before .before .before .before .before .before .before .before .before) .store2 .last .0) ((c .before .before .before .before .before .before) .store3 .last .0) ((c .before .before) .store4 .last .0)
+          (at .loop .inv .rode) (above _ _ _ (at .loop .inv .here)) (counted (a .frames) (a .rate) ((c .before .before .before .before .before .before .before .before .before .before .before .before .before .before .before .before .before .before .before .before .before .before .before .before .before .before) .loop-test .taken)) (held-move _ _ _ (a .frames) (a .rate) _ (made at) (at .loop .i) (less0 _ _ ((c .before .before .before .before .before .before .before .before .before .before .before .before .before .before .before .before .before .before .before .before .before .before .before .before .before .before) .loop-test .taken)) (m .ensures .0)) (held-move _ _ _ (a .frames) (a .rate) _ (made at) (at .loop .i + 1) (less1 _ _ ((c .before .before .before .before .before .before .before .before .before .before .before .before .before .before .before .before .before .before .before .before .before .before .before .before .before .before) .loop-test .taken)) (m .ensures .1 .0)) (held-move _ _ _ (a .frames) (a .rate) _ (made at) (at .loop .i + 2) (less2 _ _ ((c .before .before .before .before .before .before .before .before .before .before .before .before .before .before .before .before .before .before .before .before .before .before .before .before .before .before) .loop-test .taken)) (m .ensures .1 .1 .0)) (held-move _ _ _ (a .frames) (a .rate) _ (made at) (at .loop .i + 3) (less3 _ _ ((c .before .before .before .before .before .before .before .before .before .before .before .before .before .before .before .before .before .before .before .before .before .before .before .before .before .before) .loop-test .taken)) (m .ensures .1 .1 .1)) refl refl refl refl (ends _ _ _ ((c .before .before .before .before .before .before .before .before .before .before .before .before .before .before .before .before .before .before .before .before) .if2 .left))
           ((c .before .before .before .before .before .before .before .before .before .before .before .before .before .before .before .before .before .before .before) .read-on .ensures) ((c .before .before .before .before .before .before .before .before .before .before .before .before .before .before .before .before .before .before) .read-on2 .ensures) ((c .before .before .before .before .before .before .before .before .before .before .before .before .before .before .before .before .before) .read-on3 .ensures) ((c .before .before .before .before .before .before .before .before .before .before .before .before .before .before .before .before) .read-on4 .ensures)
           (stored-at ((c .before .before .before .before .before .before .before .before .before .before .before .before .before .before) .store .last .0) ((c .before .before .before .before .before .before .before .before .before .before .before .before .before .before .before .before .before .before .before .before .before .before .before .before .before .before .before) .loop .out) (2 * (c .before .before .before .before .before .before .before .before .before .before .before .before .before .before .before .before .before .before .before .before .before .before .before .before .before .before .before) .loop .i) ((c .before .before .before .before .before .before .before .before .before .before .before .before .before .before .before .before .before .before .before .before .before .before .before .before .before .before .before) .loop .i) ((c .before .before .before .before .before .before .before .before .before .before .before .before .before .before .before .before .before .before .before) .read-on .result) refl ((c .before .before .before .before .before .before .before .before .before .before .before .before .before .before) .store .ensures)) (stored-at ((c .before .before .before .before .before .before .before .before .before .before) .store2 .last .0) ((c .before .before .before .before .before .before .before .before .before .before .before .before .before .before) .store .last .0) (2 * (c .before .before .before .before .before .before .before .before .before .before .before .before .before .before .before .before .before .before .before .before .before .before .before .before .before .before .before) .loop .i + 2) ((c .before .before .before .before .before .before .before .before .before .before .before .before .before .before .before .before .before .before .before .before .before .before .before .before .before .before .before) .loop .i + 1) ((c .before .before .before .before .before .before .before .before .before .before .before .before .before .before .before .before .before .before) .read-on2 .result) (even1 _) ((c .before .before .before .before .before .before .before .before .before .before) .store2 .ensures)) (stored-at ((c .before .before .before .before .before .before) .store3 .last .0) ((c .before .before .before .before .before .before .before .before .before .before) .store2 .last .0) (2 * (c .before .before .before .before .before .before .before .before .before .before .before .before .before .before .before .before .before .before .before .before .before .before .before .before .before .before .before) .loop .i + 4) ((c .before .before .before .before .before .before .before .before .before .before .before .before .before .before .before .before .before .before .before .before .before .before .before .before .before .before .before) .loop .i + 2) ((c .before .before .before .before .before .before .before .before .before .before .before .before .before .before .before .before .before) .read-on3 .result) (even2 _) ((c .before .before .before .before .before .before) .store3 .ensures)) (stored-at ((c .before .before) .store4 .last .0) ((c .before .before .before .before .before .before) .store3 .last .0) (2 * (c .before .before .before .before .before .before .before .before .before .before .before .before .before .before .before .before .before .before .before .before .before .before .before .before .before .before .before) .loop .i + 6) ((c .before .before .before .before .before .before .before .before .before .before .before .before .before .before .before .before .before .before .before .before .before .before .before .before .before .before .before) .loop .i + 3) ((c .before .before .before .before .before .before .before .before .before .before .before .before .before .before .before .before) .read-on4 .result) (even3 _) ((c .before .before) .store4 .ensures)) (further _ _ _ _ _ _ _ _ (at .loop .inv .here)) refl;
       here = on _ _ _ _ _ _ _ (at .loop .inv .here);
       short = ends _ _ _ ((c .before .before .before .before .before .before .before .before .before .before .before .before .before .before .before .before .before .before .before .before) .if2 .left);
     }
 
-sub-t22 : tie.Need-sub-t22 Inv-loop μ-loop
-sub-t22 c = omega (arith, numbers (c .before .before))
+sub-t23 : tie.Need-sub-t23 Inv-loop μ-loop
+sub-t23 c = omega (arith, numbers (c .before .before))
 
-sub-t39 : tie.Need-sub-t39 Inv-loop μ-loop
-sub-t39 c = omega (arith, numbers (c .before .before))
+sub-t40 : tie.Need-sub-t40 Inv-loop μ-loop
+sub-t40 c = omega (arith, numbers (c .before .before))
 
-add-t40 : tie.Need-add-t40 Inv-loop μ-loop
-add-t40 c = omega (arith, numbers (c .before .before .before))
+add-t41 : tie.Need-add-t41 Inv-loop μ-loop
+add-t41 c = omega (arith, numbers (c .before .before .before))
 
 same-length-2 : tie.Need-same-length-2 Inv-loop μ-loop
 same-length-2 c = (c .before .before .before) .loop .inv .rode .asLong ∙ sym ((c .before .before .before .before .before .before .before .before .before .before .before .before) .pre .1 .0 .asLong)
@@ -285,6 +308,7 @@ held-on-spec =
     (tie.spec
     Inv-loop
     μ-loop
+    advance-of-requires
     add-if1
     returns
     add-limit
@@ -320,8 +344,8 @@ held-on-spec =
     add-i
     loop-less
     loop-again
-    sub-t22
-    sub-t39
-    add-t40
+    sub-t23
+    sub-t40
+    add-t41
     same-length-2
     returns-3)

@@ -1,0 +1,2 @@
+-- Laws of a ride in parts.
+pub mod Parts

@@ -1,0 +1,262 @@
+-- `play_held` rides where the window is the trail, and plays the rest, if any, frame by frame.
+use Prim.Native.Nat.{ℕ, _+_, _-_, _*_, _/_, _^_, _≤_, _<_}
+use mathlib.Core.Path.{_≡_, sym, ap, _∙_, subst}
+use native.Mathlib.Omega.{arith}
+use lib.ListN.{length, replicate, length-replicate}
+use denote.Ref.{now}
+use Rattle.sound_lanes.specs.Lanes.{Lanes}
+use Rattle.sound_update.specs.declared.Wraps.{Wraps}
+use Rattle.sound_state.specs.declared.StaticSound.{StaticSound}
+use Rattle.sound_state.specs.Voices.{courseOf, moved}
+use Rattle.sound_state.specs.WellFormed.{Formed}
+use Rattle.sound_track.specs.Tracks.{trackOf}
+use Rattle.sound_track.specs.Trails.{Lies, trailOf, Trailing}
+use Rattle.sound_track.proofs.Same.{not-false}
+use Rattle.sound_gains.proofs.Gained.{gained-fewer}
+use Rattle.sound_held.specs.Held.{once}
+use Rattle.sound_slow_path.specs.Turns.{Playable}
+use Rattle.sound_fast_path.specs.Rides.{Tracked, riddenTo, playedFrom}
+use Rattle.sound_fast_path.proofs.Rides.{position-on, Heard, heard-of, rideable, ride-begins}
+use Rattle.sound_fast_path.proofs.Joins.{lies-of, from-few, from-long, ridden-on, ridden-whole}
+use Rattle.sound_fast_path.proofs.After.{most}
+use borrow.Author.Needs.{needs}
+use Rattle.sound_fast_path.proofs.held.play_held.Statement.{statement}
+use Rattle.sound_fast_path.proofs.held.play_held.Tie as tie
+
+-- ---- the places
+
+abbrev start : tie.After-track-of → tie.Start
+start c = c .before .before .before .before .before .before .before
+
+abbrev trail : tie.After-once → tie.Else1
+trail c = c .before .before .before .before .before .before .before .before
+
+abbrev track : tie.After-once → tie.After-track-of
+track c = trail c .before .before
+
+abbrev ridden : tie.After-once → tie.After-ride-held
+ridden c = c .before .before .before .before
+
+abbrev gains : tie.After-trail-at → tie.After-once
+gains c = c .before .before .before .before
+
+abbrev frames : tie.After-track-of → ℕ
+frames c = length (now (start c .args .out)) / 2
+
+abbrev lent : tie.After-track-of → Lanes
+lent c = once (start c .args .held) (frames c)
+
+-- ---- the track
+
+-- the track is the voice's
+track-is : (c : tie.After-track-of) → (let v = start c .args .timed .voice in c .track-of .result ≡ trackOf (v .moving .transport .«loop_region») (courseOf v))
+track-is c = let v = start c .args .timed .voice in c .track-of .ensures ∙ ap (trackOf (v .moving .transport .«loop_region»)) (c .before .before .before .course .ensures)
+
+tracked : (c : tie.After-track-of) → Tracked (now (start c .args .sound)) (start c .args .timed .voice) (c .track-of .result)
+tracked c =
+    let st = start c in
+    let v = st .args .timed .voice in
+    record { is = track-is c; lies = subst (Lies (now (st .args .sound))) (sym (track-is c)) (lies-of (now (st .args .sound)) v (st .pre .formed) (st .pre .lent)) }
+
+-- the window is the voice's trail
+trailing : (c : tie.Else1) → Trailing (now (start (c .before .before) .args .sound)) (c .before .before .track-of .result) (start (c .before .before) .args .timed .voice .moving)
+trailing c = c .before .is-trail .ensures .1 (not-false _ (c .if1 .left))
+
+few-frames : (c : tie.After-track-of) → frames c ≤ 4096
+few-frames c = let a = start c .args in most (now (a .sound)) (a .timed .voice) (a .timed .dt) (a .held) (frames c) (now (a .out)) (start c .pre)
+
+-- ---- the ride
+
+inside : (c : tie.After-once) → ridden c .ride-held .result .next ≤ frames (track c)
+inside c = subst (λ (n : ℕ). ridden c .ride-held .result .next ≤ n) (length-replicate (frames (track c)) (start (track c) .args .held .rate)) (ridden c .ride-held .ensures .within)
+
+-- what is heard once the gains are in
+heard : (c : tie.After-once)
+    → (let t = track c in
+    let a = start t .args in
+    Heard (now (a .sound)) (a .timed .dt) (lent t) (a .timed .voice) (t .track-of .result) (ridden c .ride-held .result) (c .once .last .1 .1 .0))
+heard c =
+    let t = track c in
+    let st = start t in
+    let a = st .args in
+    let x = a .held in
+    let r = ridden c .ride-held in
+    heard-of (now (a .sound)) (a .timed .dt) (lent t) (a .timed .voice) (t .track-of .result) (tracked t) (trailing (trail c)) (st .pre) (r .result) (r .last .1 .1 .1 .1 .0) (c .once .last .1 .1 .0) (r .ensures)
+    (c .once .ensures ∙ gained-fewer (x .fade) (x .volume) (x .left) (x .right) (r .result .next) (frames t) (r .last .1 .1 .1 .1 .0) (inside c))
+
+-- the voice after the ride
+abbrev passed : tie.After-trail-at → StaticSound
+passed c = moved (start (track (gains c)) .args .timed .voice) (ridden (gains c) .ride-held .result .«fractional_position») (c .trail-at .result)
+
+passed-is : (c : tie.After-trail-at)
+    → (let t = track (gains c) in
+    let v = start t .args .timed .voice in
+    let r = ridden (gains c) .ride-held .result in
+    moved v (r .«fractional_position») (c .trail-at .result) ≡ moved v (r .«fractional_position») (riddenTo (now (start t .args .sound)) (t .track-of .result) v (r .steps) (r .at)))
+passed-is c =
+    let t = track (gains c) in
+    let v = start t .args .timed .voice in
+    let r = ridden (gains c) .ride-held .result in
+    ap (moved v (r .«fractional_position»)) (c .trail-at .ensures ∙ ap (λ (w : Wraps). trailOf (now (start t .args .sound)) (t .track-of .result) (v .moving) w (r .at)) (c .before .wraps-after .ensures))
+
+passed-plays : (c : tie.After-trail-at) (m : ℕ) → m ≡ 2 * length (lent (track (gains c)) .rate)
+    → (let t = track (gains c) in
+    let v = start t .args .timed .voice in
+    let r = ridden (gains c) .ride-held .result in
+    Playable (now (start t .args .sound)) (moved v (r .«fractional_position») (c .trail-at .result)) (start t .args .timed .dt) (lent t) m)
+passed-plays c m eq =
+    let st = start (track (gains c)) in
+    record {
+      formed = subst Formed (sym (passed-is c)) (heard (gains c) .formed);
+      lent = st .pre .lent;
+      sized = st .pre .sized;
+      long = eq;
+      timeStep = st .pre .timeStep;
+      near = st .pre .near;
+    }
+
+-- ---- numbers
+
+sum-fits : (a b i n m : ℕ) → a ≤ 257 * i → b ≤ 257 * (m - i) → i ≤ n → m ≡ n → n ≤ 4096 → a + b < 2 ^ 64
+sum-fits a b i n m h k l e f = omega arith
+
+few-steps : (a i n : ℕ) → a ≤ 257 * i → i ≤ n → n ≤ 4096 → a < 4294967296
+few-steps a i n h l m = omega arith
+
+twice-in : (i n m o : ℕ) → i ≤ n → o ≡ 2 * m → m ≡ n → 2 * i ≤ o
+twice-in i n m o h e f = omega arith
+
+at-most : (i n : ℕ) → i ≤ n → n ≤ 4096 → i ≤ 4096
+at-most i n h l = omega arith
+
+as-many : (o m n : ℕ) → o ≡ 2 * m → m ≡ n → o / 2 ≡ n
+as-many o m n e f = omega arith
+
+-- ---- the needs
+
+course-requires : tie.Need-course-requires
+course-requires c κs = search needs
+
+track-of-requires : tie.Need-track-of-requires
+track-of-requires c κs = search needs
+
+is-trail-requires : tie.Need-is-trail-requires
+is-trail-requires c κs = (tracked c .lies, (start c) .pre .formed .window .four)
+
+play-requires : tie.Need-play-requires
+play-requires c κs = search needs
+
+same-length : tie.Need-same-length
+same-length c = search needs
+
+returns : tie.Need-returns
+returns c = search needs
+
+element-copy-out-first : tie.Need-element-copy-out-first
+element-copy-out-first c = search needs
+
+ride-held-requires : tie.Need-ride-held-requires
+ride-held-requires c κs =
+    let t = c .before .before .before .before .before in
+    let st = start t in
+    let a = st .args in
+    let e = trailing (c .before .before .before) in
+    (rideable (now (a .sound)) (a .timed .dt) (lent t) (a .timed .voice) (t .track-of .result) (tracked t) e (st .pre), ride-begins (now (a .sound)) (a .timed .dt) (lent t) (a .timed .voice) (t .track-of .result) (tracked t) e (st .pre) (now (a .out)) (st .pre .long))
+
+once-requires : tie.Need-once-requires
+once-requires c κs =
+    let r = c .before .before .before in
+    let t = c .before .before .before .before .before .before .before .before .before in
+    let x = start t .args .held in
+    let e = length-replicate (frames t) (x .rate) in
+    let w = subst (λ (n : ℕ). r .ride-held .result .next ≤ n) e (r .ride-held .ensures .within) in
+    (twice-in _ _ _ _ w (r .ride-held .ensures .asLong) e, at-most _ _ w (few-frames t))
+
+wraps-after-requires : tie.Need-wraps-after-requires
+wraps-after-requires c κs =
+    let o = c .before .before in
+    let r = ridden o .ride-held .ensures in
+    (position-on _ _ _ (trailing (trail o)), few-steps _ _ _ (r .few) (inside o) (few-frames (track o)))
+
+trail-at-requires : tie.Need-trail-at-requires
+trail-at-requires c κs = let o = c .before .before .before in (tracked (track o) .lies, ridden o .ride-held .ensures .on)
+
+same-length-2 : tie.Need-same-length-2
+same-length-2 c = let o = gains (c .before .before .before) in heard o .asLong ∙ sym (start (track o) .pre .long)
+
+returns-2 : tie.Need-returns-2
+returns-2 c =
+    let p = c .before .before .before in
+    let o = gains p in
+    let t = track o in
+    let a = start t .args in
+    ridden-whole (now (a .sound)) (a .timed .dt) (lent t) (a .timed .voice) _ (t .track-of .result) (ridden o .ride-held .result) (o .once .last .1 .1 .0) (passed-plays p _ (heard o .asLong)) (heard o) (passed-is p)
+    (c .if2 .taken ∙ sym (length-replicate (frames t) (a .held .rate)))
+
+play-rest-requires : tie.Need-play-rest-requires
+play-rest-requires c κs =
+    let p = c .before .before .before .before in
+    let o = gains p in
+    let t = track o in
+    let a = start t .args in
+    let e = as-many _ _ _ (heard o .asLong) (length-replicate (frames t) (a .held .rate)) in
+    (subst (λ (n : ℕ). Playable (now (a .sound)) (passed p) (a .timed .dt) (once (a .held) n) (length (o .once .last .1 .1 .0))) (sym e) (passed-plays p _ (heard o .asLong)), subst (λ (n : ℕ). ridden o .ride-held .result .next ≤ n) (sym e) (inside o))
+
+add-steps : tie.Need-add-steps
+add-steps c =
+    let q = c .before .before .before .before .before .play-rest in
+    let p = c .before .before .before .before .before .before .before .before .before .before in
+    let o = gains p in
+    let t = track o in
+    let a = start t .args in
+    let h = heard o in
+    let e = as-many _ _ _ (h .asLong) (length-replicate (frames t) (a .held .rate)) in
+    let rest = q .ensures ∙ ap (λ (n : ℕ). playedFrom (now (a .sound)) (a .timed .dt) (once (a .held) n) (ridden o .ride-held .result .next) (passed p) (o .once .last .1 .1 .0)) e in
+    let f = from-few (now (a .sound)) _ (a .timed .dt) (lent t) (o .once .last .1 .1 .0) (passed-plays p _ (h .asLong)) (ridden o .ride-held .result .next) (q .result) _ rest in
+    record { fits = sum-fits _ _ _ _ _ (h .few) f (inside o) (length-replicate (frames t) (a .held .rate)) (few-frames t) }
+
+same-length-3 : tie.Need-same-length-3
+same-length-3 c =
+    let q = c .before .before .before .before .before .play-rest in
+    let p = c .before .before .before .before .before .before .before .before .before .before in
+    let o = gains p in
+    let t = track o in
+    let a = start t .args in
+    let h = heard o in
+    let e = as-many _ _ _ (h .asLong) (length-replicate (frames t) (a .held .rate)) in
+    let rest = q .ensures ∙ ap (λ (n : ℕ). playedFrom (now (a .sound)) (a .timed .dt) (once (a .held) n) (ridden o .ride-held .result .next) (passed p) (o .once .last .1 .1 .0)) e in
+    from-long (now (a .sound)) _ (a .timed .dt) (lent t) (o .once .last .1 .1 .0) (passed-plays p _ (h .asLong)) (ridden o .ride-held .result .next) (q .result) _ (h .within) rest ∙ (h .asLong ∙ sym (start t .pre .long))
+
+returns-3 : tie.Need-returns-3
+returns-3 c =
+    let q = c .before .before .before .before .before .play-rest in
+    let p = c .before .before .before .before .before .before .before .before .before .before in
+    let o = gains p in
+    let t = track o in
+    let a = start t .args in
+    let h = heard o in
+    let e = as-many _ _ _ (h .asLong) (length-replicate (frames t) (a .held .rate)) in
+    let rest = q .ensures ∙ ap (λ (n : ℕ). playedFrom (now (a .sound)) (a .timed .dt) (once (a .held) n) (ridden o .ride-held .result .next) (passed p) (o .once .last .1 .1 .0)) e in
+    ridden-on (now (a .sound)) (a .timed .dt) (lent t) (a .timed .voice) _ (t .track-of .result) (ridden o .ride-held .result) (q .result) (o .once .last .1 .1 .0) _ h (passed-is p) rest
+
+pub play-held-spec : {M : Type 1} → statement M
+play-held-spec =
+    tie.close
+    (tie.spec
+    course-requires
+    track-of-requires
+    is-trail-requires
+    play-requires
+    same-length
+    returns
+    element-copy-out-first
+    ride-held-requires
+    once-requires
+    wraps-after-requires
+    trail-at-requires
+    same-length-2
+    returns-2
+    play-rest-requires
+    add-steps
+    same-length-3
+    returns-3)

@@ -1,0 +1,272 @@
+-- `play_spread` plays every frame and stores its two samples. The invariant: what is played so far is the definition's of the lanes so far.
+use Prim.Native.Nat.{ℕ, _+_, _-_, _*_, _/_, _≤_, _<_}
+use mathlib.Core.Path.{_≡_, refl, sym, ap, _∙_, subst}
+use mathlib.Core.List.{List}
+use native.Mathlib.Omega.{arith}
+use lib.ListN.{length, take, getD, length-set}
+use lib.Dec.{T}
+use lib.Ieee.{Float, nan}
+use denote.Ref.{now}
+use borrow.Author.Needs.{needs}
+use Rattle.sound_lanes.specs.Lanes.{Lane, Lanes, five, rows, slow}
+use Rattle.sound_lanes.proofs.Rows.{sized-parts}
+use Rattle.sound_update.specs.declared.Course.{Course}
+use Rattle.sound_update.specs.declared.Moving.{Moving}
+use Rattle.sound_state.specs.declared.StaticSound.{StaticSound}
+use Rattle.sound_state.specs.Voices.{courseOf, moved}
+use Rattle.sound_state.specs.WellFormed.{Formed}
+use Rattle.sound_state.proofs.Formed.{able-of}
+use Rattle.resampler.specs.declared.Reading.{Reading}
+use Rattle.resampler.specs.Windows.{reading}
+use Rattle.sound_slow_path.specs.Plays.{plays, lower}
+use Rattle.sound_slow_path.specs.Turns.{spread, turnOf, Turning}
+use Rattle.sound_slow_path.proofs.Loops.{laneAt, framed, played, played-none, played-more, played-all, slow-at, turned-few, turned-on}
+use Rattle.sound_slow_path.proofs.Spread.{spread-at, spread-below}
+use Rattle.sound_slow_path.proofs.play_spread.Statement.{statement}
+use Rattle.sound_slow_path.proofs.play_spread.Tie as tie
+
+record Sofar (snd : List Float) (dt : Float) (b : Lanes) (v : StaticSound) (i : ℕ) (out₀ out : List Float) (m : Moving) (f : Float) (steps low : ℕ) : Type 0 where
+  within : i ≤ length (b .rate)
+  few : steps ≤ 257 * i
+  as-long : length out ≡ length out₀
+  formed : Formed (moved v f m)
+  so-far : plays snd dt (take i (rows b)) v ≡ played (moved v f m) (take (2 * i) out) steps low
+
+abbrev Inv-loop : tie.InvT-loop
+Inv-loop timed sound fade volume left right rate out₀ voice course frames moving₀ fractional-position₀ steps₀ lowest-count₀ i₀ out moving fractional-position steps lowest-count i =
+    Sofar sound (timed .dt) (spread (length out₀ / 2) (five fade volume left right rate)) (timed .voice) i out₀ out moving fractional-position steps lowest-count
+
+abbrev μ-loop : tie.MeasureT-loop
+μ-loop timed sound fade volume left right rate out₀ voice course frames moving₀ fractional-position₀ steps₀ lowest-count₀ i₀ out moving fractional-position steps lowest-count i =
+    length out₀ / 2 - i
+
+-- ---- the places
+
+abbrev start : tie.At-loop Inv-loop μ-loop → tie.Start Inv-loop μ-loop
+start c = c .before .before .before .before .before .before .before .before .before .before .before
+
+abbrev voice : tie.At-loop Inv-loop μ-loop → StaticSound
+voice c = start c .args .timed .voice
+
+-- the lanes as they are passed, and as the block reads them
+abbrev given : tie.At-loop Inv-loop μ-loop → Lanes
+given c = let a = start c .args in five (now (a .fade)) (now (a .volume)) (now (a .left)) (now (a .right)) (now (a .rate))
+
+abbrev lent : tie.At-loop Inv-loop μ-loop → Lanes
+lent c = spread (length (now (start c .args .out)) / 2) (given c)
+
+-- the turn of the loop that a frame's steps belong to
+abbrev after-turn : tie.After-turn Inv-loop μ-loop → tie.In-loop Inv-loop μ-loop
+after-turn c = c .before .before .before .before .before .before
+
+abbrev after-lane : tie.After-turn Inv-loop μ-loop → tie.After-lane-frame Inv-loop μ-loop
+after-lane c = c .before .before .before .before
+
+-- what a turn knows of its numbers
+record Numbers (n i m steps : ℕ) : Type 0 where
+  below : i < n
+  most : n ≤ 4096
+  long : m ≡ 2 * n
+  few : steps ≤ 257 * i
+
+-- a frame of the output is a frame of the lanes
+within-lanes : (m n i : ℕ) → m ≡ 2 * n → i < m / 2 → i < n
+within-lanes m n i e h = omega arith
+
+inside : (c : tie.In-loop Inv-loop μ-loop) → c .before .loop .i < length (lent (c .before) .rate)
+inside c = within-lanes _ _ _ (start (c .before) .pre .1 .long) (c .loop-test .taken)
+
+numbers : (c : tie.In-loop Inv-loop μ-loop) → Numbers (length (lent (c .before) .rate)) (c .before .loop .i) (length (c .before .loop .out)) (c .before .loop .steps)
+numbers c =
+    let p = start (c .before) .pre .1 in
+    let s = sized-parts (lent (c .before)) (p .sized) in
+    record { below = inside c; most = s .most; long = c .before .loop .inv .as-long ∙ p .long; few = c .before .loop .inv .few }
+
+-- the frame of the lanes that is read
+lane-is : (c : tie.After-lane-frame Inv-loop μ-loop) → let l = c .before .before in laneAt (lent (l .before)) (l .before .loop .i) ≡ laneAt (given (l .before)) (c .lane-frame .result)
+lane-is c = let l = c .before .before in spread-at (given (l .before)) _ (l .before .loop .i) (c .lane-frame .result) (l .loop-test .taken) (c .lane-frame .ensures)
+
+lane-there : (c : tie.After-lane-frame Inv-loop μ-loop) → c .lane-frame .result < length (given (c .before .before .before) .rate)
+lane-there c = let l = c .before .before in spread-below (given (l .before)) _ (l .before .loop .i) (c .lane-frame .result) (inside l) (c .lane-frame .ensures)
+
+-- what a frame's steps ask
+turning : (c : tie.After-lane-frame Inv-loop μ-loop)
+    → let at = c .before .before .before in
+    let a = start at .args in
+    Turning (now (a .sound)) (courseOf (voice at)) (voice at .setup .«sample_rate») (getD (now (a .rate)) (c .lane-frame .result) nan) (a .timed .dt) (at .loop .moving) (at .loop .fractional-position)
+turning c =
+    let at = c .before .before .before in
+    let st = start at in
+    let p = st .pre .1 in
+    let v = voice at in
+    record {
+      able = able-of (now (st .args .sound)) (moved v (at .loop .fractional-position) (at .loop .moving)) (at .loop .inv .formed) (p .lent);
+      below = at .loop .inv .formed .fraction;
+      timeStep = p .timeStep;
+      slow =
+          subst (λ (l : Lane). T (slow (v .setup .«sample_rate») (st .args .timed .dt) (l .rate))) (lane-is c)
+          (slow-at (now (st .args .sound)) (st .args .timed .dt) (lent at) v (v .setup .«sample_rate») (at .loop .i) (inside (c .before .before)) (p .near));
+    }
+
+-- the steps are the definition's, at the rate that is read
+turn-here : (c : tie.After-turn Inv-loop μ-loop)
+    → let at = after-turn c .before in
+    let a = start at .args in
+    c .turn .result
+    ≡ turnOf (now (a .sound)) (courseOf (voice at)) (voice at .setup .«sample_rate») (getD (now (a .rate)) (after-lane c .lane-frame .result) nan) (a .timed .dt) (at .loop .moving) (at .loop .fractional-position)
+turn-here c =
+    let at = after-turn c .before in
+    let a = start at .args in
+    c .turn .ensures
+    ∙ ap (λ (k : Course). turnOf (now (a .sound)) k (voice at .setup .«sample_rate») (getD (now (a .rate)) (after-lane c .lane-frame .result) nan) (a .timed .dt) (at .loop .moving) (at .loop .fractional-position))
+    (at .before .before .course .ensures)
+
+-- and at the frame's own rate
+turn-is : (c : tie.After-turn Inv-loop μ-loop)
+    → let at = after-turn c .before in
+    let a = start at .args in
+    c .turn .result
+    ≡ turnOf (now (a .sound)) (courseOf (voice at)) (voice at .setup .«sample_rate») (laneAt (lent at) (at .loop .i) .rate) (a .timed .dt) (at .loop .moving) (at .loop .fractional-position)
+turn-is c =
+    let at = after-turn c .before in
+    let a = start at .args in
+    turn-here c
+    ∙ ap (λ (l : Lane). turnOf (now (a .sound)) (courseOf (voice at)) (voice at .setup .«sample_rate») (l .rate) (a .timed .dt) (at .loop .moving) (at .loop .fractional-position)) (sym (lane-is (after-lane c)))
+
+few : (c : tie.After-turn Inv-loop μ-loop) → c .turn .result .steps ≤ 257
+few c = turned-few _ _ _ _ _ _ _ (c .turn .result) (turning (after-lane c)) (turn-here c)
+
+-- ---- the needs
+
+course-requires : tie.Need-course-requires Inv-loop μ-loop
+course-requires c κs = search needs
+
+loop-holds : tie.Need-loop-holds Inv-loop μ-loop
+loop-holds c =
+    let st = c .before .before .before .before .before .before .before .before .before .before in
+    let a = st .args in
+    record {
+      within = omega arith;
+      few = omega arith;
+      as-long = refl;
+      formed = st .pre .1 .formed;
+      so-far =
+          played-none (now (a .sound)) (a .timed .dt) (spread (length (now (a .out)) / 2) (five (now (a .fade)) (now (a .volume)) (now (a .left)) (now (a .right)) (now (a .rate)))) (a .timed .voice) (now (a .out));
+    }
+
+lane-frame-requires : tie.Need-lane-frame-requires Inv-loop μ-loop
+lane-frame-requires c κs = search needs
+
+frame-heard-requires : tie.Need-frame-heard-requires Inv-loop μ-loop
+frame-heard-requires c κs =
+    let l = c .before .before in
+    let k = start (l .before) .pre .0 in
+    let h = lane-there c in
+    (l .before .loop .inv .formed .fraction, (omega (arith, h, k .fade), (omega (arith, h, k .volume), (omega (arith, h, k .left), omega (arith, h, k .right)))))
+
+mul-out : tie.Need-mul-out Inv-loop μ-loop
+mul-out c = omega (arith, numbers (c .before .before .before))
+
+mul-out-2 : tie.Need-mul-out-2 Inv-loop μ-loop
+mul-out-2 c = omega (arith, numbers (c .before .before .before))
+
+slice-write-out : tie.Need-slice-write-out Inv-loop μ-loop
+slice-write-out c = omega (arith, numbers (c .before .before .before))
+
+mul-out-3 : tie.Need-mul-out-3 Inv-loop μ-loop
+mul-out-3 c = omega (arith, numbers (c .before .before .before))
+
+add-out : tie.Need-add-out Inv-loop μ-loop
+add-out c = omega (arith, numbers (c .before .before .before))
+
+mul-out-4 : tie.Need-mul-out-4 Inv-loop μ-loop
+mul-out-4 c = omega (arith, numbers (c .before .before .before))
+
+slice-write-out-2 : tie.Need-slice-write-out-2 Inv-loop μ-loop
+slice-write-out-2 c = simp length-set (omega (arith, numbers (c .before .before .before)))
+
+lower-requires : tie.Need-lower-requires Inv-loop μ-loop
+lower-requires c κs = search needs
+
+mul-turn : tie.Need-mul-turn Inv-loop μ-loop
+mul-turn c = omega (arith, lane-there (c .before .before), start (c .before .before .before .before .before) .good)
+
+shared-slice-read-turn : tie.Need-shared-slice-read-turn Inv-loop μ-loop
+shared-slice-read-turn c = lane-there (c .before .before .before)
+
+turn-requires : tie.Need-turn-requires Inv-loop μ-loop
+turn-requires c κs =
+    let l = c .before .before .before in
+    rw (l .before .before .before .before .before .course .ensures) (turning l)
+
+add-steps : tie.Need-add-steps Inv-loop μ-loop
+add-steps c = let t = c .before .before in omega (arith, numbers (after-turn t), few t)
+
+add-i : tie.Need-add-i Inv-loop μ-loop
+add-i c = omega (arith, numbers (after-turn (c .before .before)))
+
+loop-less : tie.Need-loop-less Inv-loop μ-loop
+loop-less c = omega (arith, numbers (after-turn (c .before .before)))
+
+loop-again : tie.Need-loop-again Inv-loop μ-loop
+unfolding reading
+loop-again c =
+    let a = c .before .before in
+    let t = after-turn a in
+    let at = t .before in
+    let st = start at in
+    let n = numbers t in
+    let w = few a in
+    let read = a .before .before .before .frame-heard in
+    record {
+      within = omega (arith, n);
+      few = omega (arith, n, w);
+      as-long = simp length-set (at .loop .inv .as-long);
+      formed = turned-on (now (st .args .sound)) (st .args .timed .dt) (voice at) _ (at .loop .moving) (at .loop .fractional-position) (a .turn .result) (at .loop .inv .formed) (turning (after-lane a)) (turn-here a);
+      so-far =
+          played-more (now (st .args .sound)) (st .args .timed .dt) (lent at) (voice at) (at .loop .i) (at .loop .steps) (at .loop .lowest-count) (at .loop .out) (at .loop .moving) (at .loop .fractional-position)
+          (read .result .frame) (a .before .before .lower .result) (a .turn .result) (inside t) (omega (arith, n)) (at .loop .inv .so-far)
+          (ap (λ (r : Reading). r .frame) (read .ensures) ∙ ap (λ (l : Lane). framed (at .loop .moving) (at .loop .fractional-position) l) (sym (lane-is (after-lane a)))) (a .before .before .lower .ensures ∙ ap (λ (r : Reading). lower (at .loop .lowest-count) (r .count)) (read .ensures)) (turn-is a);
+    }
+
+same-length : tie.Need-same-length Inv-loop μ-loop
+same-length c = c .before .before .loop .inv .as-long
+
+all-lanes : (m n i : ℕ) → m ≡ 2 * n → m / 2 ≤ i → n ≤ i
+all-lanes m n i e h = omega arith
+
+returns : tie.Need-returns Inv-loop μ-loop
+returns c =
+    let l = c .before in
+    let at = l .before in
+    let p = start at .pre .1 in
+    played-all _ _ (lent at) _ (at .loop .i) (at .loop .steps) (at .loop .lowest-count) (at .loop .out) _ (all-lanes _ _ _ (p .long) (l .loop-test .left)) (at .loop .inv .within) (at .loop .inv .as-long ∙ p .long)
+    (at .loop .inv .so-far)
+
+pub play-spread-spec : {M : Type 1} → statement M
+play-spread-spec =
+    tie.close
+    (tie.spec
+    Inv-loop
+    μ-loop
+    course-requires
+    loop-holds
+    lane-frame-requires
+    frame-heard-requires
+    mul-out
+    mul-out-2
+    slice-write-out
+    mul-out-3
+    add-out
+    mul-out-4
+    slice-write-out-2
+    lower-requires
+    mul-turn
+    shared-slice-read-turn
+    turn-requires
+    add-steps
+    add-i
+    loop-less
+    loop-again
+    same-length
+    returns)
