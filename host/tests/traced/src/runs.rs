@@ -130,6 +130,14 @@ pub const COMPILED: Codec = Codec {
     salvage: entries::salvage,
 };
 
+/// The compiled ones of version 2.
+pub const COMPILED_V2: Codec = Codec {
+    version: Version::Second,
+    read: entries::read_v2,
+    write: entries::write_v2,
+    salvage: page::second::salvage,
+};
+
 impl Codec {
     /// What is read at a place must be the page's answer. Tells the refusal.
     ///

@@ -16,7 +16,7 @@ pub const LONGEST: usize = 24_598;
 pub fn is_length(kind: u8, length: u16) -> bool {
     match kind {
         4 => [65, 73, 81, 89, 97].contains(&length),
-        5 => (41..=24_593).contains(&length) && (length - 17) % 24 == 0,
+        5 => (41..=24_593).contains(&length) && (length - 17).is_multiple_of(24),
         _ => super::is_length(kind, length),
     }
 }
