@@ -22,6 +22,7 @@ mod replay;
 mod report;
 mod salvage;
 mod settings;
+mod sound;
 mod summary;
 mod table;
 mod verbs;
@@ -87,6 +88,7 @@ fn obey(words: &[OsString], out: &mut Out<'_>, complain: &mut dyn FnMut(&Fault))
         Asked::Summary { trace } => summary::summary(&trace, out).map(|()| true),
         Asked::Replay { trace, form } => replay::replay(&trace, form, out).map(|()| true),
         Asked::Salvage { trace, to } => salvage::salvage(&trace, &to, out).map(|()| true),
+        Asked::ShowSounds { files, rate } => sound::show(&files, rate, out, complain),
         Asked::ShowSettings { file, rate } => settings::show(&file, rate, out).map(|()| true),
         Asked::SaveSettings { save, to } => settings::save(&save, &to, out).map(|()| true),
         Asked::ShowLoops { folder, rate } => loops::show(&folder, rate, out, complain),

@@ -55,6 +55,13 @@ pub enum Asked {
         /// Where its records go.
         to: PathBuf,
     },
+    /// What is in sounds.
+    ShowSounds {
+        /// Their files.
+        files: Vec<PathBuf>,
+        /// Frames a second.
+        rate: u32,
+    },
     /// Saved settings shown.
     ShowSettings {
         /// Their file.
@@ -199,7 +206,7 @@ impl Given {
                 Fault::usage(format!("{} needs a word after it, {value}", option.name))
             })?,
         };
-        match self.has(option.name) {
+        match self.has(option.name) && !option.repeats() {
             true => Err(Fault::usage(format!("{} is given twice", option.name))),
             false => {
                 self.options.push((option, value));
@@ -338,6 +345,10 @@ impl Given {
             "salvage" => Asked::Salvage {
                 trace: self.path(0),
                 to: self.path(1),
+            },
+            "sound" => Asked::ShowSounds {
+                files: self.paths(),
+                rate,
             },
             "settings show" => Asked::ShowSettings {
                 file: self.path(0),
@@ -481,12 +492,17 @@ fn is_of(kind: Kind, name: &str, word: &OsStr) -> Result<()> {
     let good = match kind {
         // What is wrong with a pattern is said where it is read.
         Kind::File | Kind::Folder | Kind::Verb | Kind::Pattern => true,
+        Kind::Sound if word == "-" => {
+            return Err(Fault::usage(format!(
+                "{name} is a file on a disk, and cannot be '-'"
+            )));
+        }
         Kind::NewFile if word == "-" => {
             return Err(Fault::usage(format!(
                 "{name} is a file to write, and cannot be '-'"
             )));
         }
-        Kind::NewFile => true,
+        Kind::NewFile | Kind::Sound => true,
         Kind::OneOf(words) => text.is_some_and(|text| words.contains(&text)),
         Kind::Number(from, to) => text
             .and_then(|text| text.parse().ok())
@@ -558,7 +574,7 @@ mod tests {
 
     #[test]
     fn wrong_words_are_told() {
-        let all = "replay, salvage, settings, loops, report, audit, explain, help, version, man or completions";
+        let all = "replay, salvage, sound, settings, loops, report, audit, explain, help, version, man or completions";
         for (words, told) in [
             ("", &*format!("say what to do: {all}")),
             (
@@ -568,7 +584,7 @@ mod tests {
             ("replay", "replay needs TRACE: the trace"),
             (
                 "replay a b",
-                "'b' is one word too many: the words are 'cableowl replay [--log FORM] [--summary] TRACE'",
+                "'b' is one word too many: the words are 'cableowl replay [--log FORM] [--summary] [--sound FILE].. [--sounds FOLDER] [--out OUT] TRACE'",
             ),
             ("replay --log 2 a", "--log must be 1 or 3, and not '2'"),
             ("replay --csv a", "replay has no option --csv"),

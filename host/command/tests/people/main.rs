@@ -14,6 +14,7 @@ mod report;
 mod room;
 mod salvage;
 mod settings;
+mod sound;
 mod students;
 mod tools;
 mod week;
