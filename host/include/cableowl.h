@@ -21,9 +21,9 @@
  * 13  a level above 601
  * 14  a ramp's count 0 or above 65,536, or not its lane's length
  * 15  bytes that do not begin with the mark of a record
- * 16  a trace record of an unknown kind
- * 17  a trace record with a length that its kind cannot have, a wrong tag, a number above its limit, or fields that do
- *     not end where the length says; in writing, a field above its limit
+ * 16  a trace record of an unknown kind; version 1 knows kinds 1 to 3, version 2 kinds 1 to 5
+ * 17  a trace record with a length that its kind cannot have, a wrong tag, a number above its limit, fields that do not
+ *     end where the length says, or a wrong checksum; in writing, a field above its limit or lanes of a wrong length
  * 18  bytes that end inside a record
  * 19  a buffer with too little space for a record
  * 20  loop table: slot above 15
@@ -32,6 +32,7 @@
  * 23  saved settings or a hall's loops of a version that the reader does not know
  * 24  a field of saved settings or of a hall's loops wrong, their length, or the CRC
  * 25  salvage: an output shorter than the input
+ * 26  replay of a trace: sounds are given and none is the recorded one
  * 27  two copies of a loop table are over sounds of different frame counts
  * 28  two copies of a loop table have the same number of changes for a hall and different slots
  * 29  only in the Rust crate's player: a seek when 64 already wait for the next frame; no C call returns it
@@ -114,6 +115,7 @@ enum {
     CABLEOWL_REFUSAL_VERSION = 23,
     CABLEOWL_REFUSAL_SAVED_FIELD = 24,
     CABLEOWL_REFUSAL_OUTPUT = 25,
+    CABLEOWL_REFUSAL_OTHER_SOUND = 26,
     CABLEOWL_REFUSAL_OTHER_FRAMES = 27,
     CABLEOWL_REFUSAL_TWO_HALVES = 28
 };
@@ -317,12 +319,19 @@ typedef struct CableowlLoopHalf {
     CableowlLoopSlot slots[8];
 } CableowlLoopHalf;
 
-/* CableowlRecord's kind: docs/formats/TRACE.md. */
-enum { CABLEOWL_KIND_CREATION = 1, CABLEOWL_KIND_COMMANDS = 2, CABLEOWL_KIND_BLOCK = 3 };
+/* CableowlRecord's kind: docs/formats/TRACE.md. The last two are in version 2 only. */
+enum {
+    CABLEOWL_KIND_CREATION = 1,
+    CABLEOWL_KIND_COMMANDS = 2,
+    CABLEOWL_KIND_BLOCK = 3,
+    CABLEOWL_KIND_GIVEN_CREATION = 4,
+    CABLEOWL_KIND_LANES = 5
+};
 
 /* A record of a trace. Its numbers are in the order of docs/formats/TRACE.md, floats by their bits. Each field has a
  * number, and an absent one is 0: a creation has 77 (13, then the 64 frames of the sound, the left sample in the low
- * half), a command set 12, a block 10. The numbers after them are 0. */
+ * half), a command set 12, a block 10. A creation over a given sound has 17 (12, the frame count, then the digest in
+ * four numbers, its first byte the lowest), a block with lanes 5; its lanes are no numbers. The numbers after them are 0. */
 typedef struct CableowlRecord {
     uint64_t refusal;
     uint64_t kind;       /* if refused: 0 */
@@ -487,6 +496,18 @@ CableowlSent cableowl_write_record(uint8_t *buffer, size_t buffer_len, uint64_t 
  * not change. If the output is shorter than the bytes, it is refused with 25 and writes nothing. */
 CableowlSaved cableowl_salvage(const uint8_t *bytes, size_t bytes_len, uint8_t *out, size_t out_len);
 
+/* Reads the record of any of the five kinds at an offset of a trace of version 2. The lanes of a block with lanes stay in the
+ * bytes: the 24 * frames bytes before the last four of the record, which ends at `next`. A record has at most 24,598 bytes, so
+ * the next 24,598 bytes of a longer trace, or all that are left, are enough. */
+CableowlRecord cableowl_read_record_v2(const uint8_t *bytes, size_t bytes_len, uint64_t at);
+
+/* Writes a record of any of the five kinds, for cableowl_read_record_v2 to read, and its checksum if the kind has one. The
+ * lanes are the bytes of a block with lanes, 24 a frame: fade, volume, left, right (f32), rate (f64). A creation over a given
+ * sound has no lanes, and the other kinds do not look at them. Refused as cableowl_write_record, also with 17 for lanes of a
+ * wrong length. */
+CableowlSent cableowl_write_record_v2(uint8_t *buffer, size_t buffer_len, uint64_t at, uint64_t kind, const uint64_t *values,
+                                      const uint8_t *lanes, size_t lanes_len);
+
 /* A replay before any record. */
 CableowlReplay cableowl_replay(void);
 
@@ -538,17 +559,17 @@ static inline const char *cableowl_refusal_text(uint64_t number) {
         return "no record begins here: saved settings begin with the bytes 5E 71, a hall's loops with A7 4C, a record "
                "of a trace with A5 1D";
     case CABLEOWL_REFUSAL_KIND:
-        return "a record of a trace is of kind 1, a creation, 2, a command set, or 3, a block: salvage the trace, "
-               "or read it with a newer reader";
+        return "a record of a trace is of kind 1 to 3, or in version 2 of kind 1 to 5: read the trace as version 2 "
+               "or with a newer reader, or salvage it";
     case CABLEOWL_REFUSAL_RECORD:
         return "a record of a trace holds a sound of at most 64 frames, or a block of at most 1,024 with constant "
-               "lanes: cut the block at the limit or at the change; if the record was read, its bytes are damaged: "
-               "salvage the trace";
+               "lanes (in version 2, with 24 bytes of lanes a frame): cut the block at the limit or at the change; if "
+               "the record was read, its bytes are damaged: salvage the trace";
     case CABLEOWL_REFUSAL_TRUNCATED:
         return "the bytes end inside the record: give the rest of it, then read again";
     case CABLEOWL_REFUSAL_ROOM:
         return "the buffer is too short: saved settings have 25 bytes, or 26 with a pitch, a hall's loops 666, a "
-               "record of a trace at most 575";
+               "record of a trace at most 575, or in version 2 24,598";
     case CABLEOWL_REFUSAL_LOOP_SLOT:
         return "a loop table has the slots 0 to 15";
     case CABLEOWL_REFUSAL_OTHER_HALL:
@@ -563,6 +584,9 @@ static inline const char *cableowl_refusal_text(uint64_t number) {
                "sound, a name has at most 64 bytes of UTF-8, and in bytes their length is 661 and their CRC right";
     case CABLEOWL_REFUSAL_OUTPUT:
         return "the output of a salvage must be at least as long as the trace";
+    case CABLEOWL_REFUSAL_OTHER_SOUND:
+        return "none of the given sounds is the recorded one: give the sound whose frame count and SHA-256 the record "
+               "names, or give no sound";
     case CABLEOWL_REFUSAL_OTHER_FRAMES:
         return "the two copies are of loop tables over different sounds: merge copies over one sound";
     case CABLEOWL_REFUSAL_TWO_HALVES:

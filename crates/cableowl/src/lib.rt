@@ -56,8 +56,10 @@ pub use saved::cableowl_store_settings;
 use sound_slow_path::Processed;
 use sound_state::StaticSound;
 pub use traces::cableowl_read_record;
+pub use traces::cableowl_read_record_v2;
 pub use traces::cableowl_salvage;
 pub use traces::cableowl_write_record;
+pub use traces::cableowl_write_record_v2;
 
 #[repr(C)]
 pub struct CableowlCreated {

@@ -247,6 +247,8 @@ pub record Coincide : Type 0 where
   pub cableowl-cableowl-load-half : DecidesWith (λ k r s. s .1 .0 .now) cableowl.cableowl_load_half.Reads.Post
   pub cableowl-cableowl-read-record : Decides cableowl.cableowl_read_record.Reads.Post
   pub cableowl-cableowl-write-record : DecidesWith (λ k r s. s .0 .now) cableowl.cableowl_write_record.Reads.Post
+  pub cableowl-cableowl-read-record-v2 : Decides cableowl.cableowl_read_record_v2.Reads.Post
+  pub cableowl-cableowl-write-record-v2 : DecidesWith (λ k r s. s .0 .now) cableowl.cableowl_write_record_v2.Reads.Post
   pub cableowl-cableowl-salvage : DecidesWith (λ k r s. s .1 .0 .now) cableowl.cableowl_salvage.Reads.Post
   pub cableowl-cableowl-replay : Decides cableowl.cableowl_replay.Reads.Post
   pub cableowl-cableowl-replay-step : DecidesWith {B = List Float

@@ -105,6 +105,8 @@ pub enum Refusal {
     SavedField,
     /// 25: a salvage's output.
     Output,
+    /// 26: sounds are given to a replay, and none is the recorded one.
+    OtherSound,
     /// 27: two copies of a loop table over sounds of different frame counts.
     OtherFrames,
     /// 28: two copies of a loop table that have the same number of changes for a hall and different
@@ -154,6 +156,7 @@ impl Refusal {
             Self::Version => 23,
             Self::SavedField => 24,
             Self::Output => 25,
+            Self::OtherSound => 26,
             Self::OtherFrames => 27,
             Self::TwoHalves => 28,
             Self::Queue => 29,
@@ -185,6 +188,7 @@ impl Refusal {
         Self::Version,
         Self::SavedField,
         Self::Output,
+        Self::OtherSound,
         Self::OtherFrames,
         Self::TwoHalves,
     ];
@@ -292,16 +296,16 @@ impl Refusal {
                 "no record begins here: saved settings begin with the bytes 5E 71, a hall's loops with A7 4C, a record of a trace with A5 1D"
             }
             Self::Kind => {
-                "a record of a trace is of kind 1, a creation, 2, a command set, or 3, a block: salvage the trace, or read it with a newer reader"
+                "a record of a trace is of kind 1 to 3, or in version 2 of kind 1 to 5: read the trace as version 2 or with a newer reader, or salvage it"
             }
             Self::Record => {
-                "a record of a trace holds a sound of at most 64 frames, or a block of at most 1,024 with constant lanes: cut the block at the limit or at the change; if the record was read, its bytes are damaged: salvage the trace"
+                "a record of a trace holds a sound of at most 64 frames, or a block of at most 1,024 with constant lanes (in version 2, with 24 bytes of lanes a frame): cut the block at the limit or at the change; if the record was read, its bytes are damaged: salvage the trace"
             }
             Self::Truncated => {
                 "the bytes end inside the record: give the rest of it, then read again"
             }
             Self::Room => {
-                "the buffer is too short: saved settings have 25 bytes, or 26 with a pitch, a hall's loops 666, a record of a trace at most 575"
+                "the buffer is too short: saved settings have 25 bytes, or 26 with a pitch, a hall's loops 666, a record of a trace at most 575, or in version 2 24,598"
             }
             Self::Version => {
                 "the record is of a version that this reader does not know: load it with a newer reader"
@@ -310,6 +314,9 @@ impl Refusal {
                 "saved settings need a loop that starts before it ends, a finite rate, a pitch of -24 to 24 (0 in version 1), and in bytes the length of their version, 21 or 22; a hall's loops must lie in their sound, a name has at most 64 bytes of UTF-8, and in bytes their length is 661 and their CRC right"
             }
             Self::Output => "the output of a salvage must be at least as long as the trace",
+            Self::OtherSound => {
+                "none of the given sounds is the recorded one: give the sound whose frame count and SHA-256 the record names, or give no sound"
+            }
             Self::Ramp => {
                 "a ramp has 1 to 65,536 frames, and its lane as many: cut a longer fade into several ramps"
             }

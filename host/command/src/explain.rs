@@ -78,7 +78,7 @@ const READING: &str = "reading a trace, saved settings, or a hall's loops";
 const TRACE: &str = "reading or writing a trace";
 
 /// All refusals.
-const REFUSALS: [Explained; 28] = [
+const REFUSALS: [Explained; 29] = [
     explained(
         1,
         "a state or a sound that does not fit",
@@ -179,7 +179,7 @@ const REFUSALS: [Explained; 28] = [
         17,
         "a field of a record",
         TRACE,
-        "In reading, the bytes are damaged: 'cableowl salvage' copies the complete records. In writing, cut the sound to 64 frames and the block to 1,024",
+        "In reading, the bytes are damaged: 'cableowl salvage' copies the complete records. In writing, cut the sound to 64 frames and the block to 1,024, and give 24 bytes of lanes a frame where the lanes change",
     ),
     explained(
         18,
@@ -191,7 +191,7 @@ const REFUSALS: [Explained; 28] = [
         19,
         "a buffer that is too short",
         "writing a trace, saved settings, or a hall's loops",
-        "Give a buffer of 575 bytes for a record of a trace, 26 for saved settings, or 666 for a hall's loops",
+        "Give a buffer of 575 bytes for a record of a trace, 24,598 in version 2, 26 for saved settings, or 666 for a hall's loops",
     ),
     explained(
         20,
@@ -230,6 +230,12 @@ const REFUSALS: [Explained; 28] = [
         "Give the call an output as long as the trace. The command does that itself",
     ),
     explained(
+        26,
+        "another sound than the recorded one",
+        "the replay of a trace over given sounds",
+        "Give the sound that was played, its samples as a file of f32 numbers: its 'sha256sum' is the digest in the record. Or give no sound, if only positions and steps matter",
+    ),
+    explained(
         27,
         "copies of loop tables over different sounds",
         "a merge of two copies",
@@ -249,7 +255,7 @@ const REFUSALS: [Explained; 28] = [
     ),
 ];
 
-/// The numbers of the refusals, in words: `1 to 25 or 27 to 29`.
+/// The numbers of the refusals, in words: `1 to 29`.
 pub fn numbers() -> String {
     let mut spans: Vec<(u32, u32)> = Vec::new();
     for number in REFUSALS.iter().map(|refusal| refusal.number) {

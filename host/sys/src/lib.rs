@@ -601,6 +601,18 @@ unsafe extern "C" {
         out: *mut u8,
         out_len: usize,
     ) -> Saved;
+
+    pub fn cableowl_read_record_v2(bytes: *const u8, bytes_len: usize, at: u64) -> Record;
+
+    pub fn cableowl_write_record_v2(
+        buffer: *mut u8,
+        buffer_len: usize,
+        at: u64,
+        kind: u64,
+        values: *const u64,
+        lanes: *const u8,
+        lanes_len: usize,
+    ) -> Sent;
 }
 
 #[inline]
@@ -616,6 +628,35 @@ pub fn write_record(buffer: &mut [u8], at: u64, kind: u64, values: &[u64; 80]) -
 #[inline]
 pub fn salvage(bytes: &[u8], out: &mut [u8]) -> Saved {
     unsafe { cableowl_salvage(bytes.as_ptr(), bytes.len(), out.as_mut_ptr(), out.len()) }
+}
+
+/// A record of version 2. The lanes of a kind 5 stay in the bytes, the `24 * frames` before the last four of the
+/// record.
+#[inline]
+pub fn read_record_v2(bytes: &[u8], at: u64) -> Record {
+    unsafe { cableowl_read_record_v2(bytes.as_ptr(), bytes.len(), at) }
+}
+
+#[inline]
+pub fn write_record_v2(
+    buffer: &mut [u8],
+    at: u64,
+    kind: u64,
+    values: &[u64; 80],
+    lanes: &[u8],
+) -> Sent {
+    let (room, size) = (buffer.as_mut_ptr(), buffer.len());
+    unsafe {
+        cableowl_write_record_v2(
+            room,
+            size,
+            at,
+            kind,
+            values.as_ptr(),
+            lanes.as_ptr(),
+            lanes.len(),
+        )
+    }
 }
 
 /// A replay of a trace: the voice, the samples of its sound, the blocks counted, the next record's place.

@@ -52,6 +52,12 @@ static void write_record(void) {
     refusal = (uint32_t)cableowl_write_record(saved, sizeof saved, 0, CABLEOWL_KIND_CREATION, numbers).refusal;
 }
 static void salvage(void) { refusal = (uint32_t)cableowl_salvage(trace, sizeof trace, saved, sizeof saved).refusal; }
+static uint8_t sealed[24598], resealed[24598], lanes[24 * 1024];
+static uint64_t frames[80] = {1024};
+static void read_record_v2(void) { refusal = (uint32_t)cableowl_read_record_v2(sealed, sizeof sealed, 0).refusal; }
+static void write_record_v2(void) {
+    refusal = (uint32_t)cableowl_write_record_v2(resealed, sizeof resealed, 0, CABLEOWL_KIND_LANES, frames, lanes, sizeof lanes).refusal;
+}
 static CableowlReplay replay;
 static float lent[128], heard[2048];
 static void replay_step(void) {
@@ -105,6 +111,8 @@ int main(void) {
         {"read_record", read_record, TRACE, 0},
         {"write_record", write_record, TRACE, 0},
         {"salvage", salvage, TRACE, 0},
+        {"read_record_v2", read_record_v2, TRACE, 0},
+        {"write_record_v2", write_record_v2, TRACE, 0},
         {"replay_step", replay_step, TRACE, 2},
     };
     for (int i = 0; i < FRAMES; i += 1) {
@@ -136,6 +144,10 @@ int main(void) {
     int faults = 0;
     if (cableowl_write_record(trace, sizeof trace, 0, CABLEOWL_KIND_CREATION, numbers).next != sizeof trace) {
         printf("differs: the longest record\n");
+        faults += 1;
+    }
+    if (cableowl_write_record_v2(sealed, sizeof sealed, 0, CABLEOWL_KIND_LANES, frames, lanes, sizeof lanes).next != sizeof sealed) {
+        printf("differs: the longest record of version 2\n");
         faults += 1;
     }
     used(nothing); /* once before, so that what the linker does at a first thread is not counted */

@@ -50,7 +50,7 @@ fn every_refusal_is_explained_by_the_library_s_sentence() {
         "{both}"
     );
     room.run(&["explain", "30"]).is_no_use(
-        "WORD must be a refusal's number (1 to 25 or 27 to 29), a state's (0 to 6), or a state's name, and not '30'",
+        "WORD must be a refusal's number (1 to 29), a state's (0 to 6), or a state's name, and not '30'",
         "explain",
     );
 }

@@ -1,0 +1,16 @@
+-- `cableowl_write_record_v2` meets its contract: what `trace_sealed::write` answers and leaves. Assumes nothing.
+use borrow.Author.Needs.{needs}
+use Rattle.cableowl.proofs.traces.cableowl_write_record_v2.Statement.{statement}
+use Rattle.cableowl.proofs.traces.cableowl_write_record_v2.Tie as tie
+
+write-requires : tie.Need-write-requires
+write-requires c κs = search needs
+
+same-length : tie.Need-same-length
+same-length c = search needs
+
+returns : tie.Need-returns
+returns c = c .before .before .write .ensures
+
+pub cableowl-write-record-v2-spec : {M : Type 1} → statement M
+cableowl-write-record-v2-spec = tie.close (tie.spec write-requires same-length returns)
