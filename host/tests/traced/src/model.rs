@@ -1,5 +1,7 @@
 //! A second player of records, over the voice's own calls: what a replay must answer.
 
+pub mod second;
+
 use cableowl::{
     Lanes, Refusal, StaticSound,
     trace::{Line, MAX_TRACED_FRAMES, Record, Refused, ShortSound, Step, Trace},

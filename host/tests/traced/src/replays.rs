@@ -1,5 +1,7 @@
 //! The compiled step of a replay: traces in pieces against the model, and any bytes as the replay and as the trace.
 
+pub mod second;
+
 use cableowl::trace::{Replay, Step};
 use random::Random;
 use raw::{CableowlReplay, CableowlSignals, Held, REPLAY_BYTES, ReplayBytes};
@@ -12,7 +14,8 @@ use crate::{
 };
 
 /// The samples by their bits; a NaN is one, whatever its bits.
-fn bits(samples: &[f32]) -> Vec<u32> {
+#[must_use]
+pub fn bits(samples: &[f32]) -> Vec<u32> {
     let bits = |sample: &f32| match sample.is_nan() {
         true => f32::NAN.to_bits(),
         false => sample.to_bits(),
