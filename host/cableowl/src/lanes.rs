@@ -18,7 +18,9 @@ impl<T: Copy> Lane<'_, T> {
     pub(crate) fn part(self, part: &Range<usize>) -> Self {
         match self {
             Self::Constant(number) => Self::Constant(number),
-            Self::PerFrame(numbers) => Self::PerFrame(numbers.get(part.clone()).unwrap_or_default()),
+            Self::PerFrame(numbers) => {
+                Self::PerFrame(numbers.get(part.clone()).unwrap_or_default())
+            }
         }
     }
 }

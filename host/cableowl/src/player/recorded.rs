@@ -213,7 +213,15 @@ impl<F: FnMut(Line)> Watch for Cutting<'_, '_, F> {
         voice: &StaticSound,
         counts: Processed,
     ) {
-        played(self.tape, &mut self.log, lanes, time_step, signals, voice, counts);
+        played(
+            self.tape,
+            &mut self.log,
+            lanes,
+            time_step,
+            signals,
+            voice,
+            counts,
+        );
     }
 }
 
@@ -246,7 +254,15 @@ impl<F: FnMut(Line)> Watch for Whole<'_, '_, F> {
             }
             *self.started = voice.state().started;
         }
-        played(self.tape, &mut self.log, lanes, time_step, signals, voice, counts);
+        played(
+            self.tape,
+            &mut self.log,
+            lanes,
+            time_step,
+            signals,
+            voice,
+            counts,
+        );
     }
 }
 

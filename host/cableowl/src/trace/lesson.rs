@@ -132,9 +132,8 @@ impl Lesson {
     pub(super) fn is(&self, samples: &[f32]) -> bool {
         let same = |(one, other): (&f32, &f32)| one.to_bits() == other.to_bits();
         let is_short = self.samples.len() <= 2 * MAX_SOUND_FRAMES;
-        let equal = || {
-            self.samples.len() == samples.len() && self.samples.iter().zip(samples).all(same)
-        };
+        let equal =
+            || self.samples.len() == samples.len() && self.samples.iter().zip(samples).all(same);
         std::ptr::eq(&*self.samples, samples) || (is_short && equal())
     }
 }

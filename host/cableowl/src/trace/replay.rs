@@ -646,11 +646,7 @@ impl Replay {
     /// # Errors
     ///
     /// As [`replay`].
-    pub fn print(
-        mut self,
-        trace: impl Read,
-        mut to: impl Write,
-    ) -> io::Result<Option<Refused>> {
+    pub fn print(mut self, trace: impl Read, mut to: impl Write) -> io::Result<Option<Refused>> {
         let mut reader = TraceReader::with_version(trace, self.version);
         while let Some(step) = reader.step(&mut self) {
             match step {

@@ -269,7 +269,9 @@ fn laned_block<'a>(values: &Values, bytes: &'a [u8]) -> LanedBlock<'a> {
     let lanes = FrameNumbers::BYTES * values[0] as usize;
     let end = bytes.len().saturating_sub(AFTER_LANES);
     LanedBlock {
-        lanes: bytes.get(end.saturating_sub(lanes)..end).unwrap_or_default(),
+        lanes: bytes
+            .get(end.saturating_sub(lanes)..end)
+            .unwrap_or_default(),
         time_step: f64::from_bits(values[1]),
         finished: values[2] == 1,
         start: answer(values[3]),
