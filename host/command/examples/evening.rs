@@ -22,8 +22,8 @@ use cableowl::{
     Commands, Frames, Lanes, Level, MAX_BLOCK_FRAMES, Player, Refusal, Settings, StaticSound,
     Tween,
     trace::{
-        Block, LOG_HEAD, Line, Log, MAX_RECORD_BYTES, MAX_SOUND_FRAMES, MAX_TRACED_FRAMES, Record,
-        Recorder, ShortSound,
+        Block, LOG_HEAD, Lesson, Line, Log, MAX_SOUND_FRAMES, MAX_TRACED_FRAMES, Record, Recorder,
+        ShortSound, TraceVersion,
     },
 };
 use random::Random;
@@ -32,6 +32,9 @@ use student::{
     Act, Blocks, DEVICE_RATE, EVENING, LESSON, LESSON_RATE, Progress, SCRIPT, digested, grouped,
     lesson,
 };
+
+/// The most bytes of a record.
+const MAX_BYTES: usize = TraceVersion::First.max_record_bytes();
 
 /// The evening's acts, each with the frame it comes before, and its last frame.
 fn acts() -> impl Iterator<Item = (u64, Option<&'static Act>)> {
@@ -109,7 +112,7 @@ fn play(
 /// The same evening as the records of a trace: the lesson is 64 frames long, its places as far along
 /// as the real one's, and it goes round where the real one plays on; each change comes at once, since
 /// a traced block's lanes are constant.
-fn records() -> Result<Vec<Record>, Refusal> {
+fn records() -> Result<Vec<Record<'static>>, Refusal> {
     let sound = ShortSound::new(&lesson(MAX_SOUND_FRAMES))?;
     let settings = Settings::new(LESSON_RATE).loop_region(Frames(0)..Frames(MAX_SOUND_FRAMES));
     let mut records = vec![Record::Creation { settings, sound }];
@@ -169,8 +172,8 @@ fn record(
     trace: &mut dyn Write,
     log: &mut dyn Write,
 ) -> Result<u64, Box<dyn Error>> {
-    let mut buffer = [0; 16 * MAX_RECORD_BYTES];
-    let mut recorder = Recorder::new(&mut buffer);
+    let mut buffer = [0; 16 * MAX_BYTES];
+    let mut recorder = Recorder::with_version(&mut buffer, TraceVersion::First);
     let (mut room, mut out) = (Lanes::new(), vec![0.0; 2 * MAX_TRACED_FRAMES]);
     let mut sound = ShortSound::EMPTY;
     let mut bytes = 0;
@@ -181,7 +184,8 @@ fn record(
                 sound: lent,
             } => {
                 sound = *lent;
-                recorder.create(*settings, sound.samples()).recorded?;
+                let lesson = Lesson::new(sound.samples())?;
+                recorder.create(*settings, &lesson).recorded?;
             }
             Record::Commands(commands) => {
                 let obeyed = recorder.on_start_processing(sound.samples(), *commands);
@@ -204,8 +208,9 @@ fn record(
                     writeln!(log, "{line}")?;
                 }
             }
+            Record::GivenCreation { .. } | Record::LanedBlock(_) => {}
         }
-        if recorder.room() < MAX_RECORD_BYTES {
+        if recorder.room() < MAX_BYTES {
             bytes += recorder.bytes().len() as u64;
             trace.write_all(recorder.bytes())?;
             recorder.clear();
@@ -256,7 +261,7 @@ fn creep(records: &[Record], log: &mut dyn Write) -> Result<(), Box<dyn Error>> 
                 state.fractional_position = 0.0;
                 *voice = StaticSound::from_state(state, sound.samples())?;
             }
-            (_, None) => {}
+            _ => {}
         }
     }
     Ok(())

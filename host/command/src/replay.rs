@@ -35,7 +35,7 @@ impl Run {
     }
 
     /// Plays a record that was read from these bytes, and returns what it did.
-    pub fn play(&mut self, record: &Record, bytes: &[u8]) -> Step {
+    pub fn play(&mut self, record: &Record<'_>, bytes: &[u8]) -> Step {
         let before = self.replay.voice().map(StaticSound::state);
         let (step, _) = self.replay.step(bytes, true);
         let after = self.replay.voice().map(StaticSound::state);
@@ -54,8 +54,9 @@ impl Run {
         let (frames, answer) = match *line {
             Line::Block { frames, .. } => (frames as usize, Ok(self.replay.counts())),
             Line::RefusedBlock { refusal, .. } => (0, Err(refusal)),
-            // In a replay every record was read.
+            // In a replay every record was read, and no sound is given.
             Line::Refused(refused) => (0, Err(refused.refusal)),
+            Line::OtherSound(_) => (0, Err(Refusal::OtherSound)),
         };
         self.log.block(frames, self.replay.voice(), answer)
     }
@@ -112,12 +113,13 @@ fn first(mut reader: TraceReader<&mut Input>, out: &mut Out<'_>) -> Result<Optio
 fn third(mut reader: TraceReader<&mut Input>, out: &mut Out<'_>) -> Result<Option<TraceError>> {
     out.put(format!("{LOG_HEAD}\n"))?;
     let mut run = Run::new();
-    while let Some(record) = reader.next() {
-        let record = match record {
-            Ok((_, record)) => record,
-            Err(error) => return Ok(Some(error)),
-        };
-        if let Step::Block(line) = run.play(&record, reader.bytes()) {
+    while let Some(at) = reader.read_next() {
+        if let Err(error) = at {
+            return Ok(Some(error));
+        }
+        if let Some(record) = reader.record()
+            && let Step::Block(line) = run.play(&record, reader.bytes())
+        {
             out.put(format!("{}\n", run.line(&line)))?;
         }
         if out.closed() {

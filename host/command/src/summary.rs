@@ -23,10 +23,11 @@ pub fn summary(trace: &Path, out: &mut Out<'_>) -> Result<()> {
     let mut teller = Teller::new();
     let mut broken = None;
     let mut reader = TraceReader::new(&mut input);
-    while let Some(record) = reader.next() {
-        match record {
-            Ok((_, record)) => teller.take(&record, reader.bytes(), out)?,
-            Err(error) => broken = Some(error),
+    while let Some(at) = reader.read_next() {
+        match (at, reader.record()) {
+            (Ok(_), Some(record)) => teller.take(&record, reader.bytes(), out)?,
+            (Ok(_), None) => {}
+            (Err(error), _) => broken = Some(error),
         }
         if out.closed() {
             return Err(Fault::Closed);
@@ -90,10 +91,16 @@ impl Teller {
         self.run.voice().map(StaticSound::state)
     }
 
-    fn take(&mut self, record: &Record, bytes: &[u8], out: &mut Out<'_>) -> Result<()> {
+    fn take(&mut self, record: &Record<'_>, bytes: &[u8], out: &mut Out<'_>) -> Result<()> {
         let before = self.state();
         match (self.run.play(record, bytes), record) {
             (Step::Block(line), Record::Block(block)) => self.block(block, line, out),
+            (Step::Block(line), Record::LanedBlock(laned)) => {
+                // The speed of its last frame: one that changes is printed when it has settled.
+                let rate = laned.numbers().last().map_or(1.0, |numbers| numbers.rate);
+                let block = Block::new(laned.frames(), laned.time_step);
+                self.block(&Block { rate, ..block }, line, out)
+            }
             (Step::Creation(answer), _) => self.creation(answer, out),
             (Step::Commands(answer), Record::Commands(commands)) => {
                 self.commands(commands, answer, before, out)
@@ -186,7 +193,7 @@ impl Teller {
                 self.seconds += block.frames as f64 * block.time_step;
                 Ok(())
             }
-            Line::Refused(_) => Ok(()),
+            Line::OtherSound(_) | Line::Refused(_) => Ok(()),
         }
     }
 

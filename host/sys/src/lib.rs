@@ -726,3 +726,22 @@ pub fn replay_step(
         )
     }
 }
+
+// TEMPORARY stand-ins.
+pub fn salvage_v2(bytes: &[u8], out: &mut [u8]) -> Saved {
+    salvage(bytes, out)
+}
+pub fn replay_v2() -> Replay {
+    replay()
+}
+pub fn replay_step_v2(
+    replay: Replay,
+    bytes: &[u8],
+    ended: bool,
+    sound: &mut [f32],
+    _given: &[f32],
+    _sounds: u32,
+    out: &mut [f32],
+) -> Replayed {
+    replay_step(replay, bytes, ended, sound, out)
+}

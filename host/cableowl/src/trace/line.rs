@@ -2,10 +2,10 @@
 
 use std::fmt;
 
-use super::Refused;
+use super::{OtherSound, Refused};
 use crate::{PlaybackState, Processed, Refusal, StaticSound};
 
-/// The line of a block, or of a refused record. `Display` writes it without the line feed that ends it
+/// The line of a block, or of a record that is refused. `Display` writes it without the line feed that ends it
 /// in a log.
 ///
 /// ```
@@ -44,6 +44,8 @@ pub enum Line {
         /// Why.
         refusal: Refusal,
     },
+    /// A creation that is refused with 26: none of the given sounds is the recorded one.
+    OtherSound(OtherSound),
     /// A record that the reader refuses.
     Refused(Refused),
 }
@@ -91,6 +93,9 @@ impl fmt::Display for Line {
             }
             Self::RefusedBlock { block, refusal } => {
                 write!(f, "block={block} refused={}", refusal.number())
+            }
+            Self::OtherSound(OtherSound { at, .. }) => {
+                write!(f, "creation={} at={at}", Refusal::OtherSound.number())
             }
             Self::Refused(Refused { refusal, at }) => {
                 write!(f, "refused={} at={at}", refusal.number())

@@ -5,8 +5,8 @@
 use std::{fmt, ops::Range};
 
 use cableowl::{
-    Usage,
-    trace::{Block as Recorded, Line as Proved, LogLine, Record, Step, TraceError, TraceReader},
+    Refusal, Usage,
+    trace::{Line as Proved, LogLine, Record, Step, TraceError, TraceReader},
 };
 
 use crate::{
@@ -369,14 +369,18 @@ impl Rule {
         Why::Unread(format!("{}: cannot be read: {}", self.name, reason(error)))
     }
 
-    fn record(&mut self) -> Next<Option<Record>> {
-        match self.reader.next() {
-            None => Ok(None),
-            Some(Ok((_, record))) => {
-                if let Record::Creation { settings, .. } = &record {
+    /// Reads the next record: whether there is one.
+    fn read(&mut self) -> Next<bool> {
+        match self.reader.read_next() {
+            None => Ok(false),
+            Some(Ok(_)) => {
+                if let Some(
+                    Record::Creation { settings, .. } | Record::GivenCreation { settings, .. },
+                ) = self.reader.record()
+                {
                     self.sample_rate = settings.sample_rate;
                 }
-                Ok(Some(record))
+                Ok(true)
             }
             Some(Err(TraceError::Refused(refused))) => Err(Why::TraceDamaged(refused.at)),
             Some(Err(TraceError::Io(error))) => Err(self.unread(&error)),
@@ -386,28 +390,37 @@ impl Rule {
 
     /// The next block.
     fn next(&mut self) -> Next<Option<Played>> {
-        while let Some(record) = self.record()? {
+        while self.read()? {
+            let Some(record) = self.reader.record() else {
+                continue;
+            };
             let step = self.run.play(&record, self.reader.bytes());
-            if let (Step::Block(bare), Record::Block(block)) = (step, &record) {
+            let (frames, time_step, rate) = match &record {
+                Record::Block(block) => (block.frames as f64, block.time_step, block.rate.abs()),
+                Record::LanedBlock(block) => {
+                    let frames = block.frames() as f64;
+                    let rates = block.numbers().map(|numbers| numbers.rate.abs());
+                    (frames, block.time_step, rates.sum::<f64>() / frames)
+                }
+                _ => continue,
+            };
+            if let Step::Block(bare) = step {
                 let full = self.run.line(&bare);
                 self.created = self.created.saturating_add(full.since.created);
-                return Ok(Some(self.played(&bare, &full, block)));
+                let seconds = frames * time_step;
+                return Ok(Some(self.played(&bare, &full, seconds, rate * time_step)));
             }
         }
         Ok(None)
     }
 
-    fn played(&self, bare: &Proved, full: &LogLine, block: &Recorded) -> Played {
+    /// A block of so many seconds, and what its frames advance on average in seconds of the sound.
+    fn played(&self, bare: &Proved, full: &LogLine, seconds: f64, advance: f64) -> Played {
         let accepted = matches!(bare, Proved::Block { .. });
-        let frames = block.frames as f64;
-        let advance = f64::from(self.sample_rate) * block.rate.abs() * block.time_step;
+        let advance = f64::from(self.sample_rate) * advance;
         Played {
             line: as_said(bare, full, self.form),
-            seconds: if accepted {
-                frames * block.time_step
-            } else {
-                0.0
-            },
+            seconds: if accepted { seconds } else { 0.0 },
             advance: full.usage.played as f64 * advance,
             sample_rate: self.sample_rate,
             looped: full.loop_region != (0, 0),
@@ -418,15 +431,17 @@ impl Rule {
     fn creation(&mut self) -> bool {
         (self.run, self.created) = (Run::new(), 0);
         loop {
-            match self.record() {
-                Ok(Some(record @ Record::Creation { .. })) => {
-                    let step = self.run.play(&record, self.reader.bytes());
-                    if step == Step::Creation(Ok(())) {
+            match self.read() {
+                Ok(true) => {
+                    let record = self.reader.record();
+                    if let Some(record @ (Record::Creation { .. } | Record::GivenCreation { .. })) =
+                        record
+                        && self.run.play(&record, self.reader.bytes()) == Step::Creation(Ok(()))
+                    {
                         return true;
                     }
                 }
-                Ok(Some(_)) => {}
-                Ok(None) => return false,
+                Ok(false) => return false,
                 Err(_) => {
                     if !matches!(self.reader.skip_damage(), Ok(Some(_))) {
                         return false;
@@ -539,6 +554,11 @@ fn as_said(bare: &Proved, full: &LogLine, form: Form) -> Line {
             number: block,
             refusal: number(refusal),
             before,
+        },
+        // No sound is given, so that no creation is refused for it.
+        Proved::OtherSound(other) => Line::Broken {
+            refusal: number(Refusal::OtherSound),
+            at: other.at,
         },
         Proved::Refused(refused) => Line::Broken {
             refusal: number(refused.refusal),

@@ -11,7 +11,7 @@ use crate::{
 };
 
 /// An evening of blocks over a loop of a whole short sound, at these rates.
-pub fn evening(blocks: usize) -> Vec<Record> {
+pub fn evening(blocks: usize) -> Vec<Record<'static>> {
     let sound = creation(Settings::new(44_100).loop_region(Frames(0)..Frames(64)), 64);
     let block = |rate| {
         Record::Block(Block {

@@ -19,7 +19,7 @@ const RATE: usize = 48_000;
 
 /// An evening being made: its records, and how far it is.
 struct Script {
-    records: Vec<Record>,
+    records: Vec<Record<'static>>,
     clock: usize,
     next: Block,
 }

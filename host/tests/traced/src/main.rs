@@ -17,7 +17,7 @@ use std::{
 
 use cableowl::{
     Lanes, Refusal, Settings, Signals, StaticSound,
-    trace::{self, Recorder},
+    trace::{self, Lesson, Recorder, Replay, TraceVersion},
 };
 use traced::{
     make,
@@ -103,7 +103,9 @@ fn long_trace(megabytes: usize, blocks: u32, frames: u64) -> Result<String, Stri
 fn print() -> Result<String, String> {
     let started = processor_seconds();
     let out = BufWriter::new(io::stdout().lock());
-    let refused = trace::replay(io::stdin().lock(), out).map_err(|error| error.to_string())?;
+    let replay = Replay::with_version(TraceVersion::First);
+    let refused = replay.print(io::stdin().lock(), out);
+    let refused = refused.map_err(|error| error.to_string())?;
     let seconds = processor_seconds() - started;
     Ok(format!("{refused:?}, {seconds:.2} s of processor time"))
 }
@@ -125,8 +127,9 @@ fn recording() -> Result<String, Refusal> {
 
     let started = processor_seconds();
     let mut buffer = vec![0; 42 * BLOCKS as usize + 1_000];
-    let mut recorder = Recorder::new(&mut buffer);
-    recorder.create(settings, &sound).recorded?;
+    let lesson = Lesson::new(sound)?;
+    let mut recorder = Recorder::with_version(&mut buffer, TraceVersion::First);
+    recorder.create(settings, &lesson).recorded?;
     for _ in 0..BLOCKS {
         let block = lanes.frames(64).rate(0.93);
         let block = recorder.process(&sound, block, step, signals, &mut out);
@@ -187,7 +190,8 @@ fn salvaged(inputs: Vec<Input>) -> Result<String, String> {
     for (name, input) in inputs {
         let mut out = vec![0; input.len()];
         let started = processor_seconds();
-        let salvaged = trace::salvage(&input, &mut out).map_err(|refusal| refusal.to_string())?;
+        let salvaged = TraceVersion::First.salvage(&input, &mut out);
+        let salvaged = salvaged.map_err(|refusal| refusal.to_string())?;
         let seconds = processor_seconds() - started;
         eprintln!(
             "{} bytes of {name}: {seconds:.2} s of processor time, {salvaged:?}",

@@ -2,7 +2,7 @@
 
 pub mod second;
 
-use cableowl::trace::{Replay, Step};
+use cableowl::trace::{Replay, Step, Trace, TraceVersion};
 use random::Random;
 use raw::{CableowlReplay, CableowlSignals, Held, REPLAY_BYTES, ReplayBytes};
 
@@ -30,8 +30,9 @@ pub fn bits(samples: &[f32]) -> Vec<u32> {
 ///
 /// What differs.
 pub fn compare_steps(random: &mut Random, bytes: &[u8]) -> Result<Vec<Step>, String> {
-    let (mut replay, mut held, mut given) = (Replay::new(), Vec::new(), 0);
-    let (mut model, mut records) = (Model::new(), cableowl::trace::Trace::new(bytes));
+    let version = TraceVersion::First;
+    let (mut replay, mut held, mut given) = (Replay::with_version(version), Vec::new(), 0);
+    let (mut model, mut records) = (Model::new(), Trace::with_version(bytes, version));
     let mut steps = Vec::new();
     loop {
         let (step, size) = replay.step(&held, given == bytes.len());

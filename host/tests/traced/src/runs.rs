@@ -2,7 +2,7 @@
 
 use std::fmt;
 
-use cableowl::trace;
+use cableowl::trace::{Replay, Trace, TraceVersion};
 use random::Random;
 
 use crate::{
@@ -200,7 +200,8 @@ impl Codec {
     /// How many records can be read from the first byte on.
     fn records(&self, bytes: &[u8]) -> u64 {
         if self.version == Version::First {
-            return trace::Trace::new(bytes).map_while(Result::ok).count() as u64;
+            let records = Trace::with_version(bytes, TraceVersion::First);
+            return records.map_while(Result::ok).count() as u64;
         }
         let (mut at, mut records) = (0, 0);
         while at < bytes.len() as u64 {
@@ -318,14 +319,15 @@ impl Codec {
 /// What differs.
 pub fn compare_record(bytes: &[u8], at: usize) -> Result<u64, String> {
     let refusal = page::read(bytes, at as u64).refusal;
-    let safe = trace::read(bytes, at);
+    let version = TraceVersion::First;
+    let safe = version.read(bytes, at);
     let number = safe.as_ref().err().map_or(0, |refusal| refusal.number());
     if u64::from(number) != refusal {
         return Err(format!("at {at} of {bytes:x?}: {safe:?} against {refusal}"));
     }
     if let Ok((record, next)) = safe {
-        let mut again = [0x5a; trace::MAX_RECORD_BYTES + 1];
-        let written = trace::write(&record, &mut again, 0);
+        let mut again = [0x5a; TraceVersion::First.max_record_bytes() + 1];
+        let written = version.write(&record, &mut again, 0);
         if written != Ok(next - at)
             || again[..next - at] != bytes[at..next]
             || again[next - at..].iter().any(|byte| *byte != 0x5a)
@@ -342,11 +344,14 @@ pub fn compare_record(bytes: &[u8], at: usize) -> Result<u64, String> {
 ///
 /// Where the two differ.
 pub fn library_prints(bytes: &[u8]) -> Result<Vec<u8>, String> {
-    let whole: String = trace::lines(bytes)
+    let replay = || Replay::with_version(TraceVersion::First);
+    let whole: String = replay()
+        .lines(bytes)
         .map(|line| format!("{line}\n"))
         .collect();
     let mut read = Vec::new();
-    trace::replay(Slow(bytes), &mut read).map_err(|error| error.to_string())?;
+    let printed = replay().print(Slow(bytes), &mut read);
+    printed.map_err(|error| error.to_string())?;
     match whole.as_bytes() == read {
         true => Ok(read),
         false => Err(format!("{bytes:x?}: {whole:?} at once, else as it is read")),

@@ -36,7 +36,7 @@ fn codes() -> Vec<Vec<u8>> {
     codes_of(below("\n## Examples\n"))
 }
 
-fn creation() -> Record {
+fn creation() -> Record<'static> {
     Record::Creation {
         settings: Settings::new(1),
         sound: ShortSound::new(&[1.0, 1.0, 2.0, 2.0, 3.0, 3.0]).unwrap(),

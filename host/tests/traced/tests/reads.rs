@@ -131,9 +131,12 @@ fn a_trace_longer_than_what_is_held() {
         }
     }
     let mut records = TraceReader::new(Broken(&trace[..70_000]));
-    let read = records.by_ref().take_while(Result::is_ok).count();
+    let mut read = 0;
+    while records.read_next().is_some_and(|at| at.is_ok()) {
+        read += 1;
+    }
     assert!((1_000..2_000).contains(&read), "{read}");
-    assert!(records.next().is_none());
+    assert!(records.read_next().is_none());
     let failed = replay(Broken(&trace[..70_000]), io::sink());
     assert_eq!(failed.unwrap_err().kind(), io::ErrorKind::TimedOut);
 }
