@@ -173,11 +173,7 @@ fn zsh_option(option: &Opt) -> String {
     let star = if option.repeats() { "*" } else { "" };
     match option.value {
         Some((value, kind)) => {
-            format!(
-                "{star}{}=[{says}]:{value}:{}",
-                option.name,
-                zsh_words(kind)
-            )
+            format!("{star}{}=[{says}]:{value}:{}", option.name, zsh_words(kind))
         }
         None => format!("{}[{says}]", option.name),
     }

@@ -46,7 +46,12 @@ impl FileKind {
         match first {
             [0xa5, 0x1d, ..] => Self::Trace,
             [0x5e, 0x71, ..] => Self::Settings,
-            _ if begins(b"block=") || begins(b"log=") || begins(b"refused=") => Self::Log,
+            _ if [&b"block="[..], b"log=", b"refused=", b"creation"]
+                .into_iter()
+                .any(begins) =>
+            {
+                Self::Log
+            }
             _ if begins(b"<!DOCTYP") => Self::Page,
             _ if begins(b"RIFF") => Self::Encoded("a WAV file"),
             _ if begins(b"OggS") => Self::Encoded("an Ogg file"),

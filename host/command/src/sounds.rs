@@ -62,7 +62,9 @@ impl Offered {
     fn id(&self) -> &std::result::Result<SoundId, String> {
         self.id.get_or_init(|| {
             let mut digest = Sha256::new();
-            let read = self.sound().and_then(|sound| sound.read(|bytes| digest.update(bytes)));
+            let read = self
+                .sound()
+                .and_then(|sound| sound.read(|bytes| digest.update(bytes)));
             let frames = read.map_err(|fault| fault.to_string())?;
             Ok(SoundId {
                 frames: frames as u32,
@@ -167,7 +169,11 @@ impl Sounds {
 
     /// Which sound is wanted by the creation at a byte, and what was given.
     pub fn missing(&self, at: u64, wanted: &SoundId) -> String {
-        let given = self.offered.iter().take(NAMED).map(|file| file.words(wanted));
+        let given = self
+            .offered
+            .iter()
+            .take(NAMED)
+            .map(|file| file.words(wanted));
         let given: Vec<String> = given.collect();
         let more = match self.offered.len().saturating_sub(NAMED) {
             0 => String::new(),

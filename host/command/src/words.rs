@@ -6,7 +6,7 @@ use std::{
     slice,
 };
 
-use cableowl::Hall;
+use cableowl::{Hall, trace::TraceVersion};
 
 use crate::{
     completions::Shell,
@@ -20,6 +20,7 @@ use crate::{
         grouping::{self, By, Pattern},
     },
     settings::{Part, Place, Save},
+    sounds::Places,
     verbs::{self, Argument, HELP, Kind, Many, Opt, VERBS, Verb, list},
 };
 
@@ -42,11 +43,17 @@ pub enum Asked {
         trace: PathBuf,
         /// The form of its lines.
         form: Form,
+        /// The sounds that it is given.
+        sounds: Places,
+        /// Where the frames heard go.
+        heard: Option<PathBuf>,
     },
     /// A trace played again, and told in words.
     Summary {
         /// The trace.
         trace: PathBuf,
+        /// The sounds that it is given.
+        sounds: Places,
     },
     /// What is left of a damaged trace.
     Salvage {
@@ -54,6 +61,8 @@ pub enum Asked {
         trace: PathBuf,
         /// Where its records go.
         to: PathBuf,
+        /// The version of its records.
+        version: TraceVersion,
     },
     /// What is in sounds.
     ShowSounds {
@@ -102,6 +111,8 @@ pub enum Asked {
         csv: bool,
         /// Where the page goes.
         page: Option<PathBuf>,
+        /// The sounds that are given.
+        sounds: Places,
     },
     /// A log held to its trace.
     Audit {
@@ -113,6 +124,8 @@ pub enum Asked {
         csv: bool,
         /// Where the page goes.
         page: Option<PathBuf>,
+        /// The sounds that are given.
+        sounds: Places,
     },
 }
 
@@ -325,26 +338,33 @@ impl Given {
                     .filter_map(|word| Meaning::read(word))
                     .collect(),
             ),
-            "replay" if self.has("--summary") => match self.has("--log") {
-                true => {
-                    return Err(Fault::usage(
-                        "--summary prints words and --log lines: give one of them",
-                    ));
+            "replay" if self.has("--summary") => {
+                if let Some(lines) = ["--log", "--out"].into_iter().find(|name| self.has(name)) {
+                    return Err(Fault::usage(format!(
+                        "--summary prints words and {lines} goes with lines: give one of them"
+                    )));
                 }
-                false => Asked::Summary {
+                Asked::Summary {
                     trace: self.path(0),
-                },
-            },
+                    sounds: self.sounds(),
+                }
+            }
             "replay" => Asked::Replay {
                 trace: self.path(0),
                 form: match self.number("--log") {
                     Some(3) => Form::Third,
                     _ => Form::First,
                 },
+                sounds: self.sounds(),
+                heard: self.value("--out").map(PathBuf::from),
             },
             "salvage" => Asked::Salvage {
                 trace: self.path(0),
                 to: self.path(1),
+                version: match self.number("--version") {
+                    Some(1) => TraceVersion::First,
+                    _ => TraceVersion::Second,
+                },
             },
             "sound" => Asked::ShowSounds {
                 files: self.paths(),
@@ -382,15 +402,27 @@ impl Given {
                 folders: self.paths(),
                 csv: self.has("--csv"),
                 page: page(),
+                sounds: self.sounds(),
             },
             "audit" => Asked::Audit {
                 trace: self.path(0),
                 log: self.path(1),
                 csv: self.has("--csv"),
                 page: page(),
+                sounds: self.sounds(),
             },
             _ => Asked::Version,
         })
+    }
+
+    /// Where the given sounds are.
+    fn sounds(&self) -> Places {
+        let sound = |(option, _): &&(&Opt, OsString)| option.name == "--sound";
+        let files = self.options.iter().filter(sound);
+        Places {
+            files: files.map(|(_, file)| file.into()).collect(),
+            folder: self.value("--sounds").map(PathBuf::from),
+        }
     }
 
     /// The verb that the words name, for `help` and `man`.
@@ -591,7 +623,7 @@ mod tests {
             ("replay --log", "--log needs a word after it, FORM"),
             (
                 "replay --log 3 --summary a",
-                "--summary prints words and --log lines: give one of them",
+                "--summary prints words and --log goes with lines: give one of them",
             ),
             ("salvage a", "salvage needs OUT: the new file"),
             ("salvage a -", "OUT is a file to write, and cannot be '-'"),

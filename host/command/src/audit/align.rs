@@ -13,7 +13,8 @@ use crate::{
     fault::reason,
     input::Input,
     log::{Before, Block, Form, Line, Log, More, Third},
-    replay::{Run, number},
+    replay::{Missing, Run, number},
+    sounds::Sounds,
 };
 
 /// Some blocks of the trace or some lines of the log, one after the other.
@@ -222,14 +223,15 @@ impl fmt::Display for Why {
 type Next<T> = std::result::Result<T, Why>;
 
 /// A trace and a log that are read side by side.
-pub struct Pair {
-    rule: Rule,
+pub struct Pair<'a> {
+    rule: Rule<'a>,
     said: Said,
 }
 
-impl Pair {
-    /// Before their first block and line.
-    pub fn new(trace: Input, log: Log) -> Self {
+impl<'a> Pair<'a> {
+    /// Before their first block and line. If sounds are given, those that the trace names are looked for
+    /// among them.
+    pub fn new(trace: Input, log: Log, sounds: Option<&'a Sounds>) -> Self {
         let form = log.form();
         Self {
             rule: Rule {
@@ -239,6 +241,8 @@ impl Pair {
                 form,
                 sample_rate: 0,
                 created: 0,
+                sounds,
+                missing: Missing::default(),
             },
             said: Said {
                 log,
@@ -335,6 +339,27 @@ impl Pair {
     }
 }
 
+impl Pair<'_> {
+    /// Reads the trace to its end: a sentence for each sound that it names and that was not given.
+    pub fn missing(&mut self) -> Vec<String> {
+        let Some(sounds) = self.rule.sounds else {
+            return Vec::new();
+        };
+        loop {
+            match self.rule.read() {
+                Ok(true) => {}
+                Ok(false) => break,
+                Err(_) => {
+                    if !matches!(self.rule.reader.skip_damage(), Ok(Some(_))) {
+                        break;
+                    }
+                }
+            }
+        }
+        self.rule.missing.sentences(sounds)
+    }
+}
+
 impl Segment {
     fn play(&mut self, played: &Played) {
         self.rule.add(&played.line);
@@ -345,14 +370,17 @@ impl Segment {
 }
 
 /// The trace, played again.
-struct Rule {
+struct Rule<'a> {
     name: String,
     reader: TraceReader<Input>,
-    run: Run,
+    /// Without sounds: lines do not depend on the samples.
+    run: Run<'static>,
     /// The log's form.
     form: Form,
     sample_rate: u32,
     created: u64,
+    sounds: Option<&'a Sounds>,
+    missing: Missing,
 }
 
 /// A block that was played again.
@@ -364,7 +392,7 @@ struct Played {
     looped: bool,
 }
 
-impl Rule {
+impl Rule<'_> {
     fn unread(&self, error: &std::io::Error) -> Why {
         Why::Unread(format!("{}: cannot be read: {}", self.name, reason(error)))
     }
@@ -373,12 +401,18 @@ impl Rule {
     fn read(&mut self) -> Next<bool> {
         match self.reader.read_next() {
             None => Ok(false),
-            Some(Ok(_)) => {
-                if let Some(
-                    Record::Creation { settings, .. } | Record::GivenCreation { settings, .. },
-                ) = self.reader.record()
-                {
-                    self.sample_rate = settings.sample_rate;
+            Some(Ok(at)) => {
+                match self.reader.record() {
+                    Some(Record::Creation { settings, .. }) => {
+                        self.sample_rate = settings.sample_rate;
+                    }
+                    Some(Record::GivenCreation { settings, sound }) => {
+                        self.sample_rate = settings.sample_rate;
+                        if self.sounds.is_some_and(|sounds| !sounds.has(&sound)) {
+                            self.missing.add(at, sound);
+                        }
+                    }
+                    _ => {}
                 }
                 Ok(true)
             }

@@ -99,7 +99,8 @@ fn digests_of_random_files_are_those_of_sha256sum() {
         };
         let ran = room.run(&["sound", "s.f32"]);
         assert!(
-            ran.out.contains(&format!("\ndigest              {expected}\n")),
+            ran.out
+                .contains(&format!("\ndigest              {expected}\n")),
             "{frames}: {}",
             ran.out
         );
@@ -212,7 +213,9 @@ fn a_file_that_changes_while_it_is_read() {
         });
         let ran = room.run(&["sound", "growing.f32"]);
         ended.store(true, Ordering::Relaxed);
-        ran.refuses("growing.f32: changed while it was read: run this again when nothing writes to it");
+        ran.refuses(
+            "growing.f32: changed while it was read: run this again when nothing writes to it",
+        );
         assert_eq!(ran.out, "");
     });
 }
@@ -239,7 +242,10 @@ fn a_sound_without_permission() {
     match run.output() {
         Ok(output) => {
             let told = String::from_utf8_lossy(&output.stderr).into_owned();
-            assert_eq!(told, "cableowl: secret.f32: cannot be read: permission denied\n");
+            assert_eq!(
+                told,
+                "cableowl: secret.f32: cannot be read: permission denied\n"
+            );
             assert_eq!(output.status.code(), Some(1));
         }
         Err(error) => eprintln!("SKIPPED: the command cannot be run as nobody here: {error}"),

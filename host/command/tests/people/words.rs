@@ -218,10 +218,20 @@ fn bash_completes_verbs_options_values_and_files() {
         (&["settings", "s"], &["save", "show"]),
         (
             &["replay", "--"],
-            &["--help", "--log", "--out", "--sound", "--sounds", "--summary"],
+            &[
+                "--help",
+                "--log",
+                "--out",
+                "--sound",
+                "--sounds",
+                "--summary",
+            ],
         ),
         (&["replay", "--sound", "ev"], &["evening.trace"]),
-        (&["replay", "--sound", "a", "--sounds", "ev"], &["evening.trace"]),
+        (
+            &["replay", "--sound", "a", "--sounds", "ev"],
+            &["evening.trace"],
+        ),
         (&["so"], &["sound"]),
         (&["sound", "--"], &["--help", "--rate"]),
         (&["salvage", "--version", "''"], &["1", "2"]),
