@@ -43,7 +43,7 @@
  *   a loop table: a write 1, 6, 20, 21; a clear 1, 20, 21; a read 1, 20, 22; a merge of two copies 1, 27, 28;
  *   saved settings, or a half: storing 24, 19; loading 15, 23, 24 (the length), 18, 24 (a field);
  *   a trace: a read 15 to 18, byte by byte in reading order; a write 16, 17, 19; a salvage 25;
- *   a step of a replay 1, 19.
+ *   a step of a replay 1, 19; in it, a creation over a given sound 26, then 2 to 7.
  *
  * The float mode. The promises hold in the mode in which a program begins: round to nearest, keep
  * subnormals (x86-64: neither FTZ nor DAZ; Arm: no FZ), mask exceptions. Audio hosts often flush
@@ -353,14 +353,15 @@ typedef struct CableowlSaved {
     uint64_t first;   /* the offset of the first skipped byte; bytes_len if none */
 } CableowlSaved;
 
-/* A replay of a trace. Begin with cableowl_replay(), and pass each step the replay that the step before it returned. */
+/* A replay of a trace. Begin with cableowl_replay() or cableowl_replay_v2(), and pass each step the replay that the step before
+ * it returned. */
 typedef struct CableowlReplay {
     CableowlState voice; /* before any creation, and after a refused one, the blank state */
-    uint64_t samples;    /* how many samples of the sound buffer are the voice's sound */
+    uint64_t samples;    /* how many samples of its buffer, `sound` or `given`, are the voice's sound */
     uint64_t blocks;     /* counted so far, refused ones too; no creation resets it */
     uint64_t offset;     /* the offset of the next record in the trace */
-    uint32_t reader;     /* the version of the traces that are read: 1 */
-    uint32_t given;      /* 0: reader 1 knows no sound but the recorded one */
+    uint32_t reader;     /* the version of the traces that are read: 1 or 2 */
+    uint32_t given;      /* 0: the voice plays the recorded sound; 1, only in version 2: the given one */
 } CableowlReplay;
 
 /* CableowlReplayed's what. */
@@ -371,6 +372,10 @@ enum {
     CABLEOWL_REPLAY_BROKEN = 3,
     CABLEOWL_REPLAY_REFUSED = 4
 };
+
+/* What a host has for a creation over a given sound: no sound at all, the recorded one (its digest is the recorded one), or
+ * others only. */
+enum { CABLEOWL_SOUNDS_NONE = 0, CABLEOWL_SOUNDS_FITS = 1, CABLEOWL_SOUNDS_OTHER = 2 };
 
 /* What a step of a replay did. What is not named for a `what` is 0, lowest_count 4, and the replay is the given one.
  * 0: it played a record of `size` bytes and of this kind; the refusal is the voice's. A block's line has replay.blocks, frames, steps,
@@ -518,6 +523,26 @@ CableowlReplay cableowl_replay(void);
  * there is too little room. */
 CableowlReplayed cableowl_replay_step(CableowlReplay replay, const uint8_t *bytes, size_t bytes_len, uint32_t ended, float *sound,
                                       size_t sound_len, float *out, size_t out_len);
+
+/* A replay of version 2 before any record. */
+CableowlReplay cableowl_replay_v2(void);
+
+/* The same step for a trace of version 2: it plays all five kinds. `sound` and `out` as for cableowl_replay_step. A creation
+ * with its samples (kind 1) writes them to `sound`, and the voice plays them. For a creation over a given sound (kind 4) `given`
+ * is the sound, interleaved, and `sounds` says what the host has:
+ *   0 no sound at all. `given` has any samples, at least as many as the sound, for example silence. All but the samples in
+ *     `out` and in the voice's window is as with the real sound. If it has fewer samples, the call is refused with 19 (what 4)
+ *     and changes nothing.
+ *   1 `given` has the recorded digest. The host compares digests. The step compares the frame count: the creation is refused
+ *     with 26 if `given` has another.
+ *   2 or more: sounds, but none with the recorded digest. The creation is refused with 26.
+ * After 26 the voice is blank and has no sound (replay.given 1, replay.samples 0). Until the next creation `given` must hold the
+ * same sound: a command set or a block is refused with 1 (what 4) if `given` has fewer than replay.samples samples. A block with
+ * lanes (kind 5) is counted and answered as any block. A record has at most 24,598 bytes. The call is refused with 1 if the
+ * numbers are no replay of version 2. */
+CableowlReplayed cableowl_replay_step_v2(CableowlReplay replay, const uint8_t *bytes, size_t bytes_len, uint32_t ended,
+                                         float *sound, size_t sound_len, const float *given, size_t given_len,
+                                         uint32_t sounds, float *out, size_t out_len);
 
 /* The sentence for a number that a call returned: "accepted" for 0, and the Rust crate's `Refusal::text` for a refusal. It
  * accepts any number; the text is a constant. */

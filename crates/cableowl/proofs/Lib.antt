@@ -7,3 +7,4 @@ pub mod Unknown
 pub mod Parts
 pub mod Numbers
 pub mod ReplaySteps
+pub mod ReplayStepsV2

@@ -3,3 +3,4 @@ pub mod Entries
 pub mod Loops
 pub mod Saved
 pub mod Replays
+pub mod ReplaysV2

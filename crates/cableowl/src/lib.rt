@@ -19,6 +19,7 @@ mod halves;
 mod loops;
 mod once;
 mod replays;
+mod replays_v2;
 mod saved;
 mod traces;
 
@@ -50,6 +51,8 @@ pub use replays::CableowlReplay;
 pub use replays::CableowlReplayed;
 pub use replays::cableowl_replay;
 pub use replays::cableowl_replay_step;
+pub use replays_v2::cableowl_replay_step_v2;
+pub use replays_v2::cableowl_replay_v2;
 pub use saved::cableowl_load_settings;
 pub use saved::cableowl_settings_of;
 pub use saved::cableowl_store_settings;

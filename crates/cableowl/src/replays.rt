@@ -56,7 +56,7 @@ pub struct CableowlReplayed {
     pub lowest_count: u64,
 }
 
-fn more_of(n: u64) -> u64
+pub(crate) fn more_of(n: u64) -> u64
     ensures { λ r. ⌜ r ≡ more n ⌝ }
 {
     if n < 18446744073709551615 {
@@ -74,7 +74,7 @@ fn onward_of(at: u64, n: u64) -> u64
     18446744073709551615
 }
 
-fn behind_record(
+pub(crate) fn behind_record(
     replay: CableowlReplay,
     size: u64,
     voice: CableowlState,
@@ -93,7 +93,7 @@ fn behind_record(
     }
 }
 
-fn played(
+pub(crate) fn played(
     replay: CableowlReplay,
     size: u64,
     kind: u64,
@@ -116,7 +116,7 @@ fn played(
     }
 }
 
-fn not_played(replay: CableowlReplay, what: u64, refusal: u64) -> CableowlReplayed
+pub(crate) fn not_played(replay: CableowlReplay, what: u64, refusal: u64) -> CableowlReplayed
     ensures { λ r. ⌜ r ≡ unplayed replay what refusal ⌝ }
 {
     CableowlReplayed {
@@ -132,7 +132,7 @@ fn not_played(replay: CableowlReplay, what: u64, refusal: u64) -> CableowlReplay
 }
 
 // Plays a creation record: writes its sound to the start of the buffer `sound`.
-fn create(
+pub(crate) fn create(
     replay: CableowlReplay,
     size: u64,
     values: [u64; 80],
@@ -150,7 +150,12 @@ fn create(
 }
 
 // Plays a command set record.
-fn command(replay: CableowlReplay, size: u64, values: [u64; 80], sound: &[f32]) -> CableowlReplayed
+pub(crate) fn command(
+    replay: CableowlReplay,
+    size: u64,
+    values: [u64; 80],
+    sound: &[f32],
+) -> CableowlReplayed
     ensures { λ r. ⌜ r ≡ commandsC (now (sound .entry)) replay size values ⌝ }
 {
     let before = replay.voice;
@@ -185,7 +190,7 @@ fn held_of(block: Block) -> Held
 }
 
 // Plays a block record into the first samples of the output.
-fn play(
+pub(crate) fn play(
     replay: CableowlReplay,
     size: u64,
     values: [u64; 80],

@@ -190,4 +190,6 @@ coincide =
       cableowl-cableowl-salvage = λ k a x y s t p q. saved (same p q);
       cableowl-cableowl-replay = λ k a x y s t p q. same p q;
       cableowl-cableowl-replay-step = λ k a x y s t p q. stepped (same p q);
+      cableowl-cableowl-replay-v2 = λ k a x y s t p q. same p q;
+      cableowl-cableowl-replay-step-v2 = λ k a x y s t p q. stepped (same p q);
     }

@@ -253,3 +253,6 @@ pub record Coincide : Type 0 where
   pub cableowl-cableowl-replay : Decides cableowl.cableowl_replay.Reads.Post
   pub cableowl-cableowl-replay-step : DecidesWith {B = List Float
       × List Float} (λ k r s. (s .1 .1 .1 .0 .now, s .1 .1 .1 .1 .0 .now)) cableowl.cableowl_replay_step.Reads.Post
+  pub cableowl-cableowl-replay-v2 : Decides cableowl.cableowl_replay_v2.Reads.Post
+  pub cableowl-cableowl-replay-step-v2 : DecidesWith {B = List Float × List Float}
+      (λ k r s. (s .1 .1 .1 .0 .now, s .1 .1 .1 .1 .1 .1 .0 .now)) cableowl.cableowl_replay_step_v2.Reads.Post

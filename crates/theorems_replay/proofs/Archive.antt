@@ -402,7 +402,7 @@ run-on r snd out zero bs = refl
 run-on r snd out (suc k) [] = refl
 run-on r snd out (suc k) (b ∷ bs) = run-on r snd out k bs
 
-turned-size : (r : CableowlReplay) (d : Record) (snd out : List Float) → turned r d snd out .answer .size ≡ d .next
+pub turned-size : (r : CableowlReplay) (d : Record) (snd out : List Float) → turned r d snd out .answer .size ≡ d .next
 unfolding turned creationC commandsC blockStep blockC
 turned-size r d snd out = go (eqb (d .kind) 1) (eqb (d .kind) 2)
   where

@@ -27,6 +27,10 @@ pub record Coincide : Type 0 where
   pub trace-inputs-put-samples : DecidesWith (λ k r s. s .1 .0 .now) trace_inputs.put_samples.Reads.Post
   pub trace-inputs-commands-of : Decides trace_inputs.commands_of.Reads.Post
   pub trace-inputs-block-of : Decides trace_inputs.block_of.Reads.Post
+  pub trace-inputs-given-samples-of : Decides trace_inputs.given_samples_of.Reads.Post
+  pub trace-inputs-laned-block-of : Decides trace_inputs.laned_block_of.Reads.Post
+  pub trace-inputs-singles-of : Decides trace_inputs.singles_of.Reads.Post
+  pub trace-inputs-doubles-of : Decides trace_inputs.doubles_of.Reads.Post
   -- trace_lines
   pub trace-lines-put-block : DecidesWith (λ k r s. s .0 .now) trace_lines.put_block.Reads.Post
   pub trace-lines-put-refused-block : DecidesWith (λ k r s. s .0 .now) trace_lines.put_refused_block.Reads.Post

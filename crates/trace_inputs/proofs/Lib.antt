@@ -1,2 +1,3 @@
 -- Laws of what a record tells.
 pub mod Samples
+pub mod LaneLoops

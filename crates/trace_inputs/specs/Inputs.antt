@@ -1,10 +1,11 @@
 -- Settings, a sound, commands or a block from a record's numbers, in the order of docs/formats/TRACE.md.
-use Prim.Native.Nat.{ℕ, suc, _+_, _-_, _*_, _/_, _%_}
-use mathlib.Core.Bool.{Bool, cond, not}
+use Prim.Native.Nat.{ℕ, zero, suc, _+_, _-_, _*_, _/_, _%_}
+use mathlib.Core.Bool.{Bool, cond, not, _&&_}
 use mathlib.Core.List.{List, [], _∷_}
 use lib.Dec.{eqb, ltb, leb}
 use lib.ListN.{getD, take, drop}
 use lib.Ieee.{Float, binary32, binary64}
+use Rattle.byte_layout.specs.Numbers.{num}
 use Rattle.float_bits.specs.Patterns.{floatOf}
 use Rattle.playback_position.specs.declared.PlaybackPosition.{PlaybackPosition}
 use Rattle.playback_position.specs.declared.PlaybackPosition.the-variants.{Seconds, Samples}
@@ -26,6 +27,7 @@ use Rattle.sound_commands.specs.declared.Commands.{Commands}
 use Rattle.start_time.specs.declared.StartSignal.the-variants as signal
 use Rattle.sound_block.specs.declared.Signals.{Signals}
 use Rattle.trace_inputs.specs.declared.Block.{Block}
+use Rattle.trace_inputs.specs.declared.LanedBlock.{LanedBlock}
 
 -- ---- numbers
 
@@ -86,6 +88,14 @@ stereo (x ∷ xs) = single x ∷ single (x / 4294967296) ∷ stereo xs
 abbrev pub samplesOf : List ℕ → List Float
 samplesOf vs = stereo (take (atMost 64 (getD vs 12 0)) (drop 13 vs))
 
+-- a creation over a given sound: its frame count is behind the settings, and then its samples, none if it is 0 or
+-- above the limit
+abbrev pub givenFrames : List ℕ → ℕ
+givenFrames vs = getD vs 12 0
+
+abbrev pub givenSamples : List ℕ → ℕ
+givenSamples vs = cond (leb (givenFrames vs) 16777216) (2 * givenFrames vs) 0
+
 -- ---- commands
 
 abbrev pub amountOf : ℕ → ℕ → Amount
@@ -136,3 +146,25 @@ blockOf vs =
       «time_step» = double (getD vs 6 0);
       signals = signalsOf (getD vs 7 0) (getD vs 8 0) (getD vs 9 0);
     }
+
+-- ---- a block with a value for each frame
+
+-- without its lanes
+unfoldable pub lanedBlockOf : List ℕ → LanedBlock
+lanedBlockOf vs =
+    record {
+      frames = atMost 1024 (getD vs 0 0);
+      «time_step» = double (getD vs 1 0);
+      signals = signalsOf (getD vs 2 0) (getD vs 3 0) (getD vs 4 0);
+    }
+
+-- n values of a lane, each from the first w bytes of its frame's 24
+unfoldable pub laneOf : ℕ → (ℕ → Float) → ℕ → List ℕ → List Float
+laneOf w value zero bs = []
+laneOf w value (suc n) bs = value (num (take w bs)) ∷ laneOf w value n (drop 24 bs)
+
+abbrev pub singles : ℕ → List ℕ → List Float
+singles n bs = laneOf 4 (λ x. single x) n bs
+
+abbrev pub doubles : ℕ → List ℕ → List Float
+doubles n bs = laneOf 8 (λ x. double x) n bs

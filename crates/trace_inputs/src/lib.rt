@@ -1,8 +1,10 @@
 // A record's numbers as settings, a sound, commands or a block. Floats are stored by their bits, also NaN.
 ghost use mathlib.Core.Path.{_≡_};
 ghost use Prim.Native.Nat.{_≤_};
-ghost use lib.ListN.{length};
+ghost use lib.ListN.{length, take, drop, replicate};
 ghost use lib.Seq.{sets};
+ghost use Rattle.numbers.specs.Words.{positiveZero};
+ghost use Rattle.byte_layout.specs.Numbers.{num};
 ghost use Rattle.trace_inputs.specs.Inputs.{
   half,
   single,
@@ -15,6 +17,7 @@ ghost use Rattle.trace_inputs.specs.Inputs.{
   optionalOf,
   settingsOf,
   samplesOf,
+  givenSamples,
   amountOf,
   loopOf,
   resumeOf,
@@ -22,6 +25,9 @@ ghost use Rattle.trace_inputs.specs.Inputs.{
   answerOf,
   signalsOf,
   blockOf,
+  lanedBlockOf,
+  singles,
+  doubles,
 };
 use playback_position::EndPosition;
 use playback_position::PlaybackPosition;
@@ -44,6 +50,13 @@ pub struct Block {
     pub left: f32,
     pub right: f32,
     pub rate: f64,
+    pub time_step: f64,
+    pub signals: Signals,
+}
+
+// A block with a value for each frame, without its lanes.
+pub struct LanedBlock {
+    pub frames: usize,
     pub time_step: f64,
     pub signals: Signals,
 }
@@ -152,6 +165,17 @@ pub fn put_samples(values: [u64; 80], out: &mut [f32]) -> usize
     2 * n
 }
 
+// How many samples of a given sound a creation takes.
+pub fn given_samples_of(values: [u64; 80]) -> usize
+    ensures { λ r. ⌜ r ≡ givenSamples values ⌝ }
+{
+    let frames = values[12];
+    if frames <= 16777216 {
+        return 2 * (frames as usize);
+    }
+    0
+}
+
 // ---- commands
 
 fn amount_of(tag: u64, n: u64) -> Amount
@@ -238,4 +262,60 @@ pub fn block_of(values: [u64; 80]) -> Block
         time_step: float_bits::f64_of(values[6]),
         signals: signals_of(values[7], values[8], values[9]),
     }
+}
+
+// ---- a block with a value for each frame
+
+pub fn laned_block_of(values: [u64; 80]) -> LanedBlock
+    ensures { λ r. ⌜ r ≡ lanedBlockOf values ⌝ }
+{
+    let frames = at_most(1024, values[0]);
+    LanedBlock {
+        frames,
+        time_step: float_bits::f64_of(values[1]),
+        signals: signals_of(values[2], values[3], values[4]),
+    }
+}
+
+// The number of the bytes from a place on; a byte past the end counts as 0.
+fn number_of(bytes: &[u8], at: usize, width: usize) -> u64
+    requires { ⌜ width ≤ 8 ⌝ }
+    ensures { λ r. ⌜ r ≡ num (take width (drop at (now (bytes .entry)))) ⌝ }
+{
+    if bytes.len() < at {
+        return 0;
+    }
+    let left = bytes.len() - at;
+    if left < width {
+        return byte_layout::number(bytes, at, left);
+    }
+    byte_layout::number(bytes, at, width)
+}
+
+// A lane of f32 values from the bytes of its frames; the first value is at a place. Zeros follow it.
+pub fn singles_of(bytes: &[u8], at: usize, frames: usize) -> [f32; 1024]
+    requires { ⌜ (at ≤ 64) × (frames ≤ 1024) ⌝ }
+    ensures { λ r. ⌜ r ≡ sets (replicate 1024 positiveZero) 0 (singles frames (drop at (now (bytes .entry)))) ⌝ }
+{
+    let mut lane = [0.0; 1024];
+    let mut i: usize = 0;
+    while i < frames {
+        lane[i] = single_of(number_of(bytes, at + 24 * i, 4));
+        i += 1;
+    }
+    lane
+}
+
+// The same of f64 values.
+pub fn doubles_of(bytes: &[u8], at: usize, frames: usize) -> [f64; 1024]
+    requires { ⌜ (at ≤ 64) × (frames ≤ 1024) ⌝ }
+    ensures { λ r. ⌜ r ≡ sets (replicate 1024 positiveZero) 0 (doubles frames (drop at (now (bytes .entry)))) ⌝ }
+{
+    let mut lane = [0.0; 1024];
+    let mut i: usize = 0;
+    while i < frames {
+        lane[i] = float_bits::f64_of(number_of(bytes, at + 24 * i, 8));
+        i += 1;
+    }
+    lane
 }

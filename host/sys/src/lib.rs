@@ -698,11 +698,32 @@ unsafe extern "C" {
         out: *mut f32,
         out_len: usize,
     ) -> Replayed;
+
+    safe fn cableowl_replay_v2() -> Replay;
+
+    fn cableowl_replay_step_v2(
+        replay: Replay,
+        bytes: *const u8,
+        bytes_len: usize,
+        ended: u32,
+        sound: *mut f32,
+        sound_len: usize,
+        given: *const f32,
+        given_len: usize,
+        sounds: u32,
+        out: *mut f32,
+        out_len: usize,
+    ) -> Replayed;
 }
 
 #[inline]
 pub fn replay() -> Replay {
     cableowl_replay()
+}
+
+#[inline]
+pub fn replay_v2() -> Replay {
+    cableowl_replay_v2()
 }
 
 #[inline]
@@ -727,21 +748,35 @@ pub fn replay_step(
     }
 }
 
-// TEMPORARY stand-ins.
-pub fn salvage_v2(bytes: &[u8], out: &mut [u8]) -> Saved {
-    salvage(bytes, out)
-}
-pub fn replay_v2() -> Replay {
-    replay()
-}
+/// `sounds` is 0 if no sound is given, 1 if `given` has the recorded digest, 2 if no given sound has it.
+#[inline]
 pub fn replay_step_v2(
     replay: Replay,
     bytes: &[u8],
     ended: bool,
     sound: &mut [f32],
-    _given: &[f32],
-    _sounds: u32,
+    given: &[f32],
+    sounds: u32,
     out: &mut [f32],
 ) -> Replayed {
-    replay_step(replay, bytes, ended, sound, out)
+    unsafe {
+        cableowl_replay_step_v2(
+            replay,
+            bytes.as_ptr(),
+            bytes.len(),
+            ended.into(),
+            sound.as_mut_ptr(),
+            sound.len(),
+            given.as_ptr(),
+            given.len(),
+            sounds,
+            out.as_mut_ptr(),
+            out.len(),
+        )
+    }
+}
+
+// TEMPORARY stand-in.
+pub fn salvage_v2(bytes: &[u8], out: &mut [u8]) -> Saved {
+    salvage(bytes, out)
 }

@@ -19,8 +19,8 @@ pub use cableowl_sys::{
 };
 /// The entries, with slices for their pointers and lengths.
 pub use cableowl_sys::{
-    clear_loop, loop_table, new, on_start_processing, read_loop, replay, replay_step, stretch,
-    take_loop, version, write_loop,
+    clear_loop, loop_table, new, on_start_processing, read_loop, replay, replay_step,
+    replay_step_v2, replay_v2, stretch, take_loop, version, write_loop,
 };
 
 /// The lanes of a block, lent; each may have a length of its own.
