@@ -75,7 +75,7 @@ fn evening(
     let acts = SCRIPT.iter().map(|(_, act)| Some(act));
     for (act, end) in [None].into_iter().chain(acts).zip(ends) {
         if let Some(act) = act {
-            act.tell(&mut player)?;
+            player.command(act.command())?;
         }
         let end = u64::from(end) * u64::from(DEVICE_RATE);
         while player.frames() < end {

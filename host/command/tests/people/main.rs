@@ -7,6 +7,7 @@ mod exact;
 mod explain;
 mod files;
 mod hints;
+mod lesson;
 mod log;
 mod loops;
 mod replay;
