@@ -429,7 +429,7 @@ impl Log {
         if let Some((forward, backward)) = self.counts
             && (m.forward < forward || m.backward < backward)
         {
-            return Err("a count of turns is lower than before, and no voice was created".into());
+            return Err("a count of wraps is lower than before, and no voice was created".into());
         }
         self.counts = Some((m.forward, m.backward));
         Ok(())

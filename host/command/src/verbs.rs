@@ -97,10 +97,11 @@ impl Kind {
             Self::Number(from, to) => Some(format!("a whole number from {from} to {to}")),
             Self::Decimal => Some("a number, such as 0.75".into()),
             Self::Place => Some(
-                "a place in the sound: seconds, such as 6.2s, or frames, such as 273420f".into(),
+                "a position in the sound: seconds, such as 6.2s, or frames, such as 273420f".into(),
             ),
             Self::Part => Some(
-                "a part of the sound: two places with .. between them, such as 6.2s..10.9s".into(),
+                "a part of the sound: two positions with .. between them, such as 6.2s..10.9s"
+                    .into(),
             ),
             Self::Name => Some("a name of at most 64 bytes of UTF-8".into()),
             Self::Meaning => Some(format!(
@@ -166,7 +167,7 @@ pub const VERBS: &[Verb] = &[
             Opt {
                 name: "--log",
                 value: Some(("FORM", Kind::OneOf(&["1", "3"]))),
-                says: "The form of the lines. Form 3 also says what the frames were spent on, the loop, the direction, window counts, turns of the loop, seeks and restarts. Without this option it is 1.",
+                says: "The form of the lines. Form 3 also says what the frames were spent on, the loop, the direction, window counts, wraps, seeks and restarts. Without this option it is 1.",
             },
             Opt {
                 name: "--summary",
@@ -312,13 +313,13 @@ pub const VERBS: &[Verb] = &[
         name: "settings save",
         says: "save settings to a new file, in seconds or frames",
         about: &[
-            "Writes the settings that a box loads, and shows them as 'settings show' does. A place in the sound is written with its unit, 6.2s for seconds or 273420f for frames. Seconds become frames by --rate, rounded to the nearest frame.",
+            "Writes the settings that a box loads, and shows them as 'settings show' does. A position in the sound is written with its unit, 6.2s for seconds or 273420f for frames. Seconds become frames by --rate, rounded to the nearest frame.",
             "OUT must not exist.",
         ],
         options: &[
             Opt {
                 name: "--start",
-                value: Some(("PLACE", Kind::Place)),
+                value: Some(("POSITION", Kind::Place)),
                 says: "Where to start. Without this option it is the first frame.",
             },
             Opt {
@@ -460,7 +461,7 @@ pub const VERBS: &[Verb] = &[
         name: "report",
         says: "the figures of one evening or of many, and a page with plots",
         about: &[
-            "Reads logs and traces: minutes played, paused and silent, times round the loop, seeks, refused blocks. With several files it prints one row for each, the total and five quantiles. A folder stands for its files NAME.log.",
+            "Reads logs and traces: minutes played, paused and silent, wraps, seeks, refused blocks. With several files it prints one row for each, the total and five quantiles. A folder stands for its files NAME.log.",
             "A damaged file is named on standard error and left out. A file that is given twice is named there too, and counts twice.",
             "With --by or --groups it prints the figures of groups instead, and what changed from one group to the next, with intervals of 95 percent.",
         ],
@@ -473,7 +474,7 @@ pub const VERBS: &[Verb] = &[
             Opt {
                 name: "--sound-rate",
                 value: Some(("HZ", HZ)),
-                says: "The sound's frames a second, for places in seconds. A trace knows it. For a log without this option it is taken to be the box's.",
+                says: "The sound's frames a second, for positions in seconds. A trace knows it. For a log without this option it is taken to be the box's.",
             },
             Opt {
                 name: "--csv",

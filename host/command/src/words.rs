@@ -685,11 +685,11 @@ mod tests {
             ),
             (
                 "settings save --start 6 a",
-                "--start must be a place in the sound: seconds, such as 6.2s, or frames, such as 273420f, and not '6'",
+                "--start must be a position in the sound: seconds, such as 6.2s, or frames, such as 273420f, and not '6'",
             ),
             (
                 "settings save --loop 6s a",
-                "--loop must be a part of the sound: two places with .. between them, such as 6.2s..10.9s, and not '6s'",
+                "--loop must be a part of the sound: two positions with .. between them, such as 6.2s..10.9s, and not '6s'",
             ),
             (
                 "settings save --speed inf a",

@@ -137,9 +137,9 @@ impl What {
         match self {
             Self::Refusals => "what was refused",
             Self::State => "the state",
-            Self::Position => "the place in the sound",
-            Self::Steps => "the steps",
-            Self::Turns => "the number of times round the loop",
+            Self::Position => "the position in the sound",
+            Self::Steps => "the number of steps",
+            Self::Turns => "the number of wraps",
             Self::Lowest => "the lowest window count",
             Self::Voice => "the start, the loop, the direction or the end of the sound",
             Self::Usage => "what the frames were spent on",

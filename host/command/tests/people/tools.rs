@@ -4,12 +4,14 @@ use std::fs;
 
 use cableowl::{
     Commands, Hall, ResumeCommand, SavedSettings, Settings, SettingsVersion, SharedLoops,
-    trace::{Block, Record},
+    trace::{Block, Lesson, Record},
 };
 
 use crate::{
     audit::{creeping, evening},
+    lesson,
     room::{Room, creation, trace},
+    sound::raw,
 };
 
 const PAGE: &str = include_str!("../../../../docs/guide/TOOLS.md");
@@ -128,6 +130,27 @@ fn files(room: &Room) {
     room.put("lesson.settings", record);
     room.put("cut.settings", &record[..20]);
     loops(room);
+    lessons(room);
+}
+
+/// A lesson, another sound, and two boxes whose evenings are over the lesson and over a third sound.
+fn lessons(room: &Room) {
+    let lesson = lesson::lesson();
+    room.put("lesson.f32", raw(lesson.samples()));
+    room.put("other.f32", raw(&[0.25; 20]));
+    for folder in ["lessons", "sounds"] {
+        fs::create_dir(room.0.join(folder)).unwrap();
+    }
+    room.put("sounds/lesson.f32", raw(lesson.samples()));
+    let third = Lesson::new(vec![0.5; lesson.samples().len()]).unwrap();
+    for (name, lesson) in [("hall1", lesson), ("hall2", &third)] {
+        let evening = lesson::evening(lesson, 60, 512, false);
+        room.put(&format!("lessons/{name}.trace"), &evening.trace);
+        room.put(&format!("lessons/{name}.log"), evening.log);
+        if name == "hall1" {
+            room.put("lesson.trace", evening.trace);
+        }
+    }
 }
 
 /// The folders of loops: an empty one, a copy of what the page puts there, and a damaged copy.

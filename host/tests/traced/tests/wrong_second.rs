@@ -55,12 +55,11 @@ fn summed(bytes: &[u8], at: u64, sum: fn(&[u8], [u8; 4]) -> [u8; 4]) -> Read {
     }
 }
 
+/// Finds another answer for the bytes of a head.
+type Other = fn(&Read, &[u8], (usize, u8, usize)) -> Option<u64>;
+
 /// The page's answer, unless this finds another for the head and the bytes that are there.
-fn unless(
-    bytes: &[u8],
-    at: u64,
-    other: fn(&Read, &[u8], (usize, u8, usize)) -> Option<u64>,
-) -> Read {
+fn unless(bytes: &[u8], at: u64, other: Other) -> Read {
     let read = second::read(bytes, at);
     let number = head(bytes, at).and_then(|head| other(&read, bytes, head));
     number.map_or(read, |number| refused(number, at))
@@ -297,7 +296,7 @@ const WRITERS: [(&str, Writer); 10] = [
     ),
     (
         "lanes refused in kinds 1 to 3",
-        |buffer, at, kind, values, lanes| match kind <= 3 && kind >= 1 && !lanes.is_empty() {
+        |buffer, at, kind, values, lanes| match (1..=3).contains(&kind) && !lanes.is_empty() {
             true => Sent {
                 refusal: 17,
                 next: at,
