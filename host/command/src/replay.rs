@@ -15,7 +15,7 @@ use crate::{
     input::{FileKind, Input},
     log::Form,
     out::{Fresh, Out, free, shown},
-    sounds::{Places, Sounds},
+    sounds::{Places, Sounds, named},
 };
 
 /// A trace's run: what each record did, and for each block the line of form 3.
@@ -211,7 +211,8 @@ fn each(
         };
         if let (Record::GivenCreation { sound, .. }, None, Some(_)) = (&record, sounds, &file) {
             return Err(Fault::refused(format!(
-                "{name}: the creation at byte {at} is over a sound that is not in the trace, {sound}: give it with --sound or --sounds"
+                "{name}: the creation at byte {at} is over a sound that is not in the trace, {}: give it with --sound or --sounds",
+                named(sound)
             )));
         }
         match run.play(&record, reader.bytes()) {

@@ -125,7 +125,7 @@ fn length(path: &Path) -> Result<u64> {
 }
 
 /// A sound by its frames and its digest, in words.
-fn named(id: &SoundId) -> String {
+pub fn named(id: &SoundId) -> String {
     let frames = counted(id.frames.into(), "frame");
     format!("{frames}, digest {}", id.digest)
 }

@@ -173,6 +173,18 @@ fn agree(live: &str, replayed: &str) -> usize {
     common
 }
 
+/// The processor seconds of the processes that this one has waited for, if Linux says them.
+fn children_seconds() -> f64 {
+    let stat = fs::read_to_string("/proc/self/stat").unwrap_or_default();
+    // The fields after the name, which is in brackets.
+    let rest = stat.rsplit(')').next().unwrap_or_default();
+    let ticks = rest.split_whitespace().skip(13).take(2);
+    ticks
+        .filter_map(|tick| tick.parse::<f64>().ok())
+        .sum::<f64>()
+        / 100.0
+}
+
 #[test]
 fn an_hour_over_a_real_lesson() {
     let lesson = lesson_of(380);
@@ -181,17 +193,20 @@ fn an_hour_over_a_real_lesson() {
         let evening = evening(&lesson, 3_600, callback, false);
         room.put("hour.trace", &evening.trace);
         room.put("hour.log", &evening.log);
-        let replayed = room.run(&["replay", "hour.trace"]);
+        let (before, replayed) = (children_seconds(), room.run(&["replay", "hour.trace"]));
+        let replay_seconds = children_seconds() - before;
         assert_eq!((replayed.status, &*replayed.err), (0, ""));
         let common = agree(&evening.log, &replayed.out);
+        let before = children_seconds();
+        let ran = room.run(&["audit", "hour.trace", "hour.log"]);
         eprintln!(
-            "callbacks of {callback}: {} bytes, {} lines live, {} replayed, {common} common edges",
+            "callbacks of {callback}: {} bytes, {} lines live, {} replayed, {common} common edges; alone, processor seconds of replay {replay_seconds:.2}, of audit {:.2}",
             evening.trace.len(),
             evening.log.lines().count(),
-            replayed.out.lines().count()
+            replayed.out.lines().count(),
+            children_seconds() - before
         );
         assert!(common > 40_000, "{common}");
-        let ran = room.run(&["audit", "hour.trace", "hour.log"]);
         assert_eq!((ran.status, &*ran.err), (0, ""), "{}", ran.out);
         assert!(ran.out.starts_with("AGREES: "), "{}", ran.out);
         if callback == 512 {
@@ -276,7 +291,7 @@ fn what_was_heard_needs_the_lesson() {
     let id = lesson().id();
     room.run(&["replay", "--out", "heard.f32", "evening.trace"])
         .refuses(&format!(
-            "evening.trace: the creation at byte 0 is over a sound that is not in the trace, 1323000 frames, SHA-256 {}: give it with --sound or --sounds",
+            "evening.trace: the creation at byte 0 is over a sound that is not in the trace, 1,323,000 frames, digest {}: give it with --sound or --sounds",
             id.digest
         ));
     assert_eq!(room.names(), names, "no file is left");

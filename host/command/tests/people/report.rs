@@ -181,14 +181,25 @@ pub fn csv(out: &str) -> Vec<Vec<(String, String)>> {
     let mut lines = out.lines();
     let columns: Vec<&str> = lines.next().expect("a first line").split(',').collect();
     let rows = lines.map(|line| {
-        let cells: Vec<&str> = line.split(',').collect();
+        let cells = cells(line);
         assert_eq!(cells.len(), columns.len(), "{line}");
-        let pairs = columns.iter().zip(cells);
-        pairs
-            .map(|(column, cell)| ((*column).to_owned(), cell.to_owned()))
-            .collect()
+        let columns = columns.iter().map(|column| (*column).to_owned());
+        columns.zip(cells).collect()
     });
     rows.collect()
+}
+
+/// The cells of a line; a comma inside quotes does not separate them.
+fn cells(line: &str) -> Vec<String> {
+    let (mut cells, mut quoted) = (vec![String::new()], false);
+    for letter in line.chars() {
+        match letter {
+            '"' => quoted = !quoted,
+            ',' if !quoted => cells.push(String::new()),
+            _ => cells.last_mut().expect("one").push(letter),
+        }
+    }
+    cells
 }
 
 pub fn cell<'a>(row: &'a [(String, String)], column: &str) -> &'a str {
