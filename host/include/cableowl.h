@@ -513,6 +513,10 @@ CableowlRecord cableowl_read_record_v2(const uint8_t *bytes, size_t bytes_len, u
 CableowlSent cableowl_write_record_v2(uint8_t *buffer, size_t buffer_len, uint64_t at, uint64_t kind, const uint64_t *values,
                                       const uint8_t *lanes, size_t lanes_len);
 
+/* Salvages a trace of version 2, as cableowl_salvage does one of version 1: it also keeps complete records of the last two
+ * kinds, and their checksum makes it unlikely that other bytes are taken for one. */
+CableowlSaved cableowl_salvage_v2(const uint8_t *bytes, size_t bytes_len, uint8_t *out, size_t out_len);
+
 /* A replay before any record. */
 CableowlReplay cableowl_replay(void);
 

@@ -61,6 +61,7 @@ use sound_state::StaticSound;
 pub use traces::cableowl_read_record;
 pub use traces::cableowl_read_record_v2;
 pub use traces::cableowl_salvage;
+pub use traces::cableowl_salvage_v2;
 pub use traces::cableowl_write_record;
 pub use traces::cableowl_write_record_v2;
 

@@ -7,7 +7,7 @@ ghost use Rattle.trace_records.specs.Records.{recordAt};
 ghost use Rattle.trace_records.specs.Writes.{sentOf, writeRecord};
 ghost use Rattle.trace_sealed.specs.Records.{anyAt};
 ghost use Rattle.trace_sealed.specs.Writes.{writeAny};
-ghost use Rattle.trace_salvage.specs.Salvage.{savedOf, salvageOf};
+ghost use Rattle.trace_salvage.specs.Salvage.{savedOf, salvageBy, salvageOf};
 use trace_records::Record;
 use trace_records::Sent;
 use trace_salvage::Saved;
@@ -61,4 +61,11 @@ pub extern "C" fn cableowl_write_record_v2(
         ≡ writeAny (now (buffer .entry)) at kind (now (values .entry)) (now (lanes .entry)) ⌝ }
 {
     trace_sealed::write(buffer, at as usize, kind, *values, lanes)
+}
+
+#[no_mangle]
+pub extern "C" fn cableowl_salvage_v2(bytes: &[u8], out: &mut [u8]) -> Saved
+    ensures { λ r. ⌜ savedOf r (now (out .exit)) ≡ salvageBy 2 (now (bytes .entry)) (now (out .entry)) ⌝ }
+{
+    trace_salvage::salvage_by(2, bytes, out)
 }

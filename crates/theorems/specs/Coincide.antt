@@ -208,6 +208,7 @@ pub record Coincide : Type 0 where
   pub trace-records-read : Decides trace_records.read.Reads.Post
   pub trace-records-write : DecidesWith (λ k r s. s .0 .now) trace_records.write.Reads.Post
   pub trace-salvage-salvage : DecidesWith (λ k r s. s .1 .0 .now) trace_salvage.salvage.Reads.Post
+  pub trace-salvage-salvage-by : DecidesWith (λ k r s. s .1 .0 .now) trace_salvage.salvage_by.Reads.Post
   -- c_state and c_inputs
   pub c-state-decode : Decides c_state.decode.Reads.Post
   pub c-state-encode : Decides c_state.encode.Reads.Post
@@ -250,6 +251,7 @@ pub record Coincide : Type 0 where
   pub cableowl-cableowl-read-record-v2 : Decides cableowl.cableowl_read_record_v2.Reads.Post
   pub cableowl-cableowl-write-record-v2 : DecidesWith (λ k r s. s .0 .now) cableowl.cableowl_write_record_v2.Reads.Post
   pub cableowl-cableowl-salvage : DecidesWith (λ k r s. s .1 .0 .now) cableowl.cableowl_salvage.Reads.Post
+  pub cableowl-cableowl-salvage-v2 : DecidesWith (λ k r s. s .1 .0 .now) cableowl.cableowl_salvage_v2.Reads.Post
   pub cableowl-cableowl-replay : Decides cableowl.cableowl_replay.Reads.Post
   pub cableowl-cableowl-replay-step : DecidesWith {B = List Float
       × List Float} (λ k r s. (s .1 .1 .1 .0 .now, s .1 .1 .1 .1 .0 .now)) cableowl.cableowl_replay_step.Reads.Post

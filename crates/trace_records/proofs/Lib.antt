@@ -2,6 +2,7 @@
 pub mod Ways
 pub mod Rounds
 pub mod Sends
+pub mod Marks
 pub mod Traces
 pub mod Windows
 pub mod Answers

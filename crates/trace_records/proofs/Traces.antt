@@ -14,7 +14,7 @@ use Rattle.byte_layout.proofs.Codec.{never, ands}
 use Rattle.trace_records.specs.Tables.{headRows, body}
 use Rattle.trace_records.specs.Records.{Found, refused, found, readRecord}
 use Rattle.trace_records.specs.Writes.{headOf, recordOf, known, Written, writeRecord}
-use Rattle.trace_records.specs.Traces.{Entry, traceOf, takes, takesAll, writeAll, Story, over, broken, told, onward, readAll, entries, isWhole}
+use Rattle.trace_records.specs.Traces.{Entry, traceOf, takes, takesAll, writeAll, Story, over, broken, told, onward, readAllBy, readAll, entries, isWhole}
 use Rattle.trace_records.specs.Promises.{Kept, Reads, Appended}
 use Rattle.trace_records.proofs.Rounds.{head-length, read-record, written-record, small-after}
 
@@ -28,34 +28,54 @@ pub record-some : (k : ℕ) (ws : List ℕ) → 5 ≤ length (recordOf k ws)
 unfolding recordOf
 record-some k ws = let p = payload (body k) [] ws in omega (arith, length-append (payload headRows [] (headOf k (length p))) p, head-length k (length p))
 
--- a record begun is passed
-passed : (r t : List ℕ) → readAll (length r) (r ++ t) ≡ readAll 0 t
-unfolding readAll
-passed [] t = refl
-passed (b ∷ r) t = passed r t
+-- ---- by any reader
 
--- one record, then the rest
-one-first : (k : ℕ) (ws r rest : List ℕ) → readRecord (r ++ rest) ≡ found k ws rest → 0 < length r → readAll 0 (r ++ rest) ≡ told (entry k ws) (readAll 0 rest)
-unfolding readAll onward
-one-first k ws [] rest f h = none (omega arith)
-one-first k ws (b ∷ r) rest f h =
-    let n : length (r ++ rest) - length rest ≡ length r = omega (arith, length-append r rest) in
-    rw (f, n) (ap (told (entry k ws)) (passed r rest))
+-- the record that a reader finds at the beginning of bytes, and finds there whatever follows it
+pub record Opens (read : List ℕ → Found) (bs : List ℕ) (k : ℕ) (ws rest : List ℕ) : Type 0 where
+  pub front : List ℕ
+  pub some : 0 < length front
+  pub same : bs ≡ front ++ rest
+  pub reads : (more : List ℕ) → read (front ++ more) ≡ found k ws more
+
+module _ (read : List ℕ → Found) where
+  -- a record begun is passed
+  passed : (r t : List ℕ) → readAllBy read (length r) (r ++ t) ≡ readAllBy read 0 t
+  unfolding readAllBy
+  passed [] t = refl
+  passed (b ∷ r) t = passed r t
+
+  -- one record, then the rest
+  pub one-first : (k : ℕ) (ws r rest : List ℕ) → read (r ++ rest) ≡ found k ws rest → 0 < length r → readAllBy read 0 (r ++ rest) ≡ told (entry k ws) (readAllBy read 0 rest)
+  unfolding readAllBy onward
+  one-first k ws [] rest f h = none (omega arith)
+  one-first k ws (b ∷ r) rest f h =
+      let n : length (r ++ rest) - length rest ≡ length r = omega (arith, length-append r rest) in
+      rw (f, n) (ap (told (entry k ws)) (passed r rest))
+
+  pub by-refused : (b : ℕ) (bs : List ℕ) (n : ℕ) → read (b ∷ bs) ≡ refused n → readAllBy read 0 (b ∷ bs) ≡ broken n
+  unfolding readAllBy onward
+  by-refused b bs n e = rw e refl
+
+-- ---- by reader 1
 
 pub read-one : (k : ℕ) (ws rest : List ℕ) → known k ≡ true → fine (body k) [] ws ≡ true → readAll 0 (recordOf k ws ++ rest) ≡ told (entry k ws) (readAll 0 rest)
-read-one k ws rest y e = one-first k ws (recordOf k ws) rest (read-record k ws rest y e) (omega (arith, record-some k ws))
+read-one k ws rest y e = one-first readRecord k ws (recordOf k ws) rest (read-record k ws rest y e) (omega (arith, record-some k ws))
 
 -- what stands at the beginning of bytes
 pub read-found : (bs : List ℕ) (k : ℕ) (ws rest : List ℕ) → Small bs → readRecord bs ≡ found k ws rest → readAll 0 bs ≡ told (entry k ws) (readAll 0 rest)
 read-found bs k ws rest s e = let w = written-record bs k ws rest s e in ap (readAll 0) (w .same) ∙ read-one k ws rest (w .kind) (w .takes)
 
 pub read-refused : (b : ℕ) (bs : List ℕ) (n : ℕ) → readRecord (b ∷ bs) ≡ refused n → readAll 0 (b ∷ bs) ≡ broken n
-unfolding readAll onward
-read-refused b bs n e = rw e refl
+read-refused = by-refused readRecord
+
+pub opens : (bs : List ℕ) (k : ℕ) (ws rest : List ℕ) → Small bs → readRecord bs ≡ found k ws rest → Opens readRecord bs k ws rest
+opens bs k ws rest s e =
+    let w = written-record bs k ws rest s e in
+    record { front = recordOf k ws; some = omega (arith, record-some k ws); same = w .same; reads = λ more. read-record k ws more (w .kind) (w .takes) }
 
 -- records written one after the other read back as that list
 pub read-trace : (es : List Entry) → takesAll es ≡ true → Reads (traceOf es) es
-unfolding traceOf takesAll readAll entries isWhole
+unfolding traceOf takesAll readAllBy entries isWhole
 read-trace [] h = record { to-the-end = refl; same = refl }
 read-trace (e ∷ es) h =
     let g = ands (takes e) (takesAll es) h in
@@ -69,12 +89,12 @@ abbrev Again : List ℕ → Type 0
 Again l = Small l → isWhole (readAll 0 l) ≡ true → l ≡ traceOf (entries (readAll 0 l))
 
 nothing-again : (bs : List ℕ) → length bs ≤ 0 → Again bs
-unfolding traceOf entries readAll
+unfolding traceOf entries readAllBy
 nothing-again [] h s w = refl
 nothing-again (b ∷ bs) h s w = none (omega arith)
 
 one-again : (n : ℕ) (bs : List ℕ) → length bs ≤ suc n → ((l : List ℕ) → length l ≤ n → Again l) → Again bs
-unfolding traceOf entries isWhole readAll
+unfolding traceOf entries isWhole readAllBy
 one-again n [] h ih s w = refl
 one-again n (b ∷ bs) h ih s w = go (readRecord (b ∷ bs)) refl
   where

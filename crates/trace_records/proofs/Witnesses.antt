@@ -12,7 +12,7 @@ use Rattle.byte_layout.proofs.Numbers.{small-of}
 use Rattle.trace_records.specs.Tables.{headTable, commandTable, headRows, commandRows, body}
 use Rattle.trace_records.specs.Records.{possible, found, ended, bodied, readRecord, valued, recordAt}
 use Rattle.trace_records.specs.Writes.{recordOf, writeRecord}
-use Rattle.trace_records.specs.Traces.{onward, readAll, isWhole, takesAll, writeAll}
+use Rattle.trace_records.specs.Traces.{onward, readAllBy, readAll, isWhole, takesAll, writeAll}
 use Rattle.trace_records.specs.Promises.{pauseNumbers, pauseRecord, pauses, Takes, Writes, Puts, Witnesses}
 
 takes : fine (body 2) [] pauseNumbers ≡ true
@@ -28,7 +28,7 @@ unfolding readRecord bodied ended possible steps step taken stands within num he
 reads = refl
 
 to-the-end : isWhole (readAll 0 pauseRecord) ≡ true
-unfolding isWhole readAll onward readRecord bodied ended possible steps step taken stands within num headRows commandRows rows rowAt headTable commandTable
+unfolding isWhole readAllBy onward readRecord bodied ended possible steps step taken stands within num headRows commandRows rows rowAt headTable commandTable
 to-the-end = refl
 
 writes : Writes (replicate 20 0) 4 pauses

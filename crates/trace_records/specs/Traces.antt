@@ -45,11 +45,16 @@ unfoldable pub onward : ℕ → (ℕ → Story) → Found → Story
 onward n more (refused k) = broken k
 onward n more (found k ws rest) = told (record { kind = k; numbers = ws }) (more (n - length rest))
 
--- a trace read record by record; k bytes of the current record are left
-unfoldable pub readAll : ℕ → List ℕ → Story
-readAll k [] = over
-readAll (suc k) (b ∷ bs) = readAll k bs
-readAll zero (b ∷ bs) = onward (length bs) (λ (k : ℕ). readAll k bs) (readRecord (b ∷ bs))
+-- a trace read record by record; k bytes of the current record are left. `read` finds the record at the beginning of
+-- bytes
+unfoldable pub readAllBy : (List ℕ → Found) → ℕ → List ℕ → Story
+readAllBy read k [] = over
+readAllBy read (suc k) (b ∷ bs) = readAllBy read k bs
+readAllBy read zero (b ∷ bs) = onward (length bs) (λ (k : ℕ). readAllBy read k bs) (read (b ∷ bs))
+
+-- a trace of version 1
+abbrev pub readAll : ℕ → List ℕ → Story
+readAll = readAllBy readRecord
 
 -- the records found, and whether they reach the trace's end
 unfoldable pub entries : Story → List Entry

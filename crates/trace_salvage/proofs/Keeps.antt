@@ -12,12 +12,11 @@ use Rattle.byte_layout.proofs.Puts.{sets-append}
 use Rattle.trace_salvage.specs.declared.Turn.{Turn}
 use borrow.Author.Tests.{eqb-true, eqb-false, ne-eqb, eq-eqb, lt-ltb, le-ltb, ltb-true, ltb-false, leb-true, le-leb, lt-leb}
 use Rattle.trace_records.specs.declared.Record.{Record}
-use Rattle.byte_layout.specs.Numbers.{num}
-use Rattle.byte_layout.specs.Rows.{rowAt, rows, stands, within}
-use Rattle.byte_layout.specs.Reads.{steps, step, taken}
-use Rattle.trace_records.specs.Tables.{headTable, headRows}
-use Rattle.trace_records.specs.Records.{Found, refused, found, readRecord, bodied, valued, recordAt}
-use Rattle.trace_salvage.specs.Salvage.{kept, skipped, records, first, sizeIn, sizeOf, placed, Turned, Salvaged, salvageOf}
+use Rattle.trace_records.specs.Records.{Found, refused, found, readRecord, valued, recordAt}
+use Rattle.trace_sealed.specs.Records as sealed
+use Rattle.trace_sealed.specs.Records.{isSealed, readSealed, readAny, readBy, sealedAt, anyAt}
+use Rattle.trace_sealed.proofs.Readers.{by-1, by-2, unmarked-by}
+use Rattle.trace_salvage.specs.Salvage.{kept, skipped, records, first, sizeIn, sizeBy, placed, Turned, Salvaged, salvageBy}
 
 none : {A : Type 0} → ⊥ → A
 none e = elim e [ ]
@@ -100,65 +99,75 @@ unfolding sizeIn
 sizeIn-le n (refused k) = omega arith
 sizeIn-le n (found l ws rest) = omega arith
 
-pub size-le : (s : List ℕ) (at : ℕ) → sizeOf (drop at s) ≤ length s - at
-unfolding sizeOf
-size-le s at = omega (arith, sizeIn-le (length (drop at s)) (readRecord (drop at s)), length-drop at s)
+pub size-le : (v : ℕ) (s : List ℕ) (at : ℕ) → sizeBy v (drop at s) ≤ length s - at
+unfolding sizeBy
+size-le v s at = omega (arith, sizeIn-le (length (drop at s)) (readBy v (drop at s)), length-drop at s)
 
-size-refused : (len at n : ℕ) (d : Found) → (valued len at d .refusal ≡ 0 → ⊥) → 0 ≡ sizeIn n d
-unfolding valued sizeIn
-size-refused len at n (refused k) h = refl
-size-refused len at n (found k ws rest) h = none (h refl)
+-- the length of a record that was read at a place
+abbrev taken-up : ℕ → Record → ℕ
+taken-up at r = cond (eqb (r .refusal) 0) (r .next - at) 0
 
-size-found : (len at n : ℕ) (d : Found) → n ≡ len - at → valued len at d .next - at ≡ sizeIn n d
+nothing-taken : (at k : ℕ) → cond (eqb k 0) (at - at) 0 ≡ 0
+nothing-taken at k = go (eqb k 0)
+  where
+    go : (t : Bool) → cond t (at - at) 0 ≡ 0
+    go true = omega arith
+    go false = refl
+
+size-found : (len at n : ℕ) (d : Found) → n ≡ len - at → taken-up at (valued len at d) ≡ sizeIn n d
 unfolding valued sizeIn
-size-found len at n (refused k) e = omega arith
+size-found len at n (refused k) e = nothing-taken at k
 size-found len at n (found k ws rest) e = omega arith
 
-pub size-none : (s : List ℕ) (at : ℕ) (r : Record) → r ≡ recordAt s at → (r .refusal ≡ 0 → ⊥) → 0 ≡ sizeOf (drop at s)
-unfolding recordAt sizeOf
-size-none s at r e h = size-refused (length s) at (length (drop at s)) (readRecord (drop at s)) (λ z. h (ap (λ (x : Record). x .refusal) e ∙ z))
+sealed-found : (len at n : ℕ) (d : Found) → n ≡ len - at → taken-up at (sealed.valued len at d) ≡ sizeIn n d
+unfolding sealed.valued sizeIn
+sealed-found len at n (refused k) e = nothing-taken at k
+sealed-found len at n (found k ws rest) e = omega arith
 
-pub size-some : (s : List ℕ) (at : ℕ) (r : Record) → r ≡ recordAt s at → r .next - at ≡ sizeOf (drop at s)
-unfolding recordAt sizeOf
-size-some s at r e = ap (λ (x : Record). x .next - at) e ∙ size-found (length s) at (length (drop at s)) (readRecord (drop at s)) (length-drop at s)
+size-1 : (s : List ℕ) (at : ℕ) → taken-up at (recordAt s at) ≡ sizeIn (length (drop at s)) (readRecord (drop at s))
+unfolding recordAt
+size-1 s at = size-found (length s) at (length (drop at s)) (readRecord (drop at s)) (length-drop at s)
+
+size-2 : (s : List ℕ) (at : ℕ) → taken-up at (anyAt s at) ≡ sizeIn (length (drop at s)) (readAny (drop at s))
+unfolding anyAt sealedAt readAny
+size-2 s at = go (isSealed (drop at s))
+  where
+    go : (t : Bool) → taken-up at (cond t (sealed.valued (length s) at (readSealed (drop at s))) (recordAt s at)) ≡ sizeIn (length (drop at s)) (cond t (readSealed (drop at s)) (readRecord (drop at s)))
+    go true = sealed-found (length s) at (length (drop at s)) (readSealed (drop at s)) (length-drop at s)
+    go false = size-1 s at
+
+-- what each reader read at a place
+pub read-1 : (v : ℕ) (s : List ℕ) (at n : ℕ) (r : Record) → v ≡ 1 → r ≡ recordAt s at → n ≡ taken-up at r → n ≡ sizeBy v (drop at s)
+unfolding sizeBy
+read-1 v s at n r h e f = f ∙ ap (taken-up at) e ∙ size-1 s at ∙ ap (sizeIn (length (drop at s))) (sym (by-1 v (drop at s) (eq-eqb v 1 h)))
+
+pub read-2 : (v : ℕ) (s : List ℕ) (at n : ℕ) (r : Record) → (v ≡ 1 → ⊥) → r ≡ anyAt s at → n ≡ taken-up at r → n ≡ sizeBy v (drop at s)
+unfolding sizeBy
+read-2 v s at n r h e f = f ∙ ap (taken-up at) e ∙ size-2 s at ∙ ap (sizeIn (length (drop at s))) (sym (by-2 v (drop at s) (ne-eqb v 1 h)))
 
 -- no record begins past the end, or with another byte than A5
-pub size-past : (s : List ℕ) (at : ℕ) → length s ≤ at → 0 ≡ sizeOf (drop at s)
-size-past s at h = omega (arith, size-le s at)
+pub size-past : (v : ℕ) (s : List ℕ) (at : ℕ) → length s ≤ at → 0 ≡ sizeBy v (drop at s)
+size-past v s at h = omega (arith, size-le v s at)
 
-not-a5 : (x : ℕ) → (x ≡ 165 → ⊥) → (leb 165 x && leb x 165) ≡ false
-not-a5 x h = go (leb 165 x) refl
-  where
-    go : (t : Bool) → leb 165 x ≡ t → (t && leb x 165) ≡ false
-    go true e = let l = leb-true 165 x e in lt-leb x 165 (above (ltb 165 x) refl l)
-      where
-        above : (t : Bool) → ltb 165 x ≡ t → 165 ≤ x → 165 < x
-        above true f l = ltb-true 165 x f
-        above false f l = let m = ltb-false 165 x f in none (h (omega arith))
-    go false e = refl
+pub size-unmarked : (v : ℕ) (s : List ℕ) (at : ℕ) → at < length s → (getD s at 0 ≡ 165 → ⊥) → 0 ≡ sizeBy v (drop at s)
+unfolding sizeBy sizeIn
+size-unmarked v s at l h = rw (drop-cons s at 0 l, unmarked-by v (getD s at 0) (drop (suc at) s) h) refl
 
-other-byte : (b : ℕ) (bs : List ℕ) → (b ≡ 165 → ⊥) → 0 ≡ sizeOf (b ∷ bs)
-unfolding sizeOf sizeIn readRecord bodied steps step taken stands within num headRows rows rowAt headTable
-other-byte b bs h = let x : b + 0 ≡ b = omega arith in rw (x, not-a5 b h, le-leb 1 (length (b ∷ bs)) (omega arith)) refl
-
-pub size-unmarked : (s : List ℕ) (at : ℕ) → at < length s → (getD s at 0 ≡ 165 → ⊥) → 0 ≡ sizeOf (drop at s)
-size-unmarked s at l h = rw (drop-cons s at 0 l) (other-byte (getD s at 0) (drop (suc at) s) h)
-
-module _ (s out : List ℕ) (t : Turn) (a : t .at < length s) (b : t .w ≤ t .at) (c : t .skip ≤ t .at) (g : t .records ≤ t .at) where
-  pub keeps : (new : List ℕ) (n : ℕ) → n ≡ sizeOf (drop (t .at) s) → 0 < n → new ≡ sets out (t .w) (take (t .at + n - t .at) (drop (t .at) s))
-      → Turned s out new t (record { at = t .at + n; w = t .w + n; skip = t .skip; records = t .records + 1; first = t .first })
+module _ (v : ℕ) (s out : List ℕ) (t : Turn) (a : t .at < length s) (b : t .w ≤ t .at) (c : t .skip ≤ t .at) (g : t .records ≤ t .at) where
+  pub keeps : (new : List ℕ) (n : ℕ) → n ≡ sizeBy v (drop (t .at) s) → 0 < n → new ≡ sets out (t .w) (take (t .at + n - t .at) (drop (t .at) s))
+      → Turned v s out new t (record { at = t .at + n; w = t .w + n; skip = t .skip; records = t .records + 1; first = t .first })
   keeps new n e p q =
       let bs = drop (t .at) s in
       let l : length bs ≡ length s - t .at = length-drop (t .at) s in
-      let h = size-le s (t .at) in
+      let h = size-le v s (t .at) in
       let m : t .at + n - t .at ≡ n = omega arith in
-      let k = turn-keep sizeOf (t .at) bs (omega (arith, e)) (omega (arith, h, l)) in
-      let d : drop (sizeOf bs) bs ≡ drop (t .at + n) s = drop-drop (sizeOf bs) (t .at) s ∙ ap (λ (z : ℕ). drop (t .at + z) s) (sym e) in
+      let k = turn-keep (sizeBy v) (t .at) bs (omega (arith, e)) (omega (arith, h, l)) in
+      let d : drop (sizeBy v bs) bs ≡ drop (t .at + n) s = drop-drop (sizeBy v bs) (t .at) s ∙ ap (λ (z : ℕ). drop (t .at + z) s) (sym e) in
       let x : new ≡ sets out (t .w) (take n bs) = q ∙ ap (λ (z : ℕ). sets out (t .w) (take z bs)) m in
       let y : length (take n bs) ≡ n = length-take-le n bs (omega (arith, e, h, l)) in
-      let z : kept sizeOf bs 0 ≡ take n bs ++ kept sizeOf (drop (t .at + n) s) 0 = k .bytes ∙ ap (λ (u : ℕ). take u bs ++ kept sizeOf (drop (sizeOf bs) bs) 0) (sym e) ∙ ap (λ (u : List ℕ). take n bs ++ kept sizeOf u 0) d in
-      let o : records sizeOf bs 0 ≡ suc (records sizeOf (drop (t .at + n) s) 0) = k .count ∙ ap (λ (u : List ℕ). suc (records sizeOf u 0)) d in
-      let v : first sizeOf (t .at) bs 0 ≡ first sizeOf (t .at + n) (drop (t .at + n) s) 0 = k .place ∙ ap (λ (u : ℕ). first sizeOf (t .at + u) (drop (sizeOf bs) bs) 0) (sym e) ∙ ap (λ (u : List ℕ). first sizeOf (t .at + n) u 0) d in
+      let z : kept (sizeBy v) bs 0 ≡ take n bs ++ kept (sizeBy v) (drop (t .at + n) s) 0 = k .bytes ∙ ap (λ (u : ℕ). take u bs ++ kept (sizeBy v) (drop (sizeBy v bs) bs) 0) (sym e) ∙ ap (λ (u : List ℕ). take n bs ++ kept (sizeBy v) u 0) d in
+      let o : records (sizeBy v) bs 0 ≡ suc (records (sizeBy v) (drop (t .at + n) s) 0) = k .count ∙ ap (λ (u : List ℕ). suc (records (sizeBy v) u 0)) d in
+      let f : first (sizeBy v) (t .at) bs 0 ≡ first (sizeBy v) (t .at + n) (drop (t .at + n) s) 0 = k .place ∙ ap (λ (u : ℕ). first (sizeBy v) (t .at + u) (drop (sizeBy v bs) bs) 0) (sym e) ∙ ap (λ (u : List ℕ). first (sizeBy v) (t .at + n) u 0) d in
       record {
         inside = omega (arith, e, h);
         on = omega arith;
@@ -166,19 +175,19 @@ module _ (s out : List ℕ) (t : Turn) (a : t .at < length s) (b : t .w ≤ t .a
         few = omega arith;
         some = omega arith;
         long = ap length q ∙ simp length-sets;
-        same = rw (x, z) (ap (λ (u : ℕ). sets (sets out (t .w) (take n bs)) (t .w + u) (kept sizeOf (drop (t .at + n) s) 0)) (sym y) ∙ sym (sets-append out (t .w) (take n bs) (kept sizeOf (drop (t .at + n) s) 0)));
-        count = ap (λ (u : ℕ). t .skip + u) (sym (k .skips ∙ ap (λ (u : List ℕ). skipped sizeOf u 0) d));
+        same = rw (x, z) (ap (λ (u : ℕ). sets (sets out (t .w) (take n bs)) (t .w + u) (kept (sizeBy v) (drop (t .at + n) s) 0)) (sym y) ∙ sym (sets-append out (t .w) (take n bs) (kept (sizeBy v) (drop (t .at + n) s) 0)));
+        count = ap (λ (u : ℕ). t .skip + u) (sym (k .skips ∙ ap (λ (u : List ℕ). skipped (sizeBy v) u 0) d));
         whole = omega (arith, o);
-        place = ap (λ (u : ℕ). cond (eqb (t .skip) 0) u (t .first)) (sym v);
+        place = ap (λ (u : ℕ). cond (eqb (t .skip) 0) u (t .first)) (sym f);
       }
 
-  pub skips : (n f : ℕ) → n ≡ sizeOf (drop (t .at) s) → n ≤ 0 → f ≡ cond (eqb (t .skip) 0) (t .at) (t .first) → Turned s out out t (record { at = t .at + 1; w = t .w; skip = t .skip + 1; records = t .records; first = f })
+  pub skips : (n f : ℕ) → n ≡ sizeBy v (drop (t .at) s) → n ≤ 0 → f ≡ cond (eqb (t .skip) 0) (t .at) (t .first) → Turned v s out out t (record { at = t .at + 1; w = t .w; skip = t .skip + 1; records = t .records; first = f })
   skips n f e p y =
       let bs = drop (t .at) s in
-      let k = turn-skip sizeOf (t .at) bs (omega (arith, length-drop (t .at) s)) (omega (arith, e)) in
+      let k = turn-skip (sizeBy v) (t .at) bs (omega (arith, length-drop (t .at) s)) (omega (arith, e)) in
       let d : drop 1 bs ≡ drop (t .at + 1) s = drop-drop 1 (t .at) s in
-      let j : skipped sizeOf bs 0 ≡ suc (skipped sizeOf (drop (t .at + 1) s) 0) = k .skips ∙ ap (λ (u : List ℕ). suc (skipped sizeOf u 0)) d in
-      let o : records sizeOf bs 0 ≡ records sizeOf (drop (t .at + 1) s) 0 = k .count ∙ ap (λ (u : List ℕ). records sizeOf u 0) d in
+      let j : skipped (sizeBy v) bs 0 ≡ suc (skipped (sizeBy v) (drop (t .at + 1) s) 0) = k .skips ∙ ap (λ (u : List ℕ). suc (skipped (sizeBy v) u 0)) d in
+      let o : records (sizeBy v) bs 0 ≡ records (sizeBy v) (drop (t .at + 1) s) 0 = k .count ∙ ap (λ (u : List ℕ). records (sizeBy v) u 0) d in
       record {
         inside = omega arith;
         on = omega arith;
@@ -186,31 +195,31 @@ module _ (s out : List ℕ) (t : Turn) (a : t .at < length s) (b : t .w ≤ t .a
         few = omega arith;
         some = omega arith;
         long = refl;
-        same = ap (λ (u : List ℕ). sets out (t .w) u) (sym (k .bytes ∙ ap (λ (u : List ℕ). kept sizeOf u 0) d));
+        same = ap (λ (u : List ℕ). sets out (t .w) u) (sym (k .bytes ∙ ap (λ (u : List ℕ). kept (sizeBy v) u 0) d));
         count = omega (arith, j);
         whole = ap (λ (u : ℕ). t .records + u) (sym o);
-        place = ap (λ (u : Bool). cond u (first sizeOf (t .at + 1) (drop (t .at + 1) s) 0) f) (ne-eqb (t .skip + 1) 0 (λ z. omega arith)) ∙ y ∙ ap (λ (u : ℕ). cond (eqb (t .skip) 0) u (t .first)) (sym (k .place));
+        place = ap (λ (u : Bool). cond u (first (sizeBy v) (t .at + 1) (drop (t .at + 1) s) 0) f) (ne-eqb (t .skip + 1) 0 (λ z. omega arith)) ∙ y ∙ ap (λ (u : ℕ). cond (eqb (t .skip) 0) u (t .first)) (sym (k .place));
       }
 
 -- the whole loop
 abbrev done : ℕ → ℕ → ℕ → ℕ → List ℕ → Salvaged
 done k c n f l = record { number = k; count = c; skip = n; place = f; output = l }
 
-pub refused-short : (s out : List ℕ) → length out < length s → done 25 0 0 0 out ≡ salvageOf s out
-unfolding salvageOf
-refused-short s out h = rw (lt-ltb (length out) (length s) h) refl
+pub refused-short : (v : ℕ) (s out : List ℕ) → length out < length s → done 25 0 0 0 out ≡ salvageBy v s out
+unfolding salvageBy
+refused-short v s out h = rw (lt-ltb (length out) (length s) h) refl
 
-pub saved : (s out new : List ℕ) (t : Turn) (f : ℕ) → length s ≤ length out → length s ≤ t .at → sets new (t .w) (kept sizeOf (drop (t .at) s) 0) ≡ sets out 0 (kept sizeOf s 0)
-    → t .skip + skipped sizeOf (drop (t .at) s) 0 ≡ skipped sizeOf s 0 → t .records + records sizeOf (drop (t .at) s) 0 ≡ records sizeOf s 0 → placed t s ≡ first sizeOf 0 s 0
-    → f ≡ cond (eqb (t .skip) 0) (t .at) (t .first) → done 0 (t .records) (t .skip) f new ≡ salvageOf s out
-unfolding salvageOf kept skipped records first
-saved s out new t f h e p q r v y =
+pub saved : (v : ℕ) (s out new : List ℕ) (t : Turn) (f : ℕ) → length s ≤ length out → length s ≤ t .at → sets new (t .w) (kept (sizeBy v) (drop (t .at) s) 0) ≡ sets out 0 (kept (sizeBy v) s 0)
+    → t .skip + skipped (sizeBy v) (drop (t .at) s) 0 ≡ skipped (sizeBy v) s 0 → t .records + records (sizeBy v) (drop (t .at) s) 0 ≡ records (sizeBy v) s 0 → placed v t s ≡ first (sizeBy v) 0 s 0
+    → f ≡ cond (eqb (t .skip) 0) (t .at) (t .first) → done 0 (t .records) (t .skip) f new ≡ salvageBy v s out
+unfolding salvageBy kept skipped records first
+saved v s out new t f h e p q r w y =
     let d : drop (t .at) s ≡ [] = drop-of-length-le s e in
-    let x : new ≡ sets out 0 (kept sizeOf s 0) = rw d at p in
-    let m : t .skip + 0 ≡ skipped sizeOf s 0 = rw d at q in
-    let n : t .skip ≡ skipped sizeOf s 0 = omega arith in
-    let i : t .records + 0 ≡ records sizeOf s 0 = rw d at r in
-    let j : t .records ≡ records sizeOf s 0 = omega arith in
-    let u : cond (eqb (t .skip) 0) (t .at) (t .first) ≡ first sizeOf 0 s 0 = rw d at v in
+    let x : new ≡ sets out 0 (kept (sizeBy v) s 0) = rw d at p in
+    let m : t .skip + 0 ≡ skipped (sizeBy v) s 0 = rw d at q in
+    let n : t .skip ≡ skipped (sizeBy v) s 0 = omega arith in
+    let i : t .records + 0 ≡ records (sizeBy v) s 0 = rw d at r in
+    let j : t .records ≡ records (sizeBy v) s 0 = omega arith in
+    let u : cond (eqb (t .skip) 0) (t .at) (t .first) ≡ first (sizeBy v) 0 s 0 = rw d at w in
     rw (le-ltb (length out) (length s) h)
-    (ap (λ (z : ℕ). done 0 z (t .skip) f new) j ∙ ap (λ (z : ℕ). done 0 (records sizeOf s 0) z f new) n ∙ ap (λ (z : ℕ). done 0 (records sizeOf s 0) (skipped sizeOf s 0) z new) (y ∙ u) ∙ ap (λ (z : List ℕ). done 0 (records sizeOf s 0) (skipped sizeOf s 0) (first sizeOf 0 s 0) z) x)
+    (ap (λ (z : ℕ). done 0 z (t .skip) f new) j ∙ ap (λ (z : ℕ). done 0 (records (sizeBy v) s 0) z f new) n ∙ ap (λ (z : ℕ). done 0 (records (sizeBy v) s 0) (skipped (sizeBy v) s 0) z new) (y ∙ u) ∙ ap (λ (z : List ℕ). done 0 (records (sizeBy v) s 0) (skipped (sizeBy v) s 0) (first (sizeBy v) 0 s 0) z) x)

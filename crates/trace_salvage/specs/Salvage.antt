@@ -7,7 +7,8 @@ use mathlib.Core.Path.{_≡_}
 use lib.Dec.{eqb, ltb}
 use lib.ListN.{length, drop}
 use lib.Seq.{sets}
-use Rattle.trace_records.specs.Records.{Found, refused, found, readRecord}
+use Rattle.trace_records.specs.Records.{Found, refused, found}
+use Rattle.trace_sealed.specs.Records.{readBy}
 use Rattle.trace_salvage.specs.declared.Saved.{Saved}
 use Rattle.trace_salvage.specs.declared.Turn.{Turn}
 
@@ -41,9 +42,9 @@ unfoldable pub sizeIn : ℕ → Found → ℕ
 sizeIn n (refused k) = 0
 sizeIn n (found k ws rest) = n - length rest
 
--- of a trace: what the reader accepts
-unfoldable pub sizeOf : List ℕ → ℕ
-sizeOf bs = sizeIn (length bs) (readRecord bs)
+-- of a trace: what the reader of a version accepts
+unfoldable pub sizeBy : ℕ → List ℕ → ℕ
+sizeBy v bs = sizeIn (length bs) (readBy v bs)
 
 -- the outcome of a salvage: refusal, records kept, bytes skipped, first skipped offset, output
 pub record Salvaged : Type 0 where
@@ -58,31 +59,35 @@ savedOf r out = record { number = r .refusal; count = r .records; skip = r .skip
 
 -- 25 if the output is shorter than the input, with all numbers 0; otherwise the kept bytes, and the rest of the
 -- output unchanged
-unfoldable pub salvageOf : List ℕ → List ℕ → Salvaged
-salvageOf s out =
+unfoldable pub salvageBy : ℕ → List ℕ → List ℕ → Salvaged
+salvageBy v s out =
     cond (ltb (length out) (length s))
     (record { number = 25; count = 0; skip = 0; place = 0; output = out })
     (record {
       number = 0;
-      count = records sizeOf s 0;
-      skip = skipped sizeOf s 0;
-      place = first sizeOf 0 s 0;
-      output = sets out 0 (kept sizeOf s 0);
+      count = records (sizeBy v) s 0;
+      skip = skipped (sizeBy v) s 0;
+      place = first (sizeBy v) 0 s 0;
+      output = sets out 0 (kept (sizeBy v) s 0);
     })
 
+-- of a trace of version 1
+abbrev pub salvageOf : List ℕ → List ℕ → Salvaged
+salvageOf = salvageBy 1
+
 -- the first offset, once something was skipped
-abbrev pub placed : Turn → List ℕ → ℕ
-placed t s = cond (eqb (t .skip) 0) (first sizeOf (t .at) (drop (t .at) s) 0) (t .first)
+abbrev pub placed : ℕ → Turn → List ℕ → ℕ
+placed v t s = cond (eqb (t .skip) 0) (first (sizeBy v) (t .at) (drop (t .at) s) 0) (t .first)
 
 -- one iteration: what is left to do decreases, and the final outcome does not change
-pub record Turned (s out new : List ℕ) (t r : Turn) : Type 0 where
+pub record Turned (v : ℕ) (s out new : List ℕ) (t r : Turn) : Type 0 where
   pub inside : r .at ≤ length s
   pub on : t .at < r .at
   pub room : r .w ≤ r .at
   pub few : r .skip ≤ r .at
   pub some : r .records ≤ r .at
   pub long : length new ≡ length out
-  pub same : sets new (r .w) (kept sizeOf (drop (r .at) s) 0) ≡ sets out (t .w) (kept sizeOf (drop (t .at) s) 0)
-  pub count : r .skip + skipped sizeOf (drop (r .at) s) 0 ≡ t .skip + skipped sizeOf (drop (t .at) s) 0
-  pub whole : r .records + records sizeOf (drop (r .at) s) 0 ≡ t .records + records sizeOf (drop (t .at) s) 0
-  pub place : placed r s ≡ placed t s
+  pub same : sets new (r .w) (kept (sizeBy v) (drop (r .at) s) 0) ≡ sets out (t .w) (kept (sizeBy v) (drop (t .at) s) 0)
+  pub count : r .skip + skipped (sizeBy v) (drop (r .at) s) 0 ≡ t .skip + skipped (sizeBy v) (drop (t .at) s) 0
+  pub whole : r .records + records (sizeBy v) (drop (r .at) s) 0 ≡ t .records + records (sizeBy v) (drop (t .at) s) 0
+  pub place : placed v r s ≡ placed v t s

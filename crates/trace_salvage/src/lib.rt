@@ -1,11 +1,12 @@
 // Salvage of a damaged trace: copies complete records and skips every other byte, one at a time.
 ghost use mathlib.Core.Path.{_≡_};
-ghost use Prim.Native.Nat.{_≤_, _<_};
+ghost use Prim.Native.Nat.{_-_, _≤_, _<_};
 ghost use mathlib.Core.Bool.{cond};
 ghost use lib.Dec.{eqb};
 ghost use lib.ListN.{length, drop};
 ghost use Rattle.trace_salvage.specs.Promises.{Promises};
-ghost use Rattle.trace_salvage.specs.Salvage.{sizeOf, savedOf, salvageOf, Turned};
+ghost use Rattle.trace_salvage.specs.Salvage.{sizeBy, savedOf, salvageBy, salvageOf, Turned};
+use trace_records::Record;
 
 // A salvage in progress: the offsets in the input and in the output, the bytes skipped, the records kept, and the
 // offset of the first skipped byte.
@@ -26,18 +27,10 @@ pub struct Saved {
     pub first: usize,
 }
 
-// The length of the complete record at an offset, or 0. A record begins with A5, so the reader is not called at any
-// other byte.
-fn record_size(s: &[u8], at: usize) -> usize
-    ensures { λ n. ⌜ n ≡ sizeOf (drop at (now (s .entry))) ⌝ }
+// The length of a record that was read at an offset, or 0 if it was refused.
+fn size_read(r: Record, at: usize) -> usize
+    ensures { λ n. ⌜ n ≡ cond (eqb (r .refusal) 0) (r .next - at) 0 ⌝ }
 {
-    if s.len() <= at {
-        return 0;
-    }
-    if s[at] != 0xa5 {
-        return 0;
-    }
-    let r = trace_records::read(s, at);
     if r.refusal != 0 {
         return 0;
     }
@@ -46,6 +39,23 @@ fn record_size(s: &[u8], at: usize) -> usize
         return 0;
     }
     next - at
+}
+
+// The length of the complete record at an offset, or 0. A record begins with A5, so the reader is not called at any
+// other byte.
+fn record_size(reader: u64, s: &[u8], at: usize) -> usize
+    ensures { λ n. ⌜ n ≡ sizeBy reader (drop at (now (s .entry))) ⌝ }
+{
+    if s.len() <= at {
+        return 0;
+    }
+    if s[at] != 0xa5 {
+        return 0;
+    }
+    if reader == 1 {
+        return size_read(trace_records::read(s, at), at);
+    }
+    size_read(trace_sealed::read(s, at), at)
 }
 
 // The offset of the first skipped byte, when one is skipped at an offset.
@@ -59,14 +69,14 @@ fn first_of(t: Turn) -> usize
 }
 
 // Copies the record at the offset, or skips a byte.
-fn step(s: &[u8], out: &mut [u8], t: Turn) -> Turn
+fn step(reader: u64, s: &[u8], out: &mut [u8], t: Turn) -> Turn
     requires { ⌜ (t .at < length (now s)) × (t .w ≤ t .at) × (t .skip ≤ t .at) × (t .records ≤ t .at)
         × (length (now s) ≤ length (now out)) ⌝ }
-    ensures { λ r. ⌜ Turned (now (s .entry)) (now (out .entry)) (now (out .exit)) t r ⌝ }
+    ensures { λ r. ⌜ Turned reader (now (s .entry)) (now (out .entry)) (now (out .exit)) t r ⌝ }
 {
     let at = t.at;
     let w = t.w;
-    let n = record_size(s, at);
+    let n = record_size(reader, s, at);
     if 0 < n {
         let to = at + n;
         byte_layout::copy(s, at, to, out, w);
@@ -87,9 +97,10 @@ fn step(s: &[u8], out: &mut [u8], t: Turn) -> Turn
     }
 }
 
-// Copies the complete records of s to the start of out.
-pub fn salvage(s: &[u8], out: &mut [u8]) -> Saved
-    ensures { λ r. ⌜ savedOf r (now (out .exit)) ≡ salvageOf (now (s .entry)) (now (out .entry)) ⌝ }
+// Copies the complete records of s to the start of out, those that the reader of a version accepts: reader 1 knows
+// kinds 1 to 3, any other all five.
+pub fn salvage_by(reader: u64, s: &[u8], out: &mut [u8]) -> Saved
+    ensures { λ r. ⌜ savedOf r (now (out .exit)) ≡ salvageBy reader (now (s .entry)) (now (out .entry)) ⌝ }
 {
     if out.len() < s.len() {
         return Saved {
@@ -107,7 +118,7 @@ pub fn salvage(s: &[u8], out: &mut [u8]) -> Saved
         first: 0,
     };
     while t.at < s.len() {
-        t = step(s, out, t);
+        t = step(reader, s, out, t);
     }
     Saved {
         refusal: 0,
@@ -115,6 +126,13 @@ pub fn salvage(s: &[u8], out: &mut [u8]) -> Saved
         skipped: t.skip,
         first: first_of(t),
     }
+}
+
+// The same of a trace of version 1.
+pub fn salvage(s: &[u8], out: &mut [u8]) -> Saved
+    ensures { λ r. ⌜ savedOf r (now (out .exit)) ≡ salvageOf (now (s .entry)) (now (out .entry)) ⌝ }
+{
+    salvage_by(1, s, out)
 }
 
 // An empty function whose contract collects the theorems, so that the checker must prove them.

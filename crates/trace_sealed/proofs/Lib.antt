@@ -5,4 +5,5 @@ pub mod Sums
 pub mod Rounds
 pub mod Sends
 pub mod Windows
+pub mod Readers
 pub mod Promises

@@ -19,34 +19,8 @@ use Rattle.trace_sealed.specs.Tables.{headTable, givenTable, lanedTable,
 use Rattle.trace_sealed.specs.Records.{inSteps, possible, tail, closed, bodied, readSealed, isSealed, readAny, anyAt}
 use Rattle.trace_sealed.specs.Writes.{unsealed, sealedOf, sealedKind, Sealable}
 use Rattle.trace_sealed.specs.Promises.{Begins, Kept, Old, Witnesses, Promises, silentNumbers, silentRecord}
-use Rattle.trace_sealed.proofs.Rounds.{read-back, written-again}
+use Rattle.trace_sealed.proofs.Readers.{read-any, again, as-reader-1}
 use Rattle.trace_sealed.proofs.Windows.{window}
-
-third : (k : ℕ) (vs lanes rest : List ℕ) → getD (sealedOf k vs lanes ++ rest) 2 0 ≡ k % 256
-unfolding sealedOf unsealed payload headRows rows rowAt headTable stands field bytes
-third k vs lanes rest = refl
-
-is-sealed : (k : ℕ) (vs lanes rest : List ℕ) → sealedKind k ≡ true → isSealed (sealedOf k vs lanes ++ rest) ≡ true
-is-sealed k vs lanes rest e =
-    let h = ands (leb 4 k) (leb k 5) e in
-    let l = leb-true k 5 (h .1) in
-    let z : k % 256 ≡ k = omega arith in
-    ap (λ (i : ℕ). leb 4 i && leb i 5) (third k vs lanes rest ∙ z) ∙ e
-
-read-any : (k : ℕ) (vs lanes rest : List ℕ) → Sealable k vs lanes → readAny (sealedOf k vs lanes ++ rest) ≡ found k (vs ++ lanes) rest
-unfolding readAny
-read-any k vs lanes rest x = ap (λ (b : Bool). cond b (readSealed (sealedOf k vs lanes ++ rest)) (readRecord (sealedOf k vs lanes ++ rest))) (is-sealed k vs lanes rest (x .kind)) ∙ read-back k vs lanes rest x
-
-sealed-read : (bs : List ℕ) → isSealed bs ≡ true → readAny bs ≡ readSealed bs
-unfolding readAny
-sealed-read bs e = ap (λ (b : Bool). cond b (readSealed bs) (readRecord bs)) e
-
-as-reader-1 : (bs : List ℕ) → Old bs → readAny bs ≡ readRecord bs
-unfolding readAny
-as-reader-1 bs e = ap (λ (b : Bool). cond b (readSealed bs) (readRecord bs)) e
-
-again : (bs : List ℕ) (k : ℕ) (ws rest : List ℕ) → Begins bs k ws rest → Kept bs k ws rest
-again bs k ws rest x = written-again bs k ws rest (x .bytes) (sym (sealed-read bs (x .sealed)) ∙ x .reads)
 
 witnesses : Witnesses
 unfolding fine fits within stands field payload rows rowAt lanedTable lanedRows headTable headRows num bytes taken step steps bit bits byte register checksumOf inSteps possible tail closed bodied readSealed readAny

@@ -65,6 +65,10 @@ isSealed bs = leb 4 (getD bs 2 0) && leb (getD bs 2 0) 5
 unfoldable pub readAny : List ℕ → Found
 readAny bs = cond (isSealed bs) (readSealed bs) (readRecord bs)
 
+-- and the one that a reader of a version finds: reader 1 knows kinds 1 to 3, any other all five
+unfoldable pub readBy : ℕ → List ℕ → Found
+readBy v bs = cond (eqb v 1) (readRecord bs) (readAny bs)
+
 -- as a value: the fields' numbers, then zeros. The lanes' bytes stay in the trace, before the checksum
 unfoldable pub valued : ℕ → ℕ → Found → Record
 valued len at (refused n) = record { refusal = n; kind = 0; next = at; values = replicate 80 0 }

@@ -277,7 +277,7 @@ fn no_recorded_player_allocates() {
     let lesson = Lesson::new(vec![0.25; 16]).unwrap();
     let (mut room, mut out) = (vec![0; 200_000], [0.0; 2_000]);
     let settings = Settings::new(48_000).loop_region(..);
-    for (version, least) in [(TraceVersion::First, 700), (TraceVersion::Second, 12)] {
+    for (version, least) in [(TraceVersion::First, 700), (TraceVersion::Second, 10)] {
         let player = RecordedPlayer::with_version(settings, 48_000, &lesson, &mut room, version);
         let mut player = player.unwrap();
         let ((lines, recorded), allocations) = counted(|| {

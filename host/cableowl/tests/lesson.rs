@@ -452,7 +452,9 @@ fn sizes_of_a_trace() {
         // The first block says that no fade is under way.
         player.process(&mut out, |_| {}).recorded.unwrap();
         let before = player.bytes().len();
-        command.map(|command| player.command(command).unwrap());
+        if let Some(command) = command {
+            player.command(command).unwrap();
+        }
         for _ in 0..(seconds * DEVICE_RATE as usize).div_ceil(callback) {
             player.process(&mut out, |_| {}).recorded.unwrap();
         }

@@ -613,6 +613,13 @@ unsafe extern "C" {
         lanes: *const u8,
         lanes_len: usize,
     ) -> Sent;
+
+    pub fn cableowl_salvage_v2(
+        bytes: *const u8,
+        bytes_len: usize,
+        out: *mut u8,
+        out_len: usize,
+    ) -> Saved;
 }
 
 #[inline]
@@ -657,6 +664,11 @@ pub fn write_record_v2(
             lanes.len(),
         )
     }
+}
+
+#[inline]
+pub fn salvage_v2(bytes: &[u8], out: &mut [u8]) -> Saved {
+    unsafe { cableowl_salvage_v2(bytes.as_ptr(), bytes.len(), out.as_mut_ptr(), out.len()) }
 }
 
 /// A replay of a trace: the voice, the samples of its sound, the blocks counted, the next record's place.
@@ -774,9 +786,4 @@ pub fn replay_step_v2(
             out.len(),
         )
     }
-}
-
-// TEMPORARY stand-in.
-pub fn salvage_v2(bytes: &[u8], out: &mut [u8]) -> Saved {
-    salvage(bytes, out)
 }

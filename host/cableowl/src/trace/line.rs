@@ -60,16 +60,13 @@ impl Line {
         answer: Result<Processed, Refusal>,
     ) -> Self {
         match answer {
-            Ok(processed) => {
-                let state = voice.state();
-                Self::Block {
-                    block,
-                    frames: frames as u64,
-                    steps: processed.steps,
-                    state: state.playback_state,
-                    position: state.position as u64,
-                }
-            }
+            Ok(processed) => Self::Block {
+                block,
+                frames: frames as u64,
+                steps: processed.steps,
+                state: voice.playback_state(),
+                position: voice.raw().position,
+            },
             Err(refusal) => Self::RefusedBlock { block, refusal },
         }
     }

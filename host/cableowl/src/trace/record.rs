@@ -115,15 +115,27 @@ impl Block {
     }
 
     /// Whether the next block, with no command between them, can be recorded as the end of this one: it
-    /// has the same numbers, by their bits, and no signals, and there is space for its frames.
+    /// has the same numbers and no signals, and there is space for its frames.
     pub(super) fn joins(&self, next: &Self) -> bool {
-        let bits = |block: &Self| {
-            let gains = [block.fade, block.volume, block.left, block.right].map(f32::to_bits);
-            (gains, block.rate.to_bits(), block.time_step.to_bits())
-        };
         let waits = |answer| answer == StartAnswer::Waiting;
         let no_signals = !next.finished && waits(next.start) && waits(next.resume);
-        no_signals && bits(self) == bits(next) && self.frames + next.frames <= MAX_TRACED_FRAMES
+        no_signals && self.bits() == next.bits() && self.frames + next.frames <= MAX_TRACED_FRAMES
+    }
+
+    /// Whether the two have the same record.
+    pub(super) fn is(&self, other: &Self) -> bool {
+        let signals = |block: &Self| (block.finished, block.start, block.resume);
+        self.frames == other.frames
+            && self.bits() == other.bits()
+            && signals(self) == signals(other)
+    }
+
+    /// Its numbers, by their bits.
+    fn bits(&self) -> ([u32; 4], [u64; 2]) {
+        (
+            [self.fade, self.volume, self.left, self.right].map(f32::to_bits),
+            [self.rate, self.time_step].map(f64::to_bits),
+        )
     }
 
     /// The five numbers that apply to every frame.
@@ -328,13 +340,6 @@ impl ShortSound {
     #[must_use]
     pub fn frames(&self) -> usize {
         usize::from(self.frames)
-    }
-
-    /// Whether these are its samples, by their bits.
-    #[must_use]
-    pub fn is(&self, samples: &[f32]) -> bool {
-        let same = |(one, other): (&f32, &f32)| one.to_bits() == other.to_bits();
-        self.samples().len() == samples.len() && self.samples().iter().zip(samples).all(same)
     }
 }
 

@@ -194,9 +194,11 @@ impl<'a> Recorder<'a> {
         self.voice.as_ref()
     }
 
-    /// Ends the recording and returns the voice. Save [`Recorder::bytes`] before.
+    /// Ends the recording and returns the voice. All records are in the buffer then; [`Recorder::bytes`]
+    /// says before how many bytes they have.
     #[must_use]
-    pub fn into_voice(self) -> Option<StaticSound> {
+    pub fn into_voice(mut self) -> Option<StaticSound> {
+        self.tape.bytes();
         self.voice
     }
 

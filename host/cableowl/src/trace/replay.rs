@@ -132,8 +132,14 @@ impl Replay {
     /// ```
     #[must_use]
     pub fn sounds(mut self, sounds: impl Into<Sounds>) -> Self {
-        self.given.sounds = Some(sounds.into());
+        self.set_sounds(sounds);
         self
+    }
+
+    /// Gives the replay these sounds, in place of those before, for the creations of kind 4 that follow.
+    /// The voice that is playing keeps its sound.
+    pub fn set_sounds(&mut self, sounds: impl Into<Sounds>) {
+        self.given.sounds = Some(sounds.into());
     }
 
     /// Reads the record that the bytes begin with, plays it, and returns what it did and its size in

@@ -15,6 +15,9 @@ pub struct Tape<'a> {
     buffer: &'a mut [u8],
     held: usize,
     open: Option<Block>,
+    /// The last open block that was written, and its bytes. At rest the next one is the same, and copying
+    /// them takes less time than writing it.
+    written: Option<(Block, [u8; Block::BYTES])>,
     ended: Option<Refusal>,
     blocks: u64,
     /// Space for the lanes of a record.
@@ -32,6 +35,7 @@ impl<'a> Tape<'a> {
             buffer,
             held: 0,
             open: None,
+            written: None,
             ended: None,
             blocks: 0,
             lanes: vec![0; lanes],
@@ -203,10 +207,25 @@ impl<'a> Tape<'a> {
 
     /// Writes the open block, so that no other is joined to it.
     fn close(&mut self) -> Result<(), Refusal> {
-        match self.open.take() {
-            Some(block) => self.write(&Record::Block(block)),
-            None => Ok(()),
+        let Some(block) = self.open.take() else {
+            return Ok(());
+        };
+        let place = self.held..self.held + Block::BYTES;
+        if let Some((written, bytes)) = &self.written
+            && written.is(&block)
+            && let Some(room) = self.buffer.get_mut(place.clone())
+        {
+            room.copy_from_slice(bytes);
+            self.held = place.end;
+            return Ok(());
         }
+        self.write(&Record::Block(block))?;
+        let bytes = self
+            .buffer
+            .get(place)
+            .and_then(|bytes| bytes.try_into().ok());
+        self.written = bytes.map(|bytes| (block, bytes));
+        Ok(())
     }
 
     fn write(&mut self, record: &Record<'_>) -> Result<(), Refusal> {

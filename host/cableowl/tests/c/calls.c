@@ -199,6 +199,14 @@ int main(void) {
     expect(memcmp(sealed + 73 - 4 - 48, lanes, 48) == 0, "read_record_v2: lanes");
     expect(cableowl_read_record(sealed, 76, 3).refusal == 16, "read_record: version 2");
     expect(cableowl_read_record_v2(sealed, 72, 3).refusal == 18, "read_record_v2: cut");
+    uint8_t unbroken[77];
+    memset(unbroken, 7, sizeof unbroken);
+    expect(cableowl_salvage_v2(sealed, 76, unbroken, 75).refusal == 25 && unbroken[0] == 7, "salvage_v2: room");
+    const CableowlSaved kept_sealed = cableowl_salvage_v2(sealed, 76, unbroken, 77);
+    expect(kept_sealed.refusal == 0 && kept_sealed.records == 1, "salvage_v2: records");
+    expect(kept_sealed.skipped == 6 && kept_sealed.first == 0, "salvage_v2: skipped");
+    expect(memcmp(unbroken, sealed + 3, 70) == 0 && unbroken[70] == 7 && unbroken[76] == 7, "salvage_v2: bytes");
+    expect(cableowl_salvage(sealed, 76, unbroken, 77).skipped == 76, "salvage: version 2");
     sealed[30] ^= 1;
     expect(cableowl_read_record_v2(sealed, 76, 3).refusal == 17, "read_record_v2: checksum");
     expect(cableowl_read_record_v2(trace, 60, 3).next == 45, "read_record_v2: a block of version 1");

@@ -58,6 +58,7 @@ static void read_record_v2(void) { refusal = (uint32_t)cableowl_read_record_v2(s
 static void write_record_v2(void) {
     refusal = (uint32_t)cableowl_write_record_v2(resealed, sizeof resealed, 0, CABLEOWL_KIND_LANES, frames, lanes, sizeof lanes).refusal;
 }
+static void salvage_v2(void) { refusal = (uint32_t)cableowl_salvage_v2(sealed, sizeof sealed, resealed, sizeof resealed).refusal; }
 static CableowlReplay replay;
 static float lent[128], heard[2048];
 static void replay_step(void) {
@@ -113,6 +114,7 @@ int main(void) {
         {"salvage", salvage, TRACE, 0},
         {"read_record_v2", read_record_v2, TRACE, 0},
         {"write_record_v2", write_record_v2, TRACE, 0},
+        {"salvage_v2", salvage_v2, TRACE, 0},
         {"replay_step", replay_step, TRACE, 2},
     };
     for (int i = 0; i < FRAMES; i += 1) {

@@ -53,7 +53,7 @@ fn the_crates_that_are_linked_have_theirs() {
             .join(name)
             .join("src")
     };
-    for (name, count) in [("cableowl", 33), ("test_exports", 20)] {
+    for (name, count) in [("cableowl", 34), ("test_exports", 20)] {
         let below = [
             "c_state",
             "c_inputs",

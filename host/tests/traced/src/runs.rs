@@ -135,7 +135,7 @@ pub const COMPILED_V2: Codec = Codec {
     version: Version::Second,
     read: entries::read_v2,
     write: entries::write_v2,
-    salvage: page::second::salvage,
+    salvage: entries::salvage_v2,
 };
 
 impl Codec {

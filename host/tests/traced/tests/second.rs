@@ -1,4 +1,4 @@
-//! The compiled reader and writer of version 2 against the page: short inputs exhaustively, then changed, cut,
+//! The compiled reader, writer and salvage of version 2 against the page: short inputs exhaustively, then changed, cut,
 //! sealed again and random ones.
 
 use std::thread;
@@ -119,6 +119,60 @@ fn random_records_out_and_back() {
     for refusal in [0, 16, 17, 19] {
         assert!(tally.refused[refusal] > 1_000, "{tally}");
     }
+}
+
+/// Each byte of a trace of all kinds changed, taken out or put in: what is kept.
+#[test]
+fn every_fault_of_one_byte() {
+    let trace = make::all_kinds();
+    COMPILED_V2.compare_salvages(&trace, trace.len()).unwrap();
+    for place in 0..trace.len() {
+        let mut damaged = trace.clone();
+        for byte in 0..=255 {
+            damaged[place] = byte;
+            COMPILED_V2
+                .compare_salvage(&damaged, damaged.len())
+                .unwrap();
+        }
+        damaged.remove(place);
+        COMPILED_V2
+            .compare_salvages(&damaged, damaged.len())
+            .unwrap();
+        for byte in [0, 0x1d, 0xa5] {
+            let mut damaged = trace.clone();
+            damaged.insert(place, byte);
+            COMPILED_V2
+                .compare_salvages(&damaged, damaged.len())
+                .unwrap();
+        }
+        COMPILED_V2.compare_salvage(&trace[..place], place).unwrap();
+        COMPILED_V2
+            .compare_salvage(&trace[place..], trace.len())
+            .unwrap();
+    }
+}
+
+/// A false head of the longest kind before good records: its checksum is wrong, and none of them is lost.
+#[test]
+fn a_false_head_loses_no_record() {
+    let mut random = Random::new(386);
+    for _ in 0..40 {
+        let good = make::trace(&mut random, &[], 60);
+        // A block of 1,024 frames, cut after its signals.
+        let head = [
+            0xa5, 0x1d, 5, 0x11, 0x60, 0, 4, 0, 0, 0, 0, 0, 0, 0, 0, 0, 0, 0,
+        ];
+        let bytes = [&head[..], &good, &[0; 25_000]].concat();
+        let (_, kept, _) = COMPILED_V2.compare_salvage(&bytes, bytes.len()).unwrap();
+        assert_eq!(kept, good);
+    }
+}
+
+#[test]
+fn random_faults() {
+    let tally = COMPILED_V2.salvages(387, 4_000).unwrap();
+    println!("{tally}");
+    assert!(tally.refused[25] > 100, "{tally}");
 }
 
 /// Kinds 1 to 3 are written and read as version 1 does, whatever the lanes are.
