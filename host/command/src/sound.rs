@@ -199,13 +199,14 @@ pub fn show(
     out: &mut Out<'_>,
     complain: &mut dyn FnMut(&Fault),
 ) -> Result<bool> {
-    let mut well = true;
-    for (index, file) in files.iter().enumerate() {
+    let (mut well, mut shown) = (true, false);
+    for file in files {
         match figures(file) {
             Ok((name, frames, figures)) => {
-                if index > 0 {
+                if shown {
                     out.put("\n")?;
                 }
+                shown = true;
                 put(&name, frames, figures, rate, out)?;
             }
             Err(fault) => {

@@ -534,7 +534,8 @@ fn the_longest_sound_needs_no_memory() {
     };
     let settings = Settings::new(LESSON_RATE);
     let mut records = vec![Record::GivenCreation { settings, sound }];
-    records.extend([Record::Block(Block::new(1_024, 1.0 / 48_000.0)); 10_000]);
+    let block = Record::Block(Block::new(1_024, 1.0 / 48_000.0));
+    records.extend(std::iter::repeat_n(block, 10_000));
     let mut child = Process::new(CABLEOWL)
         .args(["replay", "-"])
         .stdin(Stdio::piped())
