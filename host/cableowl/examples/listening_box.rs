@@ -6,12 +6,17 @@
 
 use std::process::ExitCode;
 
+#[path = "evening/edges.rs"]
+mod edges;
 #[path = "evening/recorded.rs"]
 mod recorded;
 #[path = "evening/student.rs"]
 mod student;
 
-use cableowl::{Level, MAX_BLOCK_FRAMES, Player, Processed, Refusal, Settings, State, Tween};
+use cableowl::{
+    Level, MAX_BLOCK_FRAMES, Player, Processed, Refusal, Settings, State, Tween,
+    trace::{Lesson, TraceVersion, lines},
+};
 use random::Random;
 
 use student::{
@@ -70,7 +75,7 @@ fn evening(
     let acts = SCRIPT.iter().map(|(_, act)| Some(act));
     for (act, end) in [None].into_iter().chain(acts).zip(ends) {
         if let Some(act) = act {
-            act.tell(&mut player)?;
+            player.command(act.command())?;
         }
         let end = u64::from(end) * u64::from(DEVICE_RATE);
         while player.frames() < end {
@@ -196,20 +201,25 @@ fn run() -> Result<ExitCode, Refusal> {
     println!("All {all} agree: steps, position, state, and each of {samples} samples by its bits.");
     println!("The operator is right: in Cableowl the block size changes nothing that is heard.");
     println!("{}", verdict(&drifts));
-    recorded_evening()
+    recorded_evening(sound)
 }
 
-/// The evening on a short sound, recorded, and played again from its trace.
-fn recorded_evening() -> Result<ExitCode, Refusal> {
-    let (live, trace) = recorded::live(DEVICE_RATE)?;
-    let again = recorded::again(&trace);
+/// The evening recorded, and played again from its trace, with the lesson and without it.
+fn recorded_evening(sound: Vec<f32>) -> Result<ExitCode, Refusal> {
+    let lesson = Lesson::new(sound)?;
+    let (live, trace) = recorded::live(&lesson, LESSON_RATE, DEVICE_RATE, TraceVersion::Second)?;
+    let again = recorded::again(&trace, &lesson);
     let [blocks, bytes] = [live.lines.len(), trace.len()].map(|count| grouped(count as u64));
-    if again != live {
+    let records = again.lines.len();
+    let edges = edges::common_edges(live.lines, again.lines.iter().copied());
+    let silent = lines(&trace).eq(again.lines);
+    if edges.is_err() || live.digest != again.digest || !silent {
         println!("Its trace prints another evening, and must not: a fault in Cableowl.");
         return Ok(ExitCode::FAILURE);
     }
     println!(
-        "\nRecorded on a sound of 64 frames it is {blocks} blocks in {bytes} bytes of trace, and played again\nit prints the same lines and sounds the same."
+        "\nRecorded, its {blocks} blocks are {} records in {bytes} bytes of trace. Played again it prints the\nsame lines, with the lesson and without it, and with the lesson it sounds the same.",
+        grouped(records as u64)
     );
     Ok(ExitCode::SUCCESS)
 }

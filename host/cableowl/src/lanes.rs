@@ -1,5 +1,7 @@
 //! The lanes of a block: docs/assurance/RULES.md, "What the host supplies".
 
+use std::ops::Range;
+
 use crate::{MAX_BLOCK_FRAMES, Refusal, Signals, ffi, trace::Block};
 
 /// One lane of a block: the same number for every output frame, or one for each.
@@ -9,6 +11,18 @@ pub enum Lane<'a, T> {
     Constant(T),
     /// A number for each frame.
     PerFrame(&'a [T]),
+}
+
+impl<T: Copy> Lane<'_, T> {
+    /// The lane of a part of a block.
+    pub(crate) fn part(self, part: &Range<usize>) -> Self {
+        match self {
+            Self::Constant(number) => Self::Constant(number),
+            Self::PerFrame(numbers) => {
+                Self::PerFrame(numbers.get(part.clone()).unwrap_or_default())
+            }
+        }
+    }
 }
 
 impl From<f32> for Lane<'_, f32> {
@@ -161,6 +175,27 @@ impl<'a> BlockLanes<'a> {
         let amplitudes = amplitudes.map(|lane| constant_in(lane, self.frames));
         let rate = constant_in(self.rate, self.frames);
         amplitudes.into_iter().fold(rate, usize::min)
+    }
+
+    /// The same lanes, to pass on and keep.
+    pub(crate) fn again(&mut self) -> BlockLanes<'_> {
+        BlockLanes {
+            room: &mut *self.room,
+            ..*self
+        }
+    }
+
+    /// The lanes of a part of the block.
+    pub(crate) fn part(&mut self, part: Range<usize>) -> BlockLanes<'_> {
+        BlockLanes {
+            frames: part.len(),
+            fade: self.fade.part(&part),
+            volume: self.volume.part(&part),
+            left: self.left.part(&part),
+            right: self.right.part(&part),
+            rate: self.rate.part(&part),
+            room: &mut *self.room,
+        }
     }
 
     /// How many frames the block has.

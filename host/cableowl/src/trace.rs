@@ -1,22 +1,27 @@
 //! Traces: what a host did with one voice, as bytes (docs/formats/TRACE.md has their layout).
 //!
-//! A box records as it plays ([`Recorder`]), support plays the trace again ([`Replay`], [`replay`])
-//! and reads the lines that the box would have logged ([`Line`]), and a file with holes is mended
-//! ([`salvage`]). A trace is records one after the other, so traces may be appended to and cut
-//! between records.
+//! A box records while it plays ([`RecordedPlayer`](crate::RecordedPlayer), [`Recorder`]). Support plays
+//! the trace again ([`Replay`], [`replay`]), reads the lines that the box would have logged ([`Line`]),
+//! and repairs a file with holes ([`salvage`]). A trace is one record after the other, so traces can be
+//! appended and cut between records.
+//!
+//! A trace names its sound by frame count and digest. To record, give the sound with its digest
+//! ([`Lesson`]). A replay needs no sound: lines, states, steps and positions depend on the sound only
+//! through its frame count. To hear the evening again, give the replay its sounds ([`Sounds`]).
 //!
 //! ```
-//! use cableowl::{Settings, trace::{Block, Record, Replay, ShortSound, Trace, write}};
+//! use cableowl::{Settings, trace::{Block, Lesson, Record, Replay, Trace, write}};
 //!
-//! let sound = ShortSound::new(&[1.0, 1.0, 2.0, 2.0, 3.0, 3.0])?;
-//! let creation = Record::Creation { settings: Settings::new(1), sound };
+//! let lesson = Lesson::new(vec![1.0, 1.0, 2.0, 2.0, 3.0, 3.0])?;
+//! let settings = Settings::new(1);
+//! let creation = Record::GivenCreation { settings, sound: lesson.id() };
 //! let block = Record::Block(Block::new(6, 1.0));
 //!
-//! let mut bytes = [0; 97];
+//! let mut bytes = [0; 112];
 //! let next = write(&creation, &mut bytes, 0)?;
-//! assert_eq!(write(&block, &mut bytes, next)?, 97);
+//! assert_eq!(write(&block, &mut bytes, next)?, 112);
 //!
-//! let mut replay = Replay::new();
+//! let mut replay = Replay::new().sounds(lesson);
 //! for record in Trace::new(&bytes) {
 //!     let (_, record) = record?;
 //!     if let Some(line) = replay.play(&record) {
@@ -27,6 +32,7 @@
 //! # Ok::<(), cableowl::Refusal>(())
 //! ```
 
+mod lesson;
 mod line;
 mod log;
 mod record;
@@ -36,29 +42,32 @@ mod salvage;
 mod stream;
 mod tape;
 mod values;
+mod version;
 
 use std::{error::Error, fmt};
 
+pub use lesson::{Digest, Lesson, OtherSound, SoundId, Sounds};
 pub use line::Line;
 pub use log::{LOG_HEAD, Log, LogLine, Since};
-pub use record::{Block, Record, ShortSound};
+pub use record::{Block, FrameNumbers, LanedBlock, Record, ShortSound};
 pub use recorder::{Recorded, Recorder};
 pub use replay::{Lines, Replay, Step, lines, replay};
 pub use salvage::{Salvaged, salvage};
 pub use stream::{TraceError, TraceReader};
+pub use version::TraceVersion;
 
 pub(crate) use tape::Tape;
 
-use crate::{Refusal, ffi, float_mode};
+use crate::Refusal;
 
-/// The most frames a recorded sound has.
+/// The most frames of a sound that a record holds itself: [`ShortSound`].
 pub const MAX_SOUND_FRAMES: usize = 64;
 
 /// The most frames a recorded block has.
 pub const MAX_TRACED_FRAMES: usize = 1_024;
 
-/// The most bytes a record has.
-pub const MAX_RECORD_BYTES: usize = 575;
+/// The most bytes a record has; [`TraceVersion::max_record_bytes`] is the limit of a version.
+pub const MAX_RECORD_BYTES: usize = 24_598;
 
 /// A record that the reader refuses, and its first byte's place in the trace.
 #[derive(Debug, Clone, Copy, PartialEq, Eq, Hash)]
@@ -83,27 +92,25 @@ impl From<Refused> for Refusal {
     }
 }
 
-/// Reads the record at a place of the bytes, and tells the place after it.
+/// Reads the record at a place of the bytes, and returns it with the place after it.
 ///
 /// ```
 /// use cableowl::{Refusal, trace::read};
 ///
 /// assert_eq!(read(&[0], 0), Err(Refusal::Mark));
-/// assert_eq!(read(&[0xa5, 0x1d, 4], 0), Err(Refusal::Kind));
+/// assert_eq!(read(&[0xa5, 0x1d, 6], 0), Err(Refusal::Kind));
 /// assert_eq!(read(&[0xa5, 0x1d, 3, 0xff, 0xff], 0), Err(Refusal::Record));
 /// assert_eq!(read(&[], 0), Err(Refusal::Truncated));
 /// ```
 ///
 /// # Errors
 ///
-/// Refusals 15 to 18, byte by byte in reading order; at the bytes' end and beyond it 18.
-pub fn read(bytes: &[u8], at: usize) -> Result<(Record, usize), Refusal> {
-    let read = float_mode::plain(|| ffi::read_record(bytes, at as u64));
-    Refusal::check_word(read.refusal)?;
-    Ok((values::record(read.kind, &read.values), read.next as usize))
+/// Refusals 15 to 18, byte by byte in reading order; 18 at the end of the bytes and beyond it.
+pub fn read(bytes: &[u8], at: usize) -> Result<(Record<'_>, usize), Refusal> {
+    TraceVersion::Second.read(bytes, at)
 }
 
-/// Writes a record at a place of a buffer, and tells the place after it; every other byte stays.
+/// Writes a record at a place of a buffer, and returns the place after it; every other byte stays.
 ///
 /// ```
 /// use cableowl::{Commands, Refusal, trace::{Record, read, write}};
@@ -119,13 +126,11 @@ pub fn read(bytes: &[u8], at: usize) -> Result<(Record, usize), Refusal> {
 ///
 /// # Errors
 ///
-/// [`Refusal::Record`] where a block has more than [`MAX_TRACED_FRAMES`], then [`Refusal::Room`]
-/// where the buffer has too little room from the place on; nothing is written.
-pub fn write(record: &Record, buffer: &mut [u8], at: usize) -> Result<usize, Refusal> {
-    let (kind, values) = values::of(record);
-    let sent = float_mode::plain(|| ffi::write_record(buffer, at as u64, kind, &values));
-    Refusal::check_word(sent.refusal)?;
-    Ok(sent.next as usize)
+/// [`Refusal::Record`] if a block has more than [`MAX_TRACED_FRAMES`], or a [`LanedBlock`] no frames or
+/// lanes that are not whole frames; then [`Refusal::Room`] if the buffer is too short. Nothing is
+/// written then.
+pub fn write(record: &Record<'_>, buffer: &mut [u8], at: usize) -> Result<usize, Refusal> {
+    TraceVersion::Second.write(record, buffer, at)
 }
 
 /// The records of a trace, each with the place of its first byte. A record that is refused is the
@@ -143,6 +148,7 @@ pub fn write(record: &Record, buffer: &mut [u8], at: usize) -> Result<usize, Ref
 /// ```
 #[derive(Debug, Clone)]
 pub struct Trace<'a> {
+    version: TraceVersion,
     bytes: &'a [u8],
     at: usize,
 }
@@ -151,19 +157,29 @@ impl<'a> Trace<'a> {
     /// The records of these bytes.
     #[must_use]
     pub fn new(bytes: &'a [u8]) -> Self {
-        Self { bytes, at: 0 }
+        Self::with_version(bytes, TraceVersion::Second)
+    }
+
+    /// The same, by the reader of this version.
+    #[must_use]
+    pub fn with_version(bytes: &'a [u8], version: TraceVersion) -> Self {
+        Self {
+            version,
+            bytes,
+            at: 0,
+        }
     }
 }
 
-impl Iterator for Trace<'_> {
-    type Item = Result<(u64, Record), Refused>;
+impl<'a> Iterator for Trace<'a> {
+    type Item = Result<(u64, Record<'a>), Refused>;
 
     fn next(&mut self) -> Option<Self::Item> {
         let at = self.at;
         if at >= self.bytes.len() {
             return None;
         }
-        let read = read(self.bytes, at);
+        let read = self.version.read(self.bytes, at);
         self.at = read.map_or(self.bytes.len(), |(_, next)| next);
         let at = at as u64;
         Some(match read {

@@ -10,7 +10,7 @@ use std::{
 use cableowl::{
     Command, Commands, Easing, Frames, Lanes, Level, Player, RecordedPlayer, Refusal, Settings,
     Signals, State, StaticSound, Ticks, Tween,
-    trace::{Recorder, Replay, Trace, salvage},
+    trace::{Lesson, Recorder, Replay, Trace, TraceVersion},
 };
 
 thread_local! {
@@ -172,59 +172,131 @@ fn no_call_of_a_player_allocates() {
     assert_eq!(answer.unwrap(), again.unwrap());
 }
 
-/// Every call of a recorder, held by its trace and not, then the trace salvaged, read and played again.
-fn recorded(lanes: &mut Lanes, replay: &mut Replay, room: &mut [u8], out: &mut [u8]) -> usize {
-    let (sound, long) = ([0.25; 16], [0.25; 200]);
-    let mut recorder = Recorder::new(room);
-    let _ = recorder.create(Settings::new(1).loop_region(..), &sound);
+/// Every call of a recorder, recorded and not, then the trace salvaged, read and played again.
+fn recorded(
+    recorder: &mut Recorder<'_>,
+    version: TraceVersion,
+    [short, long]: &[Lesson; 2],
+    lanes: &mut Lanes,
+    replay: &mut Replay,
+    out: &mut [u8],
+) -> usize {
+    let (sound, fade) = (short.samples(), [0.75; 4_096]);
+    let mut samples = [0.0; 2 * 4_096];
+    let _ = recorder.create(Settings::new(1).loop_region(..), short);
     for frames in [0, 1, 8, 1_024] {
-        let _ = recorder.on_start_processing(&sound, Commands::new().seek_by(0.5));
-        let mut samples = [0.0; 2 * 1_024];
+        let _ = recorder.on_start_processing(sound, Commands::new().seek_by(0.5));
         let block = lanes.frames(frames).rate(0.7);
         let part = &mut samples[..2 * frames];
-        let _ = recorder.process(&sound, block, 1.0, Signals::new(), part);
+        let _ = recorder.process(sound, block, 1.0, Signals::new(), part);
         let block = lanes.frames(1).volume(f32::NAN);
-        let _ = recorder.process_into(&sound, block, 1.0, Signals::new(), &mut samples, 3);
+        let _ = recorder.process_into(sound, block, 1.0, Signals::new(), &mut samples, 3);
+    }
+    if version == TraceVersion::Second {
+        let mut fade = fade;
+        fade[4_000] = 0.5;
+        for bad in [0.25, f32::NAN] {
+            fade[3_999] = bad;
+            let block = lanes.frames(4_096).fade(&fade);
+            let _ = recorder.process(sound, block, 1.0, Signals::new(), &mut samples);
+        }
+        // To the end of the sound, in parts.
+        let _ = recorder.create(Settings::new(1), short);
+        let block = lanes.frames(4_096).fade(&fade[..0]);
+        let _ = recorder.process(sound, block.fade(0.5), 1.0, Signals::new(), &mut samples);
     }
     let held = recorder.bytes().len();
-    let _ = recorder.create(Settings::new(1), &long);
-    let refused = recorder.on_start_processing(&long, Commands::new());
-    assert_eq!(refused.recorded, Err(Refusal::Record));
+    let other = match version {
+        TraceVersion::First => recorder.create(Settings::new(1), long).recorded,
+        TraceVersion::Second => {
+            let sound = long.samples();
+            recorder
+                .on_start_processing(sound, Commands::new())
+                .recorded
+        }
+    };
+    assert_eq!(other, Err(Refusal::Record));
     assert_eq!(recorder.bytes().len(), held);
     let trace = recorder.bytes();
-    assert_eq!(salvage(trace, out).unwrap().kept, held);
-    let records = Trace::new(trace).map_while(Result::ok);
+    assert_eq!(version.salvage(trace, out).unwrap().kept, held);
+    let records = Trace::with_version(trace, version).map_while(Result::ok);
     records
-        .filter_map(|(_, record)| replay.play(&record))
+        .filter_map(|(_, record)| {
+            let line = replay.play(&record);
+            let _ = replay.counts();
+            line
+        })
         .count()
 }
 
 #[test]
 fn no_recording_allocates() {
-    let (mut lanes, mut replay) = (Lanes::new(), Replay::new());
-    let (mut room, mut out) = ([0; 2_048], [0; 2_048]);
-    let (lines, allocations) = counted(|| recorded(&mut lanes, &mut replay, &mut room, &mut out));
-    assert_eq!((lines, allocations), (8, 0));
+    let lessons = [16, 200].map(|samples| Lesson::new(vec![0.25; samples]).unwrap());
+    for (version, blocks) in [(TraceVersion::First, 8), (TraceVersion::Second, 8 + 5 + 4)] {
+        let (mut lanes, mut replay) = (Lanes::new(), Replay::with_version(version));
+        if version == TraceVersion::Second {
+            replay = replay.sounds(lessons[0].clone());
+        }
+        let (mut room, mut out) = (vec![0; 200_000], vec![0; 200_000]);
+        let mut recorder = Recorder::with_version(&mut room, version);
+        let (lines, allocations) = counted(|| {
+            recorded(
+                &mut recorder,
+                version,
+                &lessons,
+                &mut lanes,
+                &mut replay,
+                &mut out,
+            )
+        });
+        assert_eq!((lines, allocations), (blocks, 0), "{version:?}");
+    }
+}
+
+/// Without its sound a creation needs silence: the longest so far is kept.
+#[test]
+fn a_silent_replay_allocates_once() {
+    let lessons = [600, 200, 600].map(|samples| Lesson::new(vec![0.25; samples]).unwrap());
+    let mut room = [0; 1_000];
+    let mut recorder = Recorder::new(&mut room);
+    for lesson in &lessons {
+        let _ = recorder.create(Settings::new(1), lesson);
+    }
+    let mut replay = Replay::new();
+    let (mut rest, mut allocations) = (recorder.bytes(), Vec::new());
+    while !rest.is_empty() {
+        let ((_, size), allocated) = counted(|| replay.step(rest, true));
+        allocations.push(allocated > 0);
+        rest = &rest[size..];
+    }
+    assert_eq!(allocations, [true, false, false]);
 }
 
 #[test]
 fn no_recorded_player_allocates() {
-    let (mut room, mut out, sound) = (vec![0; 60_000], [0.0; 2_000], [0.25; 16]);
+    let lesson = Lesson::new(vec![0.25; 16]).unwrap();
+    let (mut room, mut out) = (vec![0; 200_000], [0.0; 2_000]);
     let settings = Settings::new(48_000).loop_region(..);
-    let mut player = RecordedPlayer::play(settings, 48_000, &sound, &mut room).unwrap();
-    let (lines, allocations) = counted(|| {
-        let mut lines = 0;
-        for tween in [Tween::from_millis(5), Tween::default(), Tween::AT_ONCE] {
-            player
-                .command(Command::SetPlaybackRate(-0.5, tween))
-                .unwrap();
-            player.command(Command::Pause(tween)).unwrap();
-            let _ = player.process(&mut out, |_| lines += 1);
-            player.command(Command::Resume(tween)).unwrap();
-            let _ = player.mix(&mut out, |_| lines += 1);
-        }
-        lines
-    });
-    assert_eq!(allocations, 0);
-    assert!(lines > 700, "{lines}");
+    for (version, least) in [(TraceVersion::First, 700), (TraceVersion::Second, 10)] {
+        let player = RecordedPlayer::with_version(settings, 48_000, &lesson, &mut room, version);
+        let mut player = player.unwrap();
+        let ((lines, recorded), allocations) = counted(|| {
+            let mut lines = 0;
+            for tween in [Tween::from_millis(5), Tween::default(), Tween::AT_ONCE] {
+                player
+                    .command(Command::SetPlaybackRate(-0.5, tween))
+                    .unwrap();
+                player.command(Command::Pause(tween)).unwrap();
+                let _ = player.process(&mut out, |_| lines += 1);
+                player.command(Command::Resume(tween)).unwrap();
+                let _ = player.mix(&mut out, |_| lines += 1);
+            }
+            (lines, player.bytes().len())
+        });
+        assert_eq!(allocations, 0);
+        assert!(
+            lines >= least && recorded > 10_000,
+            "{lines} lines, {recorded} bytes"
+        );
+    }
 }

@@ -1,9 +1,10 @@
 //! The whole story on one screen: a student's evening is played with four ways to cut time, recorded,
-//! played again from its trace, audited, and reported on a page.
+//! played again from its trace without the lesson and with it, audited, damaged, salvaged, and reported on
+//! a page.
 //!
-//! `evening FOLDER` leaves its files there: four logs of the lesson; the trace and the log of the
-//! same evening over a sound short enough for a trace; the log of a player that clears its fraction
-//! at block edges; two pages.
+//! `evening FOLDER` leaves its files there: the lesson; four logs of the evening; its trace and the log of
+//! the box that recorded it; the log of a player that clears its fraction at block edges; a damaged trace
+//! and what is salvaged of it; two pages.
 
 use std::{
     env,
@@ -19,12 +20,8 @@ use std::{
 mod student;
 
 use cableowl::{
-    Commands, Frames, Lanes, Level, MAX_BLOCK_FRAMES, Player, Refusal, Settings, StaticSound,
-    Tween,
-    trace::{
-        Block, LOG_HEAD, Line, Log, MAX_RECORD_BYTES, MAX_SOUND_FRAMES, MAX_TRACED_FRAMES, Record,
-        Recorder, ShortSound,
-    },
+    Command, Level, MAX_BLOCK_FRAMES, Player, RecordedPlayer, Settings, Tween,
+    trace::{LOG_HEAD, Lesson, Log},
 };
 use random::Random;
 
@@ -32,6 +29,18 @@ use student::{
     Act, Blocks, DEVICE_RATE, EVENING, LESSON, LESSON_RATE, Progress, SCRIPT, digested, grouped,
     lesson,
 };
+
+/// The blocks of the player that is recorded, in frames.
+const RECORDED: usize = 512;
+
+/// The recorder's buffer, in bytes. A block of 512 frames needs less than half of it.
+const BUFFER: usize = 64 * 1_024;
+
+/// The digest of no samples.
+const NOTHING_HEARD: u64 = 0xcbf2_9ce4_8422_2325;
+
+/// The hole in the damaged trace, in bytes.
+const HOLE: usize = 2_000;
 
 /// The evening's acts, each with the frame it comes before, and its last frame.
 fn acts() -> impl Iterator<Item = (u64, Option<&'static Act>)> {
@@ -63,7 +72,7 @@ fn play(
     let mut teller = Log::new();
     teller.created();
     let mut out = vec![0.0; 2 * MAX_BLOCK_FRAMES];
-    let mut digest = 0xcbf2_9ce4_8422_2325;
+    let mut digest = NOTHING_HEARD;
     if let Some(log) = &mut log {
         writeln!(log, "{LOG_HEAD}")?;
     }
@@ -90,7 +99,7 @@ fn play(
             progress.at(player.frames());
         }
         if let Some(act) = act {
-            act.tell(&mut player)?;
+            player.command(act.command())?;
             match act {
                 Act::StepBack(_) => teller.seeked(false),
                 Act::StartOver(_) => teller.seeked(true),
@@ -106,160 +115,52 @@ fn play(
     })
 }
 
-/// The same evening as the records of a trace: the lesson is 64 frames long, its places as far along
-/// as the real one's, and it goes round where the real one plays on; each change comes at once, since
-/// a traced block's lanes are constant.
-fn records() -> Result<Vec<Record>, Refusal> {
-    let sound = ShortSound::new(&lesson(MAX_SOUND_FRAMES))?;
-    let settings = Settings::new(LESSON_RATE).loop_region(Frames(0)..Frames(MAX_SOUND_FRAMES));
-    let mut records = vec![Record::Creation { settings, sound }];
-    let short = MAX_SOUND_FRAMES as f64 / (f64::from(LESSON) * f64::from(LESSON_RATE));
-    let frame =
-        |seconds: f64| Frames((seconds / f64::from(LESSON) * MAX_SOUND_FRAMES as f64) as usize);
-    let (mut clock, mut rate, mut finished) = (0, 1.0, false);
-    for (until, act) in acts() {
-        while clock < until {
-            let frames = MAX_TRACED_FRAMES.min((until - clock) as usize);
-            records.push(Record::Block(Block {
-                volume: 0.8,
-                left: 0.9,
-                rate,
-                finished,
-                ..Block::new(frames, 1.0 / f64::from(DEVICE_RATE))
-            }));
-            clock += frames as u64;
-            finished = false;
-        }
-        let commands = Commands::new();
-        let Some(act) = act else {
-            continue;
-        };
-        let commands = match *act {
-            Act::Loop(start, end) => commands.set_loop_region(frame(start)..frame(end)),
-            Act::Speed { rate: speed, .. } => {
-                rate = speed;
-                commands.set_playback_rate(speed)
-            }
-            Act::Pause => commands.pause(),
-            Act::StepBack(seconds) => commands.seek_by(-seconds * short),
-            Act::Resume => commands.resume(),
-            Act::StartOver(seconds) => commands.seek_to(seconds * short),
-            Act::LeaveLoop => commands.set_loop_region(Frames(0)..Frames(MAX_SOUND_FRAMES)),
-            Act::Stop => commands.stop(),
-        };
-        finished = matches!(act, Act::Pause | Act::Resume | Act::Stop);
-        records.push(Record::Commands(commands));
-    }
-    Ok(records)
-}
-
-/// The lanes of a traced block.
-fn lanes<'a>(lanes: &'a mut Lanes, block: &Block) -> cableowl::BlockLanes<'a> {
-    let lanes = lanes.frames(block.frames).fade(block.fade).rate(block.rate);
-    lanes
-        .volume(block.volume)
-        .left(block.left)
-        .right(block.right)
-}
-
-/// Plays the records on a live voice and records it, into a buffer that is emptied in time; the
-/// trace, and the lines that the box logs of it.
+/// Plays the evening on a player that is recorded, in blocks of 512 frames: the bytes of its trace and the digest of
+/// what was heard. The buffer is emptied in time, so that nothing is lost.
 fn record(
-    records: &[Record],
+    lesson: &Lesson,
     trace: &mut dyn Write,
     log: &mut dyn Write,
-) -> Result<u64, Box<dyn Error>> {
-    let mut buffer = [0; 16 * MAX_RECORD_BYTES];
-    let mut recorder = Recorder::new(&mut buffer);
-    let (mut room, mut out) = (Lanes::new(), vec![0.0; 2 * MAX_TRACED_FRAMES]);
-    let mut sound = ShortSound::EMPTY;
-    let mut bytes = 0;
-    for record in records {
-        match record {
-            Record::Creation {
-                settings,
-                sound: lent,
-            } => {
-                sound = *lent;
-                recorder.create(*settings, sound.samples()).recorded?;
+) -> Result<(u64, u64), Box<dyn Error>> {
+    let mut buffer = vec![0; BUFFER];
+    let settings = Settings::new(LESSON_RATE);
+    let mut player = RecordedPlayer::play(settings, DEVICE_RATE, lesson, &mut buffer)?;
+    player.command(Command::SetVolume(Level::new(19)?, Tween::AT_ONCE))?;
+    player.command(Command::SetPanning(0.1, Tween::AT_ONCE))?;
+    let (mut bytes, mut digest) = (0, NOTHING_HEARD);
+    let mut out = vec![0.0; 2 * RECORDED];
+    for (until, act) in acts() {
+        while player.player().frames() < until {
+            let left = (until - player.player().frames()) as usize;
+            let heard = &mut out[..2 * RECORDED.min(left)];
+            let mut lines = Vec::new();
+            let played = player.process(heard, |line| lines.push(line));
+            played.answer?;
+            played.recorded?;
+            digest = heard.iter().fold(digest, digested);
+            for line in lines {
+                writeln!(log, "{line}")?;
             }
-            Record::Commands(commands) => {
-                let obeyed = recorder.on_start_processing(sound.samples(), *commands);
-                obeyed.answer?;
-                obeyed.recorded?;
-            }
-            Record::Block(block) => {
-                let lanes = lanes(&mut room, block);
-                let out = &mut out[..2 * block.frames];
-                let played = recorder.process(
-                    sound.samples(),
-                    lanes,
-                    block.time_step,
-                    block.signals(),
-                    out,
-                );
-                played.answer?;
-                played.recorded?;
-                if let Some(line) = recorder.line() {
-                    writeln!(log, "{line}")?;
-                }
+            if player.room() < BUFFER / 2 {
+                bytes += player.bytes().len() as u64;
+                trace.write_all(player.bytes())?;
+                player.clear();
             }
         }
-        if recorder.room() < MAX_RECORD_BYTES {
-            bytes += recorder.bytes().len() as u64;
-            trace.write_all(recorder.bytes())?;
-            recorder.clear();
+        if let Some(act) = act {
+            player.command(act.command())?;
         }
     }
-    trace.write_all(recorder.bytes())?;
-    Ok(bytes + recorder.bytes().len() as u64)
+    trace.write_all(player.bytes())?;
+    Ok((bytes + player.bytes().len() as u64, digest))
 }
 
-/// The same blocks on a voice whose fraction is cleared at block edges, and what that box logs.
-fn creep(records: &[Record], log: &mut dyn Write) -> Result<(), Box<dyn Error>> {
-    let (mut room, mut out) = (Lanes::new(), vec![0.0; 2 * MAX_TRACED_FRAMES]);
-    let mut sound = ShortSound::EMPTY;
-    let mut voice: Option<StaticSound> = None;
-    let mut number = 0;
-    for record in records {
-        match (record, &mut voice) {
-            (
-                Record::Creation {
-                    settings,
-                    sound: lent,
-                },
-                _,
-            ) => {
-                sound = *lent;
-                voice = Some(StaticSound::new(*settings, sound.samples())?);
-            }
-            (Record::Commands(commands), Some(voice)) => {
-                voice.on_start_processing(sound.samples(), *commands)?;
-            }
-            (Record::Block(block), Some(voice)) => {
-                let lanes = lanes(&mut room, block);
-                let out = &mut out[..2 * block.frames];
-                let answer = voice.process(
-                    sound.samples(),
-                    lanes,
-                    block.time_step,
-                    block.signals(),
-                    out,
-                );
-                number += 1;
-                writeln!(
-                    log,
-                    "{}",
-                    Line::of_block(number, block.frames, voice, answer)
-                )?;
-                let mut state = voice.state();
-                state.fractional_position = 0.0;
-                *voice = StaticSound::from_state(state, sound.samples())?;
-            }
-            (_, None) => {}
-        }
-    }
-    Ok(())
+/// The digest of the samples in a file.
+fn digest_of(name: &str) -> io::Result<u64> {
+    let bytes = fs::read(name)?;
+    let (samples, _) = bytes.as_chunks();
+    let samples = samples.iter().map(|sample| f32::from_le_bytes(*sample));
+    Ok(samples.fold(NOTHING_HEARD, |digest, sample| digested(digest, &sample)))
 }
 
 /// The ways to cut time, by the names of their logs.
@@ -348,35 +249,69 @@ fn run(folder: &Path) -> Result<(), Box<dyn Error>> {
     }
     println!("All four agree: in Cableowl the block size changes nothing that is heard.");
 
-    let records = records()?;
+    let lesson = Lesson::new(sound)?;
+    let samples = lesson.samples().iter().flat_map(|s| s.to_le_bytes());
+    fs::write("lesson.f32", samples.collect::<Vec<u8>>())?;
+    println!(
+        "\nRecorded as it is played, in blocks of {RECORDED}. The trace names the lesson by its digest:"
+    );
+    shown(&format!("sound --rate {LESSON_RATE} lesson.f32"), 0, 6)?;
     let (mut trace, mut log) = (create("evening.trace")?, create("evening.log")?);
-    let bytes = record(&records, &mut trace, &mut log)?;
+    let (bytes, digest) = record(&lesson, &mut trace, &mut log)?;
     trace.flush()?;
     log.flush()?;
     let mut creeping = create("creeping.log")?;
-    creep(&records, &mut creeping)?;
+    let slip = Blocks::Of(RECORDED);
+    play(
+        lesson.samples(),
+        slip,
+        true,
+        Some(&mut creeping),
+        "the other player",
+    )?;
     creeping.flush()?;
+    let lines = fs::read_to_string("evening.log")?.lines().count();
     println!(
-        "\nRecorded as it is played, on a sound of {MAX_SOUND_FRAMES} frames, the most a trace holds: {} records, {} bytes.",
-        grouped(records.len() as u64),
-        grouped(bytes)
+        "The trace has {} bytes, the box's log {} lines.",
+        grouped(bytes),
+        grouped(lines as u64)
     );
-    let words = ["replay".into(), "evening.trace".into()];
-    let mut replayed = Vec::new();
-    let status = command::run(words, &mut replayed, Vec::new());
-    let live = fs::read("evening.log")?;
-    if status != 0 || replayed != live {
-        return Err("the trace, played again, prints other lines than the live voice".into());
+
+    println!("\nPlayed again from its trace. Lines need no lesson; samples do:");
+    shown("replay --summary evening.trace", 0, 30)?;
+    if fs::exists("heard.f32")? {
+        fs::remove_file("heard.f32")?;
     }
-    let blocks = live.iter().filter(|byte| **byte == b'\n').count();
-    println!(
-        "Played again from its trace (cableowl replay): the same {} lines, byte for byte.",
-        grouped(blocks as u64)
-    );
+    shown(
+        "replay --sound lesson.f32 --out heard.f32 evening.trace",
+        0,
+        2,
+    )?;
+    let heard = digest_of("heard.f32")?;
+    fs::remove_file("heard.f32")?;
+    if (digest, heard) != (outcomes[0].digest, outcomes[0].digest) {
+        return Err("the recorded player or the replay is heard otherwise: a fault".into());
+    }
+    println!("The frames heard are those of the four above, bit by bit: digest {heard:016x}.");
 
     println!("\nAudited: did this box play as proved?");
     shown("audit evening.trace evening.log", 0, 1)?;
     shown("audit --html audit.html evening.trace creeping.log", 1, 12)?;
+
+    println!(
+        "\nDamaged by a flash fault of {} bytes, and salvaged:",
+        grouped(HOLE as u64)
+    );
+    let mut damaged = fs::read("evening.trace")?;
+    let middle = damaged.len() / 2;
+    damaged[middle..middle + HOLE].fill(0xff);
+    fs::write("damaged.trace", damaged)?;
+    if fs::exists("mended.trace")? {
+        fs::remove_file("mended.trace")?;
+    }
+    shown("replay --summary damaged.trace", 1, 3)?;
+    shown("salvage damaged.trace mended.trace", 0, 1)?;
+    shown("replay --sound lesson.f32 --log 3 mended.trace", 0, 2)?;
 
     println!("\nReported:");
     let logs = cuts()

@@ -20,6 +20,7 @@ use crate::{
     out::{self, Fresh, Out, free_for_a_page},
     plot::grouped,
     report::files::not_an_input,
+    sounds::{Places, Sounds},
 };
 use align::{Pair, Part, Segment, What, Why};
 use words::{put_text, sentence};
@@ -112,6 +113,8 @@ struct Found {
     apart: bool,
     gaps: Series<Gap>,
     stops: Vec<Stop>,
+    /// A sentence for each sound that the trace names and that was not given.
+    missing: Vec<String>,
 }
 
 /// The verdict of an audit.
@@ -143,6 +146,7 @@ impl Found {
             apart: false,
             gaps: Series::new(1, STRETCHES),
             stops: Vec::new(),
+            missing: Vec::new(),
         }
     }
 
@@ -221,23 +225,28 @@ fn is_cleared(segment: &Segment) -> bool {
     fits && (segment.said.lines == 1 || advance == 0.0)
 }
 
-/// Audits a log by its trace: whether they agree. Where nothing can be said it is a fault.
+/// Audits a log by its trace: whether they agree. Where nothing can be said it is a fault. A sound that the
+/// trace names and that is in none of the places is told by `complain`; it does not change the verdict.
 pub fn audit(
     trace: &Path,
     log: &Path,
+    places: &Places,
     csv: bool,
     to: Option<&Path>,
     out: &mut Out<'_>,
+    complain: &mut dyn FnMut(&Fault),
 ) -> Result<bool> {
     if let Some(path) = to {
         let inputs = [trace, log].map(PathBuf::from);
         not_an_input(path, &inputs)?;
         free_for_a_page(path)?;
     }
-    let (input, log) = opened(trace, log, false).map_err(|fault| match fault {
+    let unknown = |fault| match fault {
         Fault::Refused(words) => Fault::Unknown(format!("{words}: nothing is said of the box")),
         other => other,
-    })?;
+    };
+    let sounds = Sounds::given(places).map_err(unknown)?;
+    let (input, log) = opened(trace, log, false).map_err(unknown)?;
     if csv {
         out.put("block,line,frames,seconds,steps_rule,steps_box,position_rule,position_box,creep,same\n")?;
     }
@@ -245,9 +254,12 @@ pub fn audit(
         true => out.put(csv_row(found, segment, same)),
         false => Ok(()),
     };
-    let found = found(input, log, csv, &mut row)?;
+    let found = found(input, log, sounds.as_ref(), csv, &mut row)?;
     if !csv {
         put_text(&found, out)?;
+    }
+    for sentence in &found.missing {
+        complain(&Fault::refused(format!("{}: {sentence}", found.trace)));
     }
     if let Some(path) = to {
         let mut file = Fresh::begin(path)?;
@@ -282,9 +294,15 @@ fn opened(trace: &Path, log: &Path, of_many: bool) -> Result<(Input, Log)> {
 
 type Rows<'a> = dyn FnMut(&Found, &Segment, bool) -> Result<()> + 'a;
 
-fn found(input: Input, log: Log, csv: bool, row: &mut Rows<'_>) -> Result<Found> {
+fn found(
+    input: Input,
+    log: Log,
+    sounds: Option<&Sounds>,
+    csv: bool,
+    row: &mut Rows<'_>,
+) -> Result<Found> {
     let mut found = Found::new(&input, &log);
-    let mut pair = Pair::new(input, log);
+    let mut pair = Pair::new(input, log, sounds);
     // What was found before a hole, where the audit goes on behind it.
     let mut before_hole: Option<Found> = None;
     loop {
@@ -325,8 +343,9 @@ fn found(input: Input, log: Log, csv: bool, row: &mut Rows<'_>) -> Result<Found>
                 "the log says of another number of voices created behind it than the trace has",
             ));
         }
-        return Ok(before);
+        found = before;
     }
+    found.missing = pair.missing();
     Ok(found)
 }
 

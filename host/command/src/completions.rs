@@ -34,7 +34,7 @@ enum Completes {
 
 fn completes(kind: Kind) -> Completes {
     match kind {
-        Kind::File | Kind::Folder | Kind::NewFile => Completes::Files,
+        Kind::File | Kind::Sound | Kind::Folder | Kind::NewFile => Completes::Files,
         Kind::OneOf(words) => Completes::Words(words.iter().map(|w| (*w).into()).collect()),
         Kind::Verb => Completes::Words(first_words().iter().map(|w| (*w).into()).collect()),
         Kind::Meaning => Completes::Words(explain::words()),
@@ -170,9 +170,10 @@ fn zsh() -> String {
 
 fn zsh_option(option: &Opt) -> String {
     let says = zsh_quoted(option.says).replace('[', "(").replace(']', ")");
+    let star = if option.repeats() { "*" } else { "" };
     match option.value {
         Some((value, kind)) => {
-            format!("{}=[{says}]:{value}:{}", option.name, zsh_words(kind))
+            format!("{star}{}=[{says}]:{value}:{}", option.name, zsh_words(kind))
         }
         None => format!("{}[{says}]", option.name),
     }

@@ -2,7 +2,7 @@
 //! the reading is.
 
 use std::{
-    fs::File,
+    fs::{File, Metadata},
     io::{self, Cursor, IsTerminal, Read, Write},
     mem,
     path::Path,
@@ -31,6 +31,8 @@ pub enum FileKind {
     Settings,
     /// A page of this command.
     Page,
+    /// A sound that is not raw samples, with its name.
+    Encoded(&'static str),
     /// None of them, or too short to tell.
     Unknown,
 }
@@ -44,8 +46,17 @@ impl FileKind {
         match first {
             [0xa5, 0x1d, ..] => Self::Trace,
             [0x5e, 0x71, ..] => Self::Settings,
-            _ if begins(b"block=") || begins(b"log=") || begins(b"refused=") => Self::Log,
+            _ if [&b"block="[..], b"log=", b"refused=", b"creation"]
+                .into_iter()
+                .any(begins) =>
+            {
+                Self::Log
+            }
             _ if begins(b"<!DOCTYP") => Self::Page,
+            _ if begins(b"RIFF") => Self::Encoded("a WAV file"),
+            _ if begins(b"OggS") => Self::Encoded("an Ogg file"),
+            _ if begins(b"fLaC") => Self::Encoded("a FLAC file"),
+            _ if begins(b"ID3") => Self::Encoded("an MP3 file"),
             _ => Self::Unknown,
         }
     }
@@ -54,6 +65,11 @@ impl FileKind {
     fn says(self, wanted: &str, name: &str) -> Option<String> {
         let file = if name == STANDARD_INPUT { "-" } else { name };
         let (is, reads) = match self {
+            Self::Encoded(name) => {
+                return Some(format!(
+                    "this is {name}, not {wanted}: 'ffmpeg -i {file} -ac 2 -f f32le lesson.f32' makes raw samples of it"
+                ));
+            }
             Self::Trace => (
                 "this is a trace",
                 format!("'cableowl replay {file}' plays it"),
@@ -80,7 +96,8 @@ pub struct Input {
     name: String,
     kind: FileKind,
     from: Box<dyn Read>,
-    length: Option<u64>,
+    /// A file, and what was known of it when it was opened.
+    file: Option<(File, Metadata)>,
     read: u64,
     progress: Progress,
 }
@@ -105,19 +122,37 @@ impl Input {
                 "{name}: cannot be read: it is a directory"
             )));
         }
-        let length = metadata.is_file().then_some(metadata.len());
-        Ok(Self::new(name, Box::new(file), length))
+        let again = file.try_clone().ok().filter(|_| metadata.is_file());
+        let known = again.map(|again| (again, metadata));
+        Ok(Self::new(name, Box::new(file), known))
     }
 
-    fn new(name: String, from: Box<dyn Read>, length: Option<u64>) -> Self {
+    fn new(name: String, from: Box<dyn Read>, file: Option<(File, Metadata)>) -> Self {
         Self {
             progress: Progress::new(),
             name,
             kind: FileKind::Unknown,
             from,
-            length,
+            file,
             read: 0,
         }
+    }
+
+    /// The length of a file, when it was opened.
+    pub fn length(&self) -> Option<u64> {
+        self.file.as_ref().map(|(_, metadata)| metadata.len())
+    }
+
+    /// Whether the file, of which so many bytes were read, was changed since it was opened.
+    pub fn has_changed(&self, read: u64) -> bool {
+        let Some((file, before)) = &self.file else {
+            return false;
+        };
+        let same = |after: Metadata| {
+            let times = (before.modified().ok(), after.modified().ok());
+            after.len() == before.len() && read == before.len() && times.0 == times.1
+        };
+        !file.metadata().is_ok_and(same)
     }
 
     /// Says nothing of how far the reading is, where it is one of many files.
@@ -128,13 +163,18 @@ impl Input {
 
     /// Looks at its first bytes, and says what it is; nothing is taken from it.
     pub fn kind(&mut self) -> Result<FileKind> {
+        self.kind = FileKind::of(&self.first()?);
+        Ok(self.kind)
+    }
+
+    /// Its first bytes; nothing is taken from it.
+    pub fn first(&mut self) -> Result<Vec<u8>> {
         let mut first = Vec::new();
         let looked = (&mut self.from).take(FIRST).read_to_end(&mut first);
         looked.map_err(|error| self.unread(&error))?;
-        self.kind = FileKind::of(&first);
         let rest = mem::replace(&mut self.from, Box::new(io::empty()));
-        self.from = Box::new(Cursor::new(first).chain(rest));
-        Ok(self.kind)
+        self.from = Box::new(Cursor::new(first.clone()).chain(rest));
+        Ok(first)
     }
 
     /// Refuses it if its first bytes say that it is none of these.
@@ -179,7 +219,7 @@ impl Read for Input {
     fn read(&mut self, bytes: &mut [u8]) -> io::Result<usize> {
         let read = self.from.read(bytes)?;
         self.read += read as u64;
-        self.progress.tell(&self.name, self.read, self.length);
+        self.progress.tell(&self.name, self.read, self.length());
         Ok(read)
     }
 }

@@ -22,6 +22,8 @@ mod replay;
 mod report;
 mod salvage;
 mod settings;
+mod sound;
+mod sounds;
 mod summary;
 mod table;
 mod verbs;
@@ -84,24 +86,36 @@ fn obey(words: &[OsString], out: &mut Out<'_>, complain: &mut dyn FnMut(&Fault))
         Asked::Completions(shell) => out.put(completions::of(shell)).map(|()| true),
         Asked::Explain(asked) => explain::explain(&asked, out).map(|()| true),
         Asked::Version => out.put(version::line()).map(|()| true),
-        Asked::Summary { trace } => summary::summary(&trace, out).map(|()| true),
-        Asked::Replay { trace, form } => replay::replay(&trace, form, out).map(|()| true),
-        Asked::Salvage { trace, to } => salvage::salvage(&trace, &to, out).map(|()| true),
+        Asked::Summary { trace, sounds } => summary::summary(&trace, &sounds, out, complain),
+        Asked::Replay {
+            trace,
+            form,
+            sounds,
+            heard,
+        } => replay::replay(&trace, form, &sounds, heard.as_deref(), out, complain),
+        Asked::Salvage { trace, to, version } => {
+            salvage::salvage(version, &trace, &to, out).map(|()| true)
+        }
+        Asked::ShowSounds { files, rate } => sound::show(&files, rate, out, complain),
         Asked::ShowSettings { file, rate } => settings::show(&file, rate, out).map(|()| true),
         Asked::SaveSettings { save, to } => settings::save(&save, &to, out).map(|()| true),
         Asked::ShowLoops { folder, rate } => loops::show(&folder, rate, out, complain),
         Asked::ChangeLoops(change) => loops::change(&change, out, complain),
         Asked::MergeLoops { copies, rate } => loops::merge(&copies, rate, out).map(|()| true),
         Asked::Report(request) => report::report(&request, out, complain),
-        Asked::AuditFolders { folders, csv, page } => {
-            audit::folder::audit(&folders, csv, page.as_deref(), out)
-        }
+        Asked::AuditFolders {
+            folders,
+            csv,
+            page,
+            sounds,
+        } => audit::folder::audit(&folders, &sounds, csv, page.as_deref(), out),
         Asked::Audit {
             trace,
             log,
             csv,
             page,
-        } => audit::audit(&trace, &log, csv, page.as_deref(), out),
+            sounds,
+        } => audit::audit(&trace, &log, &sounds, csv, page.as_deref(), out, complain),
     }
 }
 

@@ -117,6 +117,19 @@ pub struct Before {
 /// The longest line: form 3 with every number at its longest has fewer bytes.
 const LONGEST: usize = 576;
 
+/// Whether this is the line of a creation that a replay refused: none of the given sounds was the
+/// recorded one. It is a line of every form.
+fn is_refused_creation(text: &[u8]) -> std::result::Result<bool, Wrong> {
+    let mut words = Words { text, at: 0 };
+    if !words.next_is(b"creation=") {
+        return Ok(false);
+    }
+    words.number(b"creation=", 255)?;
+    words.number(b" at=", u64::MAX)?;
+    words.end()?;
+    Ok(true)
+}
+
 /// A line of this form, without its line feed.
 pub fn parse(text: &[u8], form: Form) -> std::result::Result<Line, Wrong> {
     let mut words = Words { text, at: 0 };
@@ -350,19 +363,29 @@ impl Log {
         self.input.name()
     }
 
-    /// The next complete line, or none at the log's end.
+    /// The next complete line of a block, or the one where the run ended; none at the log's end.
     pub fn next_line(&mut self) -> Result<Option<Line>> {
-        let (number, place, form) = (self.line, self.place, self.form);
-        let wrong = |words: &dyn fmt::Display| format!("line {number} (byte {place}): {words}");
-        let Some(text) = self.take()? else {
-            return Ok(None);
-        };
-        let parsed = parse(text, form);
-        let line = parsed.map_err(|why| self.input.wrong(wrong(&why)))?;
-        if let Err(why) = self.follows(&line) {
-            return Err(self.input.wrong(wrong(&why)));
+        loop {
+            let (number, place, form) = (self.line, self.place, self.form);
+            let wrong = |words: &dyn fmt::Display| format!("line {number} (byte {place}): {words}");
+            let Some(text) = self.take()? else {
+                return Ok(None);
+            };
+            let parsed = match is_refused_creation(text) {
+                Ok(true) => Ok(None),
+                Ok(false) => parse(text, form).map(Some),
+                Err(why) => Err(why),
+            };
+            let Some(line) = parsed.map_err(|why| self.input.wrong(wrong(&why)))? else {
+                // There is no voice after it.
+                self.counts = None;
+                continue;
+            };
+            if let Err(why) = self.follows(&line) {
+                return Err(self.input.wrong(wrong(&why)));
+            }
+            return Ok(Some(line));
         }
-        Ok(Some(line))
     }
 
     /// Checks that a line follows from those before it.
@@ -406,7 +429,7 @@ impl Log {
         if let Some((forward, backward)) = self.counts
             && (m.forward < forward || m.backward < backward)
         {
-            return Err("a count of turns is lower than before, and no voice was created".into());
+            return Err("a count of wraps is lower than before, and no voice was created".into());
         }
         self.counts = Some((m.forward, m.backward));
         Ok(())

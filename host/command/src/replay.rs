@@ -1,31 +1,42 @@
 //! `cableowl replay`: plays a trace again, one line per block.
 
-use std::path::Path;
+use std::{mem, path::Path};
 
 use cableowl::{
     Refusal, StaticSound,
-    trace::{LOG_HEAD, Line, Log, LogLine, Record, Replay, Step, TraceError, TraceReader},
+    trace::{
+        LOG_HEAD, Line, Log, LogLine, OtherSound, Record, Replay, SoundId, Step, TraceError,
+        TraceReader,
+    },
 };
 
 use crate::{
     fault::{Fault, Result},
     input::{FileKind, Input},
     log::Form,
-    out::Out,
+    out::{Fresh, Out, free, shown},
+    sounds::{Places, Sounds, named},
 };
 
 /// A trace's run: what each record did, and for each block the line of form 3.
-pub struct Run {
+pub struct Run<'a> {
     replay: Replay,
     log: Log,
+    sounds: Option<&'a Sounds>,
 }
 
-impl Run {
-    /// Before any record.
+impl<'a> Run<'a> {
+    /// Before any record, without sounds.
     pub fn new() -> Self {
+        Self::over(None)
+    }
+
+    /// Before any record. If sounds are given, each creation takes the one that it names.
+    pub fn over(sounds: Option<&'a Sounds>) -> Self {
         Self {
             replay: Replay::new(),
             log: Log::new(),
+            sounds,
         }
     }
 
@@ -34,8 +45,17 @@ impl Run {
         self.replay.voice()
     }
 
+    /// The samples of the last block.
+    pub fn heard(&self) -> &[f32] {
+        self.replay.heard()
+    }
+
     /// Plays a record that was read from these bytes, and returns what it did.
-    pub fn play(&mut self, record: &Record, bytes: &[u8]) -> Step {
+    pub fn play(&mut self, record: &Record<'_>, bytes: &[u8]) -> Step {
+        if let (Record::GivenCreation { sound, .. }, Some(sounds)) = (record, self.sounds) {
+            let lesson: cableowl::trace::Sounds = sounds.lesson(sound).into_iter().collect();
+            self.replay = mem::take(&mut self.replay).sounds(lesson);
+        }
         let before = self.replay.voice().map(StaticSound::state);
         let (step, _) = self.replay.step(bytes, true);
         let after = self.replay.voice().map(StaticSound::state);
@@ -54,10 +74,32 @@ impl Run {
         let (frames, answer) = match *line {
             Line::Block { frames, .. } => (frames as usize, Ok(self.replay.counts())),
             Line::RefusedBlock { refusal, .. } => (0, Err(refusal)),
-            // In a replay every record was read.
+            // These are no lines of blocks.
             Line::Refused(refused) => (0, Err(refused.refusal)),
+            Line::OtherSound(_) => (0, Err(Refusal::OtherSound)),
         };
         self.log.block(frames, self.replay.voice(), answer)
+    }
+}
+
+/// Creations over sounds that were not given, each sound once.
+#[derive(Debug, Clone, Default)]
+pub struct Missing {
+    wanted: Vec<(u64, SoundId)>,
+}
+
+impl Missing {
+    /// The creation at a byte is over a sound that was not given.
+    pub fn add(&mut self, at: u64, wanted: SoundId) {
+        if self.wanted.iter().all(|(_, known)| *known != wanted) {
+            self.wanted.push((at, wanted));
+        }
+    }
+
+    /// Which sounds are wanted, and what was given: a sentence for each.
+    pub fn sentences(&self, sounds: &Sounds) -> Vec<String> {
+        let sentence = |(at, wanted): &(u64, SoundId)| sounds.missing(*at, wanted);
+        self.wanted.iter().map(sentence).collect()
     }
 }
 
@@ -74,27 +116,64 @@ pub fn fault(input: &Input, error: &TraceError) -> Fault {
     }
 }
 
-/// Plays a trace again.
-pub fn replay(trace: &Path, form: Form, out: &mut Out<'_>) -> Result<()> {
+/// Plays a trace again, over the sounds of these places: whether none was missing. The frames heard go to a
+/// new file, if one is named.
+pub fn replay(
+    trace: &Path,
+    form: Form,
+    places: &Places,
+    heard: Option<&Path>,
+    out: &mut Out<'_>,
+    complain: &mut dyn FnMut(&Fault),
+) -> Result<bool> {
+    if let Some(path) = heard {
+        free(path)?;
+    }
+    let sounds = Sounds::given(places)?;
     let mut input = Input::open(trace)?;
     input.kind()?;
-    let reader = TraceReader::new(&mut input);
-    let broken = match form {
-        Form::Third => third(reader, out)?,
-        Form::First | Form::Second => first(reader, out)?,
+    let (mut file, mut missing) = (None, Missing::default());
+    let broken = match (form, &sounds, heard) {
+        (Form::First, None, None) => first(&mut input, out)?,
+        _ => {
+            file = heard.map(Fresh::begin).transpose()?;
+            each(
+                &mut input,
+                form,
+                sounds.as_ref(),
+                &mut file,
+                &mut missing,
+                out,
+            )?
+        }
     };
-    let Some(error) = broken else {
-        return Ok(());
-    };
-    if let TraceError::Refused(refused) = error {
-        out.put(format!("{}\n", Line::Refused(refused)))?;
+    if let Some(TraceError::Refused(refused)) = &broken {
+        out.put(format!("{}\n", Line::Refused(*refused)))?;
     }
-    Err(fault(&input, &error))
+    let missing = match &sounds {
+        Some(sounds) => missing.sentences(sounds),
+        None => Vec::new(),
+    };
+    for sentence in &missing {
+        complain(&input.wrong(sentence));
+    }
+    match (file, heard) {
+        (Some(file), _) if missing.is_empty() => file.keep()?,
+        (Some(_), Some(path)) => complain(&Fault::refused(format!(
+            "{}: is not written, since not all of it was heard",
+            shown(path)
+        ))),
+        _ => {}
+    }
+    match broken {
+        Some(error) => Err(fault(&input, &error)),
+        None => Ok(missing.is_empty()),
+    }
 }
 
-/// The lines of form 1; what ended the trace too early.
-fn first(mut reader: TraceReader<&mut Input>, out: &mut Out<'_>) -> Result<Option<TraceError>> {
-    let mut replay = Replay::new();
+/// The lines of form 1 without sounds; what ended the trace too early.
+fn first(input: &mut Input, out: &mut Out<'_>) -> Result<Option<TraceError>> {
+    let (mut reader, mut replay) = (TraceReader::new(input), Replay::new());
     while let Some(step) = reader.step(&mut replay) {
         match step {
             Ok(Step::Block(line)) => out.put(format!("{line}\n"))?,
@@ -108,19 +187,52 @@ fn first(mut reader: TraceReader<&mut Input>, out: &mut Out<'_>) -> Result<Optio
     Ok(None)
 }
 
-/// The lines of form 3; what ended the trace too early.
-fn third(mut reader: TraceReader<&mut Input>, out: &mut Out<'_>) -> Result<Option<TraceError>> {
-    out.put(format!("{LOG_HEAD}\n"))?;
-    let mut run = Run::new();
-    while let Some(record) = reader.next() {
-        let record = match record {
-            Ok((_, record)) => record,
+/// The lines of a form, record by record, and what is heard; what ended the trace too early.
+fn each(
+    input: &mut Input,
+    form: Form,
+    sounds: Option<&Sounds>,
+    file: &mut Option<Fresh>,
+    missing: &mut Missing,
+    out: &mut Out<'_>,
+) -> Result<Option<TraceError>> {
+    let name = input.name().to_owned();
+    let (mut reader, mut run) = (TraceReader::new(input), Run::over(sounds));
+    if form == Form::Third {
+        out.put(format!("{LOG_HEAD}\n"))?;
+    }
+    while let Some(at) = reader.read_next() {
+        let at = match at {
+            Ok(at) => at,
             Err(error) => return Ok(Some(error)),
         };
-        if let Step::Block(line) = run.play(&record, reader.bytes()) {
-            out.put(format!("{}\n", run.line(&line)))?;
+        let Some(record) = reader.record() else {
+            continue;
+        };
+        if let (Record::GivenCreation { sound, .. }, None, Some(_)) = (&record, sounds, &file) {
+            return Err(Fault::refused(format!(
+                "{name}: the creation at byte {at} is over a sound that is not in the trace, {}: give it with --sound or --sounds",
+                named(sound)
+            )));
         }
-        if out.closed() {
+        match run.play(&record, reader.bytes()) {
+            Step::Block(line) if form == Form::Third => {
+                out.put(format!("{}\n", run.line(&line)))?;
+            }
+            Step::Block(line) => out.put(format!("{line}\n"))?,
+            Step::OtherSound(OtherSound { wanted, .. }) => {
+                let other = Line::OtherSound(OtherSound { at, wanted });
+                out.put(format!("{other}\n"))?;
+                missing.add(at, wanted);
+            }
+            _ => {}
+        }
+        if let (Some(file), Record::Block(_) | Record::LanedBlock(_)) = (file.as_mut(), &record) {
+            let bytes = run.heard().iter().flat_map(|sample| sample.to_le_bytes());
+            file.put(&bytes.collect::<Vec<u8>>())?;
+        }
+        // The file is written to its end, whoever reads the lines.
+        if out.closed() && file.is_none() {
             return Err(Fault::Closed);
         }
     }

@@ -2,6 +2,8 @@
 
 use std::path::Path;
 
+use cableowl::trace::TraceVersion;
+
 use crate::{
     fault::Result,
     input::{Input, working},
@@ -9,9 +11,9 @@ use crate::{
     plot::counted,
 };
 
-/// Copies the complete records. The new file gets its name only when it is complete, and it replaces no other file. So
+/// Copies the complete records of a version. The new file gets its name only when it is complete, and it replaces no other file. So
 /// the trace itself cannot be overwritten, whatever name leads to it.
-pub fn salvage(trace: &Path, to: &Path, out: &mut Out<'_>) -> Result<()> {
+pub fn salvage(version: TraceVersion, trace: &Path, to: &Path, out: &mut Out<'_>) -> Result<()> {
     free(to)?;
     let mut input = Input::open(trace)?;
     let bytes = input.all()?;
@@ -19,7 +21,7 @@ pub fn salvage(trace: &Path, to: &Path, out: &mut Out<'_>) -> Result<()> {
     let room = kept.try_reserve_exact(bytes.len());
     room.map_err(|_| input.wrong("is too long: there is no room for a second copy in memory"))?;
     kept.resize(bytes.len(), 0);
-    let salvaged = working(input.name(), || cableowl::trace::salvage(&bytes, &mut kept));
+    let salvaged = working(input.name(), || version.salvage(&bytes, &mut kept));
     let salvaged = salvaged.map_err(|refusal| input.wrong(refusal))?;
     let mut file = Fresh::begin(to)?;
     file.put(kept.get(..salvaged.kept).unwrap_or_default())?;

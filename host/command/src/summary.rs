@@ -13,20 +13,32 @@ use crate::{
     input::Input,
     out::Out,
     plot::{clock, counted, grouped},
-    replay::{Run, fault},
+    replay::{Missing, Run, fault},
+    sounds::{Places, Sounds},
 };
 
-/// Prints what happened in a trace.
-pub fn summary(trace: &Path, out: &mut Out<'_>) -> Result<()> {
+/// Prints what happened in a trace, over the sounds of these places: whether none was missing.
+pub fn summary(
+    trace: &Path,
+    places: &Places,
+    out: &mut Out<'_>,
+    complain: &mut dyn FnMut(&Fault),
+) -> Result<bool> {
+    let sounds = Sounds::given(places)?;
     let mut input = Input::open(trace)?;
     input.kind()?;
-    let mut teller = Teller::new();
-    let mut broken = None;
+    let mut teller = Teller::new(sounds.as_ref());
+    let (mut broken, mut missing) = (None, Missing::default());
     let mut reader = TraceReader::new(&mut input);
-    while let Some(record) = reader.next() {
-        match record {
-            Ok((_, record)) => teller.take(&record, reader.bytes(), out)?,
-            Err(error) => broken = Some(error),
+    while let Some(at) = reader.read_next() {
+        match (at, reader.record()) {
+            (Ok(at), Some(record)) => {
+                if let Step::OtherSound(other) = teller.take(&record, reader.bytes(), out)? {
+                    missing.add(at, other.wanted);
+                }
+            }
+            (Ok(_), None) => {}
+            (Err(error), _) => broken = Some(error),
         }
         if out.closed() {
             return Err(Fault::Closed);
@@ -43,9 +55,13 @@ pub fn summary(trace: &Path, out: &mut Out<'_>) -> Result<()> {
         counted(teller.blocks, "block"),
         clock(teller.seconds)
     ))?;
+    let missing = sounds.map_or_else(Vec::new, |sounds| missing.sentences(&sounds));
+    for sentence in &missing {
+        complain(&input.wrong(sentence));
+    }
     match broken {
         Some(error) => Err(fault(&input, &error)),
-        None => Ok(()),
+        None => Ok(missing.is_empty()),
     }
 }
 
@@ -58,8 +74,8 @@ struct Refused {
 }
 
 /// What was printed so far.
-struct Teller {
-    run: Run,
+struct Teller<'a> {
+    run: Run<'a>,
     blocks: u64,
     all_refused: u64,
     seconds: f64,
@@ -69,10 +85,10 @@ struct Teller {
     refused: Option<Refused>,
 }
 
-impl Teller {
-    fn new() -> Self {
+impl<'a> Teller<'a> {
+    fn new(sounds: Option<&'a Sounds>) -> Self {
         Self {
-            run: Run::new(),
+            run: Run::over(sounds),
             blocks: 0,
             all_refused: 0,
             seconds: 0.0,
@@ -90,16 +106,25 @@ impl Teller {
         self.run.voice().map(StaticSound::state)
     }
 
-    fn take(&mut self, record: &Record, bytes: &[u8], out: &mut Out<'_>) -> Result<()> {
+    fn take(&mut self, record: &Record<'_>, bytes: &[u8], out: &mut Out<'_>) -> Result<Step> {
         let before = self.state();
-        match (self.run.play(record, bytes), record) {
-            (Step::Block(line), Record::Block(block)) => self.block(block, line, out),
-            (Step::Creation(answer), _) => self.creation(answer, out),
-            (Step::Commands(answer), Record::Commands(commands)) => {
-                self.commands(commands, answer, before, out)
+        let step = self.run.play(record, bytes);
+        match (step, record) {
+            (Step::Block(line), Record::Block(block)) => self.block(block, line, out)?,
+            (Step::Block(line), Record::LanedBlock(laned)) => {
+                // The speed of its last frame: one that changes is printed when it has settled.
+                let rate = laned.numbers().last().map_or(1.0, |numbers| numbers.rate);
+                let block = Block::new(laned.frames(), laned.time_step);
+                self.block(&Block { rate, ..block }, line, out)?;
             }
-            _ => Ok(()),
+            (Step::Creation(answer), _) => self.creation(answer, out)?,
+            (Step::OtherSound(_), _) => self.creation(Err(Refusal::OtherSound), out)?,
+            (Step::Commands(answer), Record::Commands(commands)) => {
+                self.commands(commands, answer, before, out)?;
+            }
+            _ => {}
         }
+        Ok(step)
     }
 
     fn creation(
@@ -186,7 +211,7 @@ impl Teller {
                 self.seconds += block.frames as f64 * block.time_step;
                 Ok(())
             }
-            Line::Refused(_) => Ok(()),
+            Line::OtherSound(_) | Line::Refused(_) => Ok(()),
         }
     }
 

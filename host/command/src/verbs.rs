@@ -63,6 +63,8 @@ pub enum Many {
 pub enum Kind {
     /// A file that is read; `-` is standard input.
     File,
+    /// A sound, which must be a file on a disk. Its option can be given several times.
+    Sound,
     /// A folder.
     Folder,
     /// How a file's name says its box and its day.
@@ -95,17 +97,23 @@ impl Kind {
             Self::Number(from, to) => Some(format!("a whole number from {from} to {to}")),
             Self::Decimal => Some("a number, such as 0.75".into()),
             Self::Place => Some(
-                "a place in the sound: seconds, such as 6.2s, or frames, such as 273420f".into(),
+                "a position in the sound: seconds, such as 6.2s, or frames, such as 273420f".into(),
             ),
             Self::Part => Some(
-                "a part of the sound: two places with .. between them, such as 6.2s..10.9s".into(),
+                "a part of the sound: two positions with .. between them, such as 6.2s..10.9s"
+                    .into(),
             ),
             Self::Name => Some("a name of at most 64 bytes of UTF-8".into()),
             Self::Meaning => Some(format!(
                 "a refusal's number ({}), a state's (0 to 6), or a state's name",
                 explain::numbers()
             )),
-            Self::File | Self::Folder | Self::NewFile | Self::Pattern | Self::Verb => None,
+            Self::File
+            | Self::Sound
+            | Self::Folder
+            | Self::NewFile
+            | Self::Pattern
+            | Self::Verb => None,
         }
     }
 }
@@ -153,17 +161,25 @@ pub const VERBS: &[Verb] = &[
         about: &[
             "Plays the trace with the proved player and prints a log, one line for each block. Programs read these lines, so a state is a number in them; 'cableowl explain' says what it means. With --summary it prints what people read instead: each command and each change of state with its time, and the totals.",
             "A damaged trace is played up to the damage. The last line is then the refusal's number and the byte, and 'cableowl salvage' copies the complete records behind it too.",
+            "The lines do not need the sound: they depend on its number of frames alone, and the trace has that. With --sound or --sounds each creation takes the sound that it names. If none of them is, it is refused with 26, and the replay goes on.",
         ],
         options: &[
             Opt {
                 name: "--log",
                 value: Some(("FORM", Kind::OneOf(&["1", "3"]))),
-                says: "The form of the lines. Form 3 also says what the frames were spent on, the loop, the direction, window counts, turns of the loop, seeks and restarts. Without this option it is 1.",
+                says: "The form of the lines. Form 3 also says what the frames were spent on, the loop, the direction, window counts, wraps, seeks and restarts. Without this option it is 1.",
             },
             Opt {
                 name: "--summary",
                 value: None,
                 says: "Print what happened and when, in words, instead of the lines.",
+            },
+            SOUND,
+            SOUNDS,
+            Opt {
+                name: "--out",
+                value: Some(("OUT", Kind::NewFile)),
+                says: "Also write the frames that were heard, as raw f32 samples, left and right in turn. OUT must not exist.",
             },
         ],
         arguments: &[Argument {
@@ -183,6 +199,10 @@ pub const VERBS: &[Verb] = &[
                 "replay --log 3 monday.trace",
                 "Print a log that report and audit can read in full.",
             ),
+            (
+                "replay --sound lesson.f32 --out heard.f32 monday.trace",
+                "Write what was heard on Monday evening.",
+            ),
         ],
         statuses: &[
             (
@@ -191,7 +211,7 @@ pub const VERBS: &[Verb] = &[
             ),
             (
                 1,
-                "The trace is damaged, or a file could not be read or written.",
+                "The trace is damaged, a sound that it names was not given, or a file could not be read or written.",
             ),
             USAGE,
         ],
@@ -202,7 +222,11 @@ pub const VERBS: &[Verb] = &[
         about: &[
             "Copies every complete record and skips every other byte. The trace itself is never changed, and OUT must not exist. A trace without one complete record gives an empty file.",
         ],
-        options: &[],
+        options: &[Opt {
+            name: "--version",
+            value: Some(("VERSION", Kind::OneOf(&["1", "2"]))),
+            says: "The version of the trace, 2 if not given. Version 1 is stricter, for files of boxes that wrote it: bytes that look like a record of version 2 are skipped.",
+        }],
         arguments: &[
             Argument {
                 name: "TRACE",
@@ -225,6 +249,38 @@ pub const VERBS: &[Verb] = &[
         statuses: &[
             (0, "OUT was written, even if no record is in it."),
             REFUSED,
+            USAGE,
+        ],
+    },
+    Verb {
+        name: "sound",
+        says: "show what is in a sound: its frames, its digest, its largest magnitude",
+        about: &[
+            "A sound is a file of raw samples: f32, little-endian, left and right in turn, without a head. 'ffmpeg -i lesson.mp3 -ac 2 -f f32le lesson.f32' makes one.",
+            "The digest is the sound's SHA-256, as sha256sum prints it. A trace names its sounds by it. The largest magnitude is that of the finite samples.",
+        ],
+        options: &[Opt {
+            name: "--rate",
+            value: Some(("HZ", HZ)),
+            says: "The sound's frames a second, 48000 if not given.",
+        }],
+        arguments: &[Argument {
+            name: "FILE",
+            kind: Kind::File,
+            many: Many::Several,
+            says: "Sounds.",
+        }],
+        folders: None,
+        examples: &[(
+            "sound --rate 44100 lesson.f32",
+            "Show a lesson of 44,100 frames a second.",
+        )],
+        statuses: &[
+            DONE,
+            (
+                1,
+                "A file is no sound, or could not be read. The others are shown.",
+            ),
             USAGE,
         ],
     },
@@ -257,13 +313,13 @@ pub const VERBS: &[Verb] = &[
         name: "settings save",
         says: "save settings to a new file, in seconds or frames",
         about: &[
-            "Writes the settings that a box loads, and shows them as 'settings show' does. A place in the sound is written with its unit, 6.2s for seconds or 273420f for frames. Seconds become frames by --rate, rounded to the nearest frame.",
+            "Writes the settings that a box loads, and shows them as 'settings show' does. A position in the sound is written with its unit, 6.2s for seconds or 273420f for frames. Seconds become frames by --rate, rounded to the nearest frame.",
             "OUT must not exist.",
         ],
         options: &[
             Opt {
                 name: "--start",
-                value: Some(("PLACE", Kind::Place)),
+                value: Some(("POSITION", Kind::Place)),
                 says: "Where to start. Without this option it is the first frame.",
             },
             Opt {
@@ -405,7 +461,7 @@ pub const VERBS: &[Verb] = &[
         name: "report",
         says: "the figures of one evening or of many, and a page with plots",
         about: &[
-            "Reads logs and traces: minutes played, paused and silent, times round the loop, seeks, refused blocks. With several files it prints one row for each, the total and five quantiles. A folder stands for its files NAME.log.",
+            "Reads logs and traces: minutes played, paused and silent, wraps, seeks, refused blocks. With several files it prints one row for each, the total and five quantiles. A folder stands for its files NAME.log.",
             "A damaged file is named on standard error and left out. A file that is given twice is named there too, and counts twice.",
             "With --by or --groups it prints the figures of groups instead, and what changed from one group to the next, with intervals of 95 percent.",
         ],
@@ -418,7 +474,7 @@ pub const VERBS: &[Verb] = &[
             Opt {
                 name: "--sound-rate",
                 value: Some(("HZ", HZ)),
-                says: "The sound's frames a second, for places in seconds. A trace knows it. For a log without this option it is taken to be the box's.",
+                says: "The sound's frames a second, for positions in seconds. A trace knows it. For a log without this option it is taken to be the box's.",
             },
             Opt {
                 name: "--csv",
@@ -479,6 +535,7 @@ pub const VERBS: &[Verb] = &[
         about: &[
             "Plays the trace with the proved player and compares the box's own log with it, at each frame where both have an edge. Where the two cannot be compared, or the trace is damaged, it says so and says nothing of the box.",
             "Of folders it compares every NAME.trace with the NAME.log beside it, and prints a row for each evening, the share that differs, and how the creep is distributed.",
+            "An audit does not need the sound. With --sound or --sounds it also says which sounds of a trace were not given. That does not change the verdict.",
         ],
         options: &[
             Opt {
@@ -491,6 +548,8 @@ pub const VERBS: &[Verb] = &[
                 value: Some(("OUT", Kind::NewFile)),
                 says: "Also write a page for a browser. An earlier page of this command is replaced, and no other file.",
             },
+            SOUND,
+            SOUNDS,
         ],
         arguments: &[
             Argument {
@@ -607,6 +666,18 @@ pub const VERBS: &[Verb] = &[
     },
 ];
 
+const SOUND: Opt = Opt {
+    name: "--sound",
+    value: Some(("FILE", Kind::Sound)),
+    says: "A sound, raw f32 samples. It can be given several times.",
+};
+
+const SOUNDS: Opt = Opt {
+    name: "--sounds",
+    value: Some(("FOLDER", Kind::Folder)),
+    says: "A folder of sounds: its files NAME.f32.",
+};
+
 const LOOPS: Argument = Argument {
     name: "FOLDER",
     kind: Kind::Folder,
@@ -659,7 +730,8 @@ impl Verb {
     fn synopsis(&self, arguments: &[Argument]) -> String {
         let mut line = format!("cableowl {}", self.name);
         for option in self.options {
-            line += &format!(" [{}]", option.spelt());
+            let more = if option.repeats() { ".." } else { "" };
+            line += &format!(" [{}]{more}", option.spelt());
         }
         for argument in arguments {
             line += &match (argument.many, argument.name) {
@@ -688,6 +760,11 @@ impl Verb {
 }
 
 impl Opt {
+    /// Whether it can be given several times.
+    pub fn repeats(&self) -> bool {
+        matches!(self.value, Some((_, Kind::Sound)))
+    }
+
     /// With its value: `--log FORM`.
     pub fn spelt(&self) -> String {
         match self.value {

@@ -6,7 +6,7 @@ use std::{
     slice,
 };
 
-use cableowl::Hall;
+use cableowl::{Hall, trace::TraceVersion};
 
 use crate::{
     completions::Shell,
@@ -20,6 +20,7 @@ use crate::{
         grouping::{self, By, Pattern},
     },
     settings::{Part, Place, Save},
+    sounds::Places,
     verbs::{self, Argument, HELP, Kind, Many, Opt, VERBS, Verb, list},
 };
 
@@ -42,11 +43,17 @@ pub enum Asked {
         trace: PathBuf,
         /// The form of its lines.
         form: Form,
+        /// The sounds that it is given.
+        sounds: Places,
+        /// Where the frames heard go.
+        heard: Option<PathBuf>,
     },
     /// A trace played again, and told in words.
     Summary {
         /// The trace.
         trace: PathBuf,
+        /// The sounds that it is given.
+        sounds: Places,
     },
     /// What is left of a damaged trace.
     Salvage {
@@ -54,6 +61,15 @@ pub enum Asked {
         trace: PathBuf,
         /// Where its records go.
         to: PathBuf,
+        /// The version of its records.
+        version: TraceVersion,
+    },
+    /// What is in sounds.
+    ShowSounds {
+        /// Their files.
+        files: Vec<PathBuf>,
+        /// Frames a second.
+        rate: u32,
     },
     /// Saved settings shown.
     ShowSettings {
@@ -95,6 +111,8 @@ pub enum Asked {
         csv: bool,
         /// Where the page goes.
         page: Option<PathBuf>,
+        /// The sounds that are given.
+        sounds: Places,
     },
     /// A log held to its trace.
     Audit {
@@ -106,6 +124,8 @@ pub enum Asked {
         csv: bool,
         /// Where the page goes.
         page: Option<PathBuf>,
+        /// The sounds that are given.
+        sounds: Places,
     },
 }
 
@@ -199,7 +219,7 @@ impl Given {
                 Fault::usage(format!("{} needs a word after it, {value}", option.name))
             })?,
         };
-        match self.has(option.name) {
+        match self.has(option.name) && !option.repeats() {
             true => Err(Fault::usage(format!("{} is given twice", option.name))),
             false => {
                 self.options.push((option, value));
@@ -318,26 +338,37 @@ impl Given {
                     .filter_map(|word| Meaning::read(word))
                     .collect(),
             ),
-            "replay" if self.has("--summary") => match self.has("--log") {
-                true => {
-                    return Err(Fault::usage(
-                        "--summary prints words and --log lines: give one of them",
-                    ));
+            "replay" if self.has("--summary") => {
+                if let Some(lines) = ["--log", "--out"].into_iter().find(|name| self.has(name)) {
+                    return Err(Fault::usage(format!(
+                        "--summary prints words and {lines} goes with lines: give one of them"
+                    )));
                 }
-                false => Asked::Summary {
+                Asked::Summary {
                     trace: self.path(0),
-                },
-            },
+                    sounds: self.sounds(),
+                }
+            }
             "replay" => Asked::Replay {
                 trace: self.path(0),
                 form: match self.number("--log") {
                     Some(3) => Form::Third,
                     _ => Form::First,
                 },
+                sounds: self.sounds(),
+                heard: self.value("--out").map(PathBuf::from),
             },
             "salvage" => Asked::Salvage {
                 trace: self.path(0),
                 to: self.path(1),
+                version: match self.number("--version") {
+                    Some(1) => TraceVersion::First,
+                    _ => TraceVersion::Second,
+                },
+            },
+            "sound" => Asked::ShowSounds {
+                files: self.paths(),
+                rate,
             },
             "settings show" => Asked::ShowSettings {
                 file: self.path(0),
@@ -371,15 +402,27 @@ impl Given {
                 folders: self.paths(),
                 csv: self.has("--csv"),
                 page: page(),
+                sounds: self.sounds(),
             },
             "audit" => Asked::Audit {
                 trace: self.path(0),
                 log: self.path(1),
                 csv: self.has("--csv"),
                 page: page(),
+                sounds: self.sounds(),
             },
             _ => Asked::Version,
         })
+    }
+
+    /// Where the given sounds are.
+    fn sounds(&self) -> Places {
+        let sound = |(option, _): &&(&Opt, OsString)| option.name == "--sound";
+        let files = self.options.iter().filter(sound);
+        Places {
+            files: files.map(|(_, file)| file.into()).collect(),
+            folder: self.value("--sounds").map(PathBuf::from),
+        }
     }
 
     /// The verb that the words name, for `help` and `man`.
@@ -481,12 +524,17 @@ fn is_of(kind: Kind, name: &str, word: &OsStr) -> Result<()> {
     let good = match kind {
         // What is wrong with a pattern is said where it is read.
         Kind::File | Kind::Folder | Kind::Verb | Kind::Pattern => true,
+        Kind::Sound if word == "-" => {
+            return Err(Fault::usage(format!(
+                "{name} is a file on a disk, and cannot be '-'"
+            )));
+        }
         Kind::NewFile if word == "-" => {
             return Err(Fault::usage(format!(
                 "{name} is a file to write, and cannot be '-'"
             )));
         }
-        Kind::NewFile => true,
+        Kind::NewFile | Kind::Sound => true,
         Kind::OneOf(words) => text.is_some_and(|text| words.contains(&text)),
         Kind::Number(from, to) => text
             .and_then(|text| text.parse().ok())
@@ -558,7 +606,7 @@ mod tests {
 
     #[test]
     fn wrong_words_are_told() {
-        let all = "replay, salvage, settings, loops, report, audit, explain, help, version, man or completions";
+        let all = "replay, salvage, sound, settings, loops, report, audit, explain, help, version, man or completions";
         for (words, told) in [
             ("", &*format!("say what to do: {all}")),
             (
@@ -568,14 +616,14 @@ mod tests {
             ("replay", "replay needs TRACE: the trace"),
             (
                 "replay a b",
-                "'b' is one word too many: the words are 'cableowl replay [--log FORM] [--summary] TRACE'",
+                "'b' is one word too many: the words are 'cableowl replay [--log FORM] [--summary] [--sound FILE].. [--sounds FOLDER] [--out OUT] TRACE'",
             ),
             ("replay --log 2 a", "--log must be 1 or 3, and not '2'"),
             ("replay --csv a", "replay has no option --csv"),
             ("replay --log", "--log needs a word after it, FORM"),
             (
                 "replay --log 3 --summary a",
-                "--summary prints words and --log lines: give one of them",
+                "--summary prints words and --log goes with lines: give one of them",
             ),
             ("salvage a", "salvage needs OUT: the new file"),
             ("salvage a -", "OUT is a file to write, and cannot be '-'"),
@@ -637,11 +685,11 @@ mod tests {
             ),
             (
                 "settings save --start 6 a",
-                "--start must be a place in the sound: seconds, such as 6.2s, or frames, such as 273420f, and not '6'",
+                "--start must be a position in the sound: seconds, such as 6.2s, or frames, such as 273420f, and not '6'",
             ),
             (
                 "settings save --loop 6s a",
-                "--loop must be a part of the sound: two places with .. between them, such as 6.2s..10.9s, and not '6s'",
+                "--loop must be a part of the sound: two positions with .. between them, such as 6.2s..10.9s, and not '6s'",
             ),
             (
                 "settings save --speed inf a",

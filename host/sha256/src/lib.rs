@@ -110,9 +110,17 @@ impl Sha256 {
 
     /// Adds bytes. How they are cut into calls changes nothing.
     pub fn update(&mut self, bytes: &[u8]) {
-        for byte in bytes {
-            self.push(*byte);
+        // Up to the end of the block under way, then whole blocks, then the rest.
+        let begun = (self.length % 64) as usize;
+        let (first, rest) = bytes.split_at(bytes.len().min((64 - begun) % 64));
+        let (blocks, last) = rest.as_chunks();
+        first.iter().for_each(|byte| self.push(*byte));
+        for block in blocks {
+            self.block = *block;
+            self.length = self.length.wrapping_add(64);
+            self.compress();
         }
+        last.iter().for_each(|byte| self.push(*byte));
     }
 
     /// The digest of all bytes added.
@@ -224,6 +232,40 @@ mod tests {
             hex(&digest(&vec![b'a'; 1_000_000])),
             "cdc76e5c9914fb9281a1c7e284d73e67f1809a48a497200e046d39ccc7112cd0"
         );
+    }
+
+    /// What `sha256sum` prints for files of random bytes. Without the program nothing is compared.
+    #[test]
+    fn as_sha256sum() {
+        let mut word = 0x9e37_79b9_7f4a_7c15_u64;
+        let mut random = || {
+            word ^= word << 13;
+            word ^= word >> 7;
+            word ^= word << 17;
+            word
+        };
+        let path = std::env::temp_dir().join(format!("sha256-{}", std::process::id()));
+        for round in 0..40 {
+            let length = match round {
+                0..20 => random() % 300,
+                20..35 => random() % 70_000,
+                _ => 1_000_000 + random() % 3_000_000,
+            };
+            let bytes: Vec<u8> = (0..length).map(|_| random() as u8).collect();
+            std::fs::write(&path, &bytes).unwrap();
+            let sum = std::process::Command::new("sha256sum").arg(&path).output();
+            let Ok(sum) = sum else {
+                eprintln!("skipped: no sha256sum on PATH");
+                return;
+            };
+            let sum = String::from_utf8(sum.stdout).unwrap();
+            assert_eq!(
+                sum.split(' ').next(),
+                Some(&*hex(&digest(&bytes))),
+                "{length}"
+            );
+        }
+        std::fs::remove_file(&path).unwrap();
     }
 
     /// Every length around the padding's edges, cut in two at every place, is as at once.

@@ -1,18 +1,18 @@
-//! The evening of `listening_box` on a sound short enough to be recorded, and played again from its trace: what support does.
+//! The evening of `listening_box`, recorded, and played again from its trace: what support does.
 
 use cableowl::{
     Command, Level, RecordedPlayer, Refusal, Region, Settings, Tween,
-    trace::{Line, MAX_SOUND_FRAMES, Replay, Trace},
+    trace::{Lesson, Line, Replay, TraceVersion},
 };
 
-/// The sound is as long as a lesson, 32 seconds, at two frames a second.
-const SOUND_RATE: u32 = 2;
-
-/// Frames of a call; the player cuts them where a lane changes, since a record holds constant lanes.
+/// Frames of a call.
 const CALL: u64 = 512;
 
-/// Room for a call: each frame of a rate in motion is a record, of 42 bytes.
-const ROOM: usize = 32 * 1_024;
+/// The bytes that the buffer has. It is emptied before it is full.
+const ROOM: usize = 256 * 1_024;
+
+/// More than a call needs: its frames at 42 bytes each.
+const NEEDED: usize = 32 * 1_024;
 
 const EVENING: u64 = 300;
 
@@ -37,7 +37,6 @@ fn script() -> [(u64, Command); 9] {
 }
 
 /// An evening, live or from its trace: a line for each block, and a digest of what was heard.
-#[derive(PartialEq)]
 pub struct Evening {
     pub lines: Vec<Line>,
     pub digest: u64,
@@ -59,13 +58,17 @@ impl Evening {
     }
 }
 
-/// Plays the evening on a device of so many frames a second, and records it.
-pub fn live(device_rate: u32) -> Result<(Evening, Vec<u8>), Refusal> {
-    let triangle = |frame: usize| 1.0 - (frame % 16) as f32 / 8.0;
-    let sound: Vec<f32> = (0..2 * MAX_SOUND_FRAMES).map(triangle).collect();
+/// Plays the evening over a lesson of so many frames a second, on a device of so many, and records it.
+pub fn live(
+    lesson: &Lesson,
+    lesson_rate: u32,
+    device_rate: u32,
+    version: TraceVersion,
+) -> Result<(Evening, Vec<u8>), Refusal> {
     let mut buffer = vec![0; ROOM];
-    let settings = Settings::new(SOUND_RATE);
-    let mut player = RecordedPlayer::play(settings, device_rate, &sound, &mut buffer)?;
+    let settings = Settings::new(lesson_rate);
+    let mut player =
+        RecordedPlayer::with_version(settings, device_rate, lesson, &mut buffer, version)?;
     let (mut evening, mut file) = (Evening::new(), Vec::new());
     let mut out = [0.0; 2 * CALL as usize];
     let script = script();
@@ -80,20 +83,29 @@ pub fn live(device_rate: u32) -> Result<(Evening, Vec<u8>), Refusal> {
             played.answer?;
             played.recorded?;
             evening.hear(out);
-            file.extend_from_slice(player.bytes());
-            player.clear();
+            if player.room() < NEEDED {
+                file.extend_from_slice(player.bytes());
+                player.clear();
+            }
         }
     }
+    file.extend_from_slice(player.bytes());
     Ok((evening, file))
 }
 
-/// Plays a trace again.
-pub fn again(trace: &[u8]) -> Evening {
-    let (mut evening, mut replay) = (Evening::new(), Replay::new());
-    for (_, record) in Trace::new(trace).map_while(Result::ok) {
-        if let Some(line) = replay.play(&record) {
+/// Plays a trace again, over its lesson.
+pub fn again(trace: &[u8], lesson: &Lesson) -> Evening {
+    let (mut evening, mut replay) = (Evening::new(), Replay::new().sounds(lesson.clone()));
+    let mut rest = trace;
+    while !rest.is_empty() {
+        let (step, size) = replay.step(rest, true);
+        rest = &rest[size..];
+        if let Some(line) = step.line() {
             evening.lines.push(line);
             evening.hear(replay.heard());
+        }
+        if size == 0 {
+            break;
         }
     }
     evening

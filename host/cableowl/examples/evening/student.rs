@@ -6,7 +6,7 @@ use std::{
     time::{Duration, Instant},
 };
 
-use cableowl::{MAX_BLOCK_FRAMES, Player, Refusal, Tween};
+use cableowl::{Command, MAX_BLOCK_FRAMES, Region, Tween};
 use random::Random;
 
 /// Frames per second of the lesson, and of the box's audio device.
@@ -48,21 +48,21 @@ impl fmt::Display for Act {
 }
 
 impl Act {
-    /// Passes it to a player.
-    pub fn tell(&self, player: &mut Player) -> Result<(), Refusal> {
+    /// The player's command for it.
+    pub fn command(&self) -> Command {
         match *self {
-            Self::Loop(start, end) => player.set_loop_region(start..end)?,
+            Self::Loop(start, end) => Command::SetLoopRegion(Region::from(start..end)),
             Self::Speed { rate, seconds } => {
-                player.set_playback_rate(rate, Duration::from_secs(seconds.into()))?;
+                let tween = Tween::from(Duration::from_secs(seconds.into()));
+                Command::SetPlaybackRate(rate, tween)
             }
-            Self::Pause => player.pause(FADE),
-            Self::StepBack(seconds) => player.seek_by(-seconds)?,
-            Self::Resume => player.resume(FADE),
-            Self::StartOver(seconds) => player.seek_to(seconds)?,
-            Self::LeaveLoop => player.clear_loop_region(),
-            Self::Stop => player.stop(FADE),
+            Self::Pause => Command::Pause(FADE),
+            Self::StepBack(seconds) => Command::SeekBy(-seconds),
+            Self::Resume => Command::Resume(FADE),
+            Self::StartOver(seconds) => Command::SeekTo(seconds),
+            Self::LeaveLoop => Command::ClearLoopRegion,
+            Self::Stop => Command::Stop(FADE),
         }
-        Ok(())
     }
 }
 

@@ -4,7 +4,7 @@ use std::ops::Range;
 
 use crate::{
     BlockLanes, Commands, Lane, Lanes, Processed, Refusal, Signals, StaticSound,
-    stopping::until_it_stops, trace::Block,
+    stopping::until_it_stops,
 };
 
 /// Where a call's frames go.
@@ -18,14 +18,17 @@ pub enum Place {
 
 /// Gets the commands and blocks of a player's voice.
 pub trait Watch {
-    /// Whether each block must fit into a record; then `played` is called.
+    /// Whether `played` is called.
     const RECORDS: bool = false;
+
+    /// Whether each block must have constant lanes, and at most as many frames as a record.
+    const CUTS: bool = false;
 
     /// The voice got these commands.
     fn told(&mut self, _: Commands) {}
 
-    /// The voice, as it is now, played this block.
-    fn played(&mut self, _: Result<Block, Refusal>, _: &StaticSound, _: Processed) {}
+    /// The voice, as it is now, played a block with these lanes, time step and signals.
+    fn played(&mut self, _: BlockLanes<'_>, _: f64, _: Signals, _: &StaticSound, _: Processed) {}
 }
 
 /// Nobody.
@@ -72,20 +75,14 @@ impl Given<'_> {
     }
 
     /// The lanes of a part of the block.
-    fn lanes<'l>(&'l self, part: Range<usize>, lanes: &'l mut Lanes) -> BlockLanes<'l> {
+    pub fn lanes<'l>(&'l self, part: Range<usize>, lanes: &'l mut Lanes) -> BlockLanes<'l> {
         lanes
             .frames(part.len())
-            .fade(cut(self.fade, &part))
-            .volume(cut(self.volume, &part))
-            .left(cut(self.left, &part))
-            .right(cut(self.right, &part))
-            .rate(cut(self.rate, &part))
-    }
-
-    /// The record of its first frames, if one can hold them.
-    pub fn record(&self, frames: usize, lanes: &mut Lanes) -> Result<Block, Refusal> {
-        self.lanes(0..frames, lanes)
-            .block(self.time_step, self.signals)
+            .fade(self.fade.part(&part))
+            .volume(self.volume.part(&part))
+            .left(self.left.part(&part))
+            .right(self.right.part(&part))
+            .rate(self.rate.part(&part))
     }
 
     /// Plays the block up to the frame in which the sound ends, or all of it. Returns the frames played
@@ -100,13 +97,5 @@ impl Given<'_> {
         until_it_stops(voice, frames, |part, voice| {
             self.play(part, voice, lanes, out)
         })
-    }
-}
-
-/// The lane of a part of a block.
-fn cut<'a, T: Copy>(lane: Lane<'a, T>, part: &Range<usize>) -> Lane<'a, T> {
-    match lane {
-        Lane::Constant(number) => Lane::Constant(number),
-        Lane::PerFrame(numbers) => Lane::PerFrame(numbers.get(part.clone()).unwrap_or_default()),
     }
 }

@@ -89,7 +89,7 @@ impl Player {
     ) -> Result<(usize, Processed), Refusal> {
         let clock = self.clock;
         let frames = (out.len() / 2).min(MAX_BLOCK_FRAMES);
-        let frames = match W::RECORDS {
+        let frames = match W::CUTS {
             true => self.constant_frames(frames.min(MAX_TRACED_FRAMES)),
             false => frames,
         };
@@ -139,7 +139,8 @@ impl Player {
             }
         };
         if W::RECORDS {
-            watch.played(given.record(frames, lanes), voice, counts);
+            let lanes = given.lanes(0..frames, lanes);
+            watch.played(lanes, given.time_step, given.signals, voice, counts);
         }
         self.clock = clock.saturating_add(frames as u64);
         Ok((frames, counts))

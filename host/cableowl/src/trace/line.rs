@@ -2,10 +2,10 @@
 
 use std::fmt;
 
-use super::Refused;
+use super::{OtherSound, Refused};
 use crate::{PlaybackState, Processed, Refusal, StaticSound};
 
-/// The line of a block, or of a refused record. `Display` writes it without the line feed that ends it
+/// The line of a block, or of a record that is refused. `Display` writes it without the line feed that ends it
 /// in a log.
 ///
 /// ```
@@ -44,6 +44,8 @@ pub enum Line {
         /// Why.
         refusal: Refusal,
     },
+    /// A creation that is refused with 26: none of the given sounds is the recorded one.
+    OtherSound(OtherSound),
     /// A record that the reader refuses.
     Refused(Refused),
 }
@@ -58,16 +60,13 @@ impl Line {
         answer: Result<Processed, Refusal>,
     ) -> Self {
         match answer {
-            Ok(processed) => {
-                let state = voice.state();
-                Self::Block {
-                    block,
-                    frames: frames as u64,
-                    steps: processed.steps,
-                    state: state.playback_state,
-                    position: state.position as u64,
-                }
-            }
+            Ok(processed) => Self::Block {
+                block,
+                frames: frames as u64,
+                steps: processed.steps,
+                state: voice.playback_state(),
+                position: voice.raw().position,
+            },
             Err(refusal) => Self::RefusedBlock { block, refusal },
         }
     }
@@ -91,6 +90,9 @@ impl fmt::Display for Line {
             }
             Self::RefusedBlock { block, refusal } => {
                 write!(f, "block={block} refused={}", refusal.number())
+            }
+            Self::OtherSound(OtherSound { at, .. }) => {
+                write!(f, "creation={} at={at}", Refusal::OtherSound.number())
             }
             Self::Refused(Refused { refusal, at }) => {
                 write!(f, "refused={} at={at}", refusal.number())

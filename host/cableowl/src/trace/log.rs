@@ -182,7 +182,7 @@ impl fmt::Display for LogLine {
     fn fmt(&self, f: &mut fmt::Formatter<'_>) -> fmt::Result {
         self.line.fmt(f)?;
         match self.line {
-            Line::Refused(_) => return Ok(()),
+            Line::OtherSound(_) | Line::Refused(_) => return Ok(()),
             Line::RefusedBlock { .. } => {}
             Line::Block { .. } => self.voice(f)?,
         }

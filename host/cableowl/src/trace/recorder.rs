@@ -1,13 +1,15 @@
 //! A voice that is recorded while it plays.
 
-use super::{Block, Line, Record, ShortSound, Tape};
+use std::ops::Range;
+
+use super::{Lesson, Line, MAX_TRACED_FRAMES, Record, Tape, TraceVersion, tape::ran_off};
 use crate::{BlockLanes, Commands, LoopTable, Processed, Refusal, Settings, Signals, StaticSound};
 
 /// The result of a recorded call.
 #[derive(Debug, Clone, Copy, PartialEq)]
 #[must_use]
 pub struct Recorded<T> {
-    /// The voice's own result; recording never changes it.
+    /// The voice's own result.
     pub answer: Result<T, Refusal>,
     /// Whether the trace contains the call: [`Refusal::Record`] if no record can, [`Refusal::Room`] if the
     /// buffer was full, and the same for every call after that.
@@ -18,52 +20,59 @@ pub struct Recorded<T> {
 ///
 /// It plays as an unrecorded voice does, bit for bit. **The buffer contains the evening up to the first
 /// call that did not fit.** That call is played too, but it and every later call say why they are not
-/// recorded ([`Recorded::recorded`]), and nothing more is written. So a trace has no gaps, and played
-/// again it prints the lines of the evening ([`Recorder::line`]).
+/// recorded ([`Recorded::recorded`]), and nothing more is written. So a trace has no gaps.
+///
+/// A block of up to 1,024 frames is one record: 42 bytes if its lanes are constant, otherwise 22 and 24
+/// per frame. A longer block is several records. A block with the same constant lanes as the one before
+/// it, with no signals and no command between them, is joined to that record, up to 1,024 frames. So the
+/// trace, played again, prints the lines of the evening ([`Recorder::line`]) cut in other places: sums
+/// and states agree where a call and a record end together.
+///
+/// What is not recorded:
 ///
 /// - 19, [`Refusal::Room`]: the buffer is full. A host that records for long empties it in time: when
-///   [`Recorder::room`] is below [`MAX_RECORD_BYTES`](super::MAX_RECORD_BYTES), it appends
-///   [`Recorder::bytes`] to its file and calls [`Recorder::clear`].
-/// - 17, [`Refusal::Record`]: a sound of more than 64 frames or an odd sample count, a block of more
-///   than 1,024 frames, a lane that changes inside the block, a call refused with 9 (no record contains
-///   one), or a sound that is not the creation's. **A host with moving lanes cuts its blocks where they
-///   change** ([`BlockLanes::constant_frames`] says where); cutting does not change the output.
+///   [`Recorder::room`] is below what the next calls need, it appends [`Recorder::bytes`] to its file and
+///   calls [`Recorder::clear`].
+/// - 17, [`Refusal::Record`]: a call refused with 9 (no record contains one), or a call with another
+///   sound than the creation's. A sound of more than 64 frames is recognised by its place in memory: pass
+///   [`Lesson::samples`].
 ///
-/// No call panics or allocates.
+/// The steps that a voice counts after the end of its sound depend on where its block ends. So a block
+/// of more than 1,024 frames in which the voice runs off its sound is played in the parts in which it is
+/// recorded.
+///
+/// [`Recorder::new`] allocates; no other call allocates or panics.
 ///
 /// ```
-/// use cableowl::{Commands, Frames, Lanes, Settings, Signals, trace::{Recorder, lines}};
+/// use cableowl::{
+///     Commands, Lanes, Settings, Signals,
+///     trace::{Lesson, Recorder, lines},
+/// };
 ///
-/// let sound = [0.5; 16];
-/// let mut buffer = [0; 4_096];
+/// let lesson = Lesson::new(vec![0.5; 2 * 44_100])?;
+/// let sound = lesson.samples();
+/// let mut buffer = vec![0; 100_000];
 /// let mut recorder = Recorder::new(&mut buffer);
-/// recorder.create(Settings::new(1).loop_region(Frames(2)..Frames(6)), &sound).answer?;
-/// let mut log = Vec::new();
+/// recorder.create(Settings::new(44_100), &lesson).answer?;
 ///
-/// // A fade of four frames at the end of a block of eight: cut at each change.
-/// let fade = [1.0, 1.0, 1.0, 1.0, 0.75, 0.5, 0.25, 0.0];
-/// recorder.on_start_processing(&sound, Commands::new().pause()).answer?;
-/// let (mut room, mut out, mut from) = (Lanes::new(), [0.0; 16], 0);
-/// while from < fade.len() {
-///     let rest = room.frames(fade.len() - from).fade(&fade[from..]);
-///     let to = from + rest.constant_frames();
-///     let lanes = room.frames(to - from).fade(&fade[from..to]);
-///     let part = &mut out[2 * from..2 * to];
-///     let played = recorder.process(&sound, lanes, 1.0, Signals::new(), part);
-///     played.answer?;
-///     played.recorded?;
-///     log.extend(recorder.line());
-///     from = to;
-/// }
-/// assert_eq!(out[6..], [0.5, 0.5, 0.375, 0.375, 0.25, 0.25, 0.125, 0.125, 0.0, 0.0]);
-/// assert_eq!(log.len(), 5);
-/// assert!(lines(recorder.bytes()).eq(log));
+/// // A block of 700 frames, and one that fades out.
+/// let (mut lanes, mut out, time_step) = (Lanes::new(), [0.0; 1_400], 1.0 / 48_000.0);
+/// let constant = lanes.frames(700);
+/// recorder.process(sound, constant, time_step, Signals::new(), &mut out).recorded?;
+/// recorder.on_start_processing(sound, Commands::new().pause()).recorded?;
+/// let fade: Vec<f32> = (0..300).map(|frame| 1.0 - frame as f32 / 300.0).collect();
+/// let fades = lanes.frames(300).fade(&fade);
+/// recorder.process(sound, fades, time_step, Signals::new(), &mut out[..600]).recorded?;
+///
+/// let last = recorder.line();
+/// assert_eq!(recorder.bytes().len(), 70 + 42 + 12 + (22 + 24 * 300));
+/// assert_eq!(lines(recorder.bytes()).last(), last);
 /// # Ok::<(), cableowl::Refusal>(())
 /// ```
 #[derive(Debug)]
 pub struct Recorder<'a> {
     voice: Option<StaticSound>,
-    sound: ShortSound,
+    lesson: Option<Lesson>,
     tape: Tape<'a>,
     line: Option<Line>,
 }
@@ -73,24 +82,42 @@ impl<'a> Recorder<'a> {
     /// with 1.
     #[must_use]
     pub fn new(buffer: &'a mut [u8]) -> Self {
+        Self::with_version(buffer, TraceVersion::Second)
+    }
+
+    /// The same in this version. In the first, each call is one record, and [`Refusal::Record`] comes
+    /// also for a sound of more than 64 frames, a block of more than 1,024, and lanes that change in a
+    /// block: a host cuts its blocks there ([`BlockLanes::constant_frames`]).
+    ///
+    /// ```
+    /// use cableowl::{Settings, trace::{Lesson, Recorder, TraceVersion}};
+    ///
+    /// let mut buffer = [0; 1_000];
+    /// let mut recorder = Recorder::with_version(&mut buffer, TraceVersion::First);
+    /// let lesson = Lesson::new(vec![0.5; 16])?;
+    /// recorder.create(Settings::new(1), &lesson).recorded?;
+    /// assert_eq!(recorder.bytes().len(), 5 + 26 + 8 * 8);
+    /// # Ok::<(), cableowl::Refusal>(())
+    /// ```
+    #[must_use]
+    pub fn with_version(buffer: &'a mut [u8], version: TraceVersion) -> Self {
         Self {
             voice: None,
-            sound: ShortSound::EMPTY,
-            tape: Tape::new(buffer),
+            lesson: None,
+            tape: Tape::new(buffer, version),
             line: None,
         }
     }
 
     /// Creates the voice, as [`StaticSound::new`]. It replaces an earlier voice; after a refused creation
     /// there is none.
-    pub fn create(&mut self, settings: Settings, sound: &[f32]) -> Recorded<()> {
-        let created = StaticSound::new(settings, sound);
+    pub fn create(&mut self, settings: Settings, lesson: &Lesson) -> Recorded<()> {
+        let created = StaticSound::new(settings, lesson.samples());
         let answer = created.as_ref().map(|_| ()).map_err(|refusal| *refusal);
         self.voice = created.ok();
-        let short = ShortSound::new(sound);
-        self.sound = short.unwrap_or(ShortSound::EMPTY);
-        let record = short.map(|sound| Record::Creation { settings, sound });
-        self.recorded(answer, record)
+        self.lesson = Some(lesson.clone());
+        self.tape.created(settings, lesson);
+        self.recorded(answer)
     }
 
     /// Applies a command set, as [`StaticSound::on_start_processing`].
@@ -99,8 +126,8 @@ impl<'a> Recorder<'a> {
             Some(voice) => voice.on_start_processing(sound, commands),
             None => Err(Refusal::State),
         };
-        let record = self.of_this_sound(sound, Record::Commands(commands));
-        self.recorded(answer, record)
+        self.commanded(sound, commands);
+        self.recorded(answer)
     }
 
     /// Takes a loop from a table, as [`StaticSound::take_loop`], and records it as a command set. If the
@@ -108,20 +135,14 @@ impl<'a> Recorder<'a> {
     pub fn take_loop(&mut self, sound: &[f32], table: &LoopTable, slot: usize) -> Recorded<f64> {
         let region = match table.region(slot) {
             Ok(region) => region,
-            Err(refusal) => {
-                return Recorded {
-                    answer: Err(refusal),
-                    recorded: self.tape.recorded(),
-                };
-            }
+            Err(refusal) => return self.recorded(Err(refusal)),
         };
         let answer = match &mut self.voice {
             Some(voice) => voice.take_loop(sound, table, slot),
             None => Err(Refusal::State),
         };
-        let commands = Commands::new().set_loop_region(region);
-        let record = self.of_this_sound(sound, Record::Commands(commands));
-        self.recorded(answer, record)
+        self.commanded(sound, Commands::new().set_loop_region(region));
+        self.recorded(answer)
     }
 
     /// Plays a block, as [`StaticSound::process`].
@@ -133,12 +154,16 @@ impl<'a> Recorder<'a> {
         signals: Signals,
         out: &mut [f32],
     ) -> Recorded<Processed> {
-        let (frames, block) = (lanes.count(), lanes.block(dt, signals));
-        let answer = match &mut self.voice {
-            Some(voice) => voice.process(sound, lanes, dt, signals, out),
-            None => Err(Refusal::State),
-        };
-        self.played(sound, frames, answer, block)
+        self.play(sound, lanes, dt, signals, |voice, lanes, signals, part| {
+            let out = match part {
+                None => &mut *out,
+                Some(part) => {
+                    let samples = 2 * part.start..2 * part.end;
+                    out.get_mut(samples).unwrap_or_default()
+                }
+            };
+            voice.process(sound, lanes, dt, signals, out)
+        })
     }
 
     /// Plays a block into a longer buffer, as [`StaticSound::process_into`].
@@ -151,15 +176,13 @@ impl<'a> Recorder<'a> {
         mix: &mut [f32],
         from: usize,
     ) -> Recorded<Processed> {
-        let (frames, block) = (lanes.count(), lanes.block(dt, signals));
-        let answer = match &mut self.voice {
-            Some(voice) => voice.process_into(sound, lanes, dt, signals, mix, from),
-            None => Err(Refusal::State),
-        };
-        self.played(sound, frames, answer, block)
+        self.play(sound, lanes, dt, signals, |voice, lanes, signals, part| {
+            let from = from + part.map_or(0, |part| part.start);
+            voice.process_into(sound, lanes, dt, signals, mix, from)
+        })
     }
 
-    /// The line of the last block, as a replay of the trace prints it while blocks are recorded.
+    /// The line of the last block.
     #[must_use]
     pub fn line(&self) -> Option<Line> {
         self.line
@@ -171,15 +194,17 @@ impl<'a> Recorder<'a> {
         self.voice.as_ref()
     }
 
-    /// Ends the recording and returns the voice.
+    /// Ends the recording and returns the voice. All records are in the buffer then; [`Recorder::bytes`]
+    /// says before how many bytes they have.
     #[must_use]
-    pub fn into_voice(self) -> Option<StaticSound> {
+    pub fn into_voice(mut self) -> Option<StaticSound> {
+        self.tape.bytes();
         self.voice
     }
 
-    /// The records in the buffer.
+    /// The records in the buffer. No later block is joined to the last of them.
     #[must_use]
-    pub fn bytes(&self) -> &[u8] {
+    pub fn bytes(&mut self) -> &[u8] {
         self.tape.bytes()
     }
 
@@ -194,48 +219,88 @@ impl<'a> Recorder<'a> {
         self.tape.clear();
     }
 
-    /// A block's record, and its line.
-    fn played(
+    /// Plays a block by `play`, which plays the whole block or a part of it, and records it.
+    fn play(
         &mut self,
         sound: &[f32],
-        frames: usize,
-        answer: Result<Processed, Refusal>,
-        block: Result<Block, Refusal>,
+        mut lanes: BlockLanes<'_>,
+        dt: f64,
+        signals: Signals,
+        mut play: impl FnMut(
+            &mut StaticSound,
+            BlockLanes<'_>,
+            Signals,
+            Option<Range<usize>>,
+        ) -> Result<Processed, Refusal>,
     ) -> Recorded<Processed> {
-        let block_number = self.tape.next_block();
+        let frames = lanes.count();
+        let is_long = frames > MAX_TRACED_FRAMES && self.tape.version() == TraceVersion::Second;
+        let answer = match &mut self.voice {
+            Some(voice) => {
+                let before = is_long.then(|| voice.clone());
+                let answer = play(voice, lanes.again(), signals, None);
+                match (before, answer) {
+                    (Some(before), Ok(counts)) if ran_off(voice, counts) => {
+                        *voice = before;
+                        in_parts(frames, signals, |part, signals| {
+                            play(voice, lanes.part(part.clone()), signals, Some(part))
+                        })
+                    }
+                    _ => answer,
+                }
+            }
+            None => Err(Refusal::State),
+        };
+        let block = self.tape.next_block();
         self.line = Some(match &self.voice {
-            Some(voice) => Line::of_block(block_number, frames, voice, answer),
+            Some(voice) => Line::of_block(block, frames, voice, answer),
             None => Line::RefusedBlock {
-                block: block_number,
+                block,
                 refusal: Refusal::State,
             },
         });
-        let record = match (block, answer) {
-            (Err(refusal), _) => Err(refusal),
-            // A recorded block has its own output.
-            (_, Err(Refusal::Block)) => Err(Refusal::Record),
-            (Ok(block), _) => self.of_this_sound(sound, Record::Block(block)),
-        };
-        self.recorded(answer, record)
-    }
-
-    /// A replay uses the creation's sound, so a call with another sound cannot be recorded.
-    fn of_this_sound(&self, sound: &[f32], record: Record) -> Result<Record, Refusal> {
-        match self.voice.is_none() || self.sound.is(sound) {
-            true => Ok(record),
-            false => Err(Refusal::Record),
+        match self.is_this(sound) {
+            true => self
+                .tape
+                .played(lanes, dt, signals, self.voice.as_ref(), answer),
+            false => self.tape.keep(Err(Refusal::Record)),
         }
+        self.recorded(answer)
     }
 
-    fn recorded<T>(
-        &mut self,
-        answer: Result<T, Refusal>,
-        record: Result<Record, Refusal>,
-    ) -> Recorded<T> {
+    fn commanded(&mut self, sound: &[f32], commands: Commands) {
+        let record = match self.is_this(sound) {
+            true => Ok(Record::Commands(commands)),
+            false => Err(Refusal::Record),
+        };
         self.tape.keep(record);
+    }
+
+    /// Whether a call can be recorded: a replay uses the creation's sound.
+    fn is_this(&self, sound: &[f32]) -> bool {
+        let lesson = self.lesson.as_ref();
+        self.voice.is_none() || lesson.is_some_and(|lesson| lesson.is(sound))
+    }
+
+    fn recorded<T>(&self, answer: Result<T, Refusal>) -> Recorded<T> {
         Recorded {
             answer,
             recorded: self.tape.recorded(),
         }
     }
+}
+
+/// Plays a block in parts of at most 1,024 frames. The first gets the signals.
+fn in_parts(
+    frames: usize,
+    signals: Signals,
+    mut play: impl FnMut(Range<usize>, Signals) -> Result<Processed, Refusal>,
+) -> Result<Processed, Refusal> {
+    let (mut from, mut signals, mut counts) = (0, signals, Processed::NONE);
+    while from < frames {
+        let to = frames.min(from + MAX_TRACED_FRAMES);
+        counts = counts.and(play(from..to, signals)?);
+        (from, signals) = (to, Signals::new());
+    }
+    Ok(counts)
 }

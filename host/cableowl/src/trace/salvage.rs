@@ -1,5 +1,6 @@
 //! The complete records of a damaged trace.
 
+use super::TraceVersion;
 use crate::{Refusal, ffi, float_mode};
 
 /// What a salvage kept and skipped.
@@ -39,14 +40,28 @@ pub struct Salvaged {
 ///
 /// [`Refusal::Output`]: the output is shorter than the trace; nothing is written.
 pub fn salvage(trace: &[u8], out: &mut [u8]) -> Result<Salvaged, Refusal> {
-    let saved = float_mode::plain(|| ffi::salvage(trace, out));
-    Refusal::check_word(saved.refusal)?;
-    let skipped = saved.skipped as usize;
-    Ok(Salvaged {
-        records: saved.records as usize,
-        // The skipped bytes are bytes of the trace.
-        kept: trace.len().saturating_sub(skipped),
-        skipped,
-        first_skipped: saved.first as usize,
-    })
+    TraceVersion::Second.salvage(trace, out)
+}
+
+impl TraceVersion {
+    /// As [`salvage`], but a record is what the reader of this version accepts.
+    ///
+    /// # Errors
+    ///
+    /// As [`salvage`].
+    pub fn salvage(self, trace: &[u8], out: &mut [u8]) -> Result<Salvaged, Refusal> {
+        let saved = float_mode::plain(|| match self {
+            Self::First => ffi::salvage(trace, out),
+            Self::Second => ffi::salvage_v2(trace, out),
+        });
+        Refusal::check_word(saved.refusal)?;
+        let skipped = saved.skipped as usize;
+        Ok(Salvaged {
+            records: saved.records as usize,
+            // The skipped bytes are bytes of the trace.
+            kept: trace.len().saturating_sub(skipped),
+            skipped,
+            first_skipped: saved.first as usize,
+        })
+    }
 }

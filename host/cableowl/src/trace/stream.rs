@@ -7,7 +7,8 @@ use std::{
     ops::Range,
 };
 
-use super::{MAX_RECORD_BYTES, Record, Refused, Replay, Step, read};
+use super::{OtherSound, Record, Refused, Replay, Step, TraceVersion, values};
+use crate::{Refusal, ffi};
 
 /// How much of a trace is held.
 const ROOM: usize = 64 * 1_024;
@@ -40,12 +41,26 @@ impl Error for TraceError {
     }
 }
 
-/// The records of a trace that is read as it goes, each with the place of its first byte: the same
-/// as [`Trace`](super::Trace)'s, in memory that does not grow with the trace. A record that is refused, or an
-/// error in reading, is the last, unless the reader skips what is damaged
-/// ([`TraceReader::skip_damage`]).
+/// Reads a trace record by record: the same records as [`Trace`](super::Trace), in memory that does not
+/// grow with the trace. A record that is refused, or an error in reading, is the last, unless the reader
+/// skips what is damaged ([`TraceReader::skip_damage`]).
+///
+/// ```
+/// use cableowl::{Commands, trace::{Record, TraceReader, write}};
+///
+/// let mut bytes = [0; 12];
+/// write(&Record::Commands(Commands::new()), &mut bytes, 0)?;
+/// let mut reader = TraceReader::new(&bytes[..]);
+/// while let Some(at) = reader.read_next() {
+///     assert_eq!(at.ok(), Some(0));
+///     assert_eq!(reader.record(), Some(Record::Commands(Commands::new())));
+///     assert_eq!(reader.bytes(), bytes);
+/// }
+/// # Ok::<(), cableowl::Refusal>(())
+/// ```
 #[derive(Debug)]
 pub struct TraceReader<R> {
+    version: TraceVersion,
     from: R,
     held: Box<[u8]>,
     at: usize,
@@ -58,13 +73,22 @@ pub struct TraceReader<R> {
     refused: bool,
     /// The bytes of the record before `at`.
     last: usize,
+    /// The kind and the numbers of that record, if it was read and not played.
+    found: Option<ffi::Record>,
 }
 
 impl<R: Read> TraceReader<R> {
-    /// The records of what is read; the reader needs no buffer of its own.
+    /// Reads the records of a file or of any other bytes, which need no buffer of their own.
     #[must_use]
     pub fn new(from: R) -> Self {
+        Self::with_version(from, TraceVersion::Second)
+    }
+
+    /// The same, by the reader of this version.
+    #[must_use]
+    pub fn with_version(from: R, version: TraceVersion) -> Self {
         Self {
+            version,
             from,
             held: vec![0; ROOM].into_boxed_slice(),
             at: 0,
@@ -73,12 +97,13 @@ impl<R: Read> TraceReader<R> {
             ended: false,
             refused: false,
             last: 0,
+            found: None,
         }
     }
 
     /// Reads on until a whole record is held, or the trace's end.
     fn fill(&mut self) -> io::Result<()> {
-        match self.ended || self.end - self.at >= MAX_RECORD_BYTES {
+        match self.ended || self.end - self.at >= self.version.max_record_bytes() {
             true => Ok(()),
             false => self.read_on(),
         }
@@ -86,7 +111,7 @@ impl<R: Read> TraceReader<R> {
 
     /// Moves what is left to the front, and reads as much behind it as there is room for.
     fn read_on(&mut self) -> io::Result<()> {
-        self.last = 0;
+        (self.last, self.found) = (0, None);
         self.held.copy_within(self.at..self.end, 0);
         self.base = self.base.wrapping_add(self.at as u64);
         (self.end, self.at) = (self.end - self.at, 0);
@@ -111,10 +136,10 @@ impl<R: Read> TraceReader<R> {
     /// let mut bytes = [0xff; 3 + 12];
     /// write(&Record::Commands(Commands::new()), &mut bytes, 2)?;
     /// let mut reader = TraceReader::new(&bytes[..]);
-    /// assert!(reader.next().is_some_and(|record| record.is_err()));
-    /// assert!(reader.next().is_none());
+    /// assert!(reader.read_next().is_some_and(|at| at.is_err()));
+    /// assert!(reader.read_next().is_none());
     /// assert_eq!(reader.skip_damage().ok().flatten(), Some(0..2));
-    /// assert!(reader.next().is_some_and(|record| record.is_ok()));
+    /// assert!(reader.read_next().is_some_and(|at| at.is_ok()));
     /// # Ok::<(), cableowl::Refusal>(())
     /// ```
     ///
@@ -126,11 +151,12 @@ impl<R: Read> TraceReader<R> {
             return Ok(None);
         }
         let from = self.place();
-        self.last = 0;
+        (self.last, self.found) = (0, None);
         loop {
             self.at += 1;
             self.fill()?;
-            let is_record = || read(&self.held[..self.end], self.at).is_ok();
+            let held = &self.held[..self.end];
+            let is_record = || self.version.found(held, self.at).is_ok();
             if self.at == self.end || is_record() {
                 self.refused = false;
                 return Ok(Some(from..self.place()));
@@ -138,14 +164,49 @@ impl<R: Read> TraceReader<R> {
         }
     }
 
-    /// The bytes of the record that was yielded last.
+    /// Reads the next record and returns the place of its first byte; `None` at the trace's end. A
+    /// record that is refused, or an error in reading, is the last.
+    pub fn read_next(&mut self) -> Option<Result<u64, TraceError>> {
+        if self.refused {
+            return None;
+        }
+        // The records that were read before an error are returned before it.
+        let failed = self.fill().err();
+        (self.last, self.found) = (0, None);
+        if self.at == self.end {
+            return failed.map(|error| Err(self.broken(error)));
+        }
+        let at = self.place();
+        match (self.version.found(&self.held[..self.end], self.at), failed) {
+            (Ok(found), _) => {
+                let next = found.next as usize;
+                (self.last, self.at) = (next - self.at, next);
+                self.found = Some(found);
+                Some(Ok(at))
+            }
+            (Err(Refusal::Truncated), Some(error)) => Some(Err(self.broken(error))),
+            (Err(refusal), _) => {
+                self.refused = true;
+                Some(Err(TraceError::Refused(Refused { refusal, at })))
+            }
+        }
+    }
+
+    /// The record that [`TraceReader::read_next`] read last; none after a refused one and at the end.
+    #[must_use]
+    pub fn record(&self) -> Option<Record<'_>> {
+        let found = self.found.as_ref()?;
+        Some(values::record(found, self.bytes()))
+    }
+
+    /// The bytes of the record that was read or played last.
     #[must_use]
     pub fn bytes(&self) -> &[u8] {
         &self.held[self.at - self.last..self.at]
     }
 
-    /// Plays the next record without yielding it, and says what it did; `None` at the trace's end. A
-    /// record that is refused, or an error in reading, is the last.
+    /// Reads the next record, plays it, and says what it did; `None` at the trace's end. The replay
+    /// reads it in its own version. A record that is refused, or an error in reading, is the last.
     ///
     /// ```
     /// use cableowl::{Commands, Refusal, trace::{Record, Replay, Step, TraceReader, write}};
@@ -164,7 +225,7 @@ impl<R: Read> TraceReader<R> {
         }
         loop {
             let (step, size) = replay.step(&self.held[self.at..self.end], self.ended);
-            (self.at, self.last) = (self.at + size, size);
+            (self.at, self.last, self.found) = (self.at + size, size, None);
             match step {
                 Step::End => return None,
                 Step::More => {
@@ -177,6 +238,10 @@ impl<R: Read> TraceReader<R> {
                     let at = self.place();
                     return Some(Err(TraceError::Refused(Refused { refusal, at })));
                 }
+                Step::OtherSound(other) => {
+                    let at = self.place().wrapping_sub(size as u64);
+                    return Some(Ok(Step::OtherSound(OtherSound { at, ..other })));
+                }
                 step => return Some(Ok(step)),
             }
         }
@@ -184,39 +249,13 @@ impl<R: Read> TraceReader<R> {
 
     /// Nothing more is read.
     fn broken(&mut self, error: io::Error) -> TraceError {
-        (self.ended, self.at, self.last) = (true, self.end, 0);
+        (self.ended, self.at) = (true, self.end);
+        (self.last, self.found) = (0, None);
         TraceError::Io(error)
     }
 
     /// The place in the trace of the next record.
     fn place(&self) -> u64 {
         self.base.wrapping_add(self.at as u64)
-    }
-}
-
-impl<R: Read> Iterator for TraceReader<R> {
-    type Item = Result<(u64, Record), TraceError>;
-
-    fn next(&mut self) -> Option<Self::Item> {
-        if self.refused {
-            return None;
-        }
-        if let Err(error) = self.fill() {
-            return Some(Err(self.broken(error)));
-        }
-        if self.at == self.end {
-            return None;
-        }
-        let at = self.place();
-        match read(&self.held[..self.end], self.at) {
-            Ok((record, next)) => {
-                (self.last, self.at) = (next - self.at, next);
-                Some(Ok((at, record)))
-            }
-            Err(refusal) => {
-                self.refused = true;
-                Some(Err(TraceError::Refused(Refused { refusal, at })))
-            }
-        }
     }
 }

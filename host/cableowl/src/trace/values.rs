@@ -1,9 +1,11 @@
 //! A record as its kind and numbers, in the order of docs/formats/TRACE.md; absent ones are 0.
 
-use super::{Block, MAX_SOUND_FRAMES, Record, ShortSound};
+use super::{
+    Block, Digest, FrameNumbers, LanedBlock, MAX_SOUND_FRAMES, Record, ShortSound, SoundId,
+};
 use crate::{
     Commands, EndPosition, LoopCommand, PlaybackPosition, Region, ResumeCommand, Settings,
-    StartAnswer,
+    StartAnswer, ffi,
 };
 
 /// The numbers of any kind.
@@ -12,16 +14,22 @@ pub type Values = [u64; 80];
 const CREATION: u64 = 1;
 const COMMANDS: u64 = 2;
 const BLOCK: u64 = 3;
+const GIVEN_CREATION: u64 = 4;
+const LANED_BLOCK: u64 = 5;
 
 /// The number of fields before the sound's frames.
 const BEFORE_SOUND: usize = 13;
 
-/// A record's kind and numbers.
-pub fn of(record: &Record) -> (u64, Values) {
+/// The bytes of a record after its lanes: the checksum.
+const AFTER_LANES: usize = 4;
+
+/// A record's kind, numbers and lanes.
+pub fn of<'a>(record: &Record<'a>) -> (u64, Values, &'a [u8]) {
     let mut values = [0; 80];
+    let mut lanes = &[][..];
     let kind = match record {
         Record::Creation { settings, sound } => {
-            put(&mut values, &creation(settings, sound));
+            put(&mut values, &creation(settings, sound.frames() as u64));
             let frames = sound.samples().chunks_exact(2);
             for (value, frame) in values[BEFORE_SOUND..].iter_mut().zip(frames) {
                 *value = u64::from(frame[0].to_bits()) | u64::from(frame[1].to_bits()) << 32;
@@ -36,17 +44,30 @@ pub fn of(record: &Record) -> (u64, Values) {
             put(&mut values, &block_of(block));
             BLOCK
         }
+        Record::GivenCreation { settings, sound } => {
+            put(&mut values, &creation(settings, sound.frames.into()));
+            let words = sound.digest.0.as_chunks().0.iter();
+            for (value, word) in values[BEFORE_SOUND..].iter_mut().zip(words) {
+                *value = u64::from_le_bytes(*word);
+            }
+            GIVEN_CREATION
+        }
+        Record::LanedBlock(block) => {
+            put(&mut values, &laned_block_of(block));
+            lanes = block.lanes;
+            LANED_BLOCK
+        }
     };
-    (kind, values)
+    (kind, values, lanes)
 }
 
-impl PartialEq for Record {
+impl PartialEq for Record<'_> {
     fn eq(&self, other: &Self) -> bool {
         of(self) == of(other)
     }
 }
 
-impl Eq for Record {}
+impl Eq for Record<'_> {}
 
 fn put(values: &mut Values, numbers: &[u64]) {
     for (value, number) in values.iter_mut().zip(numbers) {
@@ -54,7 +75,7 @@ fn put(values: &mut Values, numbers: &[u64]) {
     }
 }
 
-fn creation(settings: &Settings, sound: &ShortSound) -> [u64; BEFORE_SOUND] {
+fn creation(settings: &Settings, frames: u64) -> [u64; BEFORE_SOUND] {
     let [slice, slice_start, slice_end] = optional(settings.slice);
     let [looped, loop_start, loop_end] = optional(settings.loop_region);
     let (unit, start) = place(settings.start_position);
@@ -71,7 +92,7 @@ fn creation(settings: &Settings, sound: &ShortSound) -> [u64; BEFORE_SOUND] {
         settings.reverse.into(),
         settings.playback_rate.to_bits(),
         settings.start_waits.into(),
-        sound.frames() as u64,
+        frames,
     ]
 }
 
@@ -117,6 +138,16 @@ fn block_of(block: &Block) -> [u64; 10] {
     ]
 }
 
+fn laned_block_of(block: &LanedBlock<'_>) -> [u64; 5] {
+    [
+        block.frames() as u64,
+        block.time_step.to_bits(),
+        block.finished.into(),
+        block.start as u64,
+        block.resume as u64,
+    ]
+}
+
 fn amount(amount: Option<f64>) -> [u64; 2] {
     amount.map_or([0; 2], |amount| [1, amount.to_bits()])
 }
@@ -146,15 +177,21 @@ fn optional(given: Option<Region>) -> [u64; 3] {
     given.map_or([0; 3], region)
 }
 
-/// The record of a kind and numbers that the reader has accepted.
-pub fn record(kind: u64, values: &Values) -> Record {
-    match kind {
+/// The record that the reader has found in these bytes.
+pub fn record<'a>(found: &ffi::Record, bytes: &'a [u8]) -> Record<'a> {
+    let values = &found.values;
+    match found.kind {
         CREATION => Record::Creation {
             settings: settings(values),
             sound: sound(values),
         },
         COMMANDS => Record::Commands(commands(values)),
-        _ => Record::Block(block(values)),
+        BLOCK => Record::Block(block(values)),
+        GIVEN_CREATION => Record::GivenCreation {
+            settings: settings(values),
+            sound: sound_id(values),
+        },
+        _ => Record::LanedBlock(laned_block(values, bytes)),
     }
 }
 
@@ -179,6 +216,18 @@ fn sound(values: &Values) -> ShortSound {
     }
     // An even count of at most 64 frames is never refused.
     ShortSound::new(&samples[..2 * frames]).unwrap_or(ShortSound::EMPTY)
+}
+
+fn sound_id(values: &Values) -> SoundId {
+    let mut digest = [0; 32];
+    let words = digest.as_chunks_mut().0.iter_mut();
+    for (word, value) in words.zip(&values[BEFORE_SOUND..]) {
+        *word = value.to_le_bytes();
+    }
+    SoundId {
+        frames: values[12] as u32,
+        digest: Digest(digest),
+    }
 }
 
 fn commands(values: &Values) -> Commands {
@@ -213,6 +262,20 @@ fn block(values: &Values) -> Block {
         finished: values[7] == 1,
         start: answer(values[8]),
         resume: answer(values[9]),
+    }
+}
+
+fn laned_block<'a>(values: &Values, bytes: &'a [u8]) -> LanedBlock<'a> {
+    let lanes = FrameNumbers::BYTES * values[0] as usize;
+    let end = bytes.len().saturating_sub(AFTER_LANES);
+    LanedBlock {
+        lanes: bytes
+            .get(end.saturating_sub(lanes)..end)
+            .unwrap_or_default(),
+        time_step: f64::from_bits(values[1]),
+        finished: values[2] == 1,
+        start: answer(values[3]),
+        resume: answer(values[4]),
     }
 }
 

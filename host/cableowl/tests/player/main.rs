@@ -9,5 +9,7 @@ mod saved;
 mod traces;
 mod words;
 
+#[path = "../../examples/evening/edges.rs"]
+mod edges;
 #[path = "../mode/mod.rs"]
 mod mode;

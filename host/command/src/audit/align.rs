@@ -5,15 +5,16 @@
 use std::{fmt, ops::Range};
 
 use cableowl::{
-    Usage,
-    trace::{Block as Recorded, Line as Proved, LogLine, Record, Step, TraceError, TraceReader},
+    Refusal, Usage,
+    trace::{Line as Proved, LogLine, Record, Step, TraceError, TraceReader},
 };
 
 use crate::{
     fault::reason,
     input::Input,
     log::{Before, Block, Form, Line, Log, More, Third},
-    replay::{Run, number},
+    replay::{Missing, Run, number},
+    sounds::Sounds,
 };
 
 /// Some blocks of the trace or some lines of the log, one after the other.
@@ -136,9 +137,9 @@ impl What {
         match self {
             Self::Refusals => "what was refused",
             Self::State => "the state",
-            Self::Position => "the place in the sound",
-            Self::Steps => "the steps",
-            Self::Turns => "the number of times round the loop",
+            Self::Position => "the position in the sound",
+            Self::Steps => "the number of steps",
+            Self::Turns => "the number of wraps",
             Self::Lowest => "the lowest window count",
             Self::Voice => "the start, the loop, the direction or the end of the sound",
             Self::Usage => "what the frames were spent on",
@@ -222,14 +223,15 @@ impl fmt::Display for Why {
 type Next<T> = std::result::Result<T, Why>;
 
 /// A trace and a log that are read side by side.
-pub struct Pair {
-    rule: Rule,
+pub struct Pair<'a> {
+    rule: Rule<'a>,
     said: Said,
 }
 
-impl Pair {
-    /// Before their first block and line.
-    pub fn new(trace: Input, log: Log) -> Self {
+impl<'a> Pair<'a> {
+    /// Before their first block and line. If sounds are given, those that the trace names are looked for
+    /// among them.
+    pub fn new(trace: Input, log: Log, sounds: Option<&'a Sounds>) -> Self {
         let form = log.form();
         Self {
             rule: Rule {
@@ -239,6 +241,8 @@ impl Pair {
                 form,
                 sample_rate: 0,
                 created: 0,
+                sounds,
+                missing: Missing::default(),
             },
             said: Said {
                 log,
@@ -335,6 +339,27 @@ impl Pair {
     }
 }
 
+impl Pair<'_> {
+    /// Reads the trace to its end: a sentence for each sound that it names and that was not given.
+    pub fn missing(&mut self) -> Vec<String> {
+        let Some(sounds) = self.rule.sounds else {
+            return Vec::new();
+        };
+        loop {
+            match self.rule.read() {
+                Ok(true) => {}
+                Ok(false) => break,
+                Err(_) => {
+                    if !matches!(self.rule.reader.skip_damage(), Ok(Some(_))) {
+                        break;
+                    }
+                }
+            }
+        }
+        self.rule.missing.sentences(sounds)
+    }
+}
+
 impl Segment {
     fn play(&mut self, played: &Played) {
         self.rule.add(&played.line);
@@ -345,14 +370,17 @@ impl Segment {
 }
 
 /// The trace, played again.
-struct Rule {
+struct Rule<'a> {
     name: String,
     reader: TraceReader<Input>,
-    run: Run,
+    /// Without sounds: lines do not depend on the samples.
+    run: Run<'static>,
     /// The log's form.
     form: Form,
     sample_rate: u32,
     created: u64,
+    sounds: Option<&'a Sounds>,
+    missing: Missing,
 }
 
 /// A block that was played again.
@@ -364,19 +392,29 @@ struct Played {
     looped: bool,
 }
 
-impl Rule {
+impl Rule<'_> {
     fn unread(&self, error: &std::io::Error) -> Why {
         Why::Unread(format!("{}: cannot be read: {}", self.name, reason(error)))
     }
 
-    fn record(&mut self) -> Next<Option<Record>> {
-        match self.reader.next() {
-            None => Ok(None),
-            Some(Ok((_, record))) => {
-                if let Record::Creation { settings, .. } = &record {
-                    self.sample_rate = settings.sample_rate;
+    /// Reads the next record: whether there is one.
+    fn read(&mut self) -> Next<bool> {
+        match self.reader.read_next() {
+            None => Ok(false),
+            Some(Ok(at)) => {
+                match self.reader.record() {
+                    Some(Record::Creation { settings, .. }) => {
+                        self.sample_rate = settings.sample_rate;
+                    }
+                    Some(Record::GivenCreation { settings, sound }) => {
+                        self.sample_rate = settings.sample_rate;
+                        if self.sounds.is_some_and(|sounds| !sounds.has(&sound)) {
+                            self.missing.add(at, sound);
+                        }
+                    }
+                    _ => {}
                 }
-                Ok(Some(record))
+                Ok(true)
             }
             Some(Err(TraceError::Refused(refused))) => Err(Why::TraceDamaged(refused.at)),
             Some(Err(TraceError::Io(error))) => Err(self.unread(&error)),
@@ -386,28 +424,37 @@ impl Rule {
 
     /// The next block.
     fn next(&mut self) -> Next<Option<Played>> {
-        while let Some(record) = self.record()? {
+        while self.read()? {
+            let Some(record) = self.reader.record() else {
+                continue;
+            };
             let step = self.run.play(&record, self.reader.bytes());
-            if let (Step::Block(bare), Record::Block(block)) = (step, &record) {
+            let (frames, time_step, rate) = match &record {
+                Record::Block(block) => (block.frames as f64, block.time_step, block.rate.abs()),
+                Record::LanedBlock(block) => {
+                    let frames = block.frames() as f64;
+                    let rates = block.numbers().map(|numbers| numbers.rate.abs());
+                    (frames, block.time_step, rates.sum::<f64>() / frames)
+                }
+                _ => continue,
+            };
+            if let Step::Block(bare) = step {
                 let full = self.run.line(&bare);
                 self.created = self.created.saturating_add(full.since.created);
-                return Ok(Some(self.played(&bare, &full, block)));
+                let seconds = frames * time_step;
+                return Ok(Some(self.played(&bare, &full, seconds, rate * time_step)));
             }
         }
         Ok(None)
     }
 
-    fn played(&self, bare: &Proved, full: &LogLine, block: &Recorded) -> Played {
+    /// A block of so many seconds, and what its frames advance on average in seconds of the sound.
+    fn played(&self, bare: &Proved, full: &LogLine, seconds: f64, advance: f64) -> Played {
         let accepted = matches!(bare, Proved::Block { .. });
-        let frames = block.frames as f64;
-        let advance = f64::from(self.sample_rate) * block.rate.abs() * block.time_step;
+        let advance = f64::from(self.sample_rate) * advance;
         Played {
             line: as_said(bare, full, self.form),
-            seconds: if accepted {
-                frames * block.time_step
-            } else {
-                0.0
-            },
+            seconds: if accepted { seconds } else { 0.0 },
             advance: full.usage.played as f64 * advance,
             sample_rate: self.sample_rate,
             looped: full.loop_region != (0, 0),
@@ -418,15 +465,17 @@ impl Rule {
     fn creation(&mut self) -> bool {
         (self.run, self.created) = (Run::new(), 0);
         loop {
-            match self.record() {
-                Ok(Some(record @ Record::Creation { .. })) => {
-                    let step = self.run.play(&record, self.reader.bytes());
-                    if step == Step::Creation(Ok(())) {
+            match self.read() {
+                Ok(true) => {
+                    let record = self.reader.record();
+                    if let Some(record @ (Record::Creation { .. } | Record::GivenCreation { .. })) =
+                        record
+                        && self.run.play(&record, self.reader.bytes()) == Step::Creation(Ok(()))
+                    {
                         return true;
                     }
                 }
-                Ok(Some(_)) => {}
-                Ok(None) => return false,
+                Ok(false) => return false,
                 Err(_) => {
                     if !matches!(self.reader.skip_damage(), Ok(Some(_))) {
                         return false;
@@ -539,6 +588,11 @@ fn as_said(bare: &Proved, full: &LogLine, form: Form) -> Line {
             number: block,
             refusal: number(refusal),
             before,
+        },
+        // No sound is given, so that no creation is refused for it.
+        Proved::OtherSound(other) => Line::Broken {
+            refusal: number(Refusal::OtherSound),
+            at: other.at,
         },
         Proved::Refused(refused) => Line::Broken {
             refusal: number(refused.refusal),

@@ -47,8 +47,18 @@ pub struct Evening {
     pub seconds: f64,
     /// The same in a sentence.
     pub says: String,
+    /// A sentence for each sound that its trace names and that was not given.
+    pub missing: Vec<String>,
     /// The plot of its creep, where a page is asked for.
     pub plot: String,
+}
+
+/// The evenings of an audit.
+pub struct Evenings {
+    /// A row for each.
+    pub rows: Vec<Evening>,
+    /// Whether sounds were given.
+    pub with_sounds: bool,
 }
 
 /// How many evenings have this outcome.
@@ -125,38 +135,60 @@ const HEADS: [&str; 5] = [
     "compared",
 ];
 
-/// The evenings as text for a terminal.
-pub fn put_text(evenings: &[Evening], out: &mut Out<'_>) -> Result<()> {
-    let mut table = vec![HEADS.map(str::to_owned).to_vec()];
-    table.extend(evenings.iter().map(|evening| {
-        vec![
-            evening.name.clone(),
-            evening.outcome.name().into(),
-            evening.block.map_or("-".into(), grouped),
-            evening.creep.map_or("-".into(), an_hour),
-            match evening.seconds > 0.0 {
-                true => span(evening.seconds),
-                false => "-".into(),
-            },
-        ]
-    }));
-    for line in laid_out(&table) {
-        out.put(format!("{line}\n"))?;
+/// The evenings that name a sound that was not given, in words.
+fn without_sounds(evenings: &[Evening]) -> String {
+    let missing = evenings
+        .iter()
+        .filter(|evening| !evening.missing.is_empty());
+    format!(
+        "{} of {} name a sound that was not given",
+        grouped(missing.count() as u64),
+        counted(evenings.len() as u64, "evening")
+    )
+}
+
+impl Evenings {
+    /// The evenings as text for a terminal.
+    pub fn put_text(&self, out: &mut Out<'_>) -> Result<()> {
+        let evenings = &self.rows;
+        let missing = self.with_sounds.then_some("sounds missing");
+        let heads = HEADS.into_iter().chain(missing);
+        let mut table = vec![heads.map(str::to_owned).collect::<Vec<_>>()];
+        table.extend(evenings.iter().map(|evening| {
+            let missing = self.with_sounds.then(|| evening.missing.len().to_string());
+            let cells = [
+                evening.name.clone(),
+                evening.outcome.name().into(),
+                evening.block.map_or("-".into(), grouped),
+                evening.creep.map_or("-".into(), an_hour),
+                match evening.seconds > 0.0 {
+                    true => span(evening.seconds),
+                    false => "-".into(),
+                },
+            ];
+            cells.into_iter().chain(missing).collect()
+        }));
+        for line in laid_out(&table) {
+            out.put(format!("{line}\n"))?;
+        }
+        out.put("\n")?;
+        for evening in evenings {
+            let says = (evening.outcome != Outcome::Agrees).then_some(&evening.says);
+            for sentence in says.into_iter().chain(&evening.missing) {
+                out.put(format!("{}: {sentence}\n", evening.name))?;
+            }
+        }
+        let last = [
+            Some(counts(evenings)),
+            share(evenings),
+            distribution(evenings),
+            self.with_sounds.then(|| without_sounds(evenings)),
+        ];
+        for sentence in last.into_iter().flatten() {
+            out.put(format!("{sentence}\n"))?;
+        }
+        Ok(())
     }
-    out.put("\n")?;
-    let others = evenings.iter();
-    for evening in others.filter(|evening| evening.outcome != Outcome::Agrees) {
-        out.put(format!("{}: {}\n", evening.name, evening.says))?;
-    }
-    let last = [
-        Some(counts(evenings)),
-        share(evenings),
-        distribution(evenings),
-    ];
-    for sentence in last.into_iter().flatten() {
-        out.put(format!("{sentence}\n"))?;
-    }
-    Ok(())
 }
 
 /// The columns of an evening: the name in comma separated values, and the words for people.
@@ -169,94 +201,122 @@ const COLUMNS: [(&str, &str); 6] = [
     ("says", "What was found"),
 ];
 
+/// The column if sounds are given.
+const MISSING: (&str, &str) = ("missing_sounds", "Sounds missing");
+
 fn cells(evening: &Evening) -> [Option<String>; COLUMNS.len()] {
+    let says = [&evening.says].into_iter().chain(&evening.missing);
+    let says: Vec<&str> = says.map(String::as_str).collect();
     [
         Some(evening.name.clone()),
         Some(evening.outcome.name().into()),
         evening.block.map(|block| block.to_string()),
         evening.creep.map(|creep| format!("{creep:.4}")),
         (evening.seconds > 0.0).then(|| format!("{:.3}", evening.seconds)),
-        Some(evening.says.clone()),
+        Some(says.join("; ")),
     ]
 }
 
-/// The evenings, the share that differs and the creep's quantiles as comma separated values.
-pub fn csv(evenings: &[Evening]) -> String {
-    let columns = COLUMNS.map(|(column, _)| column);
-    let shares = ["differ", "audited", "differ_per_100", "low", "high"];
-    let mut text = csv_line(&[&["row"], &columns[..], &shares].concat());
-    let mut put = |row: &str, cells: [Option<String>; COLUMNS.len()], shares: [String; 5]| {
-        let cells = cells.map(Option::unwrap_or_default);
-        text += &csv_line(&[&[row.to_owned()], &cells[..], &shares].concat());
-    };
-    for evening in evenings {
-        put("evening", cells(evening), Default::default());
+impl Evenings {
+    fn columns(&self) -> Vec<(&'static str, &'static str)> {
+        let missing = self.with_sounds.then_some(MISSING);
+        COLUMNS.into_iter().chain(missing).collect()
     }
-    let share = differing(evenings);
-    if let Some(estimate) = share.estimate() {
-        let ends = [estimate.value, estimate.low, estimate.high];
-        let [value, low, high] = ends.map(|end| format!("{:.4}", 100.0 * end));
-        let name = [Some("differ".into()), None, None, None, None, None];
-        put(
-            "share",
-            name,
-            [
+
+    /// The cells of a row, and how many sounds are missing.
+    fn cells(
+        &self,
+        cells: [Option<String>; COLUMNS.len()],
+        missing: Option<usize>,
+    ) -> Vec<Option<String>> {
+        let missing = missing.map(|missing| missing.to_string());
+        let last = self.with_sounds.then_some(missing);
+        cells.into_iter().chain(last).collect()
+    }
+
+    fn row(&self, evening: &Evening) -> Vec<Option<String>> {
+        self.cells(cells(evening), Some(evening.missing.len()))
+    }
+
+    /// The evenings, the share that differs and the creep's quantiles as comma separated values.
+    pub fn csv(&self) -> String {
+        let evenings = &self.rows;
+        let columns: Vec<&str> = self.columns().iter().map(|(column, _)| *column).collect();
+        let shares = ["differ", "audited", "differ_per_100", "low", "high"];
+        let mut text = csv_line(&[&["row"], &columns[..], &shares].concat());
+        let mut put = |row: &str, cells: Vec<Option<String>>, shares: [String; 5]| {
+            let cells: Vec<String> = cells.into_iter().map(Option::unwrap_or_default).collect();
+            text += &csv_line(&[&[row.to_owned()], &cells[..], &shares].concat());
+        };
+        for evening in evenings {
+            put("evening", self.row(evening), Default::default());
+        }
+        let share = differing(evenings);
+        if let Some(estimate) = share.estimate() {
+            let ends = [estimate.value, estimate.low, estimate.high];
+            let [value, low, high] = ends.map(|end| format!("{:.4}", 100.0 * end));
+            let name = [Some("differ".into()), None, None, None, None, None];
+            let shares = [
                 share.of.to_string(),
                 share.all.to_string(),
                 value,
                 low,
                 high,
-            ],
-        );
-    }
-    for (name, creep) in creeps(evenings) {
-        let creep = format!("{creep:.4}");
-        let cells = [Some(name.into()), None, None, Some(creep), None, None];
-        put("quantile", cells, Default::default());
-    }
-    text
-}
-
-/// The page: the evenings that creep most first, then what else differs, is unknown or agrees. A row that
-/// differs opens the plot of its creep.
-pub fn page(evenings: &[Evening], put: &mut Sink<'_>) -> Result<()> {
-    head("Did these boxes play as proved?", put)?;
-    put(&format!(
-        "<p class=\"lede\">{}</p>\n",
-        escaped(&counts(evenings))
-    ))?;
-    for sentence in [share(evenings), distribution(evenings)]
-        .into_iter()
-        .flatten()
-    {
-        put(&note(&sentence))?;
-    }
-    put(&note(
-        "Each trace is played again by the proved rule, and the box's own log is compared with it. The creep is how much later the sound is after an hour; below 0 it is earlier. A row that differs opens the plot of its creep.",
-    ))?;
-    let mut sorted: Vec<&Evening> = evenings.iter().collect();
-    let creep = |evening: &Evening| evening.creep.map_or(0.0, f64::abs);
-    sorted.sort_by(|a, b| {
-        let by_creep = creep(b).total_cmp(&creep(a));
-        a.outcome.cmp(&b.outcome).then(by_creep)
-    });
-    let row = |(index, evening): (usize, &&Evening)| Row {
-        opens: (!evening.plot.is_empty()).then_some(index + 1),
-        cells: cells(evening).to_vec(),
-    };
-    let table = Table {
-        id: "evenings",
-        class: "lines",
-        columns: COLUMNS.to_vec(),
-        rows: sorted.iter().enumerate().map(row).collect(),
-        over: Vec::new(),
-        csv: csv(evenings),
-    };
-    table.put(put)?;
-    for (index, evening) in sorted.iter().enumerate() {
-        if !evening.plot.is_empty() {
-            put(&section(index + 1, false, &evening.name, &evening.plot))?;
+            ];
+            put("share", self.cells(name, None), shares);
         }
+        for (name, creep) in creeps(evenings) {
+            let creep = format!("{creep:.4}");
+            let cells = [Some(name.into()), None, None, Some(creep), None, None];
+            put("quantile", self.cells(cells, None), Default::default());
+        }
+        text
     }
-    foot(put)
+
+    /// The page: the evenings that creep most first, then what else differs, is unknown or agrees. A row
+    /// that differs opens the plot of its creep.
+    pub fn page(&self, put: &mut Sink<'_>) -> Result<()> {
+        let evenings = &self.rows;
+        head("Did these boxes play as proved?", put)?;
+        put(&format!(
+            "<p class=\"lede\">{}</p>\n",
+            escaped(&counts(evenings))
+        ))?;
+        let sentences = [
+            share(evenings),
+            distribution(evenings),
+            self.with_sounds.then(|| without_sounds(evenings)),
+        ];
+        for sentence in sentences.into_iter().flatten() {
+            put(&note(&sentence))?;
+        }
+        put(&note(
+            "Each trace is played again by the proved rule, and the box's own log is compared with it. The creep is how much later the sound is after an hour; below 0 it is earlier. A row that differs opens the plot of its creep.",
+        ))?;
+        let mut sorted: Vec<&Evening> = evenings.iter().collect();
+        let creep = |evening: &Evening| evening.creep.map_or(0.0, f64::abs);
+        sorted.sort_by(|a, b| {
+            let by_creep = creep(b).total_cmp(&creep(a));
+            a.outcome.cmp(&b.outcome).then(by_creep)
+        });
+        let row = |(index, evening): (usize, &&Evening)| Row {
+            opens: (!evening.plot.is_empty()).then_some(index + 1),
+            cells: self.row(evening),
+        };
+        let table = Table {
+            id: "evenings",
+            class: "lines",
+            columns: self.columns(),
+            rows: sorted.iter().enumerate().map(row).collect(),
+            over: Vec::new(),
+            csv: self.csv(),
+        };
+        table.put(put)?;
+        for (index, evening) in sorted.iter().enumerate() {
+            if !evening.plot.is_empty() {
+                put(&section(index + 1, false, &evening.name, &evening.plot))?;
+            }
+        }
+        foot(put)
+    }
 }

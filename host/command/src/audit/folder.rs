@@ -8,7 +8,7 @@ use std::{
 
 use super::{
     Verdict,
-    evenings::{Evening, Outcome, csv, page, put_text},
+    evenings::{Evening, Evenings, Outcome},
     found, opened,
     page::creep_plot,
     words::{hourly, sentence},
@@ -16,6 +16,7 @@ use super::{
 use crate::{
     fault::{Fault, Result, reason},
     out::{Fresh, Out, free_for_a_page, shown},
+    sounds::{Places, Sounds},
     workers,
 };
 
@@ -26,9 +27,11 @@ struct Files {
     log: Option<PathBuf>,
 }
 
-/// Audits every pair in the folders: whether all agree.
+/// Audits every pair in the folders: whether all agree. A row says which sounds of a trace are in none of the
+/// places, if any are given.
 pub fn audit(
     folders: &[PathBuf],
+    places: &Places,
     as_csv: bool,
     to: Option<&Path>,
     out: &mut Out<'_>,
@@ -42,20 +45,28 @@ pub fn audit(
             "no file NAME.trace or NAME.log in these folders: nothing is said of any box".into(),
         ));
     }
-    let evenings = workers::each(&files, "audited", |files| audited(files, to.is_some()));
+    let sounds = Sounds::given(places).map_err(|fault| match fault {
+        Fault::Refused(words) => Fault::Unknown(format!("{words}: nothing is said of any box")),
+        other => other,
+    })?;
+    let audited = |files: &Files| audited(files, sounds.as_ref(), to.is_some());
+    let evenings = Evenings {
+        rows: workers::each(&files, "audited", audited),
+        with_sounds: sounds.is_some(),
+    };
     match as_csv {
-        true => out.put(csv(&evenings))?,
-        false => put_text(&evenings, out)?,
+        true => out.put(evenings.csv())?,
+        false => evenings.put_text(out)?,
     }
     if let Some(path) = to {
         let mut file = Fresh::begin(path)?;
-        page(&evenings, &mut |text| file.put(text.as_bytes()))?;
+        evenings.page(&mut |text| file.put(text.as_bytes()))?;
         file.replace()?;
     }
     let is = |outcome| move |evening: &Evening| evening.outcome == outcome;
-    match evenings.iter().any(is(Outcome::Differs)) {
+    match evenings.rows.iter().any(is(Outcome::Differs)) {
         true => Ok(false),
-        false if evenings.iter().all(is(Outcome::Agrees)) => Ok(true),
+        false if evenings.rows.iter().all(is(Outcome::Agrees)) => Ok(true),
         false => Err(Fault::Unsaid),
     }
 }
@@ -93,7 +104,7 @@ fn files(folders: &[PathBuf]) -> Result<Vec<Files>> {
 }
 
 /// An evening's row, with its plot where it differs and a page is asked for.
-fn audited(files: &Files, draws: bool) -> Evening {
+fn audited(files: &Files, sounds: Option<&Sounds>, draws: bool) -> Evening {
     let evening = |outcome, says: String| Evening {
         name: files.name.clone(),
         outcome,
@@ -101,6 +112,7 @@ fn audited(files: &Files, draws: bool) -> Evening {
         creep: None,
         seconds: 0.0,
         says,
+        missing: Vec::new(),
         plot: String::new(),
     };
     let (trace, log) = match (&files.trace, &files.log) {
@@ -109,7 +121,7 @@ fn audited(files: &Files, draws: bool) -> Evening {
         (_, None) => return evening(Outcome::Unpaired, "it has no log".into()),
     };
     let compared = opened(trace, log, true)
-        .and_then(|(trace, log)| found(trace, log, false, &mut |_, _, _| Ok(())));
+        .and_then(|(trace, log)| found(trace, log, sounds, false, &mut |_, _, _| Ok(())));
     let found = match compared {
         Ok(found) => found,
         Err(fault) => return evening(Outcome::Unknown, fault.to_string()),
@@ -121,6 +133,7 @@ fn audited(files: &Files, draws: bool) -> Evening {
     };
     let differs = outcome == Outcome::Differs;
     Evening {
+        missing: found.missing.clone(),
         block: found.first.first().map(|first| first.segment.said.first),
         creep: hourly(&found).filter(|_| differs),
         seconds: found.seconds,

@@ -44,7 +44,7 @@ pub fn page(found: &Found, put: &mut Sink<'_>) -> Result<()> {
     put(&creep_plot(found))?;
     if !found.first.is_empty() {
         put(
-            "<h3>The first places that differ</h3>\n<div class=\"scroll\"><table id=\"differing\" class=\"lines\"><thead><tr><th>The rule</th><th>The box</th><th>Creep</th></tr></thead><tbody>\n",
+            "<h3>The first differences</h3>\n<div class=\"scroll\"><table id=\"differing\" class=\"lines\"><thead><tr><th>The rule</th><th>The box</th><th>Creep</th></tr></thead><tbody>\n",
         )?;
         for differs in &found.first {
             put(&format!(
@@ -69,7 +69,7 @@ pub fn creep_plot(found: &Found) -> String {
     let (of, caption): (fn(&Gap) -> Option<i128>, _) = match (steps_differ, found.apart) {
         (false, true) => (
             |gap| gap.place,
-            "The rule's place minus the box's, in frames of the sound",
+            "The rule's position minus the box's, in frames of the sound",
         ),
         _ => (
             |gap| gap.creep,

@@ -166,7 +166,7 @@ pub fn put_text(found: &Found, out: &mut Out<'_>) -> Result<()> {
     ] {
         out.put(format!("  {name}  {}\n", shown(part, found.form)))?;
     }
-    out.put("     block       steps: rule     box       place: rule     box       creep\n")?;
+    out.put("     block       steps: rule     box    position: rule     box       creep\n")?;
     for differs in &found.first {
         let cells = |part: &Part| match part.last {
             Some(block) => (part.steps.to_string(), block.position.to_string()),
@@ -190,7 +190,7 @@ pub fn put_text(found: &Found, out: &mut Out<'_>) -> Result<()> {
     if more > 0 {
         out.put(format!(
             "  and {} more; --csv has all of them\n",
-            counted(more, "place")
+            counted(more, "comparison")
         ))?;
     }
     out.put(format!(

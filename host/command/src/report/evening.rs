@@ -104,9 +104,9 @@ fn read_trace(mut input: Input, rates: Rates, mut course: Course) -> Result<Read
     let mut run = Run::new();
     let (mut sound_rate, mut damage) = (rates.sound, None);
     let mut reader = TraceReader::new(&mut input);
-    while let Some(record) = reader.next() {
-        match record {
-            Ok((_, record)) => {
+    while let Some(at) = reader.read_next() {
+        match (at, reader.record()) {
+            (Ok(_), Some(record)) => {
                 // As its log says it.
                 if let Step::Block(line) = run.play(&record, reader.bytes())
                     && let Ok(line) = parse(run.line(&line).to_string().as_bytes(), Form::Third)
@@ -116,7 +116,8 @@ fn read_trace(mut input: Input, rates: Rates, mut course: Course) -> Result<Read
                 let played = run.voice().map(|voice| voice.state().sample_rate);
                 sound_rate = rates.sound.or(played).or(sound_rate);
             }
-            Err(error) => damage = Some(error),
+            (Ok(_), None) => {}
+            (Err(error), _) => damage = Some(error),
         }
     }
     if let Some(TraceError::Refused(refused)) = &damage {

@@ -115,7 +115,7 @@ fn table(
     };
     table.put(put)?;
     put(&note(
-        "– is not told: the log's lines do not say it. Logs of the forms 2 and 3 say times round the loop, seeks, restarts by hand and window counts; form 3 also says the rest.",
+        "– is not told: the log's lines do not say it. Logs of the forms 2 and 3 say wraps, seeks, restarts by hand and window counts; form 3 also says the rest.",
     ))?;
     for sentence in lacking(rows, &FIRST.map(|column| (column, words_of(column)))) {
         put(&note(&sentence))?;
@@ -196,9 +196,9 @@ fn facts(evening: &Evening, rate: u32) -> String {
 /// How to read the plots, once for all of them.
 fn reading(evenings: &[Drawn], rates: Rates) -> String {
     let mut text = String::from("<h2 id=\"reading\">How to read the plots</h2>\n");
-    text += "<p class=\"note\"><span class=\"key place\"></span>the place<span class=\"key paused\"></span>paused<span class=\"key silent\"></span>silent (stopped, or not started)<span class=\"key loop\"></span>a loop that was gone round<span class=\"key seek\"></span>a seek</p>\n";
+    text += "<p class=\"note\"><span class=\"key place\"></span>the position<span class=\"key paused\"></span>paused<span class=\"key silent\"></span>silent (stopped, or not started)<span class=\"key loop\"></span>a loop that was gone round<span class=\"key seek\"></span>a seek</p>\n";
     text += &note(&format!(
-        "Across: the evening's time. Where in the sound: upward, the place in seconds of the sound{}. The line rises while the sound plays, falls back where the student goes round or seeks, and is level while nothing moves. In a log of form 1 loops and seeks look alike, and window counts are not told.",
+        "Across: the evening's time. Where in the sound: upward, the position in seconds of the sound{}. The line rises while the sound plays, falls back where the student goes round or seeks, and is level while nothing moves. In a log of form 1 loops and seeks look alike, and window counts are not told.",
         sound_rates(evenings, rates)
     ));
     text += &note(

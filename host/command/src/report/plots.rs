@@ -96,15 +96,15 @@ fn loops(course: &Course, rate: f64, sound_rate: f64, plot: &mut Plot) {
             narrow.push(area);
             continue;
         }
-        let rounds = counted(round.rounds, "time");
+        let rounds = counted(round.rounds, "wrap");
         let says = format!(
-            "{rounds} round a loop of {}, {:.3} s",
+            "{rounds} of a loop of {}, {:.3} s",
             counted(round.length, "frame"),
             round.length as f64 / sound_rate
         );
         plot.area("loop", area, &says);
         if width > 300 {
-            plot.label(times.0, high, &format!("{rounds} round"));
+            plot.label(times.0, high, &rounds);
         }
     }
     plot.areas("loop", &narrow);
@@ -152,7 +152,7 @@ fn rounds(course: &Course, rate: f64, plot: &mut Plot) {
     if highest == 0.0 {
         return;
     }
-    plot.panel("Times round the loop, a minute", 180, 0.0, highest * 1.1);
+    plot.panel("Wraps a minute", 180, 0.0, highest * 1.1);
     plot.numbers();
     let bars: Vec<_> = bars.into_iter().filter(|bar| bar.1.1 > 0.0).collect();
     plot.areas("bar", &bars);

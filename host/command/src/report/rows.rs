@@ -45,7 +45,7 @@ pub const COLUMNS: [(&str, &str); 24] = [
     ("minutes_still", "Minutes at a rate of 0"),
     ("steps", "Steps"),
     ("jumps", "Jumps"),
-    ("rounds", "Times round the loop"),
+    ("rounds", "Wraps"),
     ("seeks", "Seeks"),
     ("restarts", "Restarts by hand"),
     ("pauses", "Pauses"),

@@ -49,7 +49,7 @@ pub fn put_one(evening: &Evening, rate: u32, out: &mut Out<'_>) -> Result<()> {
         ("steps", steps(figures.steps, evening.sound_rate)),
     ];
     let more = [
-        ("times round the loop", told(figures.rounds)),
+        ("wraps", told(figures.rounds)),
         ("seeks", told(figures.seeks)),
         ("restarts by hand", told(figures.restarts)),
         ("pauses", told(figures.pauses)),
@@ -78,7 +78,7 @@ pub fn misfits(figures: &Figures) -> Option<String> {
         _ => format!("{} lines do not fit", grouped(misfits)),
     };
     Some(format!(
-        "{lines}: steps, turns and places disagree, first at block {first}"
+        "{lines}: steps, wraps and positions disagree, first at block {first}"
     ))
 }
 
@@ -128,7 +128,7 @@ const SHORT: [(&str, &str); 11] = [
     ("minutes_paused", "paused"),
     ("minutes_silent", "silent"),
     ("steps", "steps"),
-    ("rounds", "rounds"),
+    ("rounds", "wraps"),
     ("seeks", "seeks"),
     ("restarts", "restarts"),
     ("refused", "refused"),

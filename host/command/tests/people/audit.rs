@@ -11,7 +11,7 @@ use crate::{
 };
 
 /// An evening of blocks over a loop of a whole short sound, at these rates.
-pub fn evening(blocks: usize) -> Vec<Record> {
+pub fn evening(blocks: usize) -> Vec<Record<'static>> {
     let sound = creation(Settings::new(44_100).loop_region(Frames(0)..Frames(64)), 64);
     let block = |rate| {
         Record::Block(Block {
@@ -264,7 +264,7 @@ fn what_differs_is_told() {
         ),
         (
             log.replace("state=0 position=5", "state=0 position=4"),
-            "the place in the sound differs, first at block 3, 12.0 s into the evening",
+            "the position in the sound differs, first at block 3, 12.0 s into the evening",
             "  the box   block=3 frames=3 steps=3 state=playing position=4",
         ),
         (
@@ -279,7 +279,7 @@ fn what_differs_is_told() {
         ),
         (
             third.replace("forward=3", "forward=4"),
-            "the number of times round the loop differs, first at block 5, 14.0 s into the evening",
+            "the number of wraps differs, first at block 5, 14.0 s into the evening",
             "  the box   block=5 frames=2 steps=2 state=playing position=2 lowest=4 forward=4 backward=0 started=1 played=2 paused=0 silent=0 still=0 loop_start=2 loop_end=6 direction=0 steps_back=0 ended=0",
         ),
         (
@@ -401,7 +401,7 @@ fn a_damaged_trace_is_not_the_box_s_fault() {
     assert_eq!((ran.status, &*ran.err), (1, ""));
     assert!(
         ran.out
-            .starts_with("DIFFERS: live.log: the place in the sound differs, first at block 3")
+            .starts_with("DIFFERS: live.log: the position in the sound differs, first at block 3")
     );
     assert!(
         ran.out

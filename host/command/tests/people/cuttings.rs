@@ -3,7 +3,7 @@
 
 use cableowl::{
     Command, RecordedPlayer, Region, Settings, Ticks, Tween,
-    trace::{LOG_HEAD, Line, Log},
+    trace::{LOG_HEAD, Lesson, Line, Log, TraceVersion},
 };
 use random::Random;
 
@@ -60,7 +60,9 @@ fn evening(mut callback: impl FnMut() -> usize) -> Kept {
     let sound: Vec<f32> = (0..128).map(|i| (i % 16) as f32 / 16.0).collect();
     let mut buffer = vec![0; 8_000_000];
     let settings = Settings::new(SOUND_RATE).start_waits(true);
-    let mut player = RecordedPlayer::play(settings, RATE, &sound, &mut buffer).unwrap();
+    let (lesson, first) = (Lesson::new(sound).unwrap(), TraceVersion::First);
+    let player = RecordedPlayer::with_version(settings, RATE, &lesson, &mut buffer, first);
+    let mut player = player.unwrap();
     let (mut log, mut number, mut clock) = (Log::new(), 0, 0);
     log.created();
     let (mut third, mut first) = (format!("{LOG_HEAD}\n"), String::new());

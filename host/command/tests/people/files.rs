@@ -182,7 +182,7 @@ fn an_audit_keeps_its_verdict_when_its_reader_goes() {
 #[test]
 fn wrong_words() {
     let room = room("words");
-    let all = "replay, salvage, settings, loops, report, audit, explain, help, version, man or completions";
+    let all = "replay, salvage, sound, settings, loops, report, audit, explain, help, version, man or completions";
     for (words, told, verb) in [
         (&[][..], &*format!("say what to do: {all}"), ""),
         (

@@ -81,7 +81,7 @@ fn damage_is_told_by_its_line() {
                 "log=2\nblock=1 frames=1 steps=1 state=0 position=3{}block=2 frames=1 steps=1 state=0 position=3{more}",
                 more.replace("forward=1", "forward=2")
             ),
-            "line 3 (byte 119): a count of turns is lower than before, and no voice was created",
+            "line 3 (byte 119): a count of wraps is lower than before, and no voice was created",
         ),
         (
             "x".repeat(700),

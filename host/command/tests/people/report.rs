@@ -24,7 +24,7 @@ fn one_evening_in_words() {
          \x20 paused               0.000 minutes\n\
          \x20 silent               0.000 minutes\n\
          \x20 steps                15\n\
-         \x20 times round the loop 3\n\
+         \x20 wraps                3\n\
          \x20 seeks                2\n\
          \x20 restarts by hand     2\n\
          \x20 pauses               0\n\
@@ -181,14 +181,25 @@ pub fn csv(out: &str) -> Vec<Vec<(String, String)>> {
     let mut lines = out.lines();
     let columns: Vec<&str> = lines.next().expect("a first line").split(',').collect();
     let rows = lines.map(|line| {
-        let cells: Vec<&str> = line.split(',').collect();
+        let cells = cells(line);
         assert_eq!(cells.len(), columns.len(), "{line}");
-        let pairs = columns.iter().zip(cells);
-        pairs
-            .map(|(column, cell)| ((*column).to_owned(), cell.to_owned()))
-            .collect()
+        let columns = columns.iter().map(|column| (*column).to_owned());
+        columns.zip(cells).collect()
     });
     rows.collect()
+}
+
+/// The cells of a line; a comma inside quotes does not separate them.
+fn cells(line: &str) -> Vec<String> {
+    let (mut cells, mut quoted) = (vec![String::new()], false);
+    for letter in line.chars() {
+        match letter {
+            '"' => quoted = !quoted,
+            ',' if !quoted => cells.push(String::new()),
+            _ => cells.last_mut().expect("one").push(letter),
+        }
+    }
+    cells
 }
 
 pub fn cell<'a>(row: &'a [(String, String)], column: &str) -> &'a str {
@@ -315,7 +326,7 @@ fn a_line_whose_steps_turns_and_places_disagree_is_named() {
         last.trim_start().to_owned()
     };
     assert_eq!(told(fits.concat()), "reached the end      no");
-    let says = "1 line does not fit: steps, turns and places disagree, first at block 3";
+    let says = "1 line does not fit: steps, wraps and positions disagree, first at block 3";
     let mut wrong = fits.clone();
     wrong[3] = block(3, 7, 1, still);
     assert_eq!(told(wrong[..4].concat()), says);
@@ -365,10 +376,10 @@ fn a_total_over_part_of_the_logs_says_over_how_many() {
     // Three times round, two seeks and two restarts in each of the three logs that say it.
     assert_eq!(line("total")[7..], ["9", "6", "6", "4", "4"]);
     assert_eq!(line("median")[7..], ["3", "2", "2", "1", "4"]);
-    let says = "rounds, seeks, restarts, lowest: over 3 of 4 logs, since the others do not say it";
+    let says = "wraps, seeks, restarts, lowest: over 3 of 4 logs, since the others do not say it";
     assert_eq!(ran.out.lines().last(), Some(says));
     let page = room.read("page.html");
-    let says = "Times round the loop, Seeks, Restarts by hand, Reached the end, Lines that do not fit, Lowest window count: over 3 of 4 logs";
+    let says = "Wraps, Seeks, Restarts by hand, Reached the end, Lines that do not fit, Lowest window count: over 3 of 4 logs";
     assert!(page.contains(says));
     words[1] = "--csv";
     words.remove(2);
@@ -395,16 +406,16 @@ fn a_damaged_log_among_others_is_named_and_left_out() {
     assert_eq!(
         ran.out,
         "2 logs, read at 48,000 frames a second; - is not told\n\
-         log             blocks  minutes  played  paused  silent  steps  rounds  seeks  restarts  refused  lowest\n\
-         a.log                1    0.000   0.000   0.000   0.000      6       -      -         -        0       -\n\
-         c.log                1    0.000   0.000   0.000   0.000      0       -      -         -        1       -\n\
+         log             blocks  minutes  played  paused  silent  steps  wraps  seeks  restarts  refused  lowest\n\
+         a.log                1    0.000   0.000   0.000   0.000      6      -      -         -        0       -\n\
+         c.log                1    0.000   0.000   0.000   0.000      0      -      -         -        1       -\n\
          \n\
-         total                2    0.000   0.000   0.000   0.000      6       -      -         -        1       -\n\
-         lowest               1    0.000   0.000   0.000   0.000      0       -      -         -        0       -\n\
-         quarter              1    0.000   0.000   0.000   0.000      0       -      -         -        0       -\n\
-         median               1    0.000   0.000   0.000   0.000      0       -      -         -        0       -\n\
-         three quarters       1    0.000   0.000   0.000   0.000      6       -      -         -        1       -\n\
-         highest              1    0.000   0.000   0.000   0.000      6       -      -         -        1       -\n"
+         total                2    0.000   0.000   0.000   0.000      6      -      -         -        1       -\n\
+         lowest               1    0.000   0.000   0.000   0.000      0      -      -         -        0       -\n\
+         quarter              1    0.000   0.000   0.000   0.000      0      -      -         -        0       -\n\
+         median               1    0.000   0.000   0.000   0.000      0      -      -         -        0       -\n\
+         three quarters       1    0.000   0.000   0.000   0.000      6      -      -         -        1       -\n\
+         highest              1    0.000   0.000   0.000   0.000      6      -      -         -        1       -\n"
     );
 }
 

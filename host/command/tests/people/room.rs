@@ -142,7 +142,7 @@ pub fn trace(records: &[Record]) -> Vec<u8> {
 }
 
 /// A creation over so many frames at 1 Hz.
-pub fn creation(settings: Settings, frames: usize) -> Record {
+pub fn creation(settings: Settings, frames: usize) -> Record<'static> {
     let samples: Vec<f32> = (0..2 * frames).map(|i| (i / 2 + 1) as f32).collect();
     let sound = ShortSound::new(&samples).expect("a short sound");
     Record::Creation { settings, sound }

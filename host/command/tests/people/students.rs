@@ -18,7 +18,7 @@ struct ListeningBox {
     voice: StaticSound,
     sound: ShortSound,
     lanes: Lanes,
-    records: Vec<Record>,
+    records: Vec<Record<'static>>,
     log: Log,
     lines: String,
     /// The slip that makes a sentence creep: the fraction is cleared after each block.
@@ -26,7 +26,7 @@ struct ListeningBox {
 }
 
 /// A sound of 64 frames, four seconds.
-fn voice() -> (Record, StaticSound, ShortSound) {
+fn voice() -> (Record<'static>, StaticSound, ShortSound) {
     let record = creation(Settings::new(16), 64);
     let Record::Creation { settings, sound } = record else {
         panic!("a creation");

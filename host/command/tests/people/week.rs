@@ -33,9 +33,9 @@ fn two_to_nine_in_a_hundred_is_seen_as_a_change() {
     let ran = room.run(&["report", "--by", "week", "--rate", "10", "logs"]);
     ran.says(
         "200 sessions by week, read at 10 frames a second; of 100 sessions so many, with an interval of 95 percent\n\
-         week      sessions  minutes  played  restarted   95 percent  reached the end  with a tail  rounds a minute  seeks  pauses  refused\n\
-         2026-W46       100  100.000  83.333        2.0   0.6 to 7.0             25.0         25.0             8.40      6     100        0\n\
-         2026-W47       100  100.000  83.333        9.0  4.8 to 16.2             25.0         25.0             8.40     27     100        0\n\
+         week      sessions  minutes  played  restarted   95 percent  reached the end  with a tail  wraps a minute  seeks  pauses  refused\n\
+         2026-W46       100  100.000  83.333        2.0   0.6 to 7.0             25.0         25.0            8.40      6     100        0\n\
+         2026-W47       100  100.000  83.333        9.0  4.8 to 16.2             25.0         25.0            8.40     27     100        0\n\
          from 2026-W46 to 2026-W47: +7.0 restarted of 100 sessions, 95 percent 0.5 to 14.4: a change\n",
     );
     let rows = csv(&room.run(&["report", "--csv", "--by", "day", "logs"]).out);

@@ -87,9 +87,11 @@ fn zsh_options(completions: &str, verb: &str) -> BTreeSet<String> {
         .split_once(&format!("    '{verb}')\n"))
         .expect("the verb");
     let arm = arm.split(";;").next().expect("its end");
-    let lines = arm
-        .lines()
-        .filter_map(|line| line.trim().strip_prefix("'--"));
+    // A star marks an option that can be given several times.
+    let lines = arm.lines().filter_map(|line| {
+        let option = line.trim().strip_prefix('\'')?;
+        option.trim_start_matches('*').strip_prefix("--")
+    });
     let names = lines.map(|line| line.split(['=', '[']).next().expect("a name"));
     names.map(|name| format!("--{name}")).collect()
 }
@@ -111,7 +113,7 @@ fn fish_options(completions: &str, verb: &str) -> BTreeSet<String> {
 #[test]
 fn help_man_pages_and_completions_come_from_one_table() {
     let verbs = verbs();
-    assert_eq!(verbs.len(), 15, "{verbs:?}");
+    assert_eq!(verbs.len(), 16, "{verbs:?}");
     let shells = ["bash", "zsh", "fish"].map(|shell| printed(&["completions", shell]));
     let first = printed(&["man"]).replace("\\-", "-");
     let mut options = 0;
@@ -164,8 +166,9 @@ fn help_of_one_verb() {
     let help = room.run(&["help", "replay"]);
     assert_eq!((help.status, &*help.err), (0, ""));
     assert!(
-        help.out
-            .starts_with("cableowl replay [--log FORM] [--summary] TRACE\n")
+        help.out.starts_with(
+            "cableowl replay [--log FORM] [--summary] [--sound FILE].. [--sounds FOLDER]\n    [--out OUT] TRACE\n"
+        )
     );
     assert_ne!(help, room.run(&["help"]));
     assert_eq!(help, room.run(&["replay", "--help"]));
@@ -213,7 +216,25 @@ fn bash_completes_verbs_options_values_and_files() {
     for (words, found) in [
         (&["re"][..], &["replay", "report"][..]),
         (&["settings", "s"], &["save", "show"]),
-        (&["replay", "--"], &["--help", "--log", "--summary"]),
+        (
+            &["replay", "--"],
+            &[
+                "--help",
+                "--log",
+                "--out",
+                "--sound",
+                "--sounds",
+                "--summary",
+            ],
+        ),
+        (&["replay", "--sound", "ev"], &["evening.trace"]),
+        (
+            &["replay", "--sound", "a", "--sounds", "ev"],
+            &["evening.trace"],
+        ),
+        (&["so"], &["sound"]),
+        (&["sound", "--"], &["--help", "--rate"]),
+        (&["salvage", "--version", "''"], &["1", "2"]),
         (&["replay", "--log", "''"], &["1", "3"]),
         (&["replay", "--log", "="], &["1", "3"]),
         (&["replay", "--log", "=", "3"], &["3"]),

@@ -1,6 +1,8 @@
 //! Long runs against the page, the program against the library, and long traces.
 //!
-//! - `traced reads|writes|salvages|steps|replays|prints [--seed N] [--count N]`: random ones, compared
+//! - `traced reads|writes|salvages|steps|replays|prints [--seed N] [--count N]`: random ones, compared; the first three
+//!   with `--version 2` too
+//! - `traced given [--seed N] [--count N]`: replays of version 2 over sounds that are given or not, compared
 //! - `traced cuts`: every cut of a short trace, and some changes of each byte, printed by the program and the library
 //! - `traced trace [--megabytes N] [--blocks N] [--frames N]`: a long trace on standard output, a creation before
 //!   so many blocks of so many frames, again and again
@@ -17,16 +19,21 @@ use std::{
 
 use cableowl::{
     Lanes, Refusal, Settings, Signals, StaticSound,
-    trace::{self, Recorder},
+    trace::{self, Lesson, Recorder, Replay, TraceVersion},
 };
+use random::Random;
 use traced::{
     make,
+    model::second::Sounds,
     program::Program,
-    replays,
-    runs::{self, COMPILED},
+    replays::{
+        self,
+        second::{compare, library},
+    },
+    runs::{self, COMPILED, COMPILED_V2},
 };
 
-const USAGE: &str = "usage: traced reads|writes|salvages|steps|replays|prints|cuts|trace|print|recording|holes|heads [--seed N] [--count N] [--megabytes N] [--blocks N] [--frames N]";
+const USAGE: &str = "usage: traced reads|writes|salvages|steps|replays|given|prints|cuts|trace|print|recording|holes|heads [--version N] [--seed N] [--count N] [--megabytes N] [--blocks N] [--frames N]";
 
 fn main() -> ExitCode {
     match run() {
@@ -62,11 +69,20 @@ fn run() -> Result<String, String> {
     )?;
     let megabytes = number("--megabytes", 20)? as usize;
     let (blocks, frames) = (number("--blocks", 1_000)? as u32, number("--frames", 512)?);
+    let codec = match number("--version", 1)? {
+        2 => COMPILED_V2,
+        _ => COMPILED,
+    };
     let started = Instant::now();
     let tally = match what {
-        Some("reads") => COMPILED.reads(seed, count),
-        Some("writes") => COMPILED.writes(seed, count),
-        Some("salvages") => COMPILED.salvages(seed, count),
+        Some("reads") => codec.reads(seed, count),
+        Some("writes") => codec.writes(seed, count),
+        Some("salvages") => codec.salvages(seed, count),
+        Some("given") => {
+            let mut random = Random::new(seed);
+            let play = |bytes: &[u8], sounds: Option<&Sounds>| library(&mut random, bytes, sounds);
+            compare(seed, count, play)
+        }
         Some("steps") => replays::steps(seed, count),
         Some("replays") => replays::any_bytes(seed, count),
         Some("prints") => runs::prints(&program()?, seed, count),
@@ -103,7 +119,9 @@ fn long_trace(megabytes: usize, blocks: u32, frames: u64) -> Result<String, Stri
 fn print() -> Result<String, String> {
     let started = processor_seconds();
     let out = BufWriter::new(io::stdout().lock());
-    let refused = trace::replay(io::stdin().lock(), out).map_err(|error| error.to_string())?;
+    let replay = Replay::with_version(TraceVersion::First);
+    let refused = replay.print(io::stdin().lock(), out);
+    let refused = refused.map_err(|error| error.to_string())?;
     let seconds = processor_seconds() - started;
     Ok(format!("{refused:?}, {seconds:.2} s of processor time"))
 }
@@ -125,8 +143,9 @@ fn recording() -> Result<String, Refusal> {
 
     let started = processor_seconds();
     let mut buffer = vec![0; 42 * BLOCKS as usize + 1_000];
-    let mut recorder = Recorder::new(&mut buffer);
-    recorder.create(settings, &sound).recorded?;
+    let lesson = Lesson::new(sound)?;
+    let mut recorder = Recorder::with_version(&mut buffer, TraceVersion::First);
+    recorder.create(settings, &lesson).recorded?;
     for _ in 0..BLOCKS {
         let block = lanes.frames(64).rate(0.93);
         let block = recorder.process(&sound, block, step, signals, &mut out);
@@ -187,7 +206,8 @@ fn salvaged(inputs: Vec<Input>) -> Result<String, String> {
     for (name, input) in inputs {
         let mut out = vec![0; input.len()];
         let started = processor_seconds();
-        let salvaged = trace::salvage(&input, &mut out).map_err(|refusal| refusal.to_string())?;
+        let salvaged = TraceVersion::First.salvage(&input, &mut out);
+        let salvaged = salvaged.map_err(|refusal| refusal.to_string())?;
         let seconds = processor_seconds() - started;
         eprintln!(
             "{} bytes of {name}: {seconds:.2} s of processor time, {salvaged:?}",

@@ -1,5 +1,7 @@
 //! Records and traces to try: lawful, a little off, damaged.
 
+pub mod second;
+
 use random::Random;
 
 use crate::{Values, page};

@@ -1,8 +1,10 @@
 //! A second player of records, over the voice's own calls: what a replay must answer.
 
+pub mod second;
+
 use cableowl::{
     Lanes, Refusal, StaticSound,
-    trace::{Line, MAX_TRACED_FRAMES, Record, Refused, ShortSound, Step, Trace},
+    trace::{Line, MAX_TRACED_FRAMES, Record, Refused, ShortSound, Step, Trace, TraceVersion},
 };
 
 /// A run of a trace, by this page's own counting.
@@ -66,6 +68,9 @@ impl Model {
                 }
                 Step::Block(Line::of_block(self.blocks, block.frames, voice, answer))
             }
+            Record::GivenCreation { .. } | Record::LanedBlock(_) => {
+                unreachable!("reader 1 reads kinds 1 to 3")
+            }
         }
     }
 
@@ -92,7 +97,8 @@ impl Default for Model {
 #[must_use]
 pub fn steps(bytes: &[u8]) -> Vec<Step> {
     let mut model = Model::new();
-    let steps = Trace::new(bytes).map(|record| match record {
+    let records = Trace::with_version(bytes, TraceVersion::First);
+    let steps = records.map(|record| match record {
         Ok((_, record)) => model.play(&record),
         Err(Refused { refusal, at }) => Step::Refused(Refused { refusal, at }),
     });

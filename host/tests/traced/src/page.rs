@@ -1,5 +1,7 @@
 //! docs/formats/TRACE.md: what is read, written and salvaged, field by field and byte by byte.
 
+pub mod second;
+
 use crate::{
     Values,
     entries::{Read, Saved, Sent},
@@ -71,7 +73,8 @@ impl Reader<'_> {
         Ok(())
     }
 
-    fn creation(&mut self) -> Result<(), u64> {
+    /// The fields of a creation from the sample rate to "start waits".
+    fn settings(&mut self) -> Result<(), u64> {
         self.number(4)?;
         let slice = self.tag(6)?;
         self.word_if(slice >= 1)?;
@@ -84,6 +87,11 @@ impl Reader<'_> {
         self.tag(1)?;
         self.number(8)?;
         self.tag(1)?;
+        Ok(())
+    }
+
+    fn creation(&mut self) -> Result<(), u64> {
+        self.settings()?;
         let frames = self.tag(64)?;
         for _ in 0..frames {
             // The left sample's four bytes, then the right one's.
@@ -124,7 +132,11 @@ impl Reader<'_> {
     }
 }
 
-fn record(bytes: &[u8]) -> Result<(u8, usize, Values), u64> {
+/// A record's kind, the place after it, and its numbers.
+type Found = Result<(u8, usize, Values), u64>;
+
+/// A record's kind and the place after it, by its head; only these kinds are known.
+fn head(bytes: &[u8], kinds: &[u8], is_length: fn(u8, u16) -> bool) -> Result<(u8, usize), u64> {
     let byte = |at: usize| bytes.get(at).copied().ok_or(18_u64);
     for (at, mark) in [0xa5, 0x1d].into_iter().enumerate() {
         if byte(at)? != mark {
@@ -132,14 +144,18 @@ fn record(bytes: &[u8]) -> Result<(u8, usize, Values), u64> {
         }
     }
     let kind = byte(2)?;
-    if ![1, 2, 3].contains(&kind) {
+    if !kinds.contains(&kind) {
         return Err(16);
     }
     let length = u16::from_le_bytes([byte(3)?, byte(4)?]);
-    if !is_length(kind, length) {
-        return Err(17);
+    match is_length(kind, length) {
+        true => Ok((kind, 5 + usize::from(length))),
+        false => Err(17),
     }
-    let end = 5 + usize::from(length);
+}
+
+fn record(bytes: &[u8]) -> Found {
+    let (kind, end) = head(bytes, &[1, 2, 3], is_length)?;
     let mut reader = Reader {
         bytes,
         at: 5,
@@ -161,6 +177,10 @@ fn record(bytes: &[u8]) -> Result<(u8, usize, Values), u64> {
 /// What the reader must answer.
 #[must_use]
 pub fn read(bytes: &[u8], at: u64) -> Read {
+    read_by(record, bytes, at)
+}
+
+fn read_by(record: fn(&[u8]) -> Found, bytes: &[u8], at: u64) -> Read {
     let rest = usize::try_from(at).ok().and_then(|at| bytes.get(at..));
     match record(rest.unwrap_or(&[])) {
         Ok((kind, length, values)) => Read {
@@ -212,7 +232,8 @@ impl Writer<'_> {
         Ok(())
     }
 
-    fn creation(&mut self) -> Result<(), u64> {
+    /// The fields of a creation from the sample rate to "start waits".
+    fn settings(&mut self) -> Result<(), u64> {
         self.number(4, u32::MAX.into())?;
         let slice = self.tag(6)?;
         self.word_if(slice >= 1)?;
@@ -225,6 +246,11 @@ impl Writer<'_> {
         self.tag(1)?;
         self.word_if(true)?;
         self.tag(1)?;
+        Ok(())
+    }
+
+    fn creation(&mut self) -> Result<(), u64> {
+        self.settings()?;
         let frames = self.tag(64)?;
         for frame in 0..64 {
             self.word_if(frame < frames)?;
@@ -278,15 +304,24 @@ pub fn bytes(kind: u64, values: &Values) -> Result<Vec<u8>, u64> {
         3 => writer.block()?,
         _ => return Err(16),
     }
-    let [low, high] = (writer.bytes.len() as u16).to_le_bytes();
-    let head = [0xa5, 0x1d, kind as u8, low, high];
-    Ok([&head, &writer.bytes[..]].concat())
+    Ok(headed(kind as u8, writer.bytes.len(), &writer.bytes))
+}
+
+/// A head that states this length, and bytes after it.
+fn headed(kind: u8, length: usize, bytes: &[u8]) -> Vec<u8> {
+    let [low, high] = (length as u16).to_le_bytes();
+    let head = [0xa5, 0x1d, kind, low, high];
+    [&head, bytes].concat()
 }
 
 /// What the writer must do with a buffer.
 pub fn write(buffer: &mut [u8], at: u64, kind: u64, values: &Values) -> Sent {
+    put(buffer, at, bytes(kind, values))
+}
+
+fn put(buffer: &mut [u8], at: u64, bytes: Result<Vec<u8>, u64>) -> Sent {
     let refused = |refusal| Sent { refusal, next: at };
-    let bytes = match bytes(kind, values) {
+    let bytes = match bytes {
         Ok(bytes) => bytes,
         Err(refusal) => return refused(refusal),
     };
@@ -307,6 +342,10 @@ pub fn write(buffer: &mut [u8], at: u64, kind: u64, values: &Values) -> Sent {
 
 /// What salvage must do with an output.
 pub fn salvage(bytes: &[u8], out: &mut [u8]) -> Saved {
+    salvage_by(record, bytes, out)
+}
+
+fn salvage_by(record: fn(&[u8]) -> Found, bytes: &[u8], out: &mut [u8]) -> Saved {
     if out.len() < bytes.len() {
         return Saved {
             refusal: 25,

@@ -1,6 +1,8 @@
 //! The compiled step of a replay: traces in pieces against the model, and any bytes as the replay and as the trace.
 
-use cableowl::trace::{Replay, Step};
+pub mod second;
+
+use cableowl::trace::{Replay, Step, Trace, TraceVersion};
 use random::Random;
 use raw::{CableowlReplay, CableowlSignals, Held, REPLAY_BYTES, ReplayBytes};
 
@@ -12,7 +14,8 @@ use crate::{
 };
 
 /// The samples by their bits; a NaN is one, whatever its bits.
-fn bits(samples: &[f32]) -> Vec<u32> {
+#[must_use]
+pub fn bits(samples: &[f32]) -> Vec<u32> {
     let bits = |sample: &f32| match sample.is_nan() {
         true => f32::NAN.to_bits(),
         false => sample.to_bits(),
@@ -27,8 +30,9 @@ fn bits(samples: &[f32]) -> Vec<u32> {
 ///
 /// What differs.
 pub fn compare_steps(random: &mut Random, bytes: &[u8]) -> Result<Vec<Step>, String> {
-    let (mut replay, mut held, mut given) = (Replay::new(), Vec::new(), 0);
-    let (mut model, mut records) = (Model::new(), cableowl::trace::Trace::new(bytes));
+    let version = TraceVersion::First;
+    let (mut replay, mut held, mut given) = (Replay::with_version(version), Vec::new(), 0);
+    let (mut model, mut records) = (Model::new(), Trace::with_version(bytes, version));
     let mut steps = Vec::new();
     loop {
         let (step, size) = replay.step(&held, given == bytes.len());

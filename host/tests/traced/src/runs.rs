@@ -2,7 +2,7 @@
 
 use std::fmt;
 
-use cableowl::trace;
+use cableowl::trace::{Replay, Trace, TraceVersion};
 use random::Random;
 
 use crate::{
@@ -20,7 +20,7 @@ pub struct Tally {
     /// The bytes compared.
     pub bytes: u64,
     /// How many calls gave each refusal; 0 is none.
-    pub refused: [u64; 26],
+    pub refused: [u64; 30],
 }
 
 impl Tally {
@@ -28,7 +28,7 @@ impl Tally {
     pub(crate) fn call(&mut self, refusal: u64, bytes: usize) {
         self.calls += 1;
         self.bytes += bytes as u64;
-        self.refused[refusal as usize % 26] += 1;
+        self.refused[refusal as usize % 30] += 1;
     }
 }
 
@@ -50,14 +50,70 @@ pub type Run = Result<Tally, String>;
 
 /// Reads the record at a place.
 pub type Reader = fn(&[u8], u64) -> Read;
-/// Writes a record of a kind at a place.
-pub type Writer = fn(&mut [u8], u64, u64, &Values) -> Sent;
+/// Writes a record of a kind at a place; version 1 does not look at the lanes.
+pub type Writer = fn(&mut [u8], u64, u64, &Values, &[u8]) -> Sent;
 /// Copies complete records.
 pub type Salvage = fn(&[u8], &mut [u8]) -> Saved;
+
+/// A version of the format.
+#[derive(Debug, Clone, Copy, PartialEq, Eq)]
+pub enum Version {
+    /// Kinds 1 to 3.
+    First,
+    /// All five kinds.
+    Second,
+}
+
+impl Version {
+    /// The page's own reader, writer and salvage.
+    #[must_use]
+    pub fn page(self) -> Codec {
+        match self {
+            Self::First => Codec {
+                version: self,
+                read: page::read,
+                write: |buffer, at, kind, values, _| page::write(buffer, at, kind, values),
+                salvage: page::salvage,
+            },
+            Self::Second => Codec {
+                version: self,
+                read: page::second::read,
+                write: page::second::write,
+                salvage: page::second::salvage,
+            },
+        }
+    }
+
+    /// A trace with up to so many faults.
+    fn damaged(self, random: &mut Random, records: usize, faults: usize) -> Vec<u8> {
+        match self {
+            Self::First => make::damaged(random, records, faults),
+            Self::Second => make::second::damaged(random, &[], records, faults),
+        }
+    }
+
+    /// A record, lawful or not, and the bytes that it needs.
+    fn any(self, random: &mut Random) -> (make::second::Made, usize) {
+        let (made, bytes) = match self {
+            Self::First => {
+                let (kind, values) = make::any(random);
+                ((kind, values, Vec::new()), page::bytes(kind, &values))
+            }
+            Self::Second => {
+                let made = make::second::any(random);
+                let bytes = page::second::bytes(made.0, &made.1, &made.2);
+                (made, bytes)
+            }
+        };
+        (made, bytes.map_or(20, |bytes| bytes.len()))
+    }
+}
 
 /// A reader, a writer and a salvage.
 #[derive(Debug, Clone, Copy)]
 pub struct Codec {
+    /// The version that they know.
+    pub version: Version,
     /// The reader.
     pub read: Reader,
     /// The writer.
@@ -66,11 +122,20 @@ pub struct Codec {
     pub salvage: Salvage,
 }
 
-/// The compiled ones.
+/// The compiled ones of version 1.
 pub const COMPILED: Codec = Codec {
+    version: Version::First,
     read: entries::read,
-    write: entries::write,
+    write: |buffer, at, kind, values, _| entries::write(buffer, at, kind, values),
     salvage: entries::salvage,
+};
+
+/// The compiled ones of version 2.
+pub const COMPILED_V2: Codec = Codec {
+    version: Version::Second,
+    read: entries::read_v2,
+    write: entries::write_v2,
+    salvage: entries::salvage_v2,
 };
 
 impl Codec {
@@ -80,7 +145,8 @@ impl Codec {
     ///
     /// What differs.
     pub fn compare_read(&self, bytes: &[u8], at: u64) -> Result<u64, String> {
-        let (ours, pages) = ((self.read)(bytes, at), page::read(bytes, at));
+        let pages = (self.version.page().read)(bytes, at);
+        let ours = (self.read)(bytes, at);
         match ours == pages {
             true => Ok(ours.refusal),
             false => Err(format!("at {at} of {bytes:x?}: {ours:?} against {pages:?}")),
@@ -101,7 +167,7 @@ impl Codec {
         let before: Vec<u8> = (0..room).map(|place| !place as u8).collect();
         let (mut ours, mut pages) = (before.clone(), before);
         let saved = (self.salvage)(bytes, &mut ours);
-        let expected = page::salvage(bytes, &mut pages);
+        let expected = (self.version.page().salvage)(bytes, &mut pages);
         if (saved, &ours) != (expected, &pages) {
             return Err(format!("{bytes:x?}: {saved:?} against {expected:?}"));
         }
@@ -125,11 +191,27 @@ impl Codec {
             skipped: 0,
             first: kept.len() as u64,
         };
-        let read = trace::Trace::new(&kept).map_while(Result::ok).count() as u64;
-        match second == whole && again == kept && read == records {
+        match second == whole && again == kept && self.records(&kept) == records {
             true => Ok(refusal),
             false => Err(format!("{bytes:x?}: a second salvage gives {second:?}")),
         }
+    }
+
+    /// How many records can be read from the first byte on.
+    fn records(&self, bytes: &[u8]) -> u64 {
+        if self.version == Version::First {
+            let records = Trace::with_version(bytes, TraceVersion::First);
+            return records.map_while(Result::ok).count() as u64;
+        }
+        let (mut at, mut records) = (0, 0);
+        while at < bytes.len() as u64 {
+            let read = (self.read)(bytes, at);
+            if read.refusal != 0 {
+                break;
+            }
+            (at, records) = (read.next, records + 1);
+        }
+        records
     }
 
     /// Traces with faults, read at each record and at any places.
@@ -141,13 +223,13 @@ impl Codec {
         let (mut random, mut tally) = (Random::new(seed), Tally::default());
         while tally.calls < count {
             // Boxed: not a byte more than they are, for a memory checker.
-            let bytes = make::damaged(&mut random, 4, 3).into_boxed_slice();
+            let bytes = self.version.damaged(&mut random, 4, 3).into_boxed_slice();
             let mut at = 0;
             while at <= bytes.len() {
                 let refusal = self.compare_read(&bytes, at as u64)?;
                 tally.call(refusal, bytes.len() - at);
                 match refusal {
-                    0 => at = page::read(&bytes, at as u64).next as usize,
+                    0 => at = (self.version.page().read)(&bytes, at as u64).next as usize,
                     _ => break,
                 }
             }
@@ -171,8 +253,7 @@ impl Codec {
     pub fn writes(&self, seed: u64, count: u64) -> Run {
         let (mut random, mut tally) = (Random::new(seed), Tally::default());
         while tally.calls < count {
-            let (kind, values) = make::any(&mut random);
-            let needed = page::bytes(kind, &values).map_or(20, |bytes| bytes.len());
+            let ((kind, values, lanes), needed) = self.version.any(&mut random);
             let at = random.below(9);
             let length = match random.below(4) {
                 0 => random.below(at + needed + 8),
@@ -186,8 +267,8 @@ impl Codec {
             };
             let before: Vec<u8> = (0..length).map(|_| random.word() as u8).collect();
             let (mut ours, mut pages) = (before.clone(), before);
-            let sent = (self.write)(&mut ours, at, kind, &values);
-            let expected = page::write(&mut pages, at, kind, &values);
+            let sent = (self.write)(&mut ours, at, kind, &values, &lanes);
+            let expected = (self.version.page().write)(&mut pages, at, kind, &values, &lanes);
             if (sent, &ours) != (expected, &pages) {
                 return Err(format!(
                     "kind {kind}, {values:?} at {at} of {length}: {sent:?}, {ours:x?} against {expected:?}, {pages:x?}"
@@ -196,11 +277,16 @@ impl Codec {
             if sent.refusal == 0 {
                 let back = (self.read)(&ours, at);
                 let same = (back.kind, back.next) == (kind, sent.next);
-                let fields = [77, 12, 10][kind as usize - 1];
+                let fields = [77, 12, 10, 17, 5][kind as usize - 1];
                 if !same || back.values[..fields] != values[..fields] {
                     return Err(format!("kind {kind}, {values:?} is read back as {back:?}"));
                 }
-                compare_record(&ours, at as usize)?;
+                if kind == 5 && page::second::lanes(&ours, &back) != lanes {
+                    return Err(format!("{lanes:x?} are not where {back:?} has them"));
+                }
+                if self.version == Version::First {
+                    compare_record(&ours, at as usize)?;
+                }
             }
             tally.call(sent.refusal, length);
         }
@@ -215,7 +301,7 @@ impl Codec {
     pub fn salvages(&self, seed: u64, count: u64) -> Run {
         let (mut random, mut tally) = (Random::new(seed), Tally::default());
         while tally.calls < count {
-            let bytes = make::damaged(&mut random, 8, 6).into_boxed_slice();
+            let bytes = self.version.damaged(&mut random, 8, 6).into_boxed_slice();
             let room = match random.one_in(16) {
                 true => random.below(bytes.len() + 1),
                 false => bytes.len() + random.below(4),
@@ -233,14 +319,15 @@ impl Codec {
 /// What differs.
 pub fn compare_record(bytes: &[u8], at: usize) -> Result<u64, String> {
     let refusal = page::read(bytes, at as u64).refusal;
-    let safe = trace::read(bytes, at);
+    let version = TraceVersion::First;
+    let safe = version.read(bytes, at);
     let number = safe.as_ref().err().map_or(0, |refusal| refusal.number());
     if u64::from(number) != refusal {
         return Err(format!("at {at} of {bytes:x?}: {safe:?} against {refusal}"));
     }
     if let Ok((record, next)) = safe {
-        let mut again = [0x5a; trace::MAX_RECORD_BYTES + 1];
-        let written = trace::write(&record, &mut again, 0);
+        let mut again = [0x5a; TraceVersion::First.max_record_bytes() + 1];
+        let written = version.write(&record, &mut again, 0);
         if written != Ok(next - at)
             || again[..next - at] != bytes[at..next]
             || again[next - at..].iter().any(|byte| *byte != 0x5a)
@@ -257,11 +344,14 @@ pub fn compare_record(bytes: &[u8], at: usize) -> Result<u64, String> {
 ///
 /// Where the two differ.
 pub fn library_prints(bytes: &[u8]) -> Result<Vec<u8>, String> {
-    let whole: String = trace::lines(bytes)
+    let replay = || Replay::with_version(TraceVersion::First);
+    let whole: String = replay()
+        .lines(bytes)
         .map(|line| format!("{line}\n"))
         .collect();
     let mut read = Vec::new();
-    trace::replay(Slow(bytes), &mut read).map_err(|error| error.to_string())?;
+    let printed = replay().print(Slow(bytes), &mut read);
+    printed.map_err(|error| error.to_string())?;
     match whole.as_bytes() == read {
         true => Ok(read),
         false => Err(format!("{bytes:x?}: {whole:?} at once, else as it is read")),

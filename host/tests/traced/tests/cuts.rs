@@ -13,7 +13,7 @@ fn bits(samples: &[f32]) -> Vec<u32> {
 }
 
 /// The block's part before a frame, and the rest.
-fn cut(block: Block, at: usize) -> [Record; 2] {
+fn cut(block: Block, at: usize) -> [Record<'static>; 2] {
     let first = Block {
         frames: at,
         ..block

@@ -4,7 +4,12 @@ use cableowl::{
     Commands, Frames, PlaybackPosition, Region, Settings,
     trace::{Block, Record, ShortSound, read, salvage, write},
 };
-use traced::{entries, hex, page, runs};
+use traced::{
+    entries, hex,
+    make::second::Named,
+    page::{self, second},
+    runs,
+};
 
 const PAGE: &str = include_str!("../../../../docs/formats/TRACE.md");
 
@@ -31,7 +36,7 @@ fn codes() -> Vec<Vec<u8>> {
     codes_of(below("\n## Examples\n"))
 }
 
-fn creation() -> Record {
+fn creation() -> Record<'static> {
     Record::Creation {
         settings: Settings::new(1),
         sound: ShortSound::new(&[1.0, 1.0, 2.0, 2.0, 3.0, 3.0]).unwrap(),
@@ -155,4 +160,110 @@ fn false_records() {
         assert_eq!(salvaged.records, 1);
         assert_eq!(read(&out, 0).unwrap().1, salvaged.kept);
     }
+}
+
+/// A creation over a given sound, and a block of two frames.
+fn sealed_codes() -> Vec<Vec<u8>> {
+    codes_of(below("\n### Examples of version 2\n"))
+}
+
+#[test]
+fn its_records_of_version_2() {
+    let codes = sealed_codes();
+    assert_eq!(codes.len(), 2);
+    let samples = [1.0_f32, 1.0, 2.0, 2.0, 3.0, 3.0];
+    let named = Named::of(&samples);
+    let mut creation = [0; 80];
+    creation[0] = 1;
+    creation[10] = 1.0_f64.to_bits();
+    creation[12] = named.frames;
+    creation[13..17].copy_from_slice(&named.digest);
+    let mut block = [0; 80];
+    block[..2].copy_from_slice(&[2, 1.0_f64.to_bits()]);
+    let frame = |fade: f32| {
+        let singles = [fade, 1.0, 1.0, 1.0].map(f32::to_le_bytes).concat();
+        [&singles[..], &1.0_f64.to_le_bytes()].concat()
+    };
+    let lanes = [frame(1.0), frame(0.5)].concat();
+    for (kind, values, lanes, bytes) in [
+        (4, creation, &[][..], &codes[0]),
+        (5, block, &lanes, &codes[1]),
+    ] {
+        assert_eq!(&second::bytes(kind, &values, lanes).unwrap(), bytes);
+        let read = second::read(bytes, 0);
+        assert_eq!((read.kind, read.next), (kind, bytes.len() as u64));
+        assert_eq!(read.values, values);
+        assert_eq!(second::lanes(bytes, &read), lanes);
+        // Any change of one byte behind the head's length is refused, and reader 1 knows no such kind.
+        for place in 5..bytes.len() {
+            for bit in 0..8 {
+                let mut changed = bytes.clone();
+                changed[place] ^= 1 << bit;
+                assert_eq!(second::read(&changed, 0).refusal, 17, "{place}");
+            }
+        }
+        assert_eq!(page::read(bytes, 0).refusal, 16);
+        assert_eq!(page::bytes(kind, &values), Err(16));
+        // The checksum that the page prints is the one that its bytes have.
+        let seal = bytes.len() - second::CHECKSUM;
+        let sum = format!("checksum {:08X}\n", second::checksum(&bytes[2..seal]));
+        assert!(PAGE.contains(&sum), "{sum}");
+    }
+    assert_eq!(second::checksum(b"123456789"), 0xcbf4_3926);
+    assert!(PAGE.contains("`123456789` is CBF43926"));
+}
+
+#[test]
+fn its_short_inputs_of_version_2() {
+    let (_, table) = PAGE.split_once("| input | reader 1 | reader 2 |").unwrap();
+    let rows = table
+        .lines()
+        .skip(2)
+        .take_while(|line| line.starts_with('|'));
+    let mut tried = 0;
+    for row in rows {
+        let [_, inputs, first, then, _] = row.split('|').collect::<Vec<_>>()[..] else {
+            panic!("{row}");
+        };
+        let number = |answer: &str| {
+            let digits = answer.trim().chars().take_while(char::is_ascii_digit);
+            digits.collect::<String>().parse::<u64>().unwrap()
+        };
+        for input in inputs.split('`').skip(1).step_by(2) {
+            let mut bytes = hex(input);
+            if let Some((_, rest)) = inputs.split_once(", and ") {
+                let (count, _) = rest.split_once(" bytes of 0").unwrap();
+                bytes.resize(bytes.len() + count.parse::<usize>().unwrap(), 0);
+            }
+            assert_eq!(page::read(&bytes, 0).refusal, number(first), "{row}");
+            assert_eq!(entries::read(&bytes, 0).refusal, number(first), "{row}");
+            assert_eq!(second::read(&bytes, 0).refusal, number(then), "{row}");
+            tried += 1;
+        }
+    }
+    assert_eq!(tried, 8);
+}
+
+/// The lengths and sizes that the page states of version 2.
+#[test]
+fn its_lengths_of_version_2() {
+    for kind in 0..=6 {
+        let lengths: Vec<u16> = (0..=u16::MAX)
+            .filter(|length| second::is_length(kind, *length))
+            .collect();
+        let expected: Vec<u16> = match kind {
+            1 => (0..=68).map(|k| 26 + 8 * k).collect(),
+            2 => (0..=5).map(|k| 7 + 8 * k).collect(),
+            3 => vec![37],
+            4 => (0..=4).map(|k| 65 + 8 * k).collect(),
+            5 => (1..=1_024).map(|n| 17 + 24 * n).collect(),
+            _ => Vec::new(),
+        };
+        assert_eq!(lengths, expected, "kind {kind}");
+    }
+    let mut block = [0; 80];
+    block[0] = 1_024;
+    let longest = second::bytes(5, &block, &[0; 24 * 1_024]).unwrap();
+    assert_eq!(longest.len(), second::LONGEST);
+    assert!(PAGE.contains("at most 24,598 bytes"));
 }

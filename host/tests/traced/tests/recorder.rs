@@ -1,12 +1,18 @@
-//! A recorded voice plays as an unrecorded one, call for call and bit for bit, whatever it cannot record; and what it
-//! recorded prints, played again, the lines of the evening and sounds the same.
+//! A voice recorded in version 1 plays as an unrecorded one, call for call and bit for bit, whatever it cannot record;
+//! and what it recorded prints, played again, the lines of the evening and sounds the same.
 
 use cableowl::{
     Commands, Frames, Hall, Lanes, LoopTable, Processed, Refusal, Settings, Signals, StartAnswer,
     StartSignal, StaticSound,
-    trace::{self, Block, Line, Record, Recorded, Recorder, Replay, ShortSound, Trace},
+    trace::{
+        self, Block, Lesson, Line, Record, Recorded, Recorder, Replay, ShortSound, Trace,
+        TraceVersion,
+    },
 };
 use random::Random;
+
+/// The most bytes of a record.
+const MAX_BYTES: usize = TraceVersion::First.max_record_bytes();
 
 /// What is lent as the lanes of a block.
 #[derive(Clone)]
@@ -30,8 +36,7 @@ enum Call {
 
 fn sound(random: &mut Random) -> Vec<f32> {
     let samples = match random.below(40) {
-        0 => 2 * 65,
-        1 => 129,
+        0 | 1 => 2 * 65,
         2 => 2 * 64,
         3 => 0,
         _ => 2 * (1 + random.below(20)),
@@ -134,7 +139,7 @@ fn evening(random: &mut Random, calls: usize, off: bool) -> Vec<Call> {
         _ if first => Call::Create(settings(random), vec![0.5; 16]),
         0 | 1 => {
             let mut sound = sound(random);
-            if !off && (sound.len() > 128 || sound.len() % 2 == 1) {
+            if !off && sound.len() > 128 {
                 sound.truncate(2);
             }
             Call::Create(settings(random), sound)
@@ -162,7 +167,7 @@ struct Beside<'a> {
     /// The lines and the samples of the blocks that the trace holds.
     log: Vec<(Line, Vec<u32>)>,
     /// What the trace should hold of each call, and why it ends.
-    records: Vec<Record>,
+    records: Vec<Record<'static>>,
     room: usize,
     ended: Option<Refusal>,
 }
@@ -171,7 +176,7 @@ impl<'a> Beside<'a> {
     fn new(buffer: &'a mut [u8]) -> Self {
         Self {
             room: buffer.len(),
-            recorder: Recorder::new(buffer),
+            recorder: Recorder::with_version(buffer, TraceVersion::First),
             voice: None,
             sound: Vec::new(),
             created: Vec::new(),
@@ -188,12 +193,13 @@ impl<'a> Beside<'a> {
         &mut self,
         made: Recorded<T>,
         answer: Result<T, Refusal>,
-        record: Option<Record>,
+        record: Option<Record<'static>>,
     ) -> bool {
         assert_eq!(made.answer, answer);
         if self.ended.is_none() {
-            let mut bytes = [0; trace::MAX_RECORD_BYTES];
-            self.ended = match record.map(|record| trace::write(&record, &mut bytes, 0).unwrap()) {
+            let mut bytes = [0; MAX_BYTES];
+            let write = |record| TraceVersion::First.write(&record, &mut bytes, 0).unwrap();
+            self.ended = match record.map(write) {
                 None => Some(Refusal::Record),
                 Some(length) if length > self.room => Some(Refusal::Room),
                 Some(length) => {
@@ -224,7 +230,8 @@ impl<'a> Beside<'a> {
                 let plain = StaticSound::new(*settings, sound);
                 let answer = plain.as_ref().map(|_| ()).map_err(|refusal| *refusal);
                 self.voice = plain.ok();
-                let made = self.recorder.create(*settings, sound);
+                let lesson = Lesson::new(sound.clone()).unwrap();
+                let made = self.recorder.create(*settings, &lesson);
                 let settings = *settings;
                 let short = ShortSound::new(sound).ok();
                 let record = short.map(|sound| Record::Creation { settings, sound });
@@ -335,7 +342,7 @@ impl<'a> Beside<'a> {
     }
 
     /// What is recorded is what was done, and played again it is what was heard and logged.
-    fn end(&self) {
+    fn end(&mut self) {
         let bytes = self.recorder.bytes();
         let records: Vec<Record> = Trace::new(bytes).map(|record| record.unwrap().1).collect();
         assert_eq!(records, self.records);
@@ -386,12 +393,12 @@ fn emptied_in_time_the_buffer_is_never_full() {
         let calls = evening(&mut random, 80, false);
         let mut large = vec![0; 100_000];
         let mut beside = Beside::new(&mut large);
-        let mut small = [0; 2 * trace::MAX_RECORD_BYTES];
+        let mut small = [0; 2 * MAX_BYTES];
         let mut emptied = Beside::new(&mut small);
         let mut file = Vec::new();
         for call in &calls {
             beside.call(call);
-            if emptied.recorder.room() < trace::MAX_RECORD_BYTES {
+            if emptied.recorder.room() < MAX_BYTES {
                 file.extend_from_slice(emptied.recorder.bytes());
                 emptied.recorder.clear();
                 emptied.room = emptied.recorder.room();
@@ -434,7 +441,7 @@ fn a_tick_is_its_answer() {
 #[test]
 fn before_a_creation() {
     let mut buffer = [0; 200];
-    let mut recorder = Recorder::new(&mut buffer);
+    let mut recorder = Recorder::with_version(&mut buffer, TraceVersion::First);
     let mut lanes = Lanes::new();
     let made = recorder.on_start_processing(&[], Commands::new());
     assert_eq!((made.answer, made.recorded), (Err(Refusal::State), Ok(())));

@@ -3,14 +3,7 @@
 use traced::{
     entries::{Read, Saved, Sent},
     page,
-    runs::{Codec, Reader, Salvage, Writer},
-};
-
-/// The page's own, of which a slip changes one.
-const RIGHT: Codec = Codec {
-    read: page::read,
-    write: page::write,
-    salvage: page::salvage,
+    runs::{Codec, Reader, Salvage, Version, Writer},
 };
 
 fn refused(refusal: u64, at: u64) -> Read {
@@ -150,15 +143,16 @@ fn is_length(bytes: &[u8], at: u64, length: u16) -> bool {
 
 #[test]
 fn every_wrong_reader_is_found() {
-    RIGHT.reads(1, 20_000).unwrap();
+    let right = Version::First.page();
+    right.reads(1, 20_000).unwrap();
     for (slip, read) in READERS {
-        let found = Codec { read, ..RIGHT }.reads(1, 400_000);
+        let found = Codec { read, ..right }.reads(1, 400_000);
         assert!(found.is_err(), "{slip}");
     }
 }
 
 const WRITERS: [(&str, Writer); 6] = [
-    ("19 before 17", |buffer, at, kind, values| {
+    ("19 before 17", |buffer, at, kind, values, _| {
         let right = page::write(buffer, at, kind, values);
         let room = (buffer.len() as u64).saturating_sub(at);
         match right.refusal == 17 && room < 12 {
@@ -169,7 +163,7 @@ const WRITERS: [(&str, Writer); 6] = [
             false => right,
         }
     }),
-    ("a partial write on 19", |buffer, at, kind, values| {
+    ("a partial write on 19", |buffer, at, kind, values, _| {
         let right = page::write(buffer, at, kind, values);
         if right.refusal == 19
             && let Some(byte) = buffer.get_mut(at as usize)
@@ -178,7 +172,7 @@ const WRITERS: [(&str, Writer); 6] = [
         }
         right
     }),
-    ("an exact fit refused", |buffer, at, kind, values| {
+    ("an exact fit refused", |buffer, at, kind, values, _| {
         let bytes = page::bytes(kind, values).map_or(0, |bytes| bytes.len());
         match at.checked_add(bytes as u64) == Some(buffer.len() as u64) && bytes > 0 {
             true => Sent {
@@ -188,7 +182,7 @@ const WRITERS: [(&str, Writer); 6] = [
             false => page::write(buffer, at, kind, values),
         }
     }),
-    ("the offset ignored", |buffer, at, kind, values| {
+    ("the offset ignored", |buffer, at, kind, values, _| {
         let sent = page::write(buffer, 0, kind, values);
         Sent {
             next: sent.next + at,
@@ -197,7 +191,7 @@ const WRITERS: [(&str, Writer); 6] = [
     }),
     (
         "a number where none stands is passed over",
-        |buffer, at, kind, values| {
+        |buffer, at, kind, values, _| {
             let mut values = *values;
             if kind == 2 && values[0] == 0 {
                 values[1] = 0;
@@ -207,7 +201,7 @@ const WRITERS: [(&str, Writer); 6] = [
     ),
     (
         "the byte after a record cleared",
-        |buffer, at, kind, values| {
+        |buffer, at, kind, values, _| {
             let sent = page::write(buffer, at, kind, values);
             if sent.refusal == 0
                 && let Some(byte) = buffer.get_mut(sent.next as usize)
@@ -221,9 +215,10 @@ const WRITERS: [(&str, Writer); 6] = [
 
 #[test]
 fn every_wrong_writer_is_found() {
-    RIGHT.writes(1, 20_000).unwrap();
+    let right = Version::First.page();
+    right.writes(1, 20_000).unwrap();
     for (slip, write) in WRITERS {
-        let found = Codec { write, ..RIGHT }.writes(1, 400_000);
+        let found = Codec { write, ..right }.writes(1, 400_000);
         assert!(found.is_err(), "{slip}");
     }
 }
@@ -325,9 +320,10 @@ const SALVAGES: [(&str, Salvage); 7] = [
 
 #[test]
 fn every_wrong_salvage_is_found() {
-    RIGHT.salvages(1, 2_000).unwrap();
+    let right = Version::First.page();
+    right.salvages(1, 2_000).unwrap();
     for (slip, salvage) in SALVAGES {
-        let found = Codec { salvage, ..RIGHT }.salvages(1, 100_000);
+        let found = Codec { salvage, ..right }.salvages(1, 100_000);
         assert!(found.is_err(), "{slip}");
     }
 }
