@@ -173,7 +173,7 @@ A frame costs these instructions, counted by callgrind in blocks of 512 at rate 
 
 Ratios differ between processors more than instructions do. With the form before this one a Neoverse N1 took 0.65 of kira's time at 0.93 and 512, and a Neoverse V1 0.85: kira's text is twice as fast on the V1, ours 1.45 times.
 
-The first table's ratios, on both processors. The Intel Xeon (x86-64, \"Intel(R) Xeon(R) Processor\", rustc 1.95.0, 2026-11-16) was shared with other work, so only its least times count. Numbers given once were measured on the V1 before they had the fast path, and on the Xeon with it [20ddcd2]; the V1's rows of "given once" above are of the plain loop too.
+The first table's ratios, on both processors. The Intel Xeon (x86-64, \"Intel(R) Xeon(R) Processor\", rustc 1.95.0, 2026-11-16) was shared with other work, so only its least times count. Numbers given once were measured on the V1 before they had the fast path, and on the Xeon with it [20ddcd2]; the V1's rows of \"given once\" above are of the plain loop too.
 
 | lanes | V1, 512 and 4,096 | V1, 64 | Xeon, 512 and 4,096 | Xeon, 64 |
 |---|---|---|---|---|
