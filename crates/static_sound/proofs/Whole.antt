@@ -1,17 +1,18 @@
 -- A block into an output of its own is a block into a mix, from frame 0 on. Assumes nothing.
 use mathlib.Core.Path.{_≡_, refl, sym, ap, _∙_, subst}
-use mathlib.Core.Bool.{Bool, true, false, false≢true, _&&_, cond}
+use mathlib.Core.Bool.{Bool, true, false, true≢false, _&&_, cond}
 use mathlib.Core.List.{List, [], _++_, append-nil}
-use Prim.Native.Nat.{ℕ, _+_, _*_, _/_, _%_}
+use Prim.Native.Nat.{ℕ, _+_, _*_, _/_, _%_, _<_}
 use native.Mathlib.Omega.{arith}
 use lib.Dec.{T, leb, eqb}
 use lib.ListN.{length, take, drop, replicate, length-replicate}
 use lib.Seq.{drop-length}
 use lib.Ieee.{Float}
-use borrow.Author.Tests.{eqb-true, eqb-false, eq-eqb, ne-eqb, le-leb}
+use borrow.Author.Tests.{eqb-true, eqb-false, eq-eqb, ne-eqb, le-leb, lt-leb}
 use Rattle.sound_lanes.specs.Lanes.{Lanes, rows}
 use Rattle.sound_held.specs.declared.Held.{Held}
 use Rattle.sound_held.specs.Held.{once}
+use Rattle.sound_constant.specs.Constant.{first, Constant}
 use Rattle.sound_state.specs.declared.StaticSound.{StaticSound}
 use Rattle.sound_block.specs.declared.Signals.{Signals}
 use Rattle.sound_block.specs.Blocks.{block}
@@ -73,3 +74,35 @@ pub held-whole : (snd : List Float) (v : StaticSound) (dt : Float) (x : Held) (g
     → o ≡ processedInto snd v dt (once x (length out / 2)) g out 0 → o ≡ processed snd v dt (once x (length out / 2)) g out
 held-whole snd v dt x g out o e =
     e ∙ whole snd v dt (once x (length out / 2)) g out 0 (room-fits (length out) (length (replicate (length out / 2) (x .rate))) (length-replicate (length out / 2) (x .rate))) (λ h. refl)
+
+-- ---- lanes
+
+-- no frame from the end on has room, where the output does not hold the block
+room-never : (m n : ℕ) → eqb m (2 * n) ≡ false → (eqb (m % 2) 0 && leb (m + n) (m / 2)) ≡ false
+room-never m n e = go (eqb (m % 2) 0) refl
+  where
+    go : (t : Bool) → eqb (m % 2) 0 ≡ t → (t && leb (m + n) (m / 2)) ≡ false
+    go true h = let k = eqb-true (m % 2) 0 h in let l = eqb-false m (2 * n) e in lt-leb (m + n) (m / 2) (beyond m n k l)
+      where
+        beyond : (m n : ℕ) → m % 2 ≡ 0 → (m ≡ 2 * n → ⊥) → m / 2 < m + n
+        beyond m n k l = omega arith
+    go false h = refl
+
+room-whole : (m n : ℕ) → eqb m (2 * n) ≡ true → (eqb (m % 2) 0 && leb (0 + n) (m / 2)) ≡ true
+room-whole m n e = let k = eqb-true m (2 * n) e in room-fits m n (half m n k) ∙ e
+  where
+    half : (m n : ℕ) → m ≡ 2 * n → n ≡ m / 2
+    half m n k = omega arith
+
+module _ (snd : List Float) (v : StaticSound) (dt : Float) (b : Lanes) (g : Signals) (out : List Float) where
+  pub lanes-whole : (o : Outcome) → holds b out ≡ true → o ≡ processedInto snd v dt b g out 0 → o ≡ processed snd v dt b g out
+  lanes-whole o h e = e ∙ whole snd v dt b g out 0 (room-whole (length out) (length (b .rate)) h ∙ sym h) (λ k. refl)
+
+  pub lanes-never : (o : Outcome) → holds b out ≡ false → o ≡ processedInto snd v dt b g out (length out) → o ≡ processed snd v dt b g out
+  lanes-never o h e = e ∙ whole snd v dt b g out (length out) (room-never (length out) (length (b .rate)) h ∙ sym h) (λ k. absurd (true≢false (sym k ∙ h)))
+
+-- constant lanes are their first frame's numbers, given once
+pub constant-into : (snd : List Float) (v : StaticSound) (dt : Float) (b : Lanes) (g : Signals) (mix : List Float) (from : ℕ) (o : Outcome) → Constant b
+    → (x : Held) → x ≡ first b → o ≡ processedInto snd v dt (once x (length (b .rate))) g mix from → o ≡ processedInto snd v dt b g mix from
+constant-into snd v dt b g mix from o c x f e =
+    e ∙ ap (λ (x : Held). processedInto snd v dt (once x (length (b .rate))) g mix from) f ∙ ap (λ (b : Lanes). processedInto snd v dt b g mix from) (sym (c .each))

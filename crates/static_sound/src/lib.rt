@@ -10,11 +10,10 @@ mod once;
 mod stretches;
 
 pub use mix::process_into;
+use mix::process_lanes;
 pub use once::process_held;
 pub use once::process_held_into;
 use sound_block::Signals;
-use sound_block::Told;
-use sound_block::block;
 use sound_slow_path::Processed;
 use sound_slow_path::Timed;
 use sound_state::StaticSound;
@@ -66,7 +65,7 @@ fn refusal_of(
     )
 }
 
-// A block into an output of its own.
+// A block into an output of its own: a block into a mix, from frame 0 on. Constant lanes are numbers given once.
 pub fn process(
     voice: StaticSound,
     sound: &[f32],
@@ -84,33 +83,38 @@ pub fn process(
         (five (now (fade .entry)) (now (volume .entry)) (now (left .entry)) (now (right .entry)) (now (rate .entry)))
         signals (now (out .entry)) ⌝ }
 {
-    let placed = holds(out.len(), rate.len());
-    let refusal = refusal_of(
-        Timed { voice, dt },
-        sound.len(),
-        fade,
-        volume,
-        left,
-        right,
-        rate,
-        placed,
-    );
-    if refusal != 0 {
-        return Processed {
-            refusal,
-            sound: voice,
-            steps: 0,
-            lowest_count: 4,
-        };
+    if !holds(out.len(), rate.len()) {
+        // No frame from the output's end on has room: the block is refused.
+        let end = out.len();
+        return process_lanes(
+            voice,
+            sound,
+            fade,
+            volume,
+            left,
+            right,
+            rate,
+            dt,
+            signals,
+            out,
+            end,
+        );
     }
-    block(
-        Told { voice, dt, signals },
+    if sound_constant::are_constant(fade, volume, left, right, rate) {
+        let held = sound_constant::first_of(fade, volume, left, right, rate);
+        return process_held_into(voice, sound, held, dt, signals, out, 0, rate.len());
+    }
+    process_lanes(
+        voice,
         sound,
         fade,
         volume,
         left,
         right,
         rate,
+        dt,
+        signals,
         out,
+        0,
     )
 }

@@ -1,10 +1,11 @@
-// A block into the middle of a longer mix.
+// A block into the middle of a longer mix, and its body for lanes.
 ghost use mathlib.Core.Path.{_≡_};
 ghost use Prim.Native.Nat.{_+_, _/_, _%_};
 ghost use mathlib.Core.Bool.{_&&_};
 ghost use lib.Dec.{leb, eqb};
 ghost use Rattle.sound_lanes.specs.Lanes.{five};
 ghost use Rattle.static_sound.specs.Entries.{processedInto};
+use crate::once::process_held_into;
 use crate::refusal_of;
 use sound_block::Signals;
 use sound_block::Told;
@@ -26,8 +27,8 @@ pub(crate) fn has_room(from: usize, frames: usize, samples: usize) -> bool
     frames <= samples / 2 - from
 }
 
-// A block into the middle of a longer mix, from the given frame on; no other sample changes.
-pub fn process_into(
+// The block over lanes.
+pub(crate) fn process_lanes(
     voice: StaticSound,
     sound: &[f32],
     fade: &[f32],
@@ -75,5 +76,43 @@ pub fn process_into(
         right,
         rate,
         &mut mix[a..e],
+    )
+}
+
+// A block into the middle of a longer mix, from the given frame on; no other sample changes.
+pub fn process_into(
+    voice: StaticSound,
+    sound: &[f32],
+    fade: &[f32],
+    volume: &[f32],
+    left: &[f32],
+    right: &[f32],
+    rate: &[f64],
+    dt: f64,
+    signals: Signals,
+    mix: &mut [f32],
+    from: usize,
+) -> Processed
+    ensures { λ r. ⌜ record { answer = r; samples = now (mix .exit) }
+        ≡ processedInto (now (sound .entry)) voice dt
+        (five (now (fade .entry)) (now (volume .entry)) (now (left .entry)) (now (right .entry)) (now (rate .entry)))
+        signals (now (mix .entry)) from ⌝ }
+{
+    if sound_constant::are_constant(fade, volume, left, right, rate) {
+        let held = sound_constant::first_of(fade, volume, left, right, rate);
+        return process_held_into(voice, sound, held, dt, signals, mix, from, rate.len());
+    }
+    process_lanes(
+        voice,
+        sound,
+        fade,
+        volume,
+        left,
+        right,
+        rate,
+        dt,
+        signals,
+        mix,
+        from,
     )
 }

@@ -121,6 +121,7 @@ coincide =
       sound-held-play = λ k a x y s t p q. parts (same p q);
       sound-block-block-held = λ k a x y s t p q. parts (same p q);
       sound-block-block = λ k a x y s t p q. parts (same p q);
+      sound-constant-first-of = λ k a x y s t p q. same p q;
       static-sound-process = λ k a x y s t p q. parts (same p q);
       static-sound-process-into = λ k a x y s t p q. parts (same p q);
       static-sound-process-held = λ k a x y s t p q. parts (same p q);

@@ -24,6 +24,7 @@ use Rattle.sound_slow_path.proofs as sound_slow_path
 use Rattle.sound_fast_reading.proofs as sound_fast_reading
 use Rattle.sound_gains.proofs as sound_gains
 use Rattle.sound_fast_path.proofs as sound_fast_path
+use Rattle.sound_constant.proofs as sound_constant
 use Rattle.sound_held.proofs as sound_held
 use Rattle.sound_block.proofs as sound_block
 use Rattle.static_sound.proofs as static_sound
@@ -163,6 +164,7 @@ pub record Coincide : Type 0 where
   pub sound-held-play : DecidesWith (λ k r s. s .1 .1 .1 .0 .now) sound_held.play.Reads.Post
   pub sound-block-block-held : DecidesWith (λ k r s. s .1 .1 .1 .0 .now) sound_block.block_held.Reads.Post
   pub sound-block-block : DecidesWith (λ k r s. s .1 .1 .1 .1 .1 .1 .1 .0 .now) sound_block.block.Reads.Post
+  pub sound-constant-first-of : Decides sound_constant.first_of.Reads.Post
   -- static_sound
   pub static-sound-process : DecidesWith
       (λ k r s. s .1 .1 .1 .1 .1 .1 .1 .1 .1 .0 .now) static_sound.process.Reads.Post

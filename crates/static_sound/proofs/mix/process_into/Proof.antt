@@ -1,101 +1,63 @@
--- `process_into` gives its number, or plays its block into its part of the mix.
+-- `process_into`: constant lanes are numbers given once; all others go by the body for lanes.
 use mathlib.Core.Path.{_≡_, sym, ap, _∙_}
-use native.Mathlib.Omega.{arith}
 use denote.Ref.{now}
-use Prim.Native.Nat.{ℕ, _+_, _*_, _≤_}
 use lib.ListN.{length}
 use Rattle.sound_lanes.specs.Lanes.{Lanes, five}
-use Rattle.static_sound.specs.Entries.{refusedBlock, room}
-use Rattle.static_sound.proofs.Calls.{refused-into, processed-into, playable-part, inside}
+use Rattle.static_sound.proofs.Whole.{constant-into}
 use borrow.Author.Needs.{needs}
 use Rattle.static_sound.proofs.mix.process_into.Statement.{statement}
 use Rattle.static_sound.proofs.mix.process_into.Tie as tie
 use Rattle.static_sound.proofs.mix.process_into.Reads as reads
 use Rattle.static_sound.proofs.mix.process_into.Lts as lts
-use Rattle.static_sound.proofs.mix.has_room.Reads as has-room-reads
-use Rattle.sound_block.proofs.block.Reads as block-reads
-use Rattle.static_sound.proofs.refusal_of.Reads as refusal-of-reads
+use Rattle.static_sound.proofs.mix.process_lanes.Reads as process-lanes-reads
+use Rattle.static_sound.proofs.once.process_held_into.Reads as process-held-into-reads
+use Rattle.sound_constant.proofs.are_constant.Reads as are-constant-reads
+use Rattle.sound_constant.proofs.first_of.Reads as first-of-reads
 
-abbrev start : tie.After-refusal-of → tie.Start
-start c = c .before .before .before .before .before .before .before .before .before
+abbrev start : tie.After-are-constant → tie.Start
+start c = c .before .before .before .before .before .before .before .before
 
-abbrev lent : tie.After-refusal-of → Lanes
+abbrev lent : tie.After-are-constant → Lanes
 lent c = let a = start c .args in five (now (a .fade)) (now (a .volume)) (now (a .left)) (now (a .right)) (now (a .rate))
 
-numbered : (c : tie.After-refusal-of)
-    → (let a = start c .args in
-    c .refusal-of .result ≡ refusedBlock (length (now (a .sound))) (a .voice) (a .dt) (lent c) (room (a .from) (length (now (a .rate))) (now (a .mix))))
-numbered c = rw (c .before .has-room .ensures) at (c .refusal-of .ensures)
+are-constant-requires : tie.Need-are-constant-requires
+are-constant-requires c κs = search needs
 
-none : (c : tie.Else1)
-    → (let a = start (c .before) .args in
-    refusedBlock (length (now (a .sound))) (a .voice) (a .dt) (lent (c .before)) (room (a .from) (length (now (a .rate))) (now (a .mix))) ≡ 0)
-none c = sym (numbered (c .before)) ∙ c .if1 .left
+first-of-requires : tie.Need-first-of-requires
+first-of-requires c κs = c .before .are-constant .ensures (c .if1 .taken)
 
--- the part lies in the mix
-fits : (c : tie.Else1) → (let a = start (c .before) .args in 2 * (a .from + length (now (a .rate))) ≤ length (now (a .mix)))
-fits c = let a = start (c .before) .args in inside (now (a .sound)) (a .voice) (a .dt) (lent (c .before)) (a .signals) (now (a .mix)) (a .from) (none c)
-
-has-room-requires : tie.Need-has-room-requires
-has-room-requires c κs = search needs
-
-refusal-of-requires : tie.Need-refusal-of-requires
-refusal-of-requires c κs = search needs
-
-returns : tie.Need-returns
-returns c = let a = start (c .before) .args in refused-into (now (a .sound)) (a .voice) (a .dt) (lent (c .before)) (a .signals) (now (a .mix)) (a .from) _ (numbered (c .before)) (c .if1 .taken)
-
-mul-a : tie.Need-mul-a
-mul-a c = omega (arith, fits c, start (c .before) .good .1 .1 .1 .1 .1 .1 .1 .1 .1 .0)
-
-mul-e : tie.Need-mul-e
-mul-e c = omega (arith, fits c, start (c .before) .good .1 .1 .1 .1 .1 .1 .1 .1 .1 .0)
-
-add-e : tie.Need-add-e
-add-e c = omega (arith, fits c, start (c .before) .good .1 .1 .1 .1 .1 .1 .1 .1 .1 .0)
-
-mul-block : tie.Need-mul-block
-mul-block c = omega (arith, fits c, start (c .before) .good .1 .1 .1 .1 .1 .1 .1 .1 .1 .0)
-
-sub-block : tie.Need-sub-block
-sub-block c = search needs
-
-part-block-start : tie.Need-part-block-start
-part-block-start c = search needs
-
-part-block-end : tie.Need-part-block-end
-part-block-end c = omega (arith, fits c, start (c .before) .good .1 .1 .1 .1 .1 .1 .1 .1 .1 .0)
-
-block-requires : tie.Need-block-requires
-block-requires c κs =
-    let e = c .before in
-    let a = start (e .before) .args in
-    playable-part (now (a .sound)) (a .voice) (a .dt) (lent (e .before)) (a .signals) (now (a .mix)) (a .from) (none e)
+process-held-into-requires : tie.Need-process-held-into-requires
+process-held-into-requires c κs = search needs
 
 same-length : tie.Need-same-length
 same-length c = search needs
 
-returns-2 : tie.Need-returns-2
-returns-2 c =
+returns : tie.Need-returns
+returns c =
     let p = c .before .before in
-    let e = p .before .before in
+    let f = p .before .before in
+    let e = f .before in
     let a = start (e .before) .args in
-    processed-into (now (a .sound)) (a .voice) (a .dt) (lent (e .before)) (a .signals) (now (a .mix)) (a .from) (p .block .result) _ (none e) (p .block .ensures)
+    constant-into (now (a .sound)) (a .voice) (a .dt) (lent (e .before)) (a .signals) (now (a .mix)) (a .from) _ (e .before .are-constant .ensures (e .if1 .taken)) _ (f .first-of .ensures) (p .process-held-into .ensures)
+
+process-lanes-requires : tie.Need-process-lanes-requires
+process-lanes-requires c κs = search needs
+
+same-length-2 : tie.Need-same-length-2
+same-length-2 c = search needs
+
+returns-2 : tie.Need-returns-2
+returns-2 c = c .before .before .process-lanes .ensures
 
 pub process-into-spec : {M : Type 1} → statement M
 process-into-spec =
     tie.close
     (tie.spec
-    has-room-requires
-    refusal-of-requires
-    returns
-    mul-a
-    mul-e
-    add-e
-    mul-block
-    sub-block
-    part-block-start
-    part-block-end
-    block-requires
+    are-constant-requires
+    first-of-requires
+    process-held-into-requires
     same-length
+    returns
+    process-lanes-requires
+    same-length-2
     returns-2)

@@ -1,0 +1,2 @@
+-- Laws of constant lanes.
+pub mod Equal

@@ -1,0 +1,2 @@
+-- Constant lanes.
+pub mod Constant
