@@ -8,7 +8,7 @@ use std::{
 };
 
 use super::{OtherSound, Record, Refused, Replay, Step, TraceVersion, values};
-use crate::ffi;
+use crate::{Refusal, ffi};
 
 /// How much of a trace is held.
 const ROOM: usize = 64 * 1_024;
@@ -170,22 +170,22 @@ impl<R: Read> TraceReader<R> {
         if self.refused {
             return None;
         }
-        if let Err(error) = self.fill() {
-            return Some(Err(self.broken(error)));
-        }
+        // The records that were read before an error are returned before it.
+        let failed = self.fill().err();
         (self.last, self.found) = (0, None);
         if self.at == self.end {
-            return None;
+            return failed.map(|error| Err(self.broken(error)));
         }
         let at = self.place();
-        match self.version.found(&self.held[..self.end], self.at) {
-            Ok(found) => {
+        match (self.version.found(&self.held[..self.end], self.at), failed) {
+            (Ok(found), _) => {
                 let next = found.next as usize;
                 (self.last, self.at) = (next - self.at, next);
                 self.found = Some(found);
                 Some(Ok(at))
             }
-            Err(refusal) => {
+            (Err(Refusal::Truncated), Some(error)) => Some(Err(self.broken(error))),
+            (Err(refusal), _) => {
                 self.refused = true;
                 Some(Err(TraceError::Refused(Refused { refusal, at })))
             }

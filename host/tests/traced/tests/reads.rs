@@ -135,7 +135,12 @@ fn a_trace_longer_than_what_is_held() {
     while records.read_next().is_some_and(|at| at.is_ok()) {
         read += 1;
     }
-    assert!((1_000..2_000).contains(&read), "{read}");
+    let (mut at, mut whole) = (0, 0);
+    while page::read(&trace[..70_000], at).refusal == 0 {
+        at = page::read(&trace[..70_000], at).next;
+        whole += 1;
+    }
+    assert_eq!(read, whole, "the records before the error");
     assert!(records.read_next().is_none());
     let failed = replay(Broken(&trace[..70_000]), io::sink());
     assert_eq!(failed.unwrap_err().kind(), io::ErrorKind::TimedOut);
