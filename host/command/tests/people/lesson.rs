@@ -30,7 +30,7 @@ fn lesson_of(seconds: u32) -> Lesson {
 }
 
 /// The lesson of most evenings: 30 seconds.
-pub fn lesson() -> &'static Lesson {
+fn lesson() -> &'static Lesson {
     static LESSON: OnceLock<Lesson> = OnceLock::new();
     LESSON.get_or_init(|| lesson_of(30))
 }
@@ -66,16 +66,16 @@ fn script(evening: u32) -> Vec<(u32, Command)> {
 }
 
 /// An evening at a box.
-pub struct Evening {
-    pub trace: Vec<u8>,
+struct Evening {
+    trace: Vec<u8>,
     /// What the box logs, in form 1.
-    pub log: String,
+    log: String,
     /// The samples that the student heard, as bytes, if they were kept.
     heard: Vec<u8>,
 }
 
 /// Plays an evening of so many seconds in callbacks of so many frames, and records it.
-pub fn evening(lesson: &Lesson, seconds: u32, callback: usize, hears: bool) -> Evening {
+fn evening(lesson: &Lesson, seconds: u32, callback: usize, hears: bool) -> Evening {
     let mut buffer = vec![0; 1 << 20];
     let settings = Settings::new(LESSON_RATE);
     let mut player = RecordedPlayer::play(settings, DEVICE_RATE, lesson, &mut buffer).unwrap();
