@@ -4,8 +4,8 @@
 use std::{fs, hint::black_box, time::Instant};
 
 use cableowl::{
-    Command, Frames, Lanes, Level, Player, Processed, RecordedPlayer, Refusal, Region, Settings,
-    Signals, StaticSound, Tween,
+    Command, Frames, Lane, Lanes, Level, Player, Processed, RecordedPlayer, Refusal, Region,
+    Settings, Signals, StaticSound, Tween,
     trace::{
         Digest, Lesson, Line, Record, Recorder, Replay, SoundId, Sounds, Step, Trace, TraceReader,
         TraceVersion, lines, write,
@@ -361,81 +361,63 @@ fn least<const N: usize>(mut calls: [&mut dyn FnMut(); N]) -> [f64; N] {
     least
 }
 
-/// What recording costs, in a callback of 512 frames at rest and in one that fades.
+/// What recording costs, in a callback of 512 frames at rest and in a block of 512 that fades.
 #[test]
 #[ignore = "measures time: run it in release, with --ignored --nocapture"]
 fn what_recording_costs() {
     const CALLBACK: usize = 512;
     let lesson = lesson(30);
     let (sound, settings) = (lesson.samples(), Settings::new(LESSON_RATE).loop_region(..));
-    let mut out = [[0.0; 2 * CALLBACK]; 4];
-    let [a, b, c, d] = &mut out;
+    let mut outs = [[0.0; 2 * CALLBACK]; 4];
+    let [a, b, c, d] = &mut outs;
     let mut plain = Player::play(settings, DEVICE_RATE, sound).unwrap();
     let mut buffer = vec![0; 100_000];
     let mut player = RecordedPlayer::play(settings, DEVICE_RATE, &lesson, &mut buffer).unwrap();
-    let mut call = || {
-        plain.process(sound, a).unwrap();
-    };
-    let mut recorded = || {
-        player
-            .process(b, |line| {
+    let [call, recorded] = least([
+        &mut || {
+            plain.process(sound, a).unwrap();
+        },
+        &mut || {
+            let log = |line| {
                 black_box(line);
-            })
-            .recorded
-            .unwrap();
-        if player.room() < 20_000 {
-            player.clear();
-        }
-    };
+            };
+            player.process(b, log).recorded.unwrap();
+            if player.room() < 20_000 {
+                player.clear();
+            }
+        },
+    ]);
+    println!("a callback of 512 frames at rest, ns: player {call:.0}, recorded {recorded:.0}");
     let mut voice = StaticSound::new(settings, sound).unwrap();
     let mut buffer = vec![0; 100_000];
     let mut recorder = Recorder::new(&mut buffer);
     recorder.create(settings, &lesson).recorded.unwrap();
     let (mut lanes, mut lanes_of, step) = (Lanes::new(), Lanes::new(), 1.0 / 48_000.0);
-    let mut voiced = || {
-        let block = lanes.frames(CALLBACK);
-        voice
-            .process(sound, block, step, Signals::new(), c)
-            .unwrap();
-    };
-    let mut voice_recorded = || {
-        let block = lanes_of.frames(CALLBACK);
-        recorder
-            .process(sound, block, step, Signals::new(), d)
-            .recorded
-            .unwrap();
-        if recorder.room() < 20_000 {
-            recorder.clear();
-        }
-    };
-    let [call, recorded, voiced, voice_recorded] =
-        least([&mut call, &mut recorded, &mut voiced, &mut voice_recorded]);
-    println!(
-        "a callback of 512 frames at rest, ns: player {call:.0}, recorded {recorded:.0}; voice {voiced:.0}, recorded {voice_recorded:.0}"
-    );
-    let fade: Vec<f32> = (0..CALLBACK)
-        .map(|frame| 1.0 - frame as f32 / 1_000.0)
+    let falling: Vec<f32> = (0..CALLBACK)
+        .map(|frame| 1.0 / (1.0 + frame as f32))
         .collect();
-    let mut voiced = || {
-        let block = lanes.frames(CALLBACK).fade(&fade);
-        voice
-            .process(sound, block, step, Signals::new(), c)
-            .unwrap();
-    };
-    let mut voice_recorded = || {
-        let block = lanes_of.frames(CALLBACK).fade(&fade);
-        recorder
-            .process(sound, block, step, Signals::new(), d)
-            .recorded
-            .unwrap();
-        if recorder.room() < 20_000 {
-            recorder.clear();
-        }
-    };
-    let [voiced, voice_recorded] = least([&mut voiced, &mut voice_recorded]);
-    println!(
-        "a block of 512 frames that fades, ns: voice {voiced:.0}, recorded {voice_recorded:.0}"
-    );
+    for (name, fade) in [
+        ("at rest", Lane::from(1.0)),
+        ("that fades", Lane::from(&falling)),
+    ] {
+        let [played, recorded] = least([
+            &mut || {
+                let block = lanes.frames(CALLBACK).fade(fade);
+                voice
+                    .process(sound, block, step, Signals::new(), c)
+                    .unwrap();
+            },
+            &mut || {
+                let block = lanes_of.frames(CALLBACK).fade(fade);
+                let block = recorder.process(sound, block, step, Signals::new(), d);
+                block.recorded.unwrap();
+                if recorder.room() < 20_000 {
+                    recorder.clear();
+                }
+            },
+        ]);
+        println!("a block of 512 frames {name}, ns: voice {played:.0}, recorded {recorded:.0}");
+    }
 }
 
 /// What a trace takes: docs/formats/TRACE.md has these figures.

@@ -4,7 +4,8 @@
 use cableowl::{
     Commands, Frames, Lanes, Processed, Refusal, Settings, Signals, StartAnswer, StaticSound,
     trace::{
-        Lesson, Line, MAX_TRACED_FRAMES, Record, Recorded, Recorder, Replay, Sounds, Trace, lines,
+        Block, Lesson, Line, MAX_TRACED_FRAMES, Record, Recorded, Recorder, Replay, Sounds, Trace,
+        lines, write,
     },
 };
 use random::Random;
@@ -397,4 +398,52 @@ fn the_open_block_has_its_space() {
     assert_eq!(block(&mut recorder, 0.5), Err(Refusal::Room));
     recorder.clear();
     assert_eq!((recorder.bytes().len(), recorder.room()), (0, 162));
+}
+
+/// The steps of the lines that a trace prints.
+fn steps(trace: &[u8]) -> Vec<u64> {
+    let steps = |line| match line {
+        Line::Block { steps, .. } => steps,
+        line => panic!("{line}"),
+    };
+    lines(trace).map(steps).collect()
+}
+
+/// Blocks up to the end of a sound and behind it: a record over both would count more steps.
+#[test]
+fn nothing_is_joined_over_the_end_of_the_sound() {
+    let lesson = Lesson::new(vec![0.5; 6]).unwrap();
+    let (mut room, mut buffer) = (Lanes::new(), [0; 300]);
+    let mut recorder = Recorder::new(&mut buffer);
+    recorder.create(Settings::new(1), &lesson).recorded.unwrap();
+    for _ in 0..4 {
+        let (sound, lanes) = (lesson.samples(), room.frames(2));
+        let block = recorder.process(sound, lanes, 1.0, Signals::new(), &mut [0.0; 4]);
+        block.recorded.unwrap();
+    }
+    // The second block ends the sound. The first two are one record, the last two another.
+    assert_eq!(steps(recorder.bytes()), [4, 0]);
+    let mut as_one = [0; 112];
+    let settings = Settings::new(1);
+    let sound = lesson.id();
+    let next = write(&Record::GivenCreation { settings, sound }, &mut as_one, 0).unwrap();
+    let block = Record::Block(Block::new(8, 1.0));
+    write(&block, &mut as_one, next).unwrap();
+    assert_eq!(steps(&as_one), [8]);
+}
+
+/// A block that no record can hold whole, in which the sound ends.
+#[test]
+fn a_long_block_over_the_end_is_played_in_parts() {
+    let lesson = Lesson::new(vec![0.5; 2]).unwrap();
+    let (mut room, mut buffer, mut out) = (Lanes::new(), [0; 300], [0.0; 4_000]);
+    let mut recorder = Recorder::new(&mut buffer);
+    recorder.create(Settings::new(1), &lesson).recorded.unwrap();
+    let (sound, lanes) = (lesson.samples(), room.frames(2_000));
+    let block = recorder.process(sound, lanes, 1.0, Signals::new(), &mut out);
+    assert_eq!(block.answer.unwrap().steps, 1_024);
+    assert_eq!(steps(recorder.bytes()), [1_024, 0]);
+    let mut voice = StaticSound::new(Settings::new(1), sound).unwrap();
+    let whole = voice.process(sound, room.frames(2_000), 1.0, Signals::new(), &mut out);
+    assert_eq!(whole.unwrap().steps, 2_000);
 }

@@ -141,12 +141,15 @@ impl<'a> RecordedPlayer<'a> {
 
     fn run(&mut self, out: &mut [f32], place: Place, log: impl FnMut(Line)) -> Recorded<Processed> {
         let (player, sound) = (&mut self.player, self.lesson.samples());
-        let tape = &mut self.tape;
+        let (tape, started) = (&mut self.tape, &mut self.started);
         let answer = match tape.version() {
-            TraceVersion::First => player.run(sound, out, place, &mut Cutting { tape, log }),
+            TraceVersion::First => {
+                let watch = &mut Logged::<_, true> { tape, started, log };
+                player.run(sound, out, place, watch)
+            }
             TraceVersion::Second => {
-                let started = &mut self.started;
-                player.run(sound, out, place, &mut Whole { tape, started, log })
+                let watch = &mut Logged::<_, false> { tape, started, log };
+                player.run(sound, out, place, watch)
             }
         };
         Recorded {
@@ -193,49 +196,17 @@ impl<'a> RecordedPlayer<'a> {
     }
 }
 
-/// Records in version 1: the player's blocks are cut so that each is a record.
-struct Cutting<'t, 'a, F> {
-    tape: &'t mut Tape<'a>,
-    log: F,
-}
-
-impl<F: FnMut(Line)> Watch for Cutting<'_, '_, F> {
-    const RECORDS: bool = true;
-    const CUTS: bool = true;
-
-    fn told(&mut self, commands: Commands) {
-        self.tape.keep(Ok(Record::Commands(commands)));
-    }
-
-    fn played(
-        &mut self,
-        lanes: BlockLanes<'_>,
-        time_step: f64,
-        signals: Signals,
-        voice: &StaticSound,
-        counts: Processed,
-    ) {
-        played(
-            self.tape,
-            &mut self.log,
-            lanes,
-            time_step,
-            signals,
-            voice,
-            counts,
-        );
-    }
-}
-
-/// Records in version 2: the player's blocks as they are.
-struct Whole<'t, 'a, F> {
+/// Records what the voice gets, and logs its lines. In version 1 the player cuts its blocks so that each is
+/// a record.
+struct Logged<'t, 'a, F, const CUTS: bool> {
     tape: &'t mut Tape<'a>,
     started: &'t mut bool,
     log: F,
 }
 
-impl<F: FnMut(Line)> Watch for Whole<'_, '_, F> {
+impl<F: FnMut(Line), const CUTS: bool> Watch for Logged<'_, '_, F, CUTS> {
     const RECORDS: bool = true;
+    const CUTS: bool = CUTS;
 
     fn told(&mut self, commands: Commands) {
         self.tape.keep(Ok(Record::Commands(commands)));
@@ -250,36 +221,16 @@ impl<F: FnMut(Line)> Watch for Whole<'_, '_, F> {
         counts: Processed,
     ) {
         // A player repeats the answer for the start in every block; a sound that has started ignores it.
-        if signals.start.answer() != StartAnswer::Waiting {
+        if !CUTS && signals.start.answer() != StartAnswer::Waiting {
             if *self.started {
                 signals = signals.start(StartAnswer::Waiting);
             }
             *self.started = voice.state().started;
         }
-        played(
-            self.tape,
-            &mut self.log,
-            lanes,
-            time_step,
-            signals,
-            voice,
-            counts,
-        );
+        let block = self.tape.next_block();
+        let line = Line::of_block(block, lanes.count(), voice, Ok(counts));
+        let tape = &mut self.tape;
+        tape.played(lanes, time_step, signals, Some(voice), Ok(counts));
+        (self.log)(line);
     }
-}
-
-/// Records a block and logs its line.
-fn played(
-    tape: &mut Tape<'_>,
-    log: &mut impl FnMut(Line),
-    lanes: BlockLanes<'_>,
-    time_step: f64,
-    signals: Signals,
-    voice: &StaticSound,
-    counts: Processed,
-) {
-    let block = tape.next_block();
-    let line = Line::of_block(block, lanes.count(), voice, Ok(counts));
-    tape.played(lanes, time_step, signals, Some(voice), Ok(counts));
-    log(line);
 }

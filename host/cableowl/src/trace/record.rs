@@ -108,10 +108,7 @@ impl Block {
     /// The signals that the block gets.
     #[must_use]
     pub fn signals(&self) -> Signals {
-        Signals::new()
-            .finished(self.finished)
-            .start(self.start)
-            .resume(self.resume)
+        signals(self.finished, self.start, self.resume)
     }
 
     /// Whether the next block, with no command between them, can be recorded as the end of this one: it
@@ -149,6 +146,13 @@ impl Block {
             rate: self.rate,
         }
     }
+}
+
+fn signals(finished: bool, start: StartAnswer, resume: StartAnswer) -> Signals {
+    Signals::new()
+        .finished(finished)
+        .start(start)
+        .resume(resume)
 }
 
 /// The numbers of the five lanes for one frame.
@@ -264,20 +268,19 @@ impl<'a> LanedBlock<'a> {
 
     /// The same block with these signals.
     #[must_use]
-    pub fn with_signals(mut self, signals: Signals) -> Self {
-        self.finished = signals.finished;
-        self.start = signals.start.answer();
-        self.resume = signals.resume;
-        self
+    pub fn with_signals(self, signals: Signals) -> Self {
+        Self {
+            finished: signals.finished,
+            start: signals.start.answer(),
+            resume: signals.resume,
+            ..self
+        }
     }
 
     /// The signals that the block gets.
     #[must_use]
     pub fn signals(&self) -> Signals {
-        Signals::new()
-            .finished(self.finished)
-            .start(self.start)
-            .resume(self.resume)
+        signals(self.finished, self.start, self.resume)
     }
 
     /// How many frames it has.

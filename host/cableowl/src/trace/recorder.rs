@@ -2,7 +2,10 @@
 
 use std::ops::Range;
 
-use super::{Lesson, Line, MAX_TRACED_FRAMES, Record, Tape, TraceVersion, tape::ran_off};
+use super::{
+    Lesson, Line, MAX_TRACED_FRAMES, Record, Tape, TraceVersion,
+    tape::{parts, ran_off},
+};
 use crate::{BlockLanes, Commands, LoopTable, Processed, Refusal, Settings, Signals, StaticSound};
 
 /// The result of a recorded call.
@@ -242,8 +245,10 @@ impl<'a> Recorder<'a> {
                 match (before, answer) {
                     (Some(before), Ok(counts)) if ran_off(voice, counts) => {
                         *voice = before;
-                        in_parts(frames, signals, |part, signals| {
-                            play(voice, lanes.part(part.clone()), signals, Some(part))
+                        let mut parts = parts(frames, signals);
+                        parts.try_fold(Processed::NONE, |counts, (part, signals)| {
+                            let lanes = lanes.part(part.clone());
+                            Ok(counts.and(play(voice, lanes, signals, Some(part))?))
                         })
                     }
                     _ => answer,
@@ -288,19 +293,4 @@ impl<'a> Recorder<'a> {
             recorded: self.tape.recorded(),
         }
     }
-}
-
-/// Plays a block in parts of at most 1,024 frames. The first gets the signals.
-fn in_parts(
-    frames: usize,
-    signals: Signals,
-    mut play: impl FnMut(Range<usize>, Signals) -> Result<Processed, Refusal>,
-) -> Result<Processed, Refusal> {
-    let (mut from, mut signals, mut counts) = (0, signals, Processed::NONE);
-    while from < frames {
-        let to = frames.min(from + MAX_TRACED_FRAMES);
-        counts = counts.and(play(from..to, signals)?);
-        (from, signals) = (to, Signals::new());
-    }
-    Ok(counts)
 }

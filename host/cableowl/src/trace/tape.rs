@@ -1,5 +1,7 @@
 //! The records of calls in a borrowed buffer, used by a recorded voice and a recorded player.
 
+use std::ops::Range;
+
 use super::{
     Block, FrameNumbers, LanedBlock, Lesson, MAX_TRACED_FRAMES, Record, ShortSound, TraceVersion,
 };
@@ -114,20 +116,14 @@ impl<'a> Tape<'a> {
         &mut self,
         mut lanes: BlockLanes<'_>,
         time_step: f64,
-        mut signals: Signals,
+        signals: Signals,
         stopped: bool,
     ) -> Result<(), Refusal> {
-        let (mut from, frames) = (0, lanes.count());
-        loop {
-            let to = frames.min(from + MAX_TRACED_FRAMES);
-            let part = lanes.part(from..to);
+        for (part, signals) in parts(lanes.count(), signals) {
+            let part = lanes.part(part);
             match part.block(time_step, signals) {
                 Ok(block) => self.join(block)?,
                 Err(_) => self.laned(part, time_step, signals)?,
-            }
-            (from, signals) = (to, Signals::new());
-            if from == frames {
-                break;
             }
         }
         if stopped { self.close() } else { Ok(()) }
@@ -260,6 +256,16 @@ impl<'a> Tape<'a> {
     pub fn clear(&mut self) {
         (self.held, self.open) = (0, None);
     }
+}
+
+/// The parts of a block that are records, each with its signals: the first part gets the block's. A block
+/// without frames has one part.
+pub fn parts(frames: usize, signals: Signals) -> impl Iterator<Item = (Range<usize>, Signals)> {
+    let starts = (0..frames.max(1)).step_by(MAX_TRACED_FRAMES);
+    starts.map(move |from| {
+        let signals = if from == 0 { signals } else { Signals::new() };
+        (from..frames.min(from + MAX_TRACED_FRAMES), signals)
+    })
 }
 
 /// Whether the voice ran off its sound in the block with these counts. Without a step the block was
