@@ -5,6 +5,7 @@ use std::{
     io::{Read, Write},
     process::{Command as Process, Stdio},
     sync::OnceLock,
+    thread,
 };
 
 use cableowl::{
@@ -30,7 +31,7 @@ fn lesson_of(seconds: u32) -> Lesson {
 }
 
 /// The lesson of most evenings: 30 seconds.
-pub fn lesson() -> &'static Lesson {
+fn lesson() -> &'static Lesson {
     static LESSON: OnceLock<Lesson> = OnceLock::new();
     LESSON.get_or_init(|| lesson_of(30))
 }
@@ -66,16 +67,16 @@ fn script(evening: u32) -> Vec<(u32, Command)> {
 }
 
 /// An evening at a box.
-pub struct Evening {
-    pub trace: Vec<u8>,
+struct Evening {
+    trace: Vec<u8>,
     /// What the box logs, in form 1.
-    pub log: String,
+    log: String,
     /// The samples that the student heard, as bytes, if they were kept.
     heard: Vec<u8>,
 }
 
 /// Plays an evening of so many seconds in callbacks of so many frames, and records it.
-pub fn evening(lesson: &Lesson, seconds: u32, callback: usize, hears: bool) -> Evening {
+fn evening(lesson: &Lesson, seconds: u32, callback: usize, hears: bool) -> Evening {
     let mut buffer = vec![0; 1 << 20];
     let settings = Settings::new(LESSON_RATE);
     let mut player = RecordedPlayer::play(settings, DEVICE_RATE, lesson, &mut buffer).unwrap();
@@ -544,19 +545,19 @@ fn the_longest_sound_needs_no_memory() {
         .unwrap();
     let mut input = child.stdin.take().unwrap();
     let mut output = child.stdout.take().unwrap();
+    let reader = thread::spawn(move || {
+        let mut printed = String::new();
+        output.read_to_string(&mut printed).map(|_| printed)
+    });
+    // When all is written, it has played all but the last that the pipe holds, and waits for the end.
     input.write_all(&trace(&records)).unwrap();
-    // What it printed so far says that it plays; it waits for the rest.
-    output.read_exact(&mut vec![0; 300_000]).unwrap();
     let status = fs::read_to_string(format!("/proc/{}/status", child.id()));
     drop(input);
-    let mut rest = String::new();
-    output.read_to_string(&mut rest).unwrap();
+    let printed = reader.join().unwrap().unwrap();
     assert!(child.wait().unwrap().success());
-    assert!(
-        rest.ends_with("block=10000 frames=1024 steps=941 state=0 position=9408000\n"),
-        "{}",
-        &rest[rest.len() - 100..]
-    );
+    let (frames, _, state, position) = *edges(&printed).last().unwrap();
+    assert_eq!((frames, state), (10_240_000, 0));
+    assert!((9_408_000..9_408_004).contains(&position), "{position}");
     let Ok(status) = status else {
         eprintln!("SKIPPED: no /proc here, so the memory was not measured");
         return;

@@ -86,7 +86,8 @@ fn a_damaged_trace_is_told_by_its_place_and_number() {
     for (bytes, number) in [
         (&b"\n"[..], 15),
         (b"\xa5", 18),
-        (b"\xa5\x1d\x04", 16),
+        (b"\xa5\x1d\x04", 18),
+        (b"\xa5\x1d\x06", 16),
         (b"\xa5\x1d\x02\x08\x00", 17),
     ] {
         let mut trace = three();

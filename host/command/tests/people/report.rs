@@ -465,8 +465,8 @@ fn the_page_has_links_seconds_and_right_plurals() {
         assert_eq!(page.matches("<svg ").count(), files.len());
         assert!(page.contains("at 1 frame a second"), "not 1 frames");
         assert!(page.contains("Refusal 10: the time step, "));
-        assert!(page.contains(" round a loop of 4 frames, 4.000 s"));
-        assert!(page.contains(">4 s</text>"), "places are in seconds");
+        assert!(page.contains(" of a loop of 4 frames, 4.000 s"));
+        assert!(page.contains(">4 s</text>"), "positions are in seconds");
         assert!(page.contains("prefers-color-scheme:dark"));
         let inline = page.matches("style=\"").count();
         assert_eq!(inline, 0, "each colour has a dark one");

@@ -9,7 +9,6 @@ use cableowl::{
 
 use crate::{
     audit::{creeping, evening},
-    lesson,
     room::{Room, creation, trace},
     sound::raw,
 };
@@ -133,22 +132,29 @@ fn files(room: &Room) {
     lessons(room);
 }
 
-/// A lesson, another sound, and two boxes whose evenings are over the lesson and over a third sound.
+/// A lesson of two seconds, another sound, and two boxes that played the lesson and a third sound.
 fn lessons(room: &Room) {
-    let lesson = lesson::lesson();
-    room.put("lesson.f32", raw(lesson.samples()));
-    room.put("other.f32", raw(&[0.25; 20]));
+    let samples = (0..2 * 88_200).map(|index| (index % 128) as f32 / 64.0 - 1.0);
+    let lesson = Lesson::new(samples.collect::<Vec<f32>>()).unwrap();
+    let third = Lesson::new(vec![0.5; lesson.samples().len()]).unwrap();
     for folder in ["lessons", "sounds"] {
         fs::create_dir(room.0.join(folder)).unwrap();
     }
-    room.put("sounds/lesson.f32", raw(lesson.samples()));
-    let third = Lesson::new(vec![0.5; lesson.samples().len()]).unwrap();
-    for (name, lesson) in [("hall1", lesson), ("hall2", &third)] {
-        let evening = lesson::evening(lesson, 60, 512, false);
-        room.put(&format!("lessons/{name}.trace"), &evening.trace);
-        room.put(&format!("lessons/{name}.log"), evening.log);
+    for name in ["lesson.f32", "sounds/lesson.f32"] {
+        room.put(name, raw(lesson.samples()));
+    }
+    room.put("other.f32", raw(&[0.25; 20]));
+    for (name, sound) in [("hall1", lesson.id()), ("hall2", third.id())] {
+        let settings = Settings::new(44_100);
+        let block = Record::Block(Block::new(1_024, 1.0 / RATE as f64));
+        let mut records = vec![Record::GivenCreation { settings, sound }];
+        records.extend((0..90).map(|_| block));
+        let trace = trace(&records);
+        let log = room.run_on(&["replay", "-"], &trace).out;
+        room.put(&format!("lessons/{name}.log"), log);
+        room.put(&format!("lessons/{name}.trace"), &trace);
         if name == "hall1" {
-            room.put("lesson.trace", evening.trace);
+            room.put("lesson.trace", trace);
         }
     }
 }
