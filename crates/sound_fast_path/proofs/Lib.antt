@@ -1,3 +1,3 @@
--- Laws of rides.
-pub mod Rides
+-- Laws of scans.
+pub mod Scans
 pub mod Joins

@@ -4,8 +4,8 @@ ghost use Prim.Native.Nat.{_+_, _*_, _/_, _^_, _≤_, _<_};
 ghost use lib.ListN.{length};
 ghost use Rattle.sound_lanes.specs.Lanes.{rows};
 ghost use Rattle.sound_slow_path.specs.Plays.{lower, plays, acceptedAs};
-ghost use Rattle.sound_slow_path.specs.Turns.{Playable};
-ghost use Rattle.sound_held.specs.Held.{once};
+ghost use Rattle.sound_slow_path.specs.FrameSteps.{Playable};
+ghost use Rattle.sound_held.specs.Held.{heldLanes};
 use sound_slow_path::Processed;
 use sound_slow_path::Timed;
 
@@ -30,24 +30,24 @@ fn joined(first: Processed, next: Processed) -> Processed
     requires { ⌜ first .steps + next .steps < 2 ^ 64 ⌝ }
     ensures { λ r. ⌜ r ≡ record {
       refusal = 0;
-      sound = next .sound;
+      voice = next .voice;
       steps = first .steps + next .steps;
       «lowest_count» = lower (first .«lowest_count») (next .«lowest_count»);
     } ⌝ }
 {
-    let sound = next.sound;
+    let voice = next.voice;
     let steps = first.steps + next.steps;
     if first.lowest_count <= next.lowest_count {
         return Processed {
             refusal: 0,
-            sound,
+            voice,
             steps,
             lowest_count: first.lowest_count,
         };
     }
     Processed {
         refusal: 0,
-        sound,
+        voice,
         steps,
         lowest_count: next.lowest_count,
     }
@@ -55,11 +55,11 @@ fn joined(first: Processed, next: Processed) -> Processed
 
 // At most 16 frames: repeats the numbers in lanes.
 fn few(timed: Timed, sound: &[f32], held: Held, out: &mut [f32]) -> Processed
-    requires { ⌜ Playable (now sound) (timed .voice) (timed .dt) (once held (length (now out) / 2))
+    requires { ⌜ Playable (now sound) (timed .voice) (timed .dt) (heldLanes held (length (now out) / 2))
         (length (now out)) ⌝ }
     requires { ⌜ length (now out) ≤ 32 ⌝ }
     ensures { λ r. ⌜ record { answer = r; samples = now (out .exit) }
-        ≡ acceptedAs (plays (now (sound .entry)) (timed .dt) (rows (once held (length (now (out .entry)) / 2)))
+        ≡ acceptedAs (plays (now (sound .entry)) (timed .dt) (rows (heldLanes held (length (now (out .entry)) / 2)))
         (timed .voice)) ⌝ }
 {
     let n = out.len() / 2;
@@ -82,10 +82,10 @@ fn few(timed: Timed, sound: &[f32], held: Held, out: &mut [f32]) -> Processed
 
 // Plays the block in parts of 16 frames.
 pub fn play(timed: Timed, sound: &[f32], held: Held, out: &mut [f32]) -> Processed
-    requires { ⌜ Playable (now sound) (timed .voice) (timed .dt) (once held (length (now out) / 2))
+    requires { ⌜ Playable (now sound) (timed .voice) (timed .dt) (heldLanes held (length (now out) / 2))
         (length (now out)) ⌝ }
     ensures { λ r. ⌜ record { answer = r; samples = now (out .exit) }
-        ≡ acceptedAs (plays (now (sound .entry)) (timed .dt) (rows (once held (length (now (out .entry)) / 2)))
+        ≡ acceptedAs (plays (now (sound .entry)) (timed .dt) (rows (heldLanes held (length (now (out .entry)) / 2)))
         (timed .voice)) ⌝ }
 {
     let n = out.len() / 2;
@@ -93,7 +93,7 @@ pub fn play(timed: Timed, sound: &[f32], held: Held, out: &mut [f32]) -> Process
     let voice = timed.voice;
     let mut played = Processed {
         refusal: 0,
-        sound: voice,
+        voice,
         steps: 0,
         lowest_count: 4,
     };
@@ -102,7 +102,7 @@ pub fn play(timed: Timed, sound: &[f32], held: Held, out: &mut [f32]) -> Process
         let m = part_of(n - i);
         let a = 2 * i;
         let e = a + 2 * m;
-        let before = played.sound;
+        let before = played.voice;
         let part = few(Timed { voice: before, dt }, sound, held, &mut out[a..e]);
         played = joined(played, part);
         i += m;

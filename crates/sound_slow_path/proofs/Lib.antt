@@ -3,4 +3,4 @@ pub mod Keeps
 pub mod Loops
 pub mod Lowest
 pub mod Plays
-pub mod Turns
+pub mod FrameSteps

@@ -12,8 +12,8 @@ mod stretches;
 pub use mix::process_into;
 pub use once::process_held;
 pub use once::process_held_into;
+use sound_block::Signalled;
 use sound_block::Signals;
-use sound_block::Told;
 use sound_block::block;
 use sound_slow_path::Processed;
 use sound_slow_path::Timed;
@@ -98,13 +98,13 @@ pub fn process(
     if refusal != 0 {
         return Processed {
             refusal,
-            sound: voice,
+            voice,
             steps: 0,
             lowest_count: 4,
         };
     }
     block(
-        Told { voice, dt, signals },
+        Signalled { voice, dt, signals },
         sound,
         fade,
         volume,

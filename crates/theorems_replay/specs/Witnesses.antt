@@ -6,7 +6,7 @@ use lib.Ieee.{Float}
 use Rattle.numbers.specs.Words.{positiveZero}
 use Rattle.theorems.specs.Examples.{ten}
 use Rattle.theorems.specs.Witnesses.{voice}
-use Rattle.trace_replay.specs.Runs.{Course}
+use Rattle.trace_replay.specs.Runs.{Replay}
 use Rattle.cableowl.specs.declared.replays.CableowlReplay.{CableowlReplay}
 use Rattle.cableowl.specs.Replays.{blankReplay}
 use Rattle.c_state.specs.Records.{encoded}
@@ -20,7 +20,7 @@ use Rattle.theorems_replay.specs.Archive.{Lent, BothLent, WindowC, MayCu
 abbrev pub threeNans : List ℕ
 threeNans = take 31 threeFrames ++ (replicate 24 255 ++ drop 55 threeFrames)
 
-abbrev pub evening : Course
+abbrev pub evening : Replay
 evening = record { voice = voice; sound = ten; blocks = 0 }
 
 -- buffers as large as a step asks

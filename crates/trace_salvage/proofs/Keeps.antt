@@ -9,7 +9,7 @@ use lib.ListN.{length, getD, take, drop, set, length-append, length-drop, drop-o
 use native.Mathlib.Numerals.{add-one}
 use lib.Seq.{take-at, drop-at, drop-cons, drop-drop, sets, length-sets, length-take-le}
 use Rattle.byte_layout.proofs.Puts.{sets-append}
-use Rattle.trace_salvage.specs.declared.Turn.{Turn}
+use Rattle.trace_salvage.specs.declared.Salvaging.{Salvaging}
 use borrow.Author.Tests.{eqb-true, eqb-false, ne-eqb, eq-eqb, lt-ltb, le-ltb, ltb-true, ltb-false, leb-true, le-leb, lt-leb}
 use Rattle.trace_records.specs.declared.Record.{Record}
 use Rattle.byte_layout.specs.Numbers.{num}
@@ -17,7 +17,7 @@ use Rattle.byte_layout.specs.Rows.{rowAt, rows, stands, within}
 use Rattle.byte_layout.specs.Reads.{steps, step, taken}
 use Rattle.trace_records.specs.Tables.{headTable, headRows}
 use Rattle.trace_records.specs.Records.{Found, refused, found, readRecord, bodied, valued, recordAt}
-use Rattle.trace_salvage.specs.Salvage.{kept, skipped, records, first, sizeIn, sizeOf, placed, Turned, Salvaged, salvageOf}
+use Rattle.trace_salvage.specs.Salvage.{kept, skipped, records, first, sizeIn, sizeOf, placed, Salvages, Salvaged, salvageOf}
 
 none : {A : Type 0} → ⊥ → A
 none e = elim e [ ]
@@ -144,9 +144,9 @@ other-byte b bs h = let x : b + 0 ≡ b = omega arith in rw (x, not-a5 b h, le-l
 pub size-unmarked : (s : List ℕ) (at : ℕ) → at < length s → (getD s at 0 ≡ 165 → ⊥) → 0 ≡ sizeOf (drop at s)
 size-unmarked s at l h = rw (drop-cons s at 0 l) (other-byte (getD s at 0) (drop (suc at) s) h)
 
-module _ (s out : List ℕ) (t : Turn) (a : t .at < length s) (b : t .w ≤ t .at) (c : t .skip ≤ t .at) (g : t .records ≤ t .at) where
+module _ (s out : List ℕ) (t : Salvaging) (a : t .at < length s) (b : t .w ≤ t .at) (c : t .skip ≤ t .at) (g : t .records ≤ t .at) where
   pub keeps : (new : List ℕ) (n : ℕ) → n ≡ sizeOf (drop (t .at) s) → 0 < n → new ≡ sets out (t .w) (take (t .at + n - t .at) (drop (t .at) s))
-      → Turned s out new t (record { at = t .at + n; w = t .w + n; skip = t .skip; records = t .records + 1; first = t .first })
+      → Salvages s out new t (record { at = t .at + n; w = t .w + n; skip = t .skip; records = t .records + 1; first = t .first })
   keeps new n e p q =
       let bs = drop (t .at) s in
       let l : length bs ≡ length s - t .at = length-drop (t .at) s in
@@ -172,7 +172,7 @@ module _ (s out : List ℕ) (t : Turn) (a : t .at < length s) (b : t .w ≤ t .a
         place = ap (λ (u : ℕ). cond (eqb (t .skip) 0) u (t .first)) (sym v);
       }
 
-  pub skips : (n f : ℕ) → n ≡ sizeOf (drop (t .at) s) → n ≤ 0 → f ≡ cond (eqb (t .skip) 0) (t .at) (t .first) → Turned s out out t (record { at = t .at + 1; w = t .w; skip = t .skip + 1; records = t .records; first = f })
+  pub skips : (n f : ℕ) → n ≡ sizeOf (drop (t .at) s) → n ≤ 0 → f ≡ cond (eqb (t .skip) 0) (t .at) (t .first) → Salvages s out out t (record { at = t .at + 1; w = t .w; skip = t .skip + 1; records = t .records; first = f })
   skips n f e p y =
       let bs = drop (t .at) s in
       let k = turn-skip sizeOf (t .at) bs (omega (arith, length-drop (t .at) s)) (omega (arith, e)) in
@@ -200,7 +200,7 @@ pub refused-short : (s out : List ℕ) → length out < length s → done 25 0 0
 unfolding salvageOf
 refused-short s out h = rw (lt-ltb (length out) (length s) h) refl
 
-pub saved : (s out new : List ℕ) (t : Turn) (f : ℕ) → length s ≤ length out → length s ≤ t .at → sets new (t .w) (kept sizeOf (drop (t .at) s) 0) ≡ sets out 0 (kept sizeOf s 0)
+pub saved : (s out new : List ℕ) (t : Salvaging) (f : ℕ) → length s ≤ length out → length s ≤ t .at → sets new (t .w) (kept sizeOf (drop (t .at) s) 0) ≡ sets out 0 (kept sizeOf s 0)
     → t .skip + skipped sizeOf (drop (t .at) s) 0 ≡ skipped sizeOf s 0 → t .records + records sizeOf (drop (t .at) s) 0 ≡ records sizeOf s 0 → placed t s ≡ first sizeOf 0 s 0
     → f ≡ cond (eqb (t .skip) 0) (t .at) (t .first) → done 0 (t .records) (t .skip) f new ≡ salvageOf s out
 unfolding salvageOf kept skipped records first

@@ -14,7 +14,7 @@ use Rattle.trace_records.specs.Tables.{body}
 use Rattle.trace_records.specs.Records.{Found, refused, found, readRecord}
 use Rattle.trace_records.specs.Writes.{recordOf, known}
 use Rattle.trace_records.specs.Promises.{Kept}
-use Rattle.trace_records.specs.Traces.{Entry, Story, over, broken, told, readAll, entries, isWhole}
+use Rattle.trace_records.specs.Traces.{Entry, Story, over, broken, andThen, readAll, entries, isWhole}
 use Rattle.trace_records.proofs.Rounds.{read-record, written-record, small-after}
 use Rattle.trace_records.proofs.Traces.{record-some, read-one, read-refused}
 use Rattle.trace_salvage.specs.Salvage.{kept, skipped, records, first, sizeIn, sizeOf}
@@ -126,7 +126,7 @@ mended-turns =
       empty = record { to-the-end = refl; count = refl };
       skip = λ b bs n e k i. record { to-the-end = ap (λ (l : List ℕ). isWhole (readAll 0 l)) (k .bytes) ∙ i .to-the-end; count = ap (λ (l : List ℕ). length (entries (readAll 0 l))) (k .bytes) ∙ i .count ∙ sym (k .count) };
       keep = λ k ws rest y f t i.
-          let q : readAll 0 (kept sizeOf (recordOf k ws ++ rest) 0) ≡ told (entry k ws) (readAll 0 (kept sizeOf rest 0)) = ap (readAll 0) (t .bytes) ∙ read-one k ws (kept sizeOf rest 0) y f in
+          let q : readAll 0 (kept sizeOf (recordOf k ws ++ rest) 0) ≡ andThen (entry k ws) (readAll 0 (kept sizeOf rest 0)) = ap (readAll 0) (t .bytes) ∙ read-one k ws (kept sizeOf rest 0) y f in
           record { to-the-end = ap isWhole q ∙ i .to-the-end; count = ap (λ (z : Story). length (entries z)) q ∙ ap suc (i .count) ∙ sym (t .count) };
     }
 
@@ -189,7 +189,7 @@ before-turns =
       keep = λ k ws rest y f t i.
           let r = recordOf k ws in
           let p = first sizeOf 0 rest 0 in
-          let q : readAll 0 (r ++ take p rest) ≡ told (entry k ws) (readAll 0 (take p rest)) = read-one k ws (take p rest) y f in
+          let q : readAll 0 (r ++ take p rest) ≡ andThen (entry k ws) (readAll 0 (take p rest)) = read-one k ws (take p rest) y f in
           let z : first sizeOf 0 (r ++ rest) 0 ≡ length r + p = moved r rest (t .place) in
           let x : take (first sizeOf 0 (r ++ rest) 0) (r ++ rest) ≡ r ++ take p rest = ap (λ (u : ℕ). take u (r ++ rest)) z ∙ take-over r rest p in
           let d : drop (first sizeOf 0 (r ++ rest) 0) (r ++ rest) ≡ drop p rest = ap (λ (u : ℕ). drop u (r ++ rest)) z ∙ drop-over r rest p in

@@ -9,7 +9,7 @@ use lib.ListN.{length, drop}
 use lib.Seq.{sets}
 use Rattle.trace_records.specs.Records.{Found, refused, found, readRecord}
 use Rattle.trace_salvage.specs.declared.Saved.{Saved}
-use Rattle.trace_salvage.specs.declared.Turn.{Turn}
+use Rattle.trace_salvage.specs.declared.Salvaging.{Salvaging}
 
 -- the bytes kept
 unfoldable pub kept : (List ℕ → ℕ) → List ℕ → ℕ → List ℕ
@@ -71,11 +71,11 @@ salvageOf s out =
     })
 
 -- the first offset, once something was skipped
-abbrev pub placed : Turn → List ℕ → ℕ
+abbrev pub placed : Salvaging → List ℕ → ℕ
 placed t s = cond (eqb (t .skip) 0) (first sizeOf (t .at) (drop (t .at) s) 0) (t .first)
 
 -- one iteration: what is left to do decreases, and the final outcome does not change
-pub record Turned (s out new : List ℕ) (t r : Turn) : Type 0 where
+pub record Salvages (s out new : List ℕ) (t r : Salvaging) : Type 0 where
   pub inside : r .at ≤ length s
   pub on : t .at < r .at
   pub room : r .w ≤ r .at

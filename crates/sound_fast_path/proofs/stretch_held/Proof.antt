@@ -9,8 +9,8 @@ held-back-requires c κs = ((c .before .before .before .before .before) .pre .0,
 ones-back-requires : tie.Need-ones-back-requires
 ones-back-requires c κs = search needs
 
-round-back-requires : tie.Need-round-back-requires
-round-back-requires c κs = search needs
+wrapping-back-requires : tie.Need-wrapping-back-requires
+wrapping-back-requires c κs = search needs
 
 same-length : tie.Need-same-length
 same-length c = search needs
@@ -24,8 +24,8 @@ held-on-requires c κs = ((c .before .before .before .before .before) .pre .0, (
 ones-on-requires : tie.Need-ones-on-requires
 ones-on-requires c κs = search needs
 
-round-on-requires : tie.Need-round-on-requires
-round-on-requires c κs = search needs
+wrapping-on-requires : tie.Need-wrapping-on-requires
+wrapping-on-requires c κs = search needs
 
 same-length-2 : tie.Need-same-length-2
 same-length-2 c = search needs
@@ -39,11 +39,11 @@ stretch-held-spec =
     (tie.spec
     held-back-requires
     ones-back-requires
-    round-back-requires
+    wrapping-back-requires
     same-length
     returns
     held-on-requires
     ones-on-requires
-    round-on-requires
+    wrapping-on-requires
     same-length-2
     returns-2)

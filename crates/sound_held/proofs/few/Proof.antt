@@ -7,7 +7,7 @@ use lib.Seq.{length-take-le}
 use denote.Ref.{now}
 use Rattle.sound_lanes.specs.Lanes.{Lanes, rows}
 use Rattle.sound_slow_path.specs.Plays.{plays, acceptedAs}
-use Rattle.sound_slow_path.specs.Turns.{Playable}
+use Rattle.sound_slow_path.specs.FrameSteps.{Playable}
 use Rattle.sound_held.proofs.Once.{spread, spread-is}
 use borrow.Author.Needs.{needs}
 use Rattle.sound_held.proofs.few.Statement.{statement}

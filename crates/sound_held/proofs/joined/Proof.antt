@@ -12,12 +12,12 @@ add-steps c = search needs
 returns : tie.Need-returns
 returns c =
     let a = c .before .before .before .before .before .before .args in
-    ap (λ (k : ℕ). record { refusal = 0; sound = a .next .sound; steps = a .first .steps + a .next .steps; «lowest_count» = k }) (sym (lower-first _ _ (c .if1 .taken)))
+    ap (λ (k : ℕ). record { refusal = 0; voice = a .next .voice; steps = a .first .steps + a .next .steps; «lowest_count» = k }) (sym (lower-first _ _ (c .if1 .taken)))
 
 returns-2 : tie.Need-returns-2
 returns-2 c =
     let a = c .before .before .before .before .before .before .args in
-    ap (λ (k : ℕ). record { refusal = 0; sound = a .next .sound; steps = a .first .steps + a .next .steps; «lowest_count» = k }) (sym (lower-second _ _ (c .if1 .left)))
+    ap (λ (k : ℕ). record { refusal = 0; voice = a .next .voice; steps = a .first .steps + a .next .steps; «lowest_count» = k }) (sym (lower-second _ _ (c .if1 .left)))
 
 pub joined-spec : {M : Type 1} → statement M
 joined-spec = tie.close (tie.spec add-steps returns returns-2)

@@ -16,7 +16,7 @@ use Rattle.sound_held.proofs.joined.Reads as joined-reads
 use Rattle.sound_held.proofs.part_of.Reads as part-of-reads
 
 abbrev Inv-loop : tie.InvT-loop
-Inv-loop sound held out₀ n dt played₀ i₀ out played i = Sofar sound dt held (played₀ .sound) n i played out₀ out
+Inv-loop sound held out₀ n dt played₀ i₀ out played i = Sofar sound dt held (played₀ .voice) n i played out₀ out
 
 abbrev μ-loop : tie.MeasureT-loop
 μ-loop sound held out₀ n dt played₀ i₀ out played i = n - i

@@ -9,16 +9,16 @@ use denote.Ref.{now}
 use borrow.Author.Needs.{needs}
 use Rattle.sound_lanes.specs.Lanes.{Lanes, five, rows}
 use Rattle.sound_lanes.proofs.Rows.{sized-parts}
-use Rattle.sound_update.specs.declared.Course.{Course}
+use Rattle.sound_update.specs.declared.Slice.{Slice}
 use Rattle.sound_update.specs.declared.Moving.{Moving}
 use Rattle.sound_state.specs.declared.StaticSound.{StaticSound}
-use Rattle.sound_state.specs.Voices.{courseOf, moved}
-use Rattle.sound_state.specs.WellFormed.{Formed}
-use Rattle.sound_state.proofs.Formed.{able-of}
+use Rattle.sound_state.specs.Voices.{sliceOf, moved}
+use Rattle.sound_state.specs.WellFormed.{WellFormed}
+use Rattle.sound_state.proofs.WellFormed.{updatable-of}
 use Rattle.resampler.specs.declared.Reading.{Reading}
 use Rattle.resampler.specs.Windows.{reading}
 use Rattle.sound_slow_path.specs.Plays.{plays, lower}
-use Rattle.sound_slow_path.specs.Turns.{turnOf, Turning}
+use Rattle.sound_slow_path.specs.FrameSteps.{frameSteps, Steppable}
 use Rattle.sound_slow_path.proofs.Loops.{laneAt, played, played-none, played-more, played-all, slow-at, turned-few, turned-on}
 use Rattle.sound_slow_path.proofs.play.Statement.{statement}
 use Rattle.sound_slow_path.proofs.play.Tie as tie
@@ -27,15 +27,15 @@ record Sofar (snd : List Float) (dt : Float) (b : Lanes) (v : StaticSound) (i : 
   within : i ≤ length (b .rate)
   few : steps ≤ 257 * i
   as-long : length out ≡ length out₀
-  formed : Formed (moved v f m)
+  wellFormed : WellFormed (moved v f m)
   so-far : plays snd dt (take i (rows b)) v ≡ played (moved v f m) (take (2 * i) out) steps low
 
 abbrev Inv-loop : tie.InvT-loop
-Inv-loop timed sound fade volume left right rate out₀ voice course moving₀ fractional-position₀ steps₀ lowest-count₀ i₀ out moving fractional-position steps lowest-count i =
+Inv-loop timed sound fade volume left right rate out₀ voice slice moving₀ fractional-position₀ steps₀ lowest-count₀ i₀ out moving fractional-position steps lowest-count i =
     Sofar sound (timed .dt) (five fade volume left right rate) (timed .voice) i out₀ out moving fractional-position steps lowest-count
 
 abbrev μ-loop : tie.MeasureT-loop
-μ-loop timed sound fade volume left right rate out₀ voice course moving₀ fractional-position₀ steps₀ lowest-count₀ i₀ out moving fractional-position steps lowest-count i =
+μ-loop timed sound fade volume left right rate out₀ voice slice moving₀ fractional-position₀ steps₀ lowest-count₀ i₀ out moving fractional-position steps lowest-count i =
     length rate - i
 
 -- ---- the places
@@ -50,8 +50,8 @@ abbrev lent : tie.At-loop Inv-loop μ-loop → Lanes
 lent c = let a = start c .args in five (now (a .fade)) (now (a .volume)) (now (a .left)) (now (a .right)) (now (a .rate))
 
 -- the turn of the loop that a frame's steps belong to
-abbrev after-turn : tie.After-turn Inv-loop μ-loop → tie.In-loop Inv-loop μ-loop
-after-turn c = c .before .before .before .before .before
+abbrev after-frame-steps : tie.After-frame-steps Inv-loop μ-loop → tie.In-loop Inv-loop μ-loop
+after-frame-steps c = c .before .before .before .before .before
 
 -- what a turn knows of its numbers
 record Numbers (n i m fade volume left right steps : ℕ) : Type 0 where
@@ -85,38 +85,38 @@ numbers c =
 turning : (c : tie.In-loop Inv-loop μ-loop)
     → let at = c .before in
     let a = start at .args in
-    Turning (now (a .sound)) (courseOf (voice at)) (voice at .setup .«sample_rate») (getD (now (a .rate)) (at .loop .i) nan) (a .timed .dt) (at .loop .moving) (at .loop .fractional-position)
+    Steppable (now (a .sound)) (sliceOf (voice at)) (voice at .setup .«sample_rate») (getD (now (a .rate)) (at .loop .i) nan) (a .timed .dt) (at .loop .moving) (at .loop .fractional-position)
 turning c =
     let at = c .before in
     let st = start at in
     let v = voice at in
     record {
-      able = able-of (now (st .args .sound)) (moved v (at .loop .fractional-position) (at .loop .moving)) (at .loop .inv .formed) (st .pre .lent);
-      below = at .loop .inv .formed .fraction;
+      updatable = updatable-of (now (st .args .sound)) (moved v (at .loop .fractional-position) (at .loop .moving)) (at .loop .inv .wellFormed) (st .pre .lent);
+      below = at .loop .inv .wellFormed .fraction;
       timeStep = st .pre .timeStep;
       slow = slow-at (now (st .args .sound)) (st .args .timed .dt) (lent at) v (v .setup .«sample_rate») (at .loop .i) (c .loop-test .taken) (st .pre .near);
     }
 
 -- the steps are the definition's
-turn-is : (c : tie.After-turn Inv-loop μ-loop)
-    → let at = after-turn c .before in
+turn-is : (c : tie.After-frame-steps Inv-loop μ-loop)
+    → let at = after-frame-steps c .before in
     let a = start at .args in
-    c .turn .result
-    ≡ turnOf (now (a .sound)) (courseOf (voice at)) (voice at .setup .«sample_rate») (getD (now (a .rate)) (at .loop .i) nan) (a .timed .dt) (at .loop .moving) (at .loop .fractional-position)
+    c .frame-steps .result
+    ≡ frameSteps (now (a .sound)) (sliceOf (voice at)) (voice at .setup .«sample_rate») (getD (now (a .rate)) (at .loop .i) nan) (a .timed .dt) (at .loop .moving) (at .loop .fractional-position)
 turn-is c =
-    let at = after-turn c .before in
+    let at = after-frame-steps c .before in
     let a = start at .args in
-    c .turn .ensures
-    ∙ ap (λ (k : Course). turnOf (now (a .sound)) k (voice at .setup .«sample_rate») (getD (now (a .rate)) (at .loop .i) nan) (a .timed .dt) (at .loop .moving) (at .loop .fractional-position))
-    (at .before .before .course .ensures)
+    c .frame-steps .ensures
+    ∙ ap (λ (k : Slice). frameSteps (now (a .sound)) k (voice at .setup .«sample_rate») (getD (now (a .rate)) (at .loop .i) nan) (a .timed .dt) (at .loop .moving) (at .loop .fractional-position))
+    (at .before .before .slice .ensures)
 
-few : (c : tie.After-turn Inv-loop μ-loop) → c .turn .result .steps ≤ 257
-few c = turned-few _ _ _ _ _ _ _ (c .turn .result) (turning (after-turn c)) (turn-is c)
+few : (c : tie.After-frame-steps Inv-loop μ-loop) → c .frame-steps .result .steps ≤ 257
+few c = turned-few _ _ _ _ _ _ _ (c .frame-steps .result) (turning (after-frame-steps c)) (turn-is c)
 
 -- ---- the needs
 
-course-requires : tie.Need-course-requires Inv-loop μ-loop
-course-requires c κs = search needs
+slice-requires : tie.Need-slice-requires Inv-loop μ-loop
+slice-requires c κs = search needs
 
 loop-holds : tie.Need-loop-holds Inv-loop μ-loop
 loop-holds c =
@@ -126,16 +126,16 @@ loop-holds c =
       within = omega arith;
       few = omega arith;
       as-long = refl;
-      formed = st .pre .formed;
+      wellFormed = st .pre .wellFormed;
       so-far =
           played-none (now (a .sound)) (a .timed .dt) (five (now (a .fade)) (now (a .volume)) (now (a .left)) (now (a .right)) (now (a .rate))) (a .timed .voice) (now (a .out));
     }
 
-frame-heard-requires : tie.Need-frame-heard-requires Inv-loop μ-loop
-frame-heard-requires c κs =
+frame-with-gains-requires : tie.Need-frame-with-gains-requires Inv-loop μ-loop
+frame-with-gains-requires c κs =
     let l = c .before in
     let n = numbers l in
-    (l .before .loop .inv .formed .fraction, (omega (arith, n), (omega (arith, n), (omega (arith, n), omega (arith, n)))))
+    (l .before .loop .inv .wellFormed .fraction, (omega (arith, n), (omega (arith, n), (omega (arith, n), omega (arith, n)))))
 
 mul-out : tie.Need-mul-out Inv-loop μ-loop
 mul-out c = omega (arith, numbers (c .before .before))
@@ -161,44 +161,44 @@ slice-write-out-2 c = simp length-set (omega (arith, numbers (c .before .before)
 lower-requires : tie.Need-lower-requires Inv-loop μ-loop
 lower-requires c κs = search needs
 
-mul-turn : tie.Need-mul-turn Inv-loop μ-loop
-mul-turn c = omega (arith, numbers (c .before .before .before))
+mul-frame-steps : tie.Need-mul-frame-steps Inv-loop μ-loop
+mul-frame-steps c = omega (arith, numbers (c .before .before .before))
 
-shared-slice-read-turn : tie.Need-shared-slice-read-turn Inv-loop μ-loop
-shared-slice-read-turn c = omega (arith, numbers (c .before .before .before .before))
+shared-slice-read-frame-steps : tie.Need-shared-slice-read-frame-steps Inv-loop μ-loop
+shared-slice-read-frame-steps c = omega (arith, numbers (c .before .before .before .before))
 
-turn-requires : tie.Need-turn-requires Inv-loop μ-loop
-turn-requires c κs =
+frame-steps-requires : tie.Need-frame-steps-requires Inv-loop μ-loop
+frame-steps-requires c κs =
     let l = c .before .before .before .before in
-    rw (l .before .before .before .course .ensures) (turning l)
+    rw (l .before .before .before .slice .ensures) (turning l)
 
 add-steps : tie.Need-add-steps Inv-loop μ-loop
-add-steps c = let t = c .before .before in omega (arith, numbers (after-turn t), few t)
+add-steps c = let t = c .before .before in omega (arith, numbers (after-frame-steps t), few t)
 
 add-i : tie.Need-add-i Inv-loop μ-loop
-add-i c = omega (arith, numbers (after-turn (c .before .before)))
+add-i c = omega (arith, numbers (after-frame-steps (c .before .before)))
 
 loop-less : tie.Need-loop-less Inv-loop μ-loop
-loop-less c = omega (arith, numbers (after-turn (c .before .before)))
+loop-less c = omega (arith, numbers (after-frame-steps (c .before .before)))
 
 loop-again : tie.Need-loop-again Inv-loop μ-loop
 unfolding reading
 loop-again c =
     let a = c .before .before in
-    let t = after-turn a in
+    let t = after-frame-steps a in
     let at = t .before in
     let st = start at in
     let n = numbers t in
     let w = few a in
-    let read = a .before .before .before .frame-heard in
+    let read = a .before .before .before .frame-with-gains in
     record {
       within = omega (arith, n);
       few = omega (arith, n, w);
       as-long = simp length-set (at .loop .inv .as-long);
-      formed = turned-on (now (st .args .sound)) (st .args .timed .dt) (voice at) _ (at .loop .moving) (at .loop .fractional-position) (a .turn .result) (at .loop .inv .formed) (turning t) (turn-is a);
+      wellFormed = turned-on (now (st .args .sound)) (st .args .timed .dt) (voice at) _ (at .loop .moving) (at .loop .fractional-position) (a .frame-steps .result) (at .loop .inv .wellFormed) (turning t) (turn-is a);
       so-far =
           played-more (now (st .args .sound)) (st .args .timed .dt) (lent at) (voice at) (at .loop .i) (at .loop .steps) (at .loop .lowest-count) (at .loop .out) (at .loop .moving) (at .loop .fractional-position)
-          (read .result .frame) (a .before .before .lower .result) (a .turn .result) (t .loop-test .taken) (omega (arith, n)) (at .loop .inv .so-far)
+          (read .result .frame) (a .before .before .lower .result) (a .frame-steps .result) (t .loop-test .taken) (omega (arith, n)) (at .loop .inv .so-far)
           (ap (λ (r : Reading). r .frame) (read .ensures)) (a .before .before .lower .ensures ∙ ap (λ (r : Reading). lower (at .loop .lowest-count) (r .count)) (read .ensures)) (turn-is a);
     }
 
@@ -218,9 +218,9 @@ play-spec =
     (tie.spec
     Inv-loop
     μ-loop
-    course-requires
+    slice-requires
     loop-holds
-    frame-heard-requires
+    frame-with-gains-requires
     mul-out
     mul-out-2
     slice-write-out
@@ -229,9 +229,9 @@ play-spec =
     mul-out-4
     slice-write-out-2
     lower-requires
-    mul-turn
-    shared-slice-read-turn
-    turn-requires
+    mul-frame-steps
+    shared-slice-read-frame-steps
+    frame-steps-requires
     add-steps
     add-i
     loop-less

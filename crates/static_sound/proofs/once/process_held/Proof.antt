@@ -4,7 +4,7 @@ use denote.Ref.{now}
 use Prim.Native.Nat.{_*_, _/_}
 use lib.Dec.{eqb}
 use lib.ListN.{length}
-use Rattle.sound_held.specs.Held.{once}
+use Rattle.sound_held.specs.Held.{heldLanes}
 use Rattle.static_sound.specs.Entries.{refusedBlock}
 use Rattle.static_sound.proofs.Held.{refused-held, held-is, playable-held}
 use borrow.Author.Needs.{needs}
@@ -22,7 +22,7 @@ start c = c .before .before .before .before
 numbered : (c : tie.After-refusal-held)
     → (let a = start c .args in
     let n = length (now (a .out)) / 2 in
-    c .refusal-held .result ≡ refusedBlock (length (now (a .sound))) (a .voice) (a .dt) (once (a .held) n) (eqb (length (now (a .out))) (2 * n)))
+    c .refusal-held .result ≡ refusedBlock (length (now (a .sound))) (a .voice) (a .dt) (heldLanes (a .held) n) (eqb (length (now (a .out))) (2 * n)))
 numbered c = rw (c .before .holds .ensures) at (c .refusal-held .ensures)
 
 holds-requires : tie.Need-holds-requires
