@@ -213,8 +213,8 @@ int main(void) {
     memset(values, 0, sizeof values);
     values[12] = 4294967295u;
     values[16] = 5;
-    const CableowlSent given = cableowl_write_record_v2(sealed, 76, 0, CABLEOWL_KIND_GIVEN_CREATION, values, lanes, 0);
-    expect(given.refusal == 0 && given.next == 70, "write_record_v2: a given sound");
+    const CableowlSent naming = cableowl_write_record_v2(sealed, 76, 0, CABLEOWL_KIND_GIVEN_CREATION, values, lanes, 0);
+    expect(naming.refusal == 0 && naming.next == 70, "write_record_v2: a given sound");
     const CableowlRecord over_given = cableowl_read_record_v2(sealed, 76, 0);
     expect(over_given.kind == CABLEOWL_KIND_GIVEN_CREATION && over_given.values[16] == 5, "read_record_v2: a given sound");
     static float recorded[128], replayed[2048];
