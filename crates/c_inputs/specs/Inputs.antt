@@ -33,17 +33,17 @@ use Rattle.c_state.specs.Records.{yes}
 -- ---- positions and regions
 
 -- 0 is seconds, 1 samples, any other kind NaN seconds
-abbrev pub placeOf : CableowlPlace → PlaybackPosition
-placeOf p = cond (eqb (p .kind) 0) (Seconds (p .seconds))
+abbrev pub positionOf : CableowlPlace → PlaybackPosition
+positionOf p = cond (eqb (p .kind) 0) (Seconds (p .seconds))
     (cond (eqb (p .kind) 1) (Samples (p .samples)) (Seconds nan))
 
 -- 2 is the end of audio, any other kind as for a position
 abbrev pub endOf : CableowlPlace → EndPosition
-endOf p = cond (eqb (p .kind) 2) EndOfAudio (Custom (placeOf p))
+endOf p = cond (eqb (p .kind) 2) EndOfAudio (Custom (positionOf p))
 
 -- the region if its tag is known, otherwise one with a NaN start
 abbrev pub regionIf : Bool → CableowlRegion → Region
-regionIf known r = cond known (record { start = placeOf (r .start); end = endOf (r .end) })
+regionIf known r = cond known (record { start = positionOf (r .start); end = endOf (r .end) })
     (record { start = Seconds nan; end = EndOfAudio })
 
 -- ---- creation
@@ -57,7 +57,7 @@ settingsOf s =
     record {
       «sample_rate» = s .«sample_rate»;
       slice = optionalOf (s .«has_slice») (s .slice);
-      «start_position» = placeOf (s .start);
+      «start_position» = positionOf (s .start);
       «loop_region» = optionalOf (s .«has_loop») (s .«loop_region»);
       reverse = yes (s .reverse);
       «playback_rate» = s .«playback_rate»;

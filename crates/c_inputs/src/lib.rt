@@ -2,7 +2,7 @@
 ghost use mathlib.Core.Path.{_≡_};
 ghost use lib.Ieee.{nan};
 ghost use Rattle.c_inputs.specs.Inputs.{
-  placeOf,
+  positionOf,
   endOf,
   regionIf,
   optionalOf,
@@ -90,25 +90,25 @@ fn nonsense() -> f64
     0.0 / 0.0
 }
 
-fn place_of(place: CableowlPlace) -> PlaybackPosition
-    ensures { λ r. ⌜ r ≡ placeOf place ⌝ }
+fn position_of(position: CableowlPlace) -> PlaybackPosition
+    ensures { λ r. ⌜ r ≡ positionOf position ⌝ }
 {
-    if place.kind == 0 {
-        return PlaybackPosition::Seconds(place.seconds);
+    if position.kind == 0 {
+        return PlaybackPosition::Seconds(position.seconds);
     }
-    if place.kind == 1 {
-        return PlaybackPosition::Samples(place.samples as usize);
+    if position.kind == 1 {
+        return PlaybackPosition::Samples(position.samples as usize);
     }
     PlaybackPosition::Seconds(nonsense())
 }
 
-fn end_of(place: CableowlPlace) -> EndPosition
-    ensures { λ r. ⌜ r ≡ endOf place ⌝ }
+fn end_of(position: CableowlPlace) -> EndPosition
+    ensures { λ r. ⌜ r ≡ endOf position ⌝ }
 {
-    if place.kind == 2 {
+    if position.kind == 2 {
         return EndPosition::EndOfAudio;
     }
-    EndPosition::Custom(place_of(place))
+    EndPosition::Custom(position_of(position))
 }
 
 // The region if its tag is known, otherwise one that is refused.
@@ -119,7 +119,7 @@ fn region_if(known: bool, region: CableowlRegion) -> Region
         let start = region.start;
         let end = region.end;
         return Region {
-            start: place_of(start),
+            start: position_of(start),
             end: end_of(end),
         };
     }
@@ -147,7 +147,7 @@ pub fn settings_of(settings: CableowlSettings) -> Settings
     Settings {
         sample_rate: settings.sample_rate,
         slice: optional_of(settings.has_slice, slice),
-        start_position: place_of(start),
+        start_position: position_of(start),
         loop_region: optional_of(settings.has_loop, loop_region),
         reverse: settings.reverse != 0,
         playback_rate: settings.playback_rate,

@@ -1,4 +1,4 @@
--- The two translations of a state undo each other: every voice has a lawful record that means it, and every lawful record is that of what it means.
+-- The two translations of a state undo each other: every voice has a well formed record that means it, and every well formed record is that of what it means.
 -- Field by field: states and flags by their few numbers, ranges by whether they are given, the window entry by entry. Assumes nothing.
 use mathlib.Core.Path.{_≡_, refl, ap, _∙_}
 use Prim.Native.Nat.{ℕ, zero, suc, _≤_}
@@ -18,7 +18,7 @@ use Rattle.sound_state.specs.declared.StaticSound.{StaticSound}
 use Rattle.sound_creation.specs.Creation.{blankSound}
 use Rattle.c_state.specs.declared.CableowlEntry.{CableowlEntry}
 use Rattle.c_state.specs.declared.CableowlState.{CableowlState}
-use Rattle.c_state.specs.Records.{yes, bit, lawfulRange, lawful, stateOf, rangeOf, recentOf, stated, decoded, given, startOf, endingOf, entryOf, encoded}
+use Rattle.c_state.specs.Records.{yes, bit, wellFormedRange, wellFormedState, stateOf, rangeOf, recentOf, stated, decoded, given, startOf, endingOf, entryOf, encoded}
 
 -- ---- a voice, its record, and back
 
@@ -53,7 +53,7 @@ range-back : (r : FrameRange) → rangeOf (given r) (startOf r) (endingOf r) ≡
 range-back Absent = refl
 range-back (Frames s e) = refl
 
-range-known : (r : FrameRange) → T (lawfulRange (given r) (startOf r) (endingOf r))
+range-known : (r : FrameRange) → T (wellFormedRange (given r) (startOf r) (endingOf r))
 range-known Absent = tt
 range-known (Frames s e) = tt
 
@@ -61,17 +61,17 @@ frames-back : (l : List RecentFrame) → map recentOf (map entryOf l) ≡ l
 frames-back [] = refl
 frames-back (r ∷ l) = ap (λ (t : List RecentFrame). r ∷ t) (frames-back l)
 
-pub lawful-encoded : (v : StaticSound) → T (lawful (encoded v))
-unfolding lawful encoded
-lawful-encoded v =
+pub well-formed-encoded : (v : StaticSound) → T (wellFormedState (encoded v))
+unfolding wellFormedState encoded
+well-formed-encoded v =
     let a = leb (number (v .moving .state)) 6 in
     let b = leb (bit (v .setup .reverse)) 1 in
     let c = leb (bit (v .started)) 1 in
     let d = leb (bit (v .moving .transport .playing)) 1 in
     let s = v .setup .slice in
     let l = v .moving .transport .«loop_region» in
-    let e = lawfulRange (given s) (startOf s) (endingOf s) in
-    let f = lawfulRange (given l) (startOf l) (endingOf l) in
+    let e = wellFormedRange (given s) (startOf s) (endingOf s) in
+    let f = wellFormedRange (given l) (startOf l) (endingOf l) in
     and-i (a && b && c && d && e) f
     (and-i (a && b && c && d) e
     (and-i (a && b && c) d
@@ -80,9 +80,9 @@ lawful-encoded v =
     (range-known s))
     (range-known l)
 
-decoded-lawful : (c : CableowlState) → T (lawful c) → decoded c ≡ stated c
+decoded-well-formed : (c : CableowlState) → T (wellFormedState c) → decoded c ≡ stated c
 unfolding decoded
-decoded-lawful c h = go (lawful c) h
+decoded-well-formed c h = go (wellFormedState c) h
   where
     go : (b : Bool) → T b → cond b (stated c) blankSound ≡ stated c
     go true h = refl
@@ -112,7 +112,7 @@ module _ (v : StaticSound) where
   pub decoded-encoded : decoded (encoded v) ≡ v
   unfolding encoded
   decoded-encoded =
-      decoded-lawful (encoded v) (lawful-encoded v)
+      decoded-well-formed (encoded v) (well-formed-encoded v)
       ∙ voice-of _ _ _ _ _ _ _
       (state-back (v .moving .state))
       (range-back (v .setup .slice))
@@ -122,7 +122,7 @@ module _ (v : StaticSound) where
       (bit-back (v .moving .transport .playing))
       (frames-back (v .moving .resampler .frames))
 
--- ---- a lawful record, its voice, and back
+-- ---- a well formed record, its voice, and back
 
 number-back : (n : ℕ) → n ≤ 6 → number (stateOf n) ≡ n
 unfolding stateOf
@@ -146,7 +146,7 @@ record Back (has s e : ℕ) : Type 0 where
   start : startOf (rangeOf has s e) ≡ s
   end : endingOf (rangeOf has s e) ≡ e
 
-given-back : (has s e : ℕ) → T (lawfulRange has s e) → Back has s e
+given-back : (has s e : ℕ) → T (wellFormedRange has s e) → Back has s e
 given-back has s e h = go (eqb has 1) refl h
   where
     one : Back 1 s e
@@ -171,7 +171,7 @@ entries-back [] = refl
 entries-back (r ∷ l) = ap (λ (t : List CableowlEntry). r ∷ t) (entries-back l)
 
 -- what the test has passed
-record Lawful (c : CableowlState) : Type 0 where
+record WellFormed (c : CableowlState) : Type 0 where
   state : c .state ≤ 6
   reverse : c .reverse ≤ 1
   started : c .started ≤ 1
@@ -179,15 +179,15 @@ record Lawful (c : CableowlState) : Type 0 where
   slice : Back (c .«has_slice») (c .«slice_start») (c .«slice_end»)
   loop : Back (c .«has_loop») (c .«loop_start») (c .«loop_end»)
 
-lawful-parts : (c : CableowlState) → T (lawful c) → Lawful c
-unfolding lawful
-lawful-parts c h =
+well-formed-parts : (c : CableowlState) → T (wellFormedState c) → WellFormed c
+unfolding wellFormedState
+well-formed-parts c h =
     let p = leb (c .state) 6 in
     let q = leb (c .reverse) 1 in
     let r = leb (c .started) 1 in
     let s = leb (c .playing) 1 in
-    let t = lawfulRange (c .«has_slice») (c .«slice_start») (c .«slice_end») in
-    let u = lawfulRange (c .«has_loop») (c .«loop_start») (c .«loop_end») in
+    let t = wellFormedRange (c .«has_slice») (c .«slice_start») (c .«slice_end») in
+    let u = wellFormedRange (c .«has_loop») (c .«loop_start») (c .«loop_end») in
     let h5 = and-l (p && q && r && s && t) u h in
     let h4 = and-l (p && q && r && s) t h5 in
     let h3 = and-l (p && q && r) s h4 in
@@ -232,11 +232,11 @@ module _ (c : CableowlState) where
       c
   record-of state reverse started playing slice loop ss se ls le es e1 e2 e3 e4 e5 e6 e7 e8 e9 e10 e11 = rw (e1, e2, e3, e4, e5, e6, e7, e8, e9, e10, e11)
 
-  pub encoded-decoded : T (lawful c) → encoded (decoded c) ≡ c
+  pub encoded-decoded : T (wellFormedState c) → encoded (decoded c) ≡ c
   unfolding encoded
   encoded-decoded h =
-      let p = lawful-parts c h in
-      ap encoded (decoded-lawful c h)
+      let p = well-formed-parts c h in
+      ap encoded (decoded-well-formed c h)
       ∙ record-of _ _ _ _ _ _ _ _ _ _ _
       (number-back (c .state) (p .state))
       (yes-back (c .reverse) (p .reverse))

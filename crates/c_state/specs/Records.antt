@@ -1,4 +1,4 @@
--- A voice as a C record: which records are lawful, the voice of a record, and the record of a voice.
+-- A voice as a C record: which records are well formed, the voice of a record, and the record of a voice.
 use Prim.Native.Nat.{ℕ}
 use mathlib.Core.Bool.{Bool, not, _&&_, _||_, cond}
 use mathlib.Core.List.{List, map}
@@ -26,18 +26,18 @@ bit b = cond b 1 0
 -- ---- what a record means
 
 -- given, or absent with both numbers 0
-abbrev pub lawfulRange : ℕ → ℕ → ℕ → Bool
-lawfulRange has s e = eqb has 1 || eqb has 0 && eqb s 0 && eqb e 0
+abbrev pub wellFormedRange : ℕ → ℕ → ℕ → Bool
+wellFormedRange has s e = eqb has 1 || eqb has 0 && eqb s 0 && eqb e 0
 
 -- the state is known, the flags are 0 or 1, and absent regions have zeros
-unfoldable pub lawful : CableowlState → Bool
-lawful c =
+unfoldable pub wellFormedState : CableowlState → Bool
+wellFormedState c =
     leb (c .state) 6
     && leb (c .reverse) 1
     && leb (c .started) 1
     && leb (c .playing) 1
-    && lawfulRange (c .«has_slice») (c .«slice_start») (c .«slice_end»)
-    && lawfulRange (c .«has_loop») (c .«loop_start») (c .«loop_end»)
+    && wellFormedRange (c .«has_slice») (c .«slice_start») (c .«slice_end»)
+    && wellFormedRange (c .«has_loop») (c .«loop_start») (c .«loop_end»)
 
 -- the states by their numbers
 unfoldable pub stateOf : ℕ → PlaybackState
@@ -58,7 +58,7 @@ recentOf e = record { frame = record { left = e .left; right = e .right }; «fra
 abbrev pub windowOf : List CableowlEntry → ℕ → Resampler
 windowOf es t = record { frames = map recentOf es; «time_until_empty» = t }
 
--- the voice of a lawful record
+-- the voice of a well formed record
 abbrev pub stated : CableowlState → StaticSound
 stated c =
     record {
@@ -83,9 +83,9 @@ stated c =
       };
     }
 
--- the voice of any record: if it is not lawful, the blank state, which is not well formed
+-- the voice of any record: if it is not well formed, the blank state, which is not well formed
 unfoldable pub decoded : CableowlState → StaticSound
-decoded c = cond (lawful c) (stated c) blankSound
+decoded c = cond (wellFormedState c) (stated c) blankSound
 
 -- ---- the record of a voice
 

@@ -6,8 +6,8 @@ ghost use Prim.Native.Nat.{_≤_};
 ghost use Rattle.c_state.specs.Records.{
   yes,
   bit,
-  lawfulRange,
-  lawful,
+  wellFormedRange,
+  wellFormedState,
   stateOf,
   rangeOf,
   recentOf,
@@ -75,13 +75,13 @@ fn bit_of(b: bool) -> u32
 }
 
 fn is_range(has: u32, start: u64, end: u64) -> bool
-    ensures { λ r. ⌜ r ≡ lawfulRange has start end ⌝ }
+    ensures { λ r. ⌜ r ≡ wellFormedRange has start end ⌝ }
 {
     (has == 1) | ((has == 0) & (start == 0) & (end == 0))
 }
 
-fn is_lawful(state: CableowlState) -> bool
-    ensures { λ r. ⌜ r ≡ lawful state ⌝ }
+fn is_well_formed(state: CableowlState) -> bool
+    ensures { λ r. ⌜ r ≡ wellFormedState state ⌝ }
 {
     (state.state <= 6)
         & (state.reverse <= 1)
@@ -149,11 +149,11 @@ fn window_of(window: [CableowlEntry; 4], count: u32) -> Resampler
     }
 }
 
-// A record that is not lawful becomes the blank state, which is not well formed.
+// A record that is not well formed becomes the blank state, which is not well formed.
 pub fn decode(state: CableowlState) -> StaticSound
     ensures { λ r. ⌜ r ≡ decoded state ⌝ }
 {
-    if !is_lawful(state) {
+    if !is_well_formed(state) {
         return sound_creation::blank();
     }
     let window = state.window;

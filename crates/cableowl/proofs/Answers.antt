@@ -26,15 +26,15 @@ use Rattle.cableowl.specs.declared.CableowlProcessed.{CableowlProcessed}
 use Rattle.c_state.specs.Records.{decoded, encoded}
 use Rattle.c_inputs.specs.Inputs.{settingsOf, commandsOf, signalsOf}
 use Rattle.cableowl.specs.Entries.{after, createdC, commandedC, answered, OutcomeC, processedC, processedIntoC}
-use Rattle.cableowl.proofs.Few.{countOf, ours-few, created-few, commanded-ours, processed-ours, into-ours, processed-low, into-low}
+use Rattle.cableowl.proofs.Few.{countOf, well-formed-for-few, created-few, commanded-well-formed-for, processed-well-formed-for, into-well-formed-for, processed-low, into-low}
 
 -- ---- creation
 
 module _ (snd : List Float) (s : CableowlSettings) (t : Settings) (r : Created) (e : t ≡ settingsOf s) (f : r ≡ created snd t) where
-  pub new-few : countOf (r .sound) ≤ 4
+  pub new-few : countOf (r .voice) ≤ 4
   new-few = rw f (created-few snd t)
 
-  pub new-is : (c : CableowlState) → c ≡ encoded (r .sound) → _≡_ {A = CableowlCreated} (record { state = c; refusal = r .refusal }) (createdC snd s)
+  pub new-is : (c : CableowlState) → c ≡ encoded (r .voice) → _≡_ {A = CableowlCreated} (record { state = c; refusal = r .refusal }) (createdC snd s)
   unfolding createdC
   new-is c g = rw (g, f, e)
 
@@ -42,10 +42,10 @@ module _ (snd : List Float) (s : CableowlSettings) (t : Settings) (r : Created) 
 
 module _ (snd : List Float) (c : CableowlState) (k : CableowlCommands) (v : StaticSound) (u : Commands) (r : Commanded)
     (d : v ≡ decoded c) (e : u ≡ commandsOf k) (f : r ≡ commanded snd v u) where
-  pub commands-few : r .refusal ≡ 0 → countOf (r .sound) ≤ 4
-  commands-few = rw f (λ z. ours-few (length snd) _ (commanded-ours snd v u z))
+  pub commands-few : r .refusal ≡ 0 → countOf (r .voice) ≤ 4
+  commands-few = rw f (λ z. well-formed-for-few (length snd) _ (commanded-well-formed-for snd v u z))
 
-  pub commands-are : (b : CableowlState) → b ≡ after (r .refusal) (r .sound) c
+  pub commands-are : (b : CableowlState) → b ≡ after (r .refusal) (r .voice) c
       → _≡_ {A = CableowlCommanded} (record { state = b; position = r .position; refusal = r .refusal }) (commandedC snd c k)
   unfolding commandedC
   commands-are b g = rw (g, f, e, d)
@@ -60,9 +60,9 @@ module _ (snd : List Float) (c : CableowlState) (dt : Float) (b : Lanes) (g : Ca
   abbrev pub told : CableowlProcessed → OutcomeC
   told a = record { answer = a; samples = samples }
 
-  pub block-few : (out : List Float) → given ≡ processed snd v dt b w out → (r .refusal ≡ 0 → countOf (r .sound) ≤ 4) × (r .«lowest_count» ≤ 4)
+  pub block-few : (out : List Float) → given ≡ processed snd v dt b w out → (r .refusal ≡ 0 → countOf (r .voice) ≤ 4) × (r .«lowest_count» ≤ 4)
   block-few out f = (
-    subst (λ (o : Outcome). o .answer .refusal ≡ 0 → countOf (o .answer .sound) ≤ 4) (sym f) (λ z. ours-few (length snd) _ (processed-ours snd v dt b w out z)),
+    subst (λ (o : Outcome). o .answer .refusal ≡ 0 → countOf (o .answer .voice) ≤ 4) (sym f) (λ z. well-formed-for-few (length snd) _ (processed-well-formed-for snd v dt b w out z)),
     subst (λ (o : Outcome). o .answer .«lowest_count» ≤ 4) (sym f) (processed-low snd v dt b w out),
   )
 
@@ -70,9 +70,9 @@ module _ (snd : List Float) (c : CableowlState) (dt : Float) (b : Lanes) (g : Ca
   unfolding processedC
   block-is out f a h = ap told h ∙ ap (λ (o : Outcome). record { answer = answered (o .answer) c; samples = o .samples }) f ∙ rw (e, d)
 
-  pub mix-few : (mix : List Float) (from : ℕ) → given ≡ processedInto snd v dt b w mix from → (r .refusal ≡ 0 → countOf (r .sound) ≤ 4) × (r .«lowest_count» ≤ 4)
+  pub mix-few : (mix : List Float) (from : ℕ) → given ≡ processedInto snd v dt b w mix from → (r .refusal ≡ 0 → countOf (r .voice) ≤ 4) × (r .«lowest_count» ≤ 4)
   mix-few mix from f = (
-    subst (λ (o : Outcome). o .answer .refusal ≡ 0 → countOf (o .answer .sound) ≤ 4) (sym f) (λ z. ours-few (length snd) _ (into-ours snd v dt b w mix from z)),
+    subst (λ (o : Outcome). o .answer .refusal ≡ 0 → countOf (o .answer .voice) ≤ 4) (sym f) (λ z. well-formed-for-few (length snd) _ (into-well-formed-for snd v dt b w mix from z)),
     subst (λ (o : Outcome). o .answer .«lowest_count» ≤ 4) (sym f) (into-low snd v dt b w mix from),
   )
 

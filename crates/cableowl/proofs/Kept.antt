@@ -1,5 +1,5 @@
--- What every call over records leaves. An accepted one leaves a lawful record of a state that is well formed over the sound; a refused one the given record.
--- By the laws of the entries below, and since every voice's record is lawful and means it. Assumes nothing.
+-- What every call over records leaves. An accepted one leaves a well formed record of a state that is well formed over the sound; a refused one the given record.
+-- By the laws of the entries below, and since every voice's record is well formed and means it. Assumes nothing.
 use mathlib.Core.Path.{_≡_, sym, ap, subst}
 use Prim.Native.Nat.{ℕ}
 use mathlib.Core.List.{List}
@@ -10,7 +10,7 @@ use borrow.Author.Tests.{ne-eqb}
 use Rattle.numbers.specs.Words.{positiveZero}
 use Rattle.sound_lanes.specs.Lanes.{Lanes}
 use Rattle.sound_state.specs.declared.StaticSound.{StaticSound}
-use Rattle.sound_state.specs.WellFormed.{ours}
+use Rattle.sound_state.specs.WellFormed.{wellFormedFor}
 use Rattle.sound_creation.specs.Creation.{blankSound}
 use Rattle.sound_creation.proofs.Answers.{created-passed, created-done, created-refused}
 use Rattle.sound_commands.specs.declared.Commanded.{Commanded}
@@ -21,22 +21,22 @@ use Rattle.c_state.specs.declared.CableowlState.{CableowlState}
 use Rattle.c_inputs.specs.declared.CableowlSettings.{CableowlSettings}
 use Rattle.c_inputs.specs.declared.CableowlCommands.{CableowlCommands}
 use Rattle.c_inputs.specs.declared.CableowlSignals.{CableowlSignals}
-use Rattle.c_state.specs.Records.{lawful, decoded, encoded}
+use Rattle.c_state.specs.Records.{wellFormedState, decoded, encoded}
 use Rattle.c_inputs.specs.Inputs.{settingsOf, commandsOf, signalsOf}
 use Rattle.cableowl.specs.Entries.{after, createdC, commandedC, OutcomeC, processedC, processedIntoC}
-use Rattle.cableowl.proofs.Few.{created-ours, commanded-ours, processed-ours, into-ours}
-use Rattle.c_state.proofs.Inverse.{lawful-encoded, decoded-encoded}
+use Rattle.cableowl.proofs.Few.{created-well-formed-for, commanded-well-formed-for, processed-well-formed-for, into-well-formed-for}
+use Rattle.c_state.proofs.Inverse.{well-formed-encoded, decoded-encoded}
 
 -- a record that the next call takes over this sound
 abbrev pub Good : List Float → CableowlState → Type 0
-Good snd c = T (lawful c) × T (ours (length snd) (decoded c))
+Good snd c = T (wellFormedState c) × T (wellFormedFor (length snd) (decoded c))
 
-encoded-good : (snd : List Float) (v : StaticSound) → T (ours (length snd) v) → Good snd (encoded v)
-encoded-good snd v h = (lawful-encoded v, subst (λ (u : StaticSound). T (ours (length snd) u)) (sym (decoded-encoded v)) h)
+encoded-good : (snd : List Float) (v : StaticSound) → T (wellFormedFor (length snd) v) → Good snd (encoded v)
+encoded-good snd v h = (well-formed-encoded v, subst (λ (u : StaticSound). T (wellFormedFor (length snd) u)) (sym (decoded-encoded v)) h)
 
 -- ---- accepted
 
-after-good : (snd : List Float) (k : ℕ) (v : StaticSound) (c : CableowlState) → k ≡ 0 → T (ours (length snd) v) → Good snd (after k v c)
+after-good : (snd : List Float) (k : ℕ) (v : StaticSound) (c : CableowlState) → k ≡ 0 → T (wellFormedFor (length snd) v) → Good snd (after k v c)
 unfolding after
 after-good snd k v c e h = rw e (encoded-good snd v h)
 
@@ -44,20 +44,20 @@ pub created-kept : (snd : List Float) (s : CableowlSettings) → (createdC snd s
 unfolding createdC
 created-kept snd s e =
     let k = created-passed snd (settingsOf s) e in
-    encoded-good snd _ (subst (λ (u : StaticSound). T (ours (length snd) u)) (sym (created-done snd (settingsOf s) k)) (created-ours snd (settingsOf s) k))
+    encoded-good snd _ (subst (λ (u : StaticSound). T (wellFormedFor (length snd) u)) (sym (created-done snd (settingsOf s) k)) (created-well-formed-for snd (settingsOf s) k))
 
 pub commanded-kept : (snd : List Float) (c : CableowlState) (k : CableowlCommands) → (commandedC snd c k) .refusal ≡ 0 → Good snd ((commandedC snd c k) .state)
 unfolding commandedC
-commanded-kept snd c k e = after-good snd _ _ c e (commanded-ours snd (decoded c) (commandsOf k) e)
+commanded-kept snd c k e = after-good snd _ _ c e (commanded-well-formed-for snd (decoded c) (commandsOf k) e)
 
 module _ (snd : List Float) (c : CableowlState) (dt : Float) (b : Lanes) (g : CableowlSignals) where
   pub processed-kept : (out : List Float) → let o = processedC snd c dt b g out in o .answer .refusal ≡ 0 → Good snd (o .answer .state)
   unfolding processedC
-  processed-kept out e = after-good snd _ _ c e (processed-ours snd (decoded c) dt b (signalsOf g) out e)
+  processed-kept out e = after-good snd _ _ c e (processed-well-formed-for snd (decoded c) dt b (signalsOf g) out e)
 
   pub into-kept : (mix : List Float) (from : ℕ) → let o = processedIntoC snd c dt b g mix from in o .answer .refusal ≡ 0 → Good snd (o .answer .state)
   unfolding processedIntoC
-  into-kept mix from e = after-good snd _ _ c e (into-ours snd (decoded c) dt b (signalsOf g) mix from e)
+  into-kept mix from e = after-good snd _ _ c e (into-well-formed-for snd (decoded c) dt b (signalsOf g) mix from e)
 
 -- ---- refused
 

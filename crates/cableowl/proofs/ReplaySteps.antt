@@ -10,7 +10,7 @@ use lib.Seq.{sets, sets-eq, take-at, length-sets, length-take-le}
 use lib.Ieee.{Float}
 use borrow.Author.Tests.{eq-eqb, ne-eqb, leb-true, not-true, not-false}
 use Rattle.sound_held.specs.declared.Held.{Held}
-use Rattle.sound_held.specs.Held.{once}
+use Rattle.sound_held.specs.Held.{heldLanes}
 use Rattle.sound_state.specs.declared.StaticSound.{StaticSound}
 use Rattle.sound_creation.specs.declared.Settings.{Settings}
 use Rattle.sound_creation.specs.declared.Created.{Created}
@@ -31,8 +31,8 @@ use Rattle.c_state.specs.Records.{decoded, encoded}
 use Rattle.cableowl.specs.declared.replays.CableowlReplay.{CableowlReplay}
 use Rattle.cableowl.specs.declared.replays.CableowlReplayed.{CableowlReplayed}
 use Rattle.cableowl.specs.Entries.{after}
-use Rattle.cableowl.specs.Replays.{blankReplay, more, behind, playedAs, unplayed, StepC, creationC, commandsC, lanesOf, blockOutcome, blockC, blockStep, turned, judged, begun, refusedStep, steppedC}
-use Rattle.cableowl.proofs.Few.{countOf, ours-few, created-few, commanded-ours, processed-ours}
+use Rattle.cableowl.specs.Replays.{blankReplay, more, behind, playedAs, unplayed, StepC, creationC, commandsC, lanesOf, blockOutcome, blockC, blockStep, playedRecord, judged, begun, refusedStep, steppedC}
+use Rattle.cableowl.proofs.Few.{countOf, well-formed-for-few, created-few, commanded-well-formed-for, processed-well-formed-for}
 
 none : {A : Type 0} → ⊥ → A
 none e = elim e [ ]
@@ -71,27 +71,27 @@ blank-is v c e f = ap atStart (f ∙ ap encoded e)
 
 -- ---- the three kinds
 
-pub created-count : (x : List Float) (s : Settings) (d : Created) → d ≡ created x s → countOf (d .sound) ≤ 4
+pub created-count : (x : List Float) (s : Settings) (d : Created) → d ≡ created x s → countOf (d .voice) ≤ 4
 created-count x s d f = rw f (created-few x s)
 
-pub obeyed-count : (x : List Float) (v : StaticSound) (u : Commands) (d : Commanded) → d ≡ commanded x v u → d .refusal ≡ 0 → countOf (d .sound) ≤ 4
-obeyed-count x v u d f = rw f (λ z. ours-few (length x) _ (commanded-ours x v u z))
+pub obeyed-count : (x : List Float) (v : StaticSound) (u : Commands) (d : Commanded) → d ≡ commanded x v u → d .refusal ≡ 0 → countOf (d .voice) ≤ 4
+obeyed-count x v u d f = rw f (λ z. well-formed-for-few (length x) _ (commanded-well-formed-for x v u z))
 
 module _ (r : CableowlReplay) (n : ℕ) (vs : List ℕ) where
   pub creation-is : (x : List Float) (m : ℕ) (s : Settings) (d : Created) (e : CableowlState) (a : CableowlReplay) (p : CableowlReplayed)
-      → x ≡ samplesOf vs → m ≡ length (samplesOf vs) → s ≡ settingsOf vs → d ≡ created x s → e ≡ encoded (d .sound)
+      → x ≡ samplesOf vs → m ≡ length (samplesOf vs) → s ≡ settingsOf vs → d ≡ created x s → e ≡ encoded (d .voice)
       → a ≡ behind r n e m (r .blocks) → p ≡ playedAs a n 1 (d .refusal) 0 0 4 → p ≡ creationC r n vs
   unfolding creationC
   creation-is x m s d e a p hx hm hs hd he ha hp = rw (hp, ha, he, hd, hs, hm, hx)
 
   pub commands-is : (x : List Float) (v : StaticSound) (u : Commands) (d : Commanded) (e : CableowlState) (a : CableowlReplay) (p : CableowlReplayed)
-      → v ≡ decoded (r .voice) → u ≡ commandsOf vs → d ≡ commanded x v u → e ≡ after (d .refusal) (d .sound) (r .voice)
+      → v ≡ decoded (r .voice) → u ≡ commandsOf vs → d ≡ commanded x v u → e ≡ after (d .refusal) (d .voice) (r .voice)
       → a ≡ behind r n e (r .samples) (r .blocks) → p ≡ playedAs a n 2 (d .refusal) 0 0 4 → p ≡ commandsC x r n vs
   unfolding commandsC
   commands-is x v u d e a p hv hu hd he ha hp = rw (hp, ha, he, hd, hu, hv)
 
   pub block-answer : (frames : ℕ) (q : Processed) (e : CableowlState) (k : ℕ) (a : CableowlReplay) (p : CableowlReplayed)
-      → e ≡ after (q .refusal) (q .sound) (r .voice) → k ≡ more (r .blocks) → a ≡ behind r n e (r .samples) k
+      → e ≡ after (q .refusal) (q .voice) (r .voice) → k ≡ more (r .blocks) → a ≡ behind r n e (r .samples) k
       → p ≡ playedAs a n 3 (q .refusal) frames (q .steps) (q .«lowest_count») → p ≡ blockC r n frames q
   unfolding blockC
   block-answer frames q e k a p he hk ha hp = rw (hp, ha, hk, he)
@@ -101,7 +101,7 @@ abbrev heldOf : Block → Held
 heldOf b = record { fade = b .fade; volume = b .volume; left = b .left; right = b .right; rate = b .rate }
 
 abbrev asGiven : List Float → StaticSound → Block → Held → List Float → Outcome
-asGiven x v b h part = processed x v (b .«time_step») (once h (length part / 2)) (b .signals) part
+asGiven x v b h part = processed x v (b .«time_step») (heldLanes h (length part / 2)) (b .signals) part
 
 module _ (x out : List Float) (c : CableowlState) (b : Block) (v : StaticSound) (h : Held) (q : Processed) (part : List Float)
     (hv : v ≡ decoded c) (hh : h ≡ heldOf b) (room : 2 * b .frames ≤ length out)
@@ -111,10 +111,10 @@ module _ (x out : List Float) (c : CableowlState) (b : Block) (v : StaticSound) 
       let l : length (take (2 * b .frames) out) / 2 ≡ b .frames = omega (arith, length-take-le (2 * b .frames) out room) in
       f ∙ rw (hv, hh, l)
 
-  pub held-count : q .refusal ≡ 0 → countOf (q .sound) ≤ 4
+  pub held-count : q .refusal ≡ 0 → countOf (q .voice) ≤ 4
   held-count =
-      subst (λ (o : Outcome). o .answer .refusal ≡ 0 → countOf (o .answer .sound) ≤ 4) (sym held-outcome)
-      (λ z. ours-few (length x) _ (processed-ours x (decoded c) (b .«time_step») (lanesOf b) (b .signals) (take (2 * b .frames) out) z))
+      subst (λ (o : Outcome). o .answer .refusal ≡ 0 → countOf (o .answer .voice) ≤ 4) (sym held-outcome)
+      (λ z. well-formed-for-few (length x) _ (processed-well-formed-for x (decoded c) (b .«time_step») (lanesOf b) (b .signals) (take (2 * b .frames) out) z))
 
 module _ (r : CableowlReplay) (n : ℕ) (vs : List ℕ) (snd out : List Float) where
   abbrev stepOf : Block → Outcome → StepC
@@ -133,22 +133,22 @@ module _ (r : CableowlReplay) (n : ℕ) (vs : List ℕ) (snd out : List Float) w
 
 module _ (r : CableowlReplay) (d : Record) (snd out : List Float) where
   pub turned-creation : (p : CableowlReplayed) (x : List Float) → d .kind ≡ 1 → p ≡ creationC r (d .next) (d .values) → x ≡ sets snd 0 (samplesOf (d .values))
-      → record { answer = p; sound = x; samples = out } ≡ turned r d snd out
-  unfolding turned
+      → record { answer = p; sound = x; samples = out } ≡ playedRecord r d snd out
+  unfolding playedRecord
   turned-creation p x k e f =
       ap (λ (a : CableowlReplayed). record { answer = a; sound = x; samples = out }) e
       ∙ ap (λ (y : List Float). record { answer = creationC r (d .next) (d .values); sound = y; samples = out }) f
       ∙ rw (eq-eqb (d .kind) 1 k) refl
 
   pub turned-commands : (p : CableowlReplayed) → (d .kind ≡ 1 → ⊥) → d .kind ≡ 2 → p ≡ commandsC (take (r .samples) snd) r (d .next) (d .values)
-      → record { answer = p; sound = snd; samples = out } ≡ turned r d snd out
-  unfolding turned
+      → record { answer = p; sound = snd; samples = out } ≡ playedRecord r d snd out
+  unfolding playedRecord
   turned-commands p j k e =
       ap (λ (a : CableowlReplayed). record { answer = a; sound = snd; samples = out }) e
       ∙ rw (ne-eqb (d .kind) 1 j, eq-eqb (d .kind) 2 k) refl
 
-  pub turned-block : (s : StepC) → (d .kind ≡ 1 → ⊥) → (d .kind ≡ 2 → ⊥) → s ≡ blockStep r (d .next) (d .values) snd out → s ≡ turned r d snd out
-  unfolding turned
+  pub turned-block : (s : StepC) → (d .kind ≡ 1 → ⊥) → (d .kind ≡ 2 → ⊥) → s ≡ blockStep r (d .next) (d .values) snd out → s ≡ playedRecord r d snd out
+  unfolding playedRecord
   turned-block s j k e = e ∙ rw (ne-eqb (d .kind) 1 j, ne-eqb (d .kind) 2 k) refl
 
 -- ---- the number of a refused call
@@ -230,7 +230,7 @@ module _ (r : CableowlReplay) (bs : List ℕ) (ended : ℕ) (snd out : List Floa
     as-judged : (s : StepC) → s ≡ judged r ended d snd out → s ≡ steppedC r bs ended snd out
     as-judged s g = g ∙ some-judged l d f ∙ step-begun h
 
-    pub step-played : (s : StepC) → d .refusal ≡ 0 → s ≡ turned r d snd out → s ≡ steppedC r bs ended snd out
+    pub step-played : (s : StepC) → d .refusal ≡ 0 → s ≡ playedRecord r d snd out → s ≡ steppedC r bs ended snd out
     unfolding judged
     step-played s z g = as-judged s (g ∙ rw (eq-eqb (d .refusal) 0 z) refl)
 

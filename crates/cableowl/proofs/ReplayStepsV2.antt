@@ -30,8 +30,8 @@ use Rattle.cableowl.specs.declared.replays.CableowlReplay.{CableowlRepla
 use Rattle.cableowl.specs.declared.replays.CableowlReplayed.{CableowlReplayed}
 use Rattle.cableowl.specs.Entries.{after}
 use Rattle.cableowl.specs.Replays.{more, behind, playedAs, unplayed, StepC, creationC, commandsC, blockC, blockStep, judged, begun}
-use Rattle.cableowl.specs.ReplaysV2.{blankReplayV2, playing, bufferOf, otherSound, refusedGiven, givenC, lanedOutcome, ofKind, lanedStep, obeyed, turnedV2, lacking, judgedV2, begunV2, refusedStepV2, steppedV2}
-use Rattle.cableowl.proofs.Few.{countOf, ours-few, processed-ours}
+use Rattle.cableowl.specs.ReplaysV2.{blankReplayV2, playing, bufferOf, otherSound, refusedGiven, givenC, lanedOutcome, ofKind, lanedStep, obeyed, playedRecordV2, lacking, judgedV2, begunV2, refusedStepV2, steppedV2}
+use Rattle.cableowl.proofs.Few.{countOf, well-formed-for-few, processed-well-formed-for}
 use Rattle.cableowl.proofs.ReplaySteps.{prefix}
 
 none : {A : Type 0} → ⊥ → A
@@ -100,7 +100,7 @@ module _ (given : List Float) (sounds : ℕ) (r : CableowlReplay) (n : ℕ) (vs 
   given-other b p hb t hp = hp ∙ rw (sym hb ∙ t) refl
 
   pub given-is : (b : Bool) (m : ℕ) (s : Settings) (d : Created) (e : CableowlState) (q a : CableowlReplay) (p : CableowlReplayed)
-      → b ≡ otherSound sounds (length given) vs → b ≡ false → m ≡ givenSamples vs → s ≡ settingsOf vs → d ≡ created (take m given) s → e ≡ encoded (d .sound)
+      → b ≡ otherSound sounds (length given) vs → b ≡ false → m ≡ givenSamples vs → s ≡ settingsOf vs → d ≡ created (take m given) s → e ≡ encoded (d .voice)
       → q ≡ playing 1 r → a ≡ behind q n e m (r .blocks) → p ≡ playedAs a n 4 (d .refusal) 0 0 4 → p ≡ givenC given sounds r n vs
   unfolding givenC
   given-is b m s d e q a p hb f hm hs hd he hq ha hp = rw (sym hb ∙ f, hp, ha, hq, he, hd, hs, hm)
@@ -129,17 +129,17 @@ lanes-outcome snd v b bs out fa vo le ri ra o e1 e2 e3 e4 e5 q = q ∙ rw (e1, e
 
 module _ (r : CableowlReplay) (n : ℕ) where
   pub counted-is : (kind frames : ℕ) (q : Processed) (e : CableowlState) (k : ℕ) (a : CableowlReplay) (p : CableowlReplayed)
-      → e ≡ after (q .refusal) (q .sound) (r .voice) → k ≡ more (r .blocks) → a ≡ behind r n e (r .samples) k
+      → e ≡ after (q .refusal) (q .voice) (r .voice) → k ≡ more (r .blocks) → a ≡ behind r n e (r .samples) k
       → p ≡ playedAs a n kind (q .refusal) frames (q .steps) (q .«lowest_count») → p ≡ ofKind kind (blockC r n frames q)
   unfolding blockC
   counted-is kind frames q e k a p he hk ha hp = rw (hp, ha, hk, he)
 
 module _ (snd out : List Float) (v : StaticSound) (b : LanedBlock) (bs : List ℕ) (q : Processed) (part : List Float)
     (f : record { answer = q; samples = part } ≡ lanedOutcome snd v b bs out) where
-  pub laned-count : q .refusal ≡ 0 → countOf (q .sound) ≤ 4
+  pub laned-count : q .refusal ≡ 0 → countOf (q .voice) ≤ 4
   laned-count =
-      subst (λ (o : Outcome). o .answer .refusal ≡ 0 → countOf (o .answer .sound) ≤ 4) (sym f)
-      (λ z. ours-few (length snd) _ (processed-ours snd v (b .«time_step») _ (b .signals) out z))
+      subst (λ (o : Outcome). o .answer .refusal ≡ 0 → countOf (o .answer .voice) ≤ 4) (sym f)
+      (λ z. well-formed-for-few (length snd) _ (processed-well-formed-for snd v (b .«time_step») _ (b .signals) out z))
 
 module _ (r : CableowlReplay) (n : ℕ) (vs bs : List ℕ) (snd out : List Float) where
   abbrev lanedOf : LanedBlock → Outcome → StepC
@@ -176,29 +176,29 @@ module _ (r : CableowlReplay) (d : Record) (bs : List ℕ) (snd out : List Float
 
 module _ (r : CableowlReplay) (d : Record) (bs : List ℕ) (snd given : List Float) (sounds : ℕ) (out : List Float) where
   pub turned-creation-v2 : (q : CableowlReplay) (p : CableowlReplayed) (x : List Float) → d .kind ≡ 1 → q ≡ playing 0 r → p ≡ creationC q (d .next) (d .values)
-      → x ≡ sets snd 0 (samplesOf (d .values)) → only p x out ≡ turnedV2 r d bs snd given sounds out
-  unfolding turnedV2
+      → x ≡ sets snd 0 (samplesOf (d .values)) → only p x out ≡ playedRecordV2 r d bs snd given sounds out
+  unfolding playedRecordV2
   turned-creation-v2 q p x k hq e f =
       ap (λ (a : CableowlReplayed). only a x out) (e ∙ ap (λ (z : CableowlReplay). creationC z (d .next) (d .values)) hq)
       ∙ ap (λ (y : List Float). only (creationC (playing 0 r) (d .next) (d .values)) y out) f
       ∙ rw (eq-eqb (d .kind) 1 k) refl
 
   pub turned-given : (p : CableowlReplayed) → (d .kind ≡ 1 → ⊥) → d .kind ≡ 4 → p ≡ givenC given sounds r (d .next) (d .values)
-      → only p snd out ≡ turnedV2 r d bs snd given sounds out
-  unfolding turnedV2
+      → only p snd out ≡ playedRecordV2 r d bs snd given sounds out
+  unfolding playedRecordV2
   turned-given p j k e = ap (λ (a : CableowlReplayed). only a snd out) e ∙ rw (ne-eqb (d .kind) 1 j, eq-eqb (d .kind) 4 k) refl
 
   abbrev kept : StepC → StepC
   kept s = only (s .answer) snd (s .samples)
 
   pub turned-sound : (p : CableowlReplayed) (x : List Float) → (d .kind ≡ 1 → ⊥) → (d .kind ≡ 4 → ⊥) → r .given ≡ 0 → only p snd x ≡ obeyed r d bs snd out
-      → only p snd x ≡ turnedV2 r d bs snd given sounds out
-  unfolding turnedV2
+      → only p snd x ≡ playedRecordV2 r d bs snd given sounds out
+  unfolding playedRecordV2
   turned-sound p x j k g e = ap kept e ∙ rw (ne-eqb (d .kind) 1 j, ne-eqb (d .kind) 4 k, eq-eqb (r .given) 0 g) refl
 
   pub turned-over : (p : CableowlReplayed) (x : List Float) → (d .kind ≡ 1 → ⊥) → (d .kind ≡ 4 → ⊥) → (r .given ≡ 0 → ⊥) → only p given x ≡ obeyed r d bs given out
-      → only p snd x ≡ turnedV2 r d bs snd given sounds out
-  unfolding turnedV2
+      → only p snd x ≡ playedRecordV2 r d bs snd given sounds out
+  unfolding playedRecordV2
   turned-over p x j k g e = ap kept e ∙ rw (ne-eqb (d .kind) 1 j, ne-eqb (d .kind) 4 k, ne-eqb (r .given) 0 g) refl
 
 -- ---- a given sound that is too short
@@ -332,7 +332,7 @@ module _ (r : CableowlReplay) (bs : List ℕ) (ended : ℕ) (snd given : List Fl
         (ap (λ (a : CableowlReplayed). only a snd out) (g ∙ ap (unplayed r 4) m)
         ∙ rw (eq-eqb (d .refusal) 0 z, ne-eqb (lacking r d sounds (length given)) 0 (λ y. n (m ∙ y))) refl)
 
-    pub step-played-v2 : (j : ℕ) (s : StepC) → d .refusal ≡ 0 → j ≡ lacking r d sounds (length given) → j ≡ 0 → s ≡ turnedV2 r d bs snd given sounds out → s ≡ step
+    pub step-played-v2 : (j : ℕ) (s : StepC) → d .refusal ≡ 0 → j ≡ lacking r d sounds (length given) → j ≡ 0 → s ≡ playedRecordV2 r d bs snd given sounds out → s ≡ step
     unfolding judgedV2
     step-played-v2 j s z m n g = as-judged s (g ∙ rw (eq-eqb (d .refusal) 0 z, eq-eqb (lacking r d sounds (length given)) 0 (sym m ∙ n)) refl)
 

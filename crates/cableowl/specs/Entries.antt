@@ -7,7 +7,7 @@ use lib.ListN.{length}
 use lib.Ieee.{Float}
 use Rattle.sound_lanes.specs.Lanes.{Lanes}
 use Rattle.sound_held.specs.declared.Held.{Held}
-use Rattle.sound_held.specs.Held.{once}
+use Rattle.sound_held.specs.Held.{heldLanes}
 use Rattle.sound_state.specs.declared.StaticSound.{StaticSound}
 use Rattle.sound_creation.specs.Creation.{created}
 use Rattle.sound_commands.specs.Commands.{commanded}
@@ -30,18 +30,18 @@ after k v c = cond (eqb k 0) (encoded v) c
 
 -- creation; if refused, the blank state
 unfoldable pub createdC : List Float → CableowlSettings → CableowlCreated
-createdC snd s = let r = created snd (settingsOf s) in record { state = encoded (r .sound); refusal = r .refusal }
+createdC snd s = let r = created snd (settingsOf s) in record { state = encoded (r .voice); refusal = r .refusal }
 
 -- a command set
 unfoldable pub commandedC : List Float → CableowlState → CableowlCommands → CableowlCommanded
 commandedC snd c k =
     let r = commanded snd (decoded c) (commandsOf k) in
-    record { state = after (r .refusal) (r .sound) c; position = r .position; refusal = r .refusal }
+    record { state = after (r .refusal) (r .voice) c; position = r .position; refusal = r .refusal }
 
 -- the result of a block that was given this state
 abbrev pub answered : Processed → CableowlState → CableowlProcessed
 answered p c = record {
-  state = after (p .refusal) (p .sound) c;
+  state = after (p .refusal) (p .voice) c;
   steps = p .steps;
   refusal = p .refusal;
   «lowest_count» = p .«lowest_count»;
@@ -68,12 +68,12 @@ processedIntoC snd c dt b g mix from =
 -- a block whose numbers are given once: the block over lanes that repeat them, one frame for each two samples of the
 -- output
 abbrev pub processedHeldC : List Float → CableowlState → Float → Held → CableowlSignals → List Float → OutcomeC
-processedHeldC snd c dt x g out = processedC snd c dt (once x (length out / 2)) g out
+processedHeldC snd c dt x g out = processedC snd c dt (heldLanes x (length out / 2)) g out
 
 -- n frames of it into a mix
 abbrev pub processedHeldIntoC : List Float → CableowlState → Float → Held → CableowlSignals → List Float → ℕ → ℕ
     → OutcomeC
-processedHeldIntoC snd c dt x g mix from n = processedIntoC snd c dt (once x n) g mix from
+processedHeldIntoC snd c dt x g mix from n = processedIntoC snd c dt (heldLanes x n) g mix from
 
 -- the stretch, as its offset in the sound and its length
 unfoldable pub partC : List Float → CableowlState → CableowlPart

@@ -40,4 +40,4 @@ copyClearedC c h k = cond (leb h 1) (copyCleared c (hallOf h) k) (record { copy 
 unfoldable pub takenC : List Float → LoopTable → ℕ → CableowlState → CableowlCommanded
 takenC snd t k c =
     let r = taken snd t k (decoded c) in
-    record { state = after (r .refusal) (r .sound) c; position = r .position; refusal = r .refusal }
+    record { state = after (r .refusal) (r .voice) c; position = r .position; refusal = r .refusal }

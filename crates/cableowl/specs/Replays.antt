@@ -93,13 +93,13 @@ pub record StepC : Type 0 where
 unfoldable pub creationC : CableowlReplay → ℕ → List ℕ → CableowlReplayed
 creationC r n vs =
     let c = created (samplesOf vs) (settingsOf vs) in
-    playedAs (behind r n (encoded (c .sound)) (length (samplesOf vs)) (r .blocks)) n 1 (c .refusal) 0 0 4
+    playedAs (behind r n (encoded (c .voice)) (length (samplesOf vs)) (r .blocks)) n 1 (c .refusal) 0 0 4
 
 -- a command set over the voice's sound
 unfoldable pub commandsC : List Float → CableowlReplay → ℕ → List ℕ → CableowlReplayed
 commandsC snd r n vs =
     let c = commanded snd (decoded (r .voice)) (commandsOf vs) in
-    playedAs (behind r n (after (c .refusal) (c .sound) (r .voice)) (r .samples) (r .blocks)) n 2 (c .refusal) 0 0 4
+    playedAs (behind r n (after (c .refusal) (c .voice) (r .voice)) (r .samples) (r .blocks)) n 2 (c .refusal) 0 0 4
 
 -- a block's lanes: every frame is the same
 abbrev pub lanesOf : Block → Lanes
@@ -114,7 +114,7 @@ blockOutcome snd v b out = processed snd (decoded v) (b .«time_step») (lanesOf
 -- a block, accepted or refused, is counted
 unfoldable pub blockC : CableowlReplay → ℕ → ℕ → Processed → CableowlReplayed
 blockC r n frames p =
-    playedAs (behind r n (after (p .refusal) (p .sound) (r .voice)) (r .samples) (more (r .blocks))) n 3
+    playedAs (behind r n (after (p .refusal) (p .voice) (r .voice)) (r .samples) (more (r .blocks))) n 3
     (p .refusal) frames (p .steps)
     (p .«lowest_count»)
 
@@ -132,8 +132,8 @@ blockStep r n vs snd out =
     }
 
 -- one record, by its kind; a creation writes its sound to the start of the buffer for it
-unfoldable pub turned : CableowlReplay → Record → List Float → List Float → StepC
-turned r d snd out =
+unfoldable pub playedRecord : CableowlReplay → Record → List Float → List Float → StepC
+playedRecord r d snd out =
     let vs = d .values in
     cond (eqb (d .kind) 1)
     (record { answer = creationC r (d .next) vs; sound = sets snd 0 (samplesOf vs); samples = out })
@@ -145,7 +145,7 @@ turned r d snd out =
 -- other refusal is final
 unfoldable pub judged : CableowlReplay → ℕ → Record → List Float → List Float → StepC
 judged r ended d snd out =
-    cond (eqb (d .refusal) 0) (turned r d snd out)
+    cond (eqb (d .refusal) 0) (playedRecord r d snd out)
     (record {
       answer = cond (eqb (d .refusal) 18 && eqb ended 0) (unplayed r 1 0) (unplayed r 3 (d .refusal));
       sound = snd;

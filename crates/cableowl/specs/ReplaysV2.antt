@@ -73,7 +73,7 @@ givenC given sounds r n vs =
     let c = created (take m given) (settingsOf vs) in
     cond (otherSound sounds (length given) vs)
     (refusedGiven r n)
-    (playedAs (behind (playing 1 r) n (encoded (c .sound)) m (r .blocks)) n 4 (c .refusal) 0 0 4)
+    (playedAs (behind (playing 1 r) n (encoded (c .voice)) m (r .blocks)) n 4 (c .refusal) 0 0 4)
 
 -- ---- kind 5, a block with a value for each frame
 
@@ -115,8 +115,8 @@ obeyed r d bs snd out =
     (cond (eqb (d .kind) 5) (lanedStep r n vs bs snd out) (blockStep r n vs snd out))
 
 -- one record, by its kind; only a creation with its samples writes to the buffer for them
-unfoldable pub turnedV2 : CableowlReplay → Record → List ℕ → List Float → List Float → ℕ → List Float → StepC
-turnedV2 r d bs snd given sounds out =
+unfoldable pub playedRecordV2 : CableowlReplay → Record → List ℕ → List Float → List Float → ℕ → List Float → StepC
+playedRecordV2 r d bs snd given sounds out =
     let n = d .next in
     let vs = d .values in
     let o = obeyed r d bs (bufferOf r snd given) out in
@@ -140,7 +140,7 @@ unfoldable pub judgedV2 :
 judgedV2 r ended d bs snd given sounds out =
     let k = lacking r d sounds (length given) in
     cond (eqb (d .refusal) 0)
-    (cond (eqb k 0) (turnedV2 r d bs snd given sounds out)
+    (cond (eqb k 0) (playedRecordV2 r d bs snd given sounds out)
     (record { answer = unplayed r 4 k; sound = snd; samples = out }))
     (judged r ended d snd out)
 

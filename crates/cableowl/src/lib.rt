@@ -105,11 +105,11 @@ fn state_after(refusal: u32, voice: StaticSound, state: CableowlState) -> Cableo
 }
 
 fn answer(processed: Processed, state: CableowlState) -> CableowlProcessed
-    requires { ⌜ (processed .refusal ≡ 0 → processed .sound .moving .resampler .«time_until_empty» ≤ 4)
+    requires { ⌜ (processed .refusal ≡ 0 → processed .voice .moving .resampler .«time_until_empty» ≤ 4)
         × (processed .«lowest_count» ≤ 4) ⌝ }
     ensures { λ r. ⌜ r ≡ answered processed state ⌝ }
 {
-    let voice = processed.sound;
+    let voice = processed.voice;
     let lowest_count = processed.lowest_count as u32;
     CableowlProcessed {
         state: state_after(processed.refusal, voice, state),
@@ -132,7 +132,7 @@ pub extern "C" fn cableowl_new(settings: CableowlSettings, sound: &[f32]) -> Cab
     ensures { λ r. ⌜ r ≡ createdC (now (sound .entry)) settings ⌝ }
 {
     let created = sound_creation::new(settings_of(settings), sound);
-    let voice = created.sound;
+    let voice = created.voice;
     CableowlCreated {
         state: encode(voice),
         refusal: created.refusal,
@@ -152,7 +152,7 @@ pub extern "C" fn cableowl_on_start_processing(
         sound,
         commands_of(commands),
     );
-    let voice = commanded.sound;
+    let voice = commanded.voice;
     CableowlCommanded {
         state: state_after(commanded.refusal, voice, state),
         position: commanded.position,

@@ -70,7 +70,7 @@ pub extern "C" fn cableowl_take_loop(
     ensures { λ r. ⌜ r ≡ takenC (now (sound .entry)) table slot state ⌝ }
 {
     let commanded = take_loop::take(table, slot as usize, decode(state), sound);
-    let voice = commanded.sound;
+    let voice = commanded.voice;
     CableowlCommanded {
         state: state_after(commanded.refusal, voice, state),
         position: commanded.position,

@@ -15,7 +15,7 @@ ghost use Rattle.cableowl.specs.Replays.{
   creationC,
   commandsC,
   blockStep,
-  turned,
+  playedRecord,
   judged,
   refusedStep,
   steppedC,
@@ -144,7 +144,7 @@ pub(crate) fn create(
 {
     let samples = trace_inputs::put_samples(values, sound);
     let created = sound_creation::new(trace_inputs::settings_of(values), &sound[..samples]);
-    let voice = created.sound;
+    let voice = created.voice;
     let after = behind_record(replay, size, encode(voice), samples as u64, replay.blocks);
     played(after, size, 1, created.refusal, 0, 0, 4)
 }
@@ -164,7 +164,7 @@ pub(crate) fn command(
         sound,
         trace_inputs::commands_of(values),
     );
-    let voice = commanded.sound;
+    let voice = commanded.voice;
     let refusal = commanded.refusal;
     let state = state_after(refusal, voice, before);
     let after = behind_record(replay, size, state, replay.samples, replay.blocks);
@@ -214,7 +214,7 @@ pub(crate) fn play(
         signals,
         &mut out[..n],
     );
-    let voice = processed.sound;
+    let voice = processed.voice;
     let refusal = processed.refusal;
     let state = state_after(refusal, voice, before);
     let after = behind_record(replay, size, state, replay.samples, more_of(replay.blocks));
@@ -230,7 +230,7 @@ pub(crate) fn play(
 }
 
 // Plays one record, by its kind.
-fn turn(
+fn play_record(
     replay: CableowlReplay,
     read: Record,
     sound: &mut [f32],
@@ -238,7 +238,7 @@ fn turn(
 ) -> CableowlReplayed
     requires { ⌜ (128 ≤ length (now sound)) × (replay .samples ≤ length (now sound)) × (2048 ≤ length (now out)) ⌝ }
     ensures { λ r. ⌜ record { answer = r; sound = now (sound .exit); samples = now (out .exit) }
-        ≡ turned replay read (now (sound .entry)) (now (out .entry)) ⌝ }
+        ≡ playedRecord replay read (now (sound .entry)) (now (out .entry)) ⌝ }
 {
     let size = read.next as u64;
     let values = read.values;
@@ -303,7 +303,7 @@ pub extern "C" fn cableowl_replay_step(
     }
     let read = trace_records::read(bytes, 0);
     if read.refusal == 0 {
-        return turn(replay, read, sound, out);
+        return play_record(replay, read, sound, out);
     }
     if (read.refusal == 18) & (ended == 0) {
         return not_played(replay, 1, 0);

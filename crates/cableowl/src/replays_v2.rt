@@ -16,7 +16,7 @@ ghost use Rattle.cableowl.specs.ReplaysV2.{
   ofKind,
   lanedStep,
   obeyed,
-  turnedV2,
+  playedRecordV2,
   lacking,
   refusedStepV2,
   steppedV2,
@@ -88,7 +88,7 @@ fn create_over(
     }
     let samples = trace_inputs::given_samples_of(values);
     let created = sound_creation::new(trace_inputs::settings_of(values), &given[..samples]);
-    let voice = created.sound;
+    let voice = created.voice;
     let after = behind_record(
         playing_of(1, replay),
         size,
@@ -140,10 +140,10 @@ fn counted(
     frames: usize,
     processed: Processed,
 ) -> CableowlReplayed
-    requires { ⌜ (processed .refusal ≡ 0 → processed .sound .moving .resampler .«time_until_empty» ≤ 4) ⌝ }
+    requires { ⌜ (processed .refusal ≡ 0 → processed .voice .moving .resampler .«time_until_empty» ≤ 4) ⌝ }
     ensures { λ r. ⌜ r ≡ ofKind kind (blockC replay size frames processed) ⌝ }
 {
-    let voice = processed.sound;
+    let voice = processed.voice;
     let refusal = processed.refusal;
     let before = replay.voice;
     let state = state_after(refusal, voice, before);
@@ -211,7 +211,7 @@ fn obey(
 }
 
 // Plays one record, by its kind.
-fn turn_v2(
+fn play_record_v2(
     replay: CableowlReplay,
     read: Record,
     bytes: &[u8],
@@ -224,7 +224,7 @@ fn turn_v2(
         × (replay .given ≡ 0 → replay .samples ≤ length (now sound))
         × (lacking replay read sounds (length (now given)) ≡ 0) ⌝ }
     ensures { λ r. ⌜ record { answer = r; sound = now (sound .exit); samples = now (out .exit) }
-        ≡ turnedV2 replay read (now (bytes .entry)) (now (sound .entry)) (now (given .entry)) sounds
+        ≡ playedRecordV2 replay read (now (bytes .entry)) (now (sound .entry)) (now (given .entry)) sounds
         (now (out .entry)) ⌝ }
 {
     let size = read.next as u64;
@@ -317,7 +317,7 @@ pub extern "C" fn cableowl_replay_step_v2(
         if short != 0 {
             return not_played(replay, 4, short);
         }
-        return turn_v2(replay, read, bytes, sound, given, sounds, out);
+        return play_record_v2(replay, read, bytes, sound, given, sounds, out);
     }
     if (read.refusal == 18) & (ended == 0) {
         return not_played(replay, 1, 0);

@@ -11,7 +11,7 @@ use Rattle.loop_table.specs.declared.Hall.the-variants as hall
 use Rattle.loop_table.specs.declared.LoopSlot.{LoopSlot}
 use Rattle.loop_table.specs.declared.LoopTable.{LoopTable}
 use Rattle.loop_table.specs.declared.LoopChanged.{LoopChanged}
-use Rattle.loop_table.specs.Tables.{unless, empty, emptyTable, lawfulTable, half, written, cleared}
+use Rattle.loop_table.specs.Tables.{unless, empty, emptyTable, wellFormedTable, half, written, cleared}
 use Rattle.loop_copies.specs.declared.LoopCopy.{LoopCopy}
 use Rattle.loop_copies.specs.declared.CopyChanged.{CopyChanged}
 
@@ -63,7 +63,7 @@ agrees h c d = not (eqb (changesOf h c) (changesOf h d)) || sameSlots 8 (first h
 unfoldable pub refusedMerge : LoopCopy → LoopCopy → ℕ
 refusedMerge c d =
     unless
-    (lawfulTable (c .table) && lawfulTable (d .table))
+    (wellFormedTable (c .table) && wellFormedTable (d .table))
     1
     (unless (eqb (c .table .«num_frames») (d .table .«num_frames»)) 27
     (unless (agrees hall.A c d && agrees hall.B c d) 28 0))

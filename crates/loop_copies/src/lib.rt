@@ -180,10 +180,10 @@ impl LoopCopy {
     {
         let ours = self.table;
         let other = theirs.table;
-        if !ours.is_lawful() {
+        if !ours.is_well_formed() {
             return REFUSAL_STATE;
         }
-        if !other.is_lawful() {
+        if !other.is_well_formed() {
             return REFUSAL_STATE;
         }
         if ours.num_frames != other.num_frames {

@@ -6,7 +6,7 @@ use mathlib.Core.Bool.{Bool, true, false}
 use lib.Dec.{T, leb, leb→le}
 use Rattle.loop_table.specs.declared.Hall.{Hall}
 use Rattle.loop_table.specs.declared.LoopTable.{LoopTable}
-use Rattle.loop_table.specs.Tables.{unless, looping, lawfulTable, owns, refusedSlot, refusedWrite, refusedClear}
+use Rattle.loop_table.specs.Tables.{unless, looping, wellFormedTable, owns, refusedSlot, refusedWrite, refusedClear}
 
 -- a test that gives its number where it fails
 pub passed : (ok : Bool) (n rest : ℕ) → unless ok (suc n) rest ≡ 0 → T ok × (rest ≡ 0)
@@ -26,13 +26,13 @@ slot-own h k e =
     record { among = omega (arith, l); own = q .0 }
 
 module _ (t : LoopTable) (h : Hall) (k : ℕ) where
-  pub write-accepted : (s e : ℕ) → refusedWrite t h k s e ≡ 0 → T (lawfulTable t) × T (looping (t .«num_frames») s e) × Own h k
+  pub write-accepted : (s e : ℕ) → refusedWrite t h k s e ≡ 0 → T (wellFormedTable t) × T (looping (t .«num_frames») s e) × Own h k
   unfolding refusedWrite
   write-accepted s e z =
-      let p = passed (lawfulTable t) 0 _ z in
+      let p = passed (wellFormedTable t) 0 _ z in
       let q = passed (looping (t .«num_frames») s e) 5 _ (p .1) in
       (p .0, q .0, slot-own h k (q .1))
 
-  pub clear-accepted : refusedClear t h k ≡ 0 → T (lawfulTable t) × Own h k
+  pub clear-accepted : refusedClear t h k ≡ 0 → T (wellFormedTable t) × Own h k
   unfolding refusedClear
-  clear-accepted z = let p = passed (lawfulTable t) 0 _ z in (p .0, slot-own h k (p .1))
+  clear-accepted z = let p = passed (wellFormedTable t) 0 _ z in (p .0, slot-own h k (p .1))

@@ -35,12 +35,12 @@ abbrev pub isEmpty : LoopSlot → Bool
 isEmpty s = eqb (s .start) 0 && eqb (s .end) 0
 
 -- a slot is empty or holds a loop
-abbrev pub lawfulSlot : ℕ → LoopSlot → Bool
-lawfulSlot n s = isEmpty s || looping n (s .start) (s .end)
+abbrev pub wellFormedSlot : ℕ → LoopSlot → Bool
+wellFormedSlot n s = isEmpty s || looping n (s .start) (s .end)
 
 -- 1: no slot holds a loop that 6 would refuse
-unfoldable pub lawfulTable : LoopTable → Bool
-lawfulTable t = all (lawfulSlot (t .«num_frames»)) (t .slots)
+unfoldable pub wellFormedTable : LoopTable → Bool
+wellFormedTable t = all (wellFormedSlot (t .«num_frames»)) (t .slots)
 
 -- which slots a hall writes
 abbrev pub owns : Hall → ℕ → Bool
@@ -79,21 +79,21 @@ changed refusal t k s = cond (eqb refusal 0) (record { table = stored t k s; ref
 
 -- a write
 unfoldable pub refusedWrite : LoopTable → Hall → ℕ → ℕ → ℕ → ℕ
-refusedWrite t h k s e = unless (lawfulTable t) 1 (unless (looping (t .«num_frames») s e) 6 (refusedSlot h k))
+refusedWrite t h k s e = unless (wellFormedTable t) 1 (unless (looping (t .«num_frames») s e) 6 (refusedSlot h k))
 
 unfoldable pub written : LoopTable → Hall → ℕ → ℕ → ℕ → LoopChanged
 written t h k s e = changed (refusedWrite t h k s e) t k (slotOf s e)
 
 -- a clear, also of an empty slot
 unfoldable pub refusedClear : LoopTable → Hall → ℕ → ℕ
-refusedClear t h k = unless (lawfulTable t) 1 (refusedSlot h k)
+refusedClear t h k = unless (wellFormedTable t) 1 (refusedSlot h k)
 
 unfoldable pub cleared : LoopTable → Hall → ℕ → LoopChanged
 cleared t h k = changed (refusedClear t h k) t k empty
 
 -- a read by either hall; if refused, no loop
 unfoldable pub refusedRead : LoopTable → ℕ → ℕ
-refusedRead t k = unless (lawfulTable t) 1 (unless (leb k 15) 20 (cond (isEmpty (heldIn t k)) 22 0))
+refusedRead t k = unless (wellFormedTable t) 1 (unless (leb k 15) 20 (cond (isEmpty (heldIn t k)) 22 0))
 
 unfoldable pub found : LoopTable → ℕ → LoopFound
 found t k = let n = refusedRead t k in record { slot = cond (eqb n 0) (heldIn t k) empty; refusal = n }

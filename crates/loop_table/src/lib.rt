@@ -5,8 +5,8 @@ ghost use Prim.Native.Nat.{_<_};
 ghost use Rattle.loop_table.specs.Tables.{
   looping,
   isEmpty,
-  lawfulSlot,
-  lawfulTable,
+  wellFormedSlot,
+  wellFormedTable,
   owns,
   emptyTable,
   changed,
@@ -80,8 +80,8 @@ impl LoopSlot {
         (self.start == 0) & (self.end == 0)
     }
 
-    fn is_lawful(self, num_frames: u64) -> bool
-        ensures { λ r. ⌜ r ≡ lawfulSlot «num_frames» self ⌝ }
+    fn is_well_formed(self, num_frames: u64) -> bool
+        ensures { λ r. ⌜ r ≡ wellFormedSlot «num_frames» self ⌝ }
     {
         self.is_empty() | is_loop(num_frames, self.start, self.end)
     }
@@ -123,8 +123,8 @@ impl LoopTable {
     }
 
     // Whether refusal 1 does not apply.
-    pub fn is_lawful(self) -> bool
-        ensures { λ r. ⌜ r ≡ lawfulTable self ⌝ }
+    pub fn is_well_formed(self) -> bool
+        ensures { λ r. ⌜ r ≡ wellFormedTable self ⌝ }
     {
         let slots = self.slots;
         let num_frames = self.num_frames;
@@ -132,7 +132,7 @@ impl LoopTable {
         let mut i: usize = 0;
         while i < 16 {
             let slot = slots[i];
-            ok = slot.is_lawful(num_frames) & ok;
+            ok = slot.is_well_formed(num_frames) & ok;
             i += 1;
         }
         ok
@@ -163,7 +163,7 @@ impl LoopTable {
     fn refusal_of_write(self, hall: Hall, slot: usize, start: u64, end: u64) -> u32
         ensures { λ r. ⌜ r ≡ refusedWrite self hall slot start end ⌝ }
     {
-        if !self.is_lawful() {
+        if !self.is_well_formed() {
             return REFUSAL_STATE;
         }
         if !is_loop(self.num_frames, start, end) {
@@ -175,7 +175,7 @@ impl LoopTable {
     fn refusal_of_clear(self, hall: Hall, slot: usize) -> u32
         ensures { λ r. ⌜ r ≡ refusedClear self hall slot ⌝ }
     {
-        if !self.is_lawful() {
+        if !self.is_well_formed() {
             return REFUSAL_STATE;
         }
         hall.refusal_of(slot)
@@ -200,7 +200,7 @@ impl LoopTable {
         ensures { λ r. ⌜ r ≡ found self slot ⌝ }
     {
         let none = LoopSlot { start: 0, end: 0 };
-        if !self.is_lawful() {
+        if !self.is_well_formed() {
             return LoopFound {
                 slot: none,
                 refusal: REFUSAL_STATE,

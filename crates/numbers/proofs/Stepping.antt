@@ -157,7 +157,7 @@ stop (fin false m d) h e =
 pub record Spinning (x y : Float) (n : ℕ) : Type 0 where
   pub finiteClear : T (finiteClear y)
   pub fits : T (fits binary64 y)
-  pub rest : part y ≡ part x
+  pub fraction : part y ≡ part x
   pub sum : n + whole y ≡ whole x
   pub few : whole x < 1000
 
@@ -169,7 +169,7 @@ part-on y n e f = ap (λ (k : ℕ). taken k (sub binary64 y one)) f ∙ sym (ap 
 pub spinning : (f a : Float) → T (proper f) → T (finiteClear a) → T (le a (fin false 1 (pos 8))) → Spinning (add binary64 f a) (add binary64 f a) 0
 spinning f a p l h =
     let x = add-finite-clear f a p l h in
-    record { finiteClear = x; fits = add-fits binary64 f a; rest = refl; sum = none (whole (add binary64 f a)); few = whole-257 (add binary64 f a) x (add-most f a p l h .1) }
+    record { finiteClear = x; fits = add-fits binary64 f a; fraction = refl; sum = none (whole (add binary64 f a)); few = whole-257 (add binary64 f a) x (add-most f a p l h .1) }
   where
     none : (n : ℕ) → 0 + n ≡ n
     none n = omega arith
@@ -183,7 +183,7 @@ spun x y n h e =
       record {
         finiteClear = r .finiteClear;
         fits = sub-fits binary64 y one;
-        rest = part-on y (whole (sub binary64 y one)) (r .whole) refl ∙ h .rest;
+        fraction = part-on y (whole (sub binary64 y one)) (r .whole) refl ∙ h .fraction;
         sum = shift (whole y) (whole (sub binary64 y one)) (whole x) (r .whole) (h .sum);
         few = h .few;
       },
@@ -200,7 +200,7 @@ pub spun-out : (x y : Float) (n : ℕ) → Spinning x y n → le one y ≡ false
 unfolding part taken
 spun-out x y n h e =
     let w = stop y (h .finiteClear) e in
-    (sym (ap (λ (k : ℕ). taken k y) w) ∙ h .rest, done (whole y) (whole x) w (h .sum))
+    (sym (ap (λ (k : ℕ). taken k y) w) ∙ h .fraction, done (whole y) (whole x) w (h .sum))
   where
     done : (a b : ℕ) → a ≡ 0 → n + a ≡ b → n ≡ b
     done a b e f = omega arith

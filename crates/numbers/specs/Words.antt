@@ -74,7 +74,7 @@ part x = taken (whole x) x
 
 -- the steps of a sum of fraction and advance, and the fraction that is left
 abbrev pub stepped : Float → Stepped
-stepped x = record { steps = whole x; rest = part x }
+stepped x = record { steps = whole x; fraction = part x }
 
 -- (sample rate * lane rate without its sign) * time step
 unfoldable pub advance : ℕ → Float → Float → Float

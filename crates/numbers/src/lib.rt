@@ -24,7 +24,7 @@ pub fn narrow(x: f64) -> f32
 
 pub struct Stepped {
     pub steps: usize,
-    pub rest: f64,
+    pub fraction: f64,
 }
 
 // Adds the advance to the fraction, then subtracts 1 while the sum is at least 1, one step each time.
@@ -40,7 +40,10 @@ pub fn advance_by(fraction: f64, advance: f64) -> Stepped
         rest = rest - 1.0;
         steps += 1;
     }
-    Stepped { steps, rest }
+    Stepped {
+        steps,
+        fraction: rest,
+    }
 }
 
 // The nearest whole number, a half away from zero; 0 for negative x and NaN, 2^32 for 2^32 and above.

@@ -7,7 +7,7 @@ use lib.Ieee.Fits.{and-l, and-r}
 use Rattle.playback_position.specs.declared.Region.{Region}
 use Rattle.playback_position.specs.declared.FrameRange.{FrameRange}
 use Rattle.playback_position.specs.declared.FrameRange.the-variants.{Absent, Frames}
-use Rattle.playback_position.specs.Positions.{ordered, within, placeable, endable, stretched, lawfulRegion}
+use Rattle.playback_position.specs.Positions.{ordered, within, finitePosition, finiteEnd, regionInFrames, wellFormedRegion}
 
 -- start < end <= n
 pub record Ranged (n s e : ℕ) : Type 0 where
@@ -28,6 +28,6 @@ within-ordered n Absent h = tt
 within-ordered n (Frames s e) h = and-l (ltb s e) (leb e n) h
 
 -- a lawful region lies in the n frames
-pub lawful-within : (hz n : ℕ) (r : Region) → T (lawfulRegion hz n r) → T (within n (stretched hz n r))
-unfolding lawfulRegion
-lawful-within hz n r h = and-r (placeable (r .start) && endable (r .end)) (within n (stretched hz n r)) h
+pub well-formed-within : (hz n : ℕ) (r : Region) → T (wellFormedRegion hz n r) → T (within n (regionInFrames hz n r))
+unfolding wellFormedRegion
+well-formed-within hz n r h = and-r (finitePosition (r .start) && finiteEnd (r .end)) (within n (regionInFrames hz n r)) h

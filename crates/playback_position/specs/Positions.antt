@@ -26,29 +26,29 @@ within n Absent = true
 within n (Frames s e) = ltb s e && leb e n
 
 -- seconds must be finite; samples can be any number
-abbrev pub placeable : PlaybackPosition → Bool
-placeable (Seconds x) = finite x
-placeable (Samples p) = true
+abbrev pub finitePosition : PlaybackPosition → Bool
+finitePosition (Seconds x) = finite x
+finitePosition (Samples p) = true
 
 -- an end in seconds must be finite
-abbrev pub endable : EndPosition → Bool
-endable EndOfAudio = true
-endable (Custom p) = placeable p
+abbrev pub finiteEnd : EndPosition → Bool
+finiteEnd EndOfAudio = true
+finiteEnd (Custom p) = finitePosition p
 
 -- seconds times sample rate in f64, rounded half away from zero; negative results become 0, 2^32 and above 2^32
-unfoldable pub placed : ℕ → PlaybackPosition → ℕ
-placed hz (Seconds x) = rounded (mul binary64 x (ofInt binary64 (pos hz)))
-placed hz (Samples p) = p
+unfoldable pub positionInFrames : ℕ → PlaybackPosition → ℕ
+positionInFrames hz (Seconds x) = rounded (mul binary64 x (ofInt binary64 (pos hz)))
+positionInFrames hz (Samples p) = p
 
 -- the end of audio is n, the number of frames
-unfoldable pub ended : ℕ → ℕ → EndPosition → ℕ
-ended hz n EndOfAudio = n
-ended hz n (Custom p) = placed hz p
+unfoldable pub endInFrames : ℕ → ℕ → EndPosition → ℕ
+endInFrames hz n EndOfAudio = n
+endInFrames hz n (Custom p) = positionInFrames hz p
 
 -- a region as a range of frames
-unfoldable pub stretched : ℕ → ℕ → Region → FrameRange
-stretched hz n r = Frames (placed hz (r .start)) (ended hz n (r .end))
+unfoldable pub regionInFrames : ℕ → ℕ → Region → FrameRange
+regionInFrames hz n r = Frames (positionInFrames hz (r .start)) (endInFrames hz n (r .end))
 
 -- its seconds and its frames are accepted: refusal 4 for a slice, with n all frames, and 6 for a loop, with n = N
-unfoldable pub lawfulRegion : ℕ → ℕ → Region → Bool
-lawfulRegion hz n r = placeable (r .start) && endable (r .end) && within n (stretched hz n r)
+unfoldable pub wellFormedRegion : ℕ → ℕ → Region → Bool
+wellFormedRegion hz n r = finitePosition (r .start) && finiteEnd (r .end) && within n (regionInFrames hz n r)

@@ -2,12 +2,12 @@
 ghost use mathlib.Core.Path.{_≡_};
 ghost use Rattle.playback_position.specs.Positions.{
   within,
-  placeable,
-  endable,
-  placed,
-  ended,
-  stretched,
-  lawfulRegion,
+  finitePosition,
+  finiteEnd,
+  positionInFrames,
+  endInFrames,
+  regionInFrames,
+  wellFormedRegion,
 };
 use numbers::is_finite;
 use numbers::round_half_away;
@@ -38,7 +38,7 @@ pub enum FrameRange {
 
 impl PlaybackPosition {
     pub fn into_samples(self, sample_rate: u32) -> usize
-        ensures { λ r. ⌜ r ≡ placed «sample_rate» self ⌝ }
+        ensures { λ r. ⌜ r ≡ positionInFrames «sample_rate» self ⌝ }
     {
         match self {
             PlaybackPosition::Seconds(seconds) => round_half_away(seconds * sample_rate as f64),
@@ -46,8 +46,8 @@ impl PlaybackPosition {
         }
     }
 
-    pub fn is_placeable(self) -> bool
-        ensures { λ r. ⌜ r ≡ placeable self ⌝ }
+    pub fn is_finite_position(self) -> bool
+        ensures { λ r. ⌜ r ≡ finitePosition self ⌝ }
     {
         match self {
             PlaybackPosition::Seconds(seconds) => is_finite(seconds),
@@ -58,7 +58,7 @@ impl PlaybackPosition {
 
 impl EndPosition {
     pub fn into_samples(self, sample_rate: u32, num_frames: usize) -> usize
-        ensures { λ r. ⌜ r ≡ ended «sample_rate» «num_frames» self ⌝ }
+        ensures { λ r. ⌜ r ≡ endInFrames «sample_rate» «num_frames» self ⌝ }
     {
         match self {
             EndPosition::EndOfAudio => num_frames,
@@ -66,12 +66,12 @@ impl EndPosition {
         }
     }
 
-    pub fn is_endable(self) -> bool
-        ensures { λ r. ⌜ r ≡ endable self ⌝ }
+    pub fn is_finite_end(self) -> bool
+        ensures { λ r. ⌜ r ≡ finiteEnd self ⌝ }
     {
         match self {
             EndPosition::EndOfAudio => true,
-            EndPosition::Custom(position) => position.is_placeable(),
+            EndPosition::Custom(position) => position.is_finite_position(),
         }
     }
 }
@@ -89,7 +89,7 @@ impl FrameRange {
 
 impl Region {
     pub fn into_frames(self, sample_rate: u32, num_frames: usize) -> FrameRange
-        ensures { λ r. ⌜ r ≡ stretched «sample_rate» «num_frames» self ⌝ }
+        ensures { λ r. ⌜ r ≡ regionInFrames «sample_rate» «num_frames» self ⌝ }
     {
         let start = self.start;
         let end = self.end;
@@ -100,15 +100,15 @@ impl Region {
     }
 
     // Whether this region is a valid slice of the sound, or a valid loop in the slice.
-    pub fn is_lawful(self, sample_rate: u32, num_frames: usize) -> bool
-        ensures { λ r. ⌜ r ≡ lawfulRegion «sample_rate» «num_frames» self ⌝ }
+    pub fn is_well_formed(self, sample_rate: u32, num_frames: usize) -> bool
+        ensures { λ r. ⌜ r ≡ wellFormedRegion «sample_rate» «num_frames» self ⌝ }
     {
         let start = self.start;
         let end = self.end;
-        if !start.is_placeable() {
+        if !start.is_finite_position() {
             return false;
         }
-        if !end.is_endable() {
+        if !end.is_finite_end() {
             return false;
         }
         self.into_frames(sample_rate, num_frames)

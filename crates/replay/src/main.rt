@@ -53,17 +53,17 @@ fn play_one(p: Play, bytes: &[u8], sound: &mut [f32], line: &mut [u8]) -> Play
     let at = window.at;
     let end = window.end;
     let place = std::num::wrapping_add_u64(window.base, at as u64);
-    let turned = trace_replay::advance(run, &bytes[..end], at, place, sound, line);
-    let n = turned.written;
+    let played = trace_replay::advance(run, &bytes[..end], at, place, sound, line);
+    let n = played.written;
     io::write_all(1, &line[..n]);
-    let run = turned.run;
+    let run = played.run;
     Play {
         run,
         window: Window {
-            at: turned.next,
+            at: played.next,
             ..window
         },
-        done: turned.over,
+        done: played.over,
     }
 }
 

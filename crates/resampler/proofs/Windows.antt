@@ -18,7 +18,7 @@ use Rattle.resampler.specs.declared.RecentFrame.{RecentFrame}
 use Rattle.resampler.specs.declared.Resampler.{Resampler}
 use Rattle.resampler.specs.declared.MaybeFrame.{MaybeFrame}
 use Rattle.resampler.specs.declared.MaybeFrame.the-variants.{Absent, Present}
-use Rattle.resampler.specs.Windows.{blank, given-count, given-entry, push, fresh, zeroFrame, numbered, windowed, Windowed, heardNumber}
+use Rattle.resampler.specs.Windows.{blank, given-count, given-entry, push, fresh, zeroFrame, numbered, windowed, Windowed, currentFrameIndex}
 
 pub windowed-parts : (w : Resampler) → T (windowed w) → Windowed w
 windowed-parts w h =
@@ -91,7 +91,7 @@ pub fresh-parts : (n : ℕ) → n ≤ most → Windowed (fresh n)
 fresh-parts n k = record { four = refl; few = lit≤ tt; lastZero = tt; numbers = simp (le-leb n most k) tt }
 
 -- the number heard is in range
-pub heard-low : (w : Resampler) → Windowed w → heardNumber w ≤ most
+pub heard-low : (w : Resampler) → Windowed w → currentFrameIndex w ≤ most
 heard-low w h = go (w .frames) (h .numbers)
   where
     go : (l : List RecentFrame) → T (all numbered l) → (getD l 1 blank) .«frame_index» ≤ most

@@ -52,8 +52,8 @@ unfoldable pub reading : Resampler → Float → Reading
 reading w f = record { frame = interpolated (nth w 0) (nth w 1) (nth w 2) (nth w 3) f; count = w .«time_until_empty» }
 
 -- the frame index that is heard: entry 1's
-abbrev pub heardNumber : Resampler → ℕ
-heardNumber w = (getD (w .frames) 1 blank) .«frame_index»
+abbrev pub currentFrameIndex : Resampler → ℕ
+currentFrameIndex w = (getD (w .frames) 1 blank) .«frame_index»
 
 -- the window is empty
 abbrev pub isEmpty : Resampler → Bool

@@ -1,7 +1,7 @@
 // The window: the four most recent frames, each with its frame index, and how many pushes until all are silent.
 ghost use mathlib.Core.Path.{_≡_};
 ghost use Prim.Native.Nat.{_-_};
-ghost use Rattle.resampler.specs.Windows.{fresh, push, reading, heardNumber, isEmpty};
+ghost use Rattle.resampler.specs.Windows.{fresh, push, reading, currentFrameIndex, isEmpty};
 use frame::Frame;
 use frame::interpolate_frame;
 
@@ -83,10 +83,10 @@ impl Resampler {
     }
 
     pub fn current_frame_index(self) -> usize
-        ensures { λ r. ⌜ r ≡ heardNumber self ⌝ }
+        ensures { λ r. ⌜ r ≡ currentFrameIndex self ⌝ }
     {
-        let heard = self.frames[1];
-        heard.frame_index
+        let current = self.frames[1];
+        current.frame_index
     }
 
     pub fn empty(self) -> bool

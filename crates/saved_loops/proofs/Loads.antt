@@ -14,7 +14,7 @@ use Rattle.byte_layout.proofs.Ways.{opened, shut, begun}
 use Rattle.byte_layout.proofs.Low.{lows, read-low}
 use Rattle.saved_loops.specs.declared.LoadedHalf.{LoadedHalf}
 use Rattle.saved_loops.specs.Tables.{halfTable, halfRows}
-use Rattle.saved_loops.specs.Records.{lawful, crcRight, refusedBy, shown, judged, loaded}
+use Rattle.saved_loops.specs.Records.{wellFormed, crcRight, refusedBy, shown, judged, loaded}
 
 pub half-sound : sound (rows halfTable 0 23) ≡ true
 unfolding sound rows rowAt halfTable
@@ -44,17 +44,17 @@ module _ (s : List ℕ) (p : Parsed) (e : view s 23 p ≡ steps halfRows (good 6
   head-refused r h q = q ∙ sym (by-view ∙ ap (judged s) (shut s 23 p h))
 
   -- all numbers are there
-  opens : p .refused ≤ 0 → loaded s ≡ cond (leb 666 (length s)) (shown (lawful (drop 4 (take 23 (p .values))) && crcRight s) (drop 4 (take 23 (p .values)))) (refusedBy 18)
+  opens : p .refused ≤ 0 → loaded s ≡ cond (leb 666 (length s)) (shown (wellFormed (drop 4 (take 23 (p .values))) && crcRight s) (drop 4 (take 23 (p .values)))) (refusedBy 18)
   unfolding judged
   opens h = by-view ∙ ap (judged s) (opened s 23 p h)
 
   pub short : (r : LoadedHalf) → p .refused ≤ 0 → length s < 666 → r ≡ refusedBy 18 → r ≡ loaded s
-  short r h l q = q ∙ sym (opens h ∙ ap (λ (b : Bool). cond b (shown (lawful (drop 4 (take 23 (p .values))) && crcRight s) (drop 4 (take 23 (p .values)))) (refusedBy 18)) (lt-leb 666 (length s) l))
+  short r h l q = q ∙ sym (opens h ∙ ap (λ (b : Bool). cond b (shown (wellFormed (drop 4 (take 23 (p .values))) && crcRight s) (drop 4 (take 23 (p .values)))) (refusedBy 18)) (lt-leb 666 (length s) l))
 
-  pub long : (r : LoadedHalf) (ws : List ℕ) (a b : Bool) → p .refused ≤ 0 → 666 ≤ length s → ws ≡ take 19 (drop 4 (p .values)) → a ≡ lawful ws → b ≡ crcRight s → r ≡ shown (a && b) ws → r ≡ loaded s
+  pub long : (r : LoadedHalf) (ws : List ℕ) (a b : Bool) → p .refused ≤ 0 → 666 ≤ length s → ws ≡ take 19 (drop 4 (p .values)) → a ≡ wellFormed ws → b ≡ crcRight s → r ≡ shown (a && b) ws → r ≡ loaded s
   long r ws a b h l w f c q =
-      q ∙ ap₂ (λ (x y : Bool). shown (x && y) ws) f c ∙ ap (λ (xs : List ℕ). shown (lawful xs && crcRight s) xs) (w ∙ inner (p .values))
-      ∙ sym (opens h ∙ ap (λ (b : Bool). cond b (shown (lawful (drop 4 (take 23 (p .values))) && crcRight s) (drop 4 (take 23 (p .values)))) (refusedBy 18)) (le-leb 666 (length s) l))
+      q ∙ ap₂ (λ (x y : Bool). shown (x && y) ws) f c ∙ ap (λ (xs : List ℕ). shown (wellFormed xs && crcRight s) xs) (w ∙ inner (p .values))
+      ∙ sym (opens h ∙ ap (λ (b : Bool). cond b (shown (wellFormed (drop 4 (take 23 (p .values))) && crcRight s) (drop 4 (take 23 (p .values)))) (refusedBy 18)) (le-leb 666 (length s) l))
     where
       -- the words are numbers 4 to 22
       inner : (xs : List ℕ) → take 19 (drop 4 xs) ≡ drop 4 (take 23 xs)

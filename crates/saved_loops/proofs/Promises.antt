@@ -5,7 +5,7 @@ use Prim.Native.Nat.{ℕ, zero, suc, _^_, _<_}
 use native.Mathlib.Omega.{arith}
 use mathlib.Core.List.{List, [], _∷_, append-nil}
 use lib.ListN.{getD, replicate}
-use Rattle.saved_loops.specs.Records.{lawful, lawfulSlots, encoded, loaded}
+use Rattle.saved_loops.specs.Records.{wellFormed, wellFormedSlots, encoded, loaded}
 use Rattle.saved_loops.specs.Promises.{whole, noWords, noNames, Witnesses, Promises}
 use Rattle.saved_loops.proofs.Rounds.{encoded-small, shown-again, store-loads, load-stores}
 
@@ -14,12 +14,12 @@ zeros zero i k = omega arith
 zeros (suc n) zero k = omega arith
 zeros (suc n) (suc i) k = zeros n i k
 
-no-loops : lawful noWords ≡ true
-unfolding lawfulSlots
+no-loops : wellFormed noWords ≡ true
+unfolding wellFormedSlots
 no-loops = refl
 
 witnesses : Witnesses
-unfolding lawfulSlots
+unfolding wellFormedSlots
 witnesses =
     record {
       store-loads = record { nineteen = refl; words = λ i. zeros 19 i 18446744073709551615; small = λ i. zeros 512 i 255; takes = refl };

@@ -22,7 +22,7 @@ use Rattle.byte_layout.proofs.Low.{lows, some-refusal}
 use Rattle.crc32.specs.Checksums.{checksumOf}
 use Rattle.saved_loops.specs.declared.LoadedHalf.{LoadedHalf}
 use Rattle.saved_loops.specs.Tables.{halfTable, halfRows}
-use Rattle.saved_loops.specs.Records.{lawfulSlots, lawful, namesIn, crcRight, refusedBy, shown, judged, loaded, halfNumbers, body, encoded, storeRefusal, stored}
+use Rattle.saved_loops.specs.Records.{wellFormedSlots, wellFormed, namesIn, crcRight, refusedBy, shown, judged, loaded, halfNumbers, body, encoded, storeRefusal, stored}
 use Rattle.saved_loops.specs.Promises.{whole, Stores, Kept, Loads}
 use Rattle.saved_loops.proofs.Checksums.{checksum-word}
 use Rattle.saved_loops.proofs.Loads.{half-sound}
@@ -62,10 +62,10 @@ encoded-small ws names h = append-small (body ws names) (bytes 4 (checksumOf (bo
 
 -- ---- stored, then loaded
 
-hall-small : (ws : List ℕ) → lawful ws ≡ true → getD ws 0 0 ≤ 255
+hall-small : (ws : List ℕ) → wellFormed ws ≡ true → getD ws 0 0 ≤ 255
 hall-small ws h = go (leb (getD ws 0 0) 1) refl h
   where
-    go : (b : Bool) → leb (getD ws 0 0) 1 ≡ b → (b && lawfulSlots 8 ws) ≡ true → getD ws 0 0 ≤ 255
+    go : (b : Bool) → leb (getD ws 0 0) 1 ≡ b → (b && wellFormedSlots 8 ws) ≡ true → getD ws 0 0 ≤ 255
     go true q u = omega (arith, leb-true (getD ws 0 0) 1 q)
     go false q u = let z : _≡_ {A = ℕ} 0 1 = ap (λ (b : Bool). cond b 1 0) u in absurd (omega (arith, z))
 
@@ -75,7 +75,7 @@ crc-of b c rest p q e =
     ∙ eq-eqb (checksumOf b) (checksumOf b) refl
 
 -- the words, and the names, of bytes that begin with the record
-module _ (ws names rest : List ℕ) (nineteen : length ws ≡ 19) (words : (i : ℕ) → getD ws i 0 < 2 ^ 64) (small : Bytes names) (right : lawful ws ≡ true) (named : length names ≡ 512) where
+module _ (ws names rest : List ℕ) (nineteen : length ws ≡ 19) (words : (i : ℕ) → getD ws i 0 < 2 ^ 64) (small : Bytes names) (right : wellFormed ws ≡ true) (named : length names ≡ 512) where
   abbrev crc : List ℕ
   crc = bytes 4 (checksumOf (body ws names))
 
@@ -108,7 +108,7 @@ module _ (ws names rest : List ℕ) (nineteen : length ws ≡ 19) (words : (i : 
   shown-again =
       let bs = body ws names ++ (bytes 4 (checksumOf (body ws names)) ++ rest) in
       ap loaded parts ∙ ap (judged bs) (reads (bytes 4 (checksumOf (body ws names)) ++ rest))
-      ∙ ap (λ (b : Bool). cond b (shown (lawful ws && crcRight bs) ws) (refusedBy 18)) (le-leb 666 (length bs) is-long)
+      ∙ ap (λ (b : Bool). cond b (shown (wellFormed ws && crcRight bs) ws) (refusedBy 18)) (le-leb 666 (length bs) is-long)
       ∙ ap₂ (λ (x y : Bool). shown (x && y) ws) right is-right
 
   pub named-again : namesIn (encoded ws names ++ rest) ≡ names
@@ -141,20 +141,20 @@ some k ws e = let z : suc k ≡ 0 = ap (λ (l : LoadedHalf). l .refusal) e in om
 pub record Shown (ws bs vs : List ℕ) : Type 0 where
   pub long : 666 ≤ length bs
   pub words : drop 4 vs ≡ ws
-  pub right : lawful ws ≡ true
+  pub right : wellFormed ws ≡ true
   pub crc : num (take 4 (drop 662 bs)) ≡ checksumOf (take 662 bs)
 
-shown-is : (ws bs vs : List ℕ) → cond (leb 666 (length bs)) (shown (lawful (drop 4 vs) && crcRight bs) (drop 4 vs)) (refusedBy 18) ≡ whole ws → Shown ws bs vs
-shown-is ws bs vs e = go (leb 666 (length bs)) (lawful (drop 4 vs)) (crcRight bs) refl refl refl e
+shown-is : (ws bs vs : List ℕ) → cond (leb 666 (length bs)) (shown (wellFormed (drop 4 vs) && crcRight bs) (drop 4 vs)) (refusedBy 18) ≡ whole ws → Shown ws bs vs
+shown-is ws bs vs e = go (leb 666 (length bs)) (wellFormed (drop 4 vs)) (crcRight bs) refl refl refl e
   where
-    go : (a b c : Bool) → leb 666 (length bs) ≡ a → lawful (drop 4 vs) ≡ b → crcRight bs ≡ c
+    go : (a b c : Bool) → leb 666 (length bs) ≡ a → wellFormed (drop 4 vs) ≡ b → crcRight bs ≡ c
         → cond a (cond (b && c) (whole (drop 4 vs)) (refusedBy 24)) (refusedBy 18) ≡ whole ws → Shown ws bs vs
     go false b c p q r u = absurd (some 17 ws u)
     go true false c p q r u = absurd (some 23 ws u)
     go true true false p q r u = absurd (some 23 ws u)
     go true true true p q r u =
         let w : drop 4 vs ≡ ws = ap (λ (l : LoadedHalf). l .words) u in
-        record { long = leb-true 666 (length bs) p; words = w; right = ap lawful (sym w) ∙ q; crc = eqb-true (num (take 4 (drop 662 bs))) (checksumOf (take 662 bs)) r }
+        record { long = leb-true 666 (length bs) p; words = w; right = ap wellFormed (sym w) ∙ q; crc = eqb-true (num (take 4 (drop 662 bs))) (checksumOf (take 662 bs)) r }
 
 -- the numbers of a record are its head and its words
 head-is : (a b c d : ℕ) (l : List ℕ) → 167 ≡ a → 76 ≡ b → 1 ≡ c → 661 ≡ d → 167 ∷ 76 ∷ 1 ∷ 661 ∷ l ≡ a ∷ b ∷ c ∷ d ∷ l

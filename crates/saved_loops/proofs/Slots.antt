@@ -7,13 +7,13 @@ use native.Mathlib.Numerals.{add-one}
 use native.Mathlib.Omega.{arith}
 use lib.ListN.{length, getD, set, take, drop, length-drop}
 use lib.Seq.{take-suc, take-suc-set, getD-drop, take-all}
-use Rattle.loop_table.specs.Tables.{lawfulSlot, slotOf}
-use Rattle.saved_loops.specs.Records.{lawfulSlots}
+use Rattle.loop_table.specs.Tables.{wellFormedSlot, slotOf}
+use Rattle.saved_loops.specs.Records.{wellFormedSlots}
 
-pub slots-more : (i : ℕ) (ws : List ℕ) (ok w : Bool) → ok ≡ lawfulSlots i ws → w ≡ lawfulSlot (getD ws 1 0) (slotOf (getD ws (3 + 2 * i) 0) (getD ws (4 + 2 * i) 0))
-    → (ok && w) ≡ lawfulSlots (i + 1) ws
-unfolding lawfulSlots
-slots-more i ws ok w e f = ap₂ _&&_ e f ∙ sym (ap (λ (n : ℕ). lawfulSlots n ws) (add-one i))
+pub slots-more : (i : ℕ) (ws : List ℕ) (ok w : Bool) → ok ≡ wellFormedSlots i ws → w ≡ wellFormedSlot (getD ws 1 0) (slotOf (getD ws (3 + 2 * i) 0) (getD ws (4 + 2 * i) 0))
+    → (ok && w) ≡ wellFormedSlots (i + 1) ws
+unfolding wellFormedSlots
+slots-more i ws ok w e f = ap₂ _&&_ e f ∙ sym (ap (λ (n : ℕ). wellFormedSlots n ws) (add-one i))
 
 -- the first i words are those from number 4 on
 pub words-more : (vs ws : List ℕ) (i : ℕ) → take i ws ≡ take i (drop 4 vs) → i < length ws → 4 + i < length vs
@@ -45,5 +45,5 @@ numbers-end vs ws i e h l =
     ap (λ (k : ℕ). take k vs) n ∙ e ∙ ap (λ (n : ℕ). 167 ∷ 76 ∷ 1 ∷ 661 ∷ take n ws) h
     ∙ ap (λ (xs : List ℕ). 167 ∷ 76 ∷ 1 ∷ 661 ∷ xs) (take-all 19 ws (omega (arith, l)))
 
-pub slots-end : (ws : List ℕ) (i : ℕ) (ok : Bool) → ok ≡ lawfulSlots i ws → i ≡ 8 → ok ≡ lawfulSlots 8 ws
-slots-end ws i ok e h = e ∙ ap (λ (n : ℕ). lawfulSlots n ws) h
+pub slots-end : (ws : List ℕ) (i : ℕ) (ok : Bool) → ok ≡ wellFormedSlots i ws → i ≡ 8 → ok ≡ wellFormedSlots 8 ws
+slots-end ws i ok e h = e ∙ ap (λ (n : ℕ). wellFormedSlots n ws) h

@@ -18,7 +18,7 @@ use Rattle.byte_layout.proofs.Lengths.{always}
 use Rattle.byte_layout.proofs.Takes.{took, none}
 use Rattle.crc32.specs.Checksums.{checksumOf}
 use Rattle.saved_loops.specs.Tables.{halfTable, halfRows}
-use Rattle.saved_loops.specs.Records.{lawful, storable, storeRefusal, halfNumbers, body, encoded, stored}
+use Rattle.saved_loops.specs.Records.{wellFormed, storable, storeRefusal, halfNumbers, body, encoded, stored}
 
 -- ---- the rows of a half: five, then eighteen words
 
@@ -120,7 +120,7 @@ module _ (ws names buffer : List ℕ) where
 
 -- what an accepted store has
 pub record Accepted (ws : List ℕ) (n m : ℕ) : Type 0 where
-  pub right : lawful ws ≡ true
+  pub right : wellFormed ws ≡ true
   pub named : n ≡ 512
   pub room : 666 ≤ m
 
@@ -129,16 +129,16 @@ passed true x k h = (refl, h)
 passed false x k h = absurd (omega (arith, h))
 
 pub accepted : (ws : List ℕ) (n m : ℕ) → storeRefusal ws n m ≡ 0 → Accepted ws n m
-accepted ws n m h = go (lawful ws) refl h
+accepted ws n m h = go (wellFormed ws) refl h
   where
-    go : (b : Bool) → lawful ws ≡ b → _≡_ {A = ℕ} (cond (b && eqb n 512) (cond (leb 666 m) 0 19) 24) 0 → Accepted ws n m
+    go : (b : Bool) → wellFormed ws ≡ b → _≡_ {A = ℕ} (cond (b && eqb n 512) (cond (leb 666 m) 0 19) 24) 0 → Accepted ws n m
     go false q u = absurd (omega (arith, u))
     go true q u =
         let p = passed (eqb n 512) (cond (leb 666 m) 0 19) 23 u in
         let r = passed (leb 666 m) 0 18 (p .1) in
         record { right = q; named = eqb-true n 512 (p .0); room = leb-true 666 m (r .0) }
 
-pub enough : (ws : List ℕ) (n m : ℕ) → lawful ws ≡ true → n ≡ 512 → 666 ≤ m → storeRefusal ws n m ≡ 0
+pub enough : (ws : List ℕ) (n m : ℕ) → wellFormed ws ≡ true → n ≡ 512 → 666 ≤ m → storeRefusal ws n m ≡ 0
 enough ws n m h e l = rw (h, eq-eqb n 512 e, le-leb 666 m l) refl
 
 -- the two answers to fields that may be stored

@@ -11,7 +11,7 @@ use Rattle.byte_layout.specs.Reads.{Reading, bad, good, steps}
 use Rattle.byte_layout.specs.Writes.{payload}
 use Rattle.crc32.specs.Checksums.{checksumOf}
 use Rattle.loop_table.specs.declared.LoopSlot.{LoopSlot}
-use Rattle.loop_table.specs.Tables.{lawfulSlot}
+use Rattle.loop_table.specs.Tables.{wellFormedSlot}
 use Rattle.saved_loops.specs.declared.LoadedHalf.{LoadedHalf}
 use Rattle.saved_loops.specs.Tables.{halfRows}
 
@@ -21,13 +21,13 @@ abbrev pub slotAt : List ℕ → ℕ → LoopSlot
 slotAt ws k = record { start = getD ws (3 + 2 * k) 0; end = getD ws (4 + 2 * k) 0 }
 
 -- each of the first n slots is empty or holds a loop of the sound
-unfoldable pub lawfulSlots : ℕ → List ℕ → Bool
-lawfulSlots zero ws = true
-lawfulSlots (suc n) ws = lawfulSlots n ws && lawfulSlot (getD ws 1 0) (slotAt ws n)
+unfoldable pub wellFormedSlots : ℕ → List ℕ → Bool
+wellFormedSlots zero ws = true
+wellFormedSlots (suc n) ws = wellFormedSlots n ws && wellFormedSlot (getD ws 1 0) (slotAt ws n)
 
 -- 24: a half that is not one of these is wrong
-abbrev pub lawful : List ℕ → Bool
-lawful ws = leb (getD ws 0 0) 1 && lawfulSlots 8 ws
+abbrev pub wellFormed : List ℕ → Bool
+wellFormed ws = leb (getD ws 0 0) 1 && wellFormedSlots 8 ws
 
 -- ---- loading
 
@@ -50,7 +50,7 @@ shown ok ws = cond ok (record { words = ws; refusal = 0 }) (refusedBy 24)
 unfoldable pub judged : List ℕ → Reading → LoadedHalf
 judged bs (bad k) = refusedBy k
 judged bs (good left vs rest) =
-    cond (leb 666 (length bs)) (shown (lawful (drop 4 vs) && crcRight bs) (drop 4 vs)) (refusedBy 18)
+    cond (leb 666 (length bs)) (shown (wellFormed (drop 4 vs) && crcRight bs) (drop 4 vs)) (refusedBy 18)
 
 unfoldable pub loaded : List ℕ → LoadedHalf
 loaded bs = judged bs (steps halfRows (good 666 [] bs))
@@ -68,7 +68,7 @@ unfoldable pub encoded : List ℕ → List ℕ → List ℕ
 encoded ws names = body ws names ++ bytes 4 (checksumOf (body ws names))
 
 abbrev pub storable : List ℕ → ℕ → Bool
-storable ws named = lawful ws && eqb named 512
+storable ws named = wellFormed ws && eqb named 512
 
 -- 24, then 19
 abbrev pub storeRefusal : List ℕ → ℕ → ℕ → ℕ

@@ -7,11 +7,11 @@ ghost use lib.ListN.{length, take, drop};
 ghost use lib.Seq.{sets};
 ghost use Rattle.byte_layout.specs.Reads.{good, steps, view};
 ghost use Rattle.byte_layout.specs.Writes.{payload};
-ghost use Rattle.loop_table.specs.Tables.{lawfulSlot, slotOf};
+ghost use Rattle.loop_table.specs.Tables.{wellFormedSlot, slotOf};
 ghost use Rattle.saved_loops.specs.Tables.{halfRows};
 ghost use Rattle.saved_loops.specs.Records.{
-  lawfulSlots,
-  lawful,
+  wellFormedSlots,
+  wellFormed,
   crcRight,
   refusedBy,
   shown,
@@ -47,13 +47,13 @@ pub struct LoadedHalf {
 // ---- fields
 
 fn is_slot(num_frames: u64, start: u64, end: u64) -> bool
-    ensures { λ r. ⌜ r ≡ lawfulSlot «num_frames» (slotOf start end) ⌝ }
+    ensures { λ r. ⌜ r ≡ wellFormedSlot «num_frames» (slotOf start end) ⌝ }
 {
     ((start == 0) & (end == 0)) | ((start < end) & (end <= num_frames))
 }
 
 fn are_slots(words: [u64; 19]) -> bool
-    ensures { λ r. ⌜ r ≡ lawfulSlots 8 words ⌝ }
+    ensures { λ r. ⌜ r ≡ wellFormedSlots 8 words ⌝ }
 {
     let num_frames = words[1];
     let mut ok = true;
@@ -65,8 +65,8 @@ fn are_slots(words: [u64; 19]) -> bool
     ok
 }
 
-fn is_lawful(words: [u64; 19]) -> bool
-    ensures { λ r. ⌜ r ≡ lawful words ⌝ }
+fn is_well_formed(words: [u64; 19]) -> bool
+    ensures { λ r. ⌜ r ≡ wellFormed words ⌝ }
 {
     let hall = words[0];
     (hall <= 1) & are_slots(words)
@@ -133,7 +133,7 @@ pub fn load(s: &[u8]) -> LoadedHalf
     }
     let values = p.values;
     let words = words_of(values);
-    let ok = is_lawful(words) & is_crc(s);
+    let ok = is_well_formed(words) & is_crc(s);
     show(ok, words)
 }
 
@@ -142,7 +142,7 @@ pub fn load(s: &[u8]) -> LoadedHalf
 fn is_storable(words: [u64; 19], named: usize) -> bool
     ensures { λ r. ⌜ r ≡ storable words named ⌝ }
 {
-    is_lawful(words) & (named == 512)
+    is_well_formed(words) & (named == 512)
 }
 
 fn refusal_of(words: [u64; 19], named: usize, room: usize) -> u32

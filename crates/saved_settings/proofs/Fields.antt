@@ -10,9 +10,9 @@ use lib.Ieee.Fits.{and-l, and-r}
 use borrow.Author.Tests.{eqb-true, leb-true, ltb-true, ltb-false, lt-ltb, le-ltb, ne-eqb, eq-eqb, le-leb, lt-leb}
 use Rattle.numbers.specs.Words.{finite}
 use Rattle.saved_settings.specs.declared.SavedSettings.{SavedSettings}
-use Rattle.saved_settings.specs.Records.{loopRight, finiteBits, pitchRight, lawful, signed, hasLoop, storable}
+use Rattle.saved_settings.specs.Records.{loopRight, finiteBits, pitchRight, wellFormed, signed, hasLoop, storable}
 
-pub record Lawful (s : SavedSettings) : Type 0 where
+pub record WellFormed (s : SavedSettings) : Type 0 where
   pub start : s .start ≤ 4294967295
   pub loop-start : s .«loop_start» ≤ 4294967295
   pub loop-end : s .«loop_end» ≤ 4294967295
@@ -44,8 +44,8 @@ looped-of s t e = go (eqb (s .«has_loop») 0) refl t
         no true = refl
         no false = refl
 
-pub lawful-parts : (s : SavedSettings) → lawful s ≡ true → Lawful s
-lawful-parts s h =
+pub well-formed-parts : (s : SavedSettings) → wellFormed s ≡ true → WellFormed s
+well-formed-parts s h =
     let a = loopRight s in
     let b = leb (s .start) 4294967295 in
     let c = leb (s .«loop_end») 4294967295 in
@@ -69,9 +69,9 @@ lawful-parts s h =
       pitch = is-true f (and-r (a && b && c && d && e) f t);
     }
 
-pub storable-parts : (version : ℕ) (s : SavedSettings) → storable version s ≡ true → (lawful s ≡ true) × (cond (eqb version 1) (eqb (s .pitch) 0) (eqb version 2) ≡ true)
+pub storable-parts : (version : ℕ) (s : SavedSettings) → storable version s ≡ true → (wellFormed s ≡ true) × (cond (eqb version 1) (eqb (s .pitch) 0) (eqb version 2) ≡ true)
 storable-parts version s h =
-    let a = lawful s in
+    let a = wellFormed s in
     let b = cond (eqb version 1) (eqb (s .pitch) 0) (eqb version 2) in
     let t : T (a && b) = subst T (sym h) tt in
     (is-true a (and-l a b t), is-true b (and-r a b t))

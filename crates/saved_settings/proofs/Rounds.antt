@@ -18,15 +18,15 @@ use Rattle.byte_layout.proofs.Takes.{took, none, peel, ended, read-back}
 use Rattle.saved_settings.specs.declared.SavedSettings.{SavedSettings}
 use Rattle.saved_settings.specs.declared.Loaded.{Loaded}
 use Rattle.saved_settings.specs.Tables.{firstTable, secondTable, firstRows, secondRows}
-use Rattle.saved_settings.specs.Records.{pitchRight, lawful, hasLoop, pitchOf, signed, savedOf, refusedBy, shown, judged, second, loaded, storable, firstNumbers, secondNumbers, encoded}
+use Rattle.saved_settings.specs.Records.{pitchRight, wellFormed, hasLoop, pitchOf, signed, savedOf, refusedBy, shown, judged, second, loaded, storable, firstNumbers, secondNumbers, encoded}
 use Rattle.saved_settings.specs.Promises.{whole, Holds}
-use Rattle.saved_settings.proofs.Fields.{Lawful, lawful-parts, storable-parts, signed-back, byte-back}
+use Rattle.saved_settings.proofs.Fields.{WellFormed, well-formed-parts, storable-parts, signed-back, byte-back}
 use Rattle.saved_settings.proofs.Loads.{first-sound, second-sound}
 use Rattle.saved_settings.proofs.Stores.{first-length, second-length}
 
 -- ---- stored, then loaded
 
-first-fine : (s : SavedSettings) → s .rate < 2 ^ 64 → Lawful s → fine (rows firstTable 0 9) [] (firstNumbers s) ≡ true
+first-fine : (s : SavedSettings) → s .rate < 2 ^ 64 → WellFormed s → fine (rows firstTable 0 9) [] (firstNumbers s) ≡ true
 unfolding rows rowAt firstTable
 first-fine s r l =
     took _ _ _ _ _ refl (omega arith) (omega arith)
@@ -40,7 +40,7 @@ first-fine s r l =
     (took _ _ _ _ _ refl (omega arith) (omega (arith, r))
     (none _)))))))))
 
-second-fine : (s : SavedSettings) → s .rate < 2 ^ 64 → Lawful s → fine (rows secondTable 0 10) [] (secondNumbers s) ≡ true
+second-fine : (s : SavedSettings) → s .rate < 2 ^ 64 → WellFormed s → fine (rows secondTable 0 10) [] (secondNumbers s) ≡ true
 unfolding rows rowAt secondTable
 second-fine s r l =
     took _ _ _ _ _ refl (omega arith) (omega arith)
@@ -68,24 +68,24 @@ second-is : (s : SavedSettings) (rest : List ℕ) → second 2 (payload (rows se
 unfolding payload field stands rows rowAt secondTable bytes
 second-is s rest = refl
 
-first-saved : (s : SavedSettings) → Lawful s → s .pitch ≡ 0 → savedOf 1 (firstNumbers s) ≡ s
+first-saved : (s : SavedSettings) → WellFormed s → s .pitch ≡ 0 → savedOf 1 (firstNumbers s) ≡ s
 first-saved s l p =
     ap (λ (n : ℕ). record { start = s .start; «has_loop» = n; «loop_start» = s .«loop_start»; «loop_end» = s .«loop_end»; reverse = s .reverse; rate = s .rate; pitch = 0 }) (l .looped)
     ∙ ap (λ (n : ℕ). record { start = s .start; «has_loop» = s .«has_loop»; «loop_start» = s .«loop_start»; «loop_end» = s .«loop_end»; reverse = s .reverse; rate = s .rate; pitch = n }) (sym p)
 
-second-saved : (s : SavedSettings) → Lawful s → s .pitch < 2 ^ 64 → savedOf 2 (secondNumbers s) ≡ s
+second-saved : (s : SavedSettings) → WellFormed s → s .pitch < 2 ^ 64 → savedOf 2 (secondNumbers s) ≡ s
 second-saved s l p =
     ap (λ (n : ℕ). record { start = s .start; «has_loop» = n; «loop_start» = s .«loop_start»; «loop_end» = s .«loop_end»; reverse = s .reverse; rate = s .rate; pitch = signed (s .pitch % 256) }) (l .looped)
     ∙ ap (λ (n : ℕ). record { start = s .start; «has_loop» = s .«has_loop»; «loop_start» = s .«loop_start»; «loop_end» = s .«loop_end»; reverse = s .reverse; rate = s .rate; pitch = n }) (signed-back (s .pitch) p (l .pitch))
 
-show-whole : (version : ℕ) (s t : SavedSettings) → t ≡ s → lawful s ≡ true → shown version t ≡ whole version s
+show-whole : (version : ℕ) (s t : SavedSettings) → t ≡ s → wellFormed s ≡ true → shown version t ≡ whole version s
 show-whole version s t e h = ap (shown version) e ∙ ap (λ (b : Bool). cond b (whole version s) (refusedBy 24)) h
 
 pub first : (reader : ℕ) (s : SavedSettings) (rest : List ℕ) → s .rate < 2 ^ 64 → storable 1 s ≡ true → loaded reader (encoded 1 s ++ rest) ≡ whole 1 s
 unfolding loaded encoded judged firstRows
 first reader s rest r h =
     let p = storable-parts 1 s h in
-    let l = lawful-parts s (p .0) in
+    let l = well-formed-parts s (p .0) in
     let e = read-back (rows firstTable 0 9) (firstNumbers s) rest 25 (first-length s) (read-written (rows firstTable 0 9) [] (firstNumbers s) rest 0 first-sound (first-fine s r l)) in
     rw (first-is reader s rest) (ap (judged 1) e ∙ show-whole 1 s (savedOf 1 (firstNumbers s)) (first-saved s l (eqb-true (s .pitch) 0 (p .1))) (p .0))
 
@@ -93,7 +93,7 @@ pub second-back : (s : SavedSettings) (rest : List ℕ) → s .rate < 2 ^ 64 →
 unfolding loaded encoded judged secondRows
 second-back s rest r k h =
     let p = storable-parts 2 s h in
-    let l = lawful-parts s (p .0) in
+    let l = well-formed-parts s (p .0) in
     let e = read-back (rows secondTable 0 10) (secondNumbers s) rest 26 (second-length s) (read-written (rows secondTable 0 10) [] (secondNumbers s) rest 0 second-sound (second-fine s r l)) in
     rw (second-is s rest) (ap (judged 2) e ∙ show-whole 2 s (savedOf 2 (secondNumbers s)) (second-saved s l k) (p .0))
 
@@ -110,13 +110,13 @@ unfolding loaded encoded payload field stands secondRows rows rowAt secondTable 
 unknown s rest = stops _
 
 -- fields that are shown were lawful, and they are the fields among the numbers read
-shown-is : (version : ℕ) (s t : SavedSettings) → 0 < version → shown version t ≡ whole version s → (t ≡ s) × (lawful s ≡ true)
-shown-is version s t p e = go (lawful t) refl e
+shown-is : (version : ℕ) (s t : SavedSettings) → 0 < version → shown version t ≡ whole version s → (t ≡ s) × (wellFormed s ≡ true)
+shown-is version s t p e = go (wellFormed t) refl e
   where
-    go : (b : Bool) → lawful t ≡ b → cond b (whole version t) (refusedBy 24) ≡ whole version s → (t ≡ s) × (lawful s ≡ true)
+    go : (b : Bool) → wellFormed t ≡ b → cond b (whole version t) (refusedBy 24) ≡ whole version s → (t ≡ s) × (wellFormed s ≡ true)
     go true q u =
         let x : t ≡ s = ap (λ (l : Loaded). l .settings) u in
-        (x, ap lawful (sym x) ∙ q)
+        (x, ap wellFormed (sym x) ∙ q)
     go false q u =
         let z : 0 ≡ version = ap (λ (l : Loaded). l .version) u in
         absurd (omega (arith, z, p))
@@ -126,7 +126,7 @@ unfolding judged
 version-is v w (bad k) s p e =
     let z : 0 ≡ w = ap (λ (l : Loaded). l .version) e in
     absurd (omega (arith, z, p))
-version-is v w (good left vs rest) s p e = go (lawful (savedOf v vs)) e
+version-is v w (good left vs rest) s p e = go (wellFormed (savedOf v vs)) e
   where
     go : (b : Bool) → cond b (whole v (savedOf v vs)) (refusedBy 24) ≡ whole w s → v ≡ w
     go true q = ap (λ (l : Loaded). l .version) q

@@ -27,8 +27,8 @@ abbrev pub pitchRight : ℕ → Bool
 pitchRight p = leb p 24 || leb 18446744073709551592 p
 
 -- 24: a field that is not one of these is wrong
-abbrev pub lawful : SavedSettings → Bool
-lawful s = loopRight s && leb (s .start) 4294967295 && leb (s .«loop_end») 4294967295 && leb (s .reverse) 1
+abbrev pub wellFormed : SavedSettings → Bool
+wellFormed s = loopRight s && leb (s .start) 4294967295 && leb (s .«loop_end») 4294967295 && leb (s .reverse) 1
     && finiteBits (s .rate) && pitchRight (s .pitch)
 
 -- ---- loading
@@ -66,7 +66,7 @@ abbrev pub refusedBy : ℕ → Loaded
 refusedBy k = record { settings = nothing; version = 0; refusal = k }
 
 abbrev pub shown : ℕ → SavedSettings → Loaded
-shown version s = cond (lawful s) (record { settings = s; version = version; refusal = 0 }) (refusedBy 24)
+shown version s = cond (wellFormed s) (record { settings = s; version = version; refusal = 0 }) (refusedBy 24)
 
 -- the fields are checked once all bytes are there
 unfoldable pub judged : ℕ → Reading → Loaded
@@ -85,7 +85,7 @@ loaded reader bs = cond (second reader bs) (judged 2 (steps secondRows (good 26 
 
 -- version 1 has no pitch
 abbrev pub storable : ℕ → SavedSettings → Bool
-storable version s = lawful s && cond (eqb version 1) (eqb (s .pitch) 0) (eqb version 2)
+storable version s = wellFormed s && cond (eqb version 1) (eqb (s .pitch) 0) (eqb version 2)
 
 abbrev pub size : ℕ → ℕ
 size version = cond (eqb version 1) 25 26

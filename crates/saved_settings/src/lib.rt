@@ -10,7 +10,7 @@ ghost use Rattle.saved_settings.specs.Records.{
   loopRight,
   finiteBits,
   pitchRight,
-  lawful,
+  wellFormed,
   hasLoop,
   pitchOf,
   savedOf,
@@ -81,8 +81,8 @@ fn is_pitch(pitch: u64) -> bool
     (pitch <= 24) | (pitch >= 18446744073709551592)
 }
 
-fn is_lawful(s: SavedSettings) -> bool
-    ensures { λ r. ⌜ r ≡ lawful s ⌝ }
+fn is_well_formed(s: SavedSettings) -> bool
+    ensures { λ r. ⌜ r ≡ wellFormed s ⌝ }
 {
     is_loop(s)
         & (s.start <= 4294967295)
@@ -151,7 +151,7 @@ fn refused(refusal: u32) -> Loaded
 fn show(version: u64, settings: SavedSettings) -> Loaded
     ensures { λ r. ⌜ r ≡ shown version settings ⌝ }
 {
-    if is_lawful(settings) {
+    if is_well_formed(settings) {
         return Loaded {
             settings,
             version,
@@ -213,9 +213,9 @@ fn is_storable(version: u64, s: SavedSettings) -> bool
     ensures { λ r. ⌜ r ≡ storable version s ⌝ }
 {
     if version == 1 {
-        return is_lawful(s) & (s.pitch == 0);
+        return is_well_formed(s) & (s.pitch == 0);
     }
-    is_lawful(s) & (version == 2)
+    is_well_formed(s) & (version == 2)
 }
 
 fn size_of(version: u64) -> usize

@@ -7,21 +7,21 @@ use Rattle.numbers.specs.Words.{positiveZero}
 use Rattle.numbers.specs.Lists.{all}
 use Rattle.sound_lanes.specs.Lanes.{Lane, near}
 use Rattle.sound_state.specs.declared.StaticSound.{StaticSound}
-use Rattle.sound_state.specs.WellFormed.{Formed}
-use Rattle.sound_slow_path.proofs.Keeps.{plays-formed}
+use Rattle.sound_state.specs.WellFormed.{WellFormed}
+use Rattle.sound_slow_path.proofs.Keeps.{plays-well-formed}
 use Rattle.sound_block.specs.declared.Signals.{Signals}
 use Rattle.sound_slow_path.specs.Plays.{plays}
 use Rattle.sound_block.specs.Blocks.{begun, live, silent, block}
 
-pub begun-formed : (g : Signals) (v : StaticSound) → Formed v → Formed (begun g v)
+pub begun-well-formed : (g : Signals) (v : StaticSound) → WellFormed v → WellFormed (begun g v)
 unfolding begun
-begun-formed g v h = record { setup = h .setup; rate = h .rate; transportFormed = h .transportFormed; fraction = h .fraction; window = h .window }
+begun-well-formed g v h = record { setup = h .setup; rate = h .rate; transportWellFormed = h .transportWellFormed; fraction = h .fraction; window = h .window }
 
 module _ (snd : List Float) (dt : Float) (t : T (lt positiveZero dt)) where
-  pub block-formed : (ls : List Lane) (g : Signals) (v : StaticSound) → T (all (near (v .setup .«sample_rate») dt) ls) → Formed v → Formed ((block snd dt ls g v) .voice)
+  pub block-well-formed : (ls : List Lane) (g : Signals) (v : StaticSound) → T (all (near (v .setup .«sample_rate») dt) ls) → WellFormed v → WellFormed ((block snd dt ls g v) .voice)
   unfolding block begun
-  block-formed ls g v k h = go (live (begun g v))
+  block-well-formed ls g v k h = go (live (begun g v))
     where
-      go : (b : Bool) → Formed ((cond b (plays snd dt ls (begun g v)) (silent ls (begun g v))) .voice)
-      go true = plays-formed snd dt t ls (begun g v) k (begun-formed g v h)
-      go false = begun-formed g v h
+      go : (b : Bool) → WellFormed ((cond b (plays snd dt ls (begun g v)) (silent ls (begun g v))) .voice)
+      go true = plays-well-formed snd dt t ls (begun g v) k (begun-well-formed g v h)
+      go false = begun-well-formed g v h

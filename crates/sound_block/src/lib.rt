@@ -4,7 +4,7 @@ ghost use lib.ListN.{length, replicate};
 ghost use Rattle.numbers.specs.Words.{positiveZero};
 ghost use Rattle.sound_lanes.specs.Lanes.{five, rows};
 ghost use Rattle.sound_slow_path.specs.Plays.{acceptedAs};
-ghost use Rattle.sound_slow_path.specs.Turns.{Playable};
+ghost use Rattle.sound_slow_path.specs.FrameSteps.{Playable};
 ghost use Rattle.sound_block.specs.Blocks.{begun, live, block};
 
 mod once;
@@ -28,7 +28,7 @@ pub struct Signals {
 }
 
 // A voice, and the time step and signals of its block.
-pub struct Told {
+pub struct Signalled {
     pub voice: StaticSound,
     pub dt: f64,
     pub signals: Signals,
@@ -97,7 +97,7 @@ fn silence(out: &mut [f32])
 
 // The block of a well formed voice over checked lanes.
 pub fn block(
-    told: Told,
+    signalled: Signalled,
     sound: &[f32],
     fade: &[f32],
     volume: &[f32],
@@ -106,27 +106,27 @@ pub fn block(
     rate: &[f64],
     out: &mut [f32],
 ) -> Processed
-    requires { ⌜ Playable (now sound) (told .voice) (told .dt)
+    requires { ⌜ Playable (now sound) (signalled .voice) (signalled .dt)
         (five (now fade) (now volume) (now left) (now right) (now rate)) (length (now out)) ⌝ }
     ensures { λ r. ⌜ record { answer = r; samples = now (out .exit) }
-        ≡ acceptedAs (block (now (sound .entry)) (told .dt)
+        ≡ acceptedAs (block (now (sound .entry)) (signalled .dt)
         (rows (five (now (fade .entry)) (now (volume .entry)) (now (left .entry)) (now (right .entry))
-        (now (rate .entry)))) (told .signals) (told .voice)) ⌝ }
+        (now (rate .entry)))) (signalled .signals) (signalled .voice)) ⌝ }
 {
-    let voice = told.voice;
-    let signals = told.signals;
+    let voice = signalled.voice;
+    let signals = signalled.signals;
     let begun = begin(voice, signals);
     if is_live(begun) {
         let timed = Timed {
             voice: begun,
-            dt: told.dt,
+            dt: signalled.dt,
         };
         return play(timed, sound, fade, volume, left, right, rate, out);
     }
     silence(out);
     Processed {
         refusal: 0,
-        sound: begun,
+        voice: begun,
         steps: 0,
         lowest_count: 4,
     }

@@ -13,10 +13,10 @@ use Rattle.sound_state.proofs.Refusals.{none-refused, some-refused, accepted}
 
 -- a command set's two outcomes
 abbrev obeying : List Float → StaticSound → Commands → Commanded
-obeying snd v c = record { refusal = 0; sound = obeyed snd c v; position = reported v }
+obeying snd v c = record { refusal = 0; voice = obeyed snd c v; position = reported v }
 
 abbrev refusing : ℕ → StaticSound → Commanded
-refusing k v = record { refusal = k; sound = v; position = positiveZero }
+refusing k v = record { refusal = k; voice = v; position = positiveZero }
 
 module _ (snd : List Float) (v : StaticSound) (c : Commands) where
   pub commanded-passed : (commanded snd v c) .refusal ≡ 0 → refusedSet (length snd) v c ≡ 0

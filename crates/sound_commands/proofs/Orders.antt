@@ -12,76 +12,76 @@ use Rattle.numbers.specs.Frames.{most, cutOff}
 use Rattle.numbers.proofs.Frames.{cut-le}
 use Rattle.playback_position.specs.Positions.{within}
 use Rattle.playback_state_manager.specs.States.{advancing}
-use Rattle.transport.proofs.WellFormed.{seek-formed-transport}
+use Rattle.transport.proofs.WellFormed.{seek-well-formed-transport}
 use Rattle.sound_state.specs.declared.Setup.{Setup}
 use Rattle.sound_state.specs.declared.StaticSound.{StaticSound}
-use Rattle.sound_state.specs.Voices.{span, courseOf}
-use Rattle.sound_state.specs.WellFormed.{ours, Formed}
-use Rattle.sound_state.proofs.Formed.{span-most, ours-parts, ours-of, moved-formed}
+use Rattle.sound_state.specs.Voices.{sliceLength, sliceOf}
+use Rattle.sound_state.specs.WellFormed.{wellFormedFor, WellFormed}
+use Rattle.sound_state.proofs.WellFormed.{span-most, well-formed-for-parts, well-formed-for-of, moved-well-formed}
 use Rattle.sound_update.proofs.Kept.{Kept, pushed-windowed}
 use Rattle.sound_commands.specs.declared.Amount.{Amount}
 use Rattle.sound_commands.specs.declared.Amount.the-variants as amount
 use Rattle.sound_commands.specs.declared.LoopCommand.{LoopCommand}
 use Rattle.sound_commands.specs.declared.LoopCommand.the-variants as loop
 use Rattle.sound_commands.specs.declared.Commands.{Commands}
-use Rattle.sound_commands.specs.Commands.{loopable, rateable, targetBy, targetTo, orElse, looped, told, jumped, refilled, sought, soughtBy, soughtTo, obeyed}
+use Rattle.sound_commands.specs.Commands.{loopable, rateable, targetBy, targetTo, orElse, looped, beforeSeeks, jumped, refilled, sought, soughtBy, soughtTo, obeyed}
 use Rattle.sound_commands.proofs.Refusals.{Obeyable}
-use Rattle.playback_position.proofs.Ranges.{lawful-within}
+use Rattle.playback_position.proofs.Ranges.{well-formed-within}
 
 -- ---- rate and loop
 
-looped-within : (v : StaticSound) (l : LoopCommand) → T (loopable v l) → T (within (span (v .setup)) (v .moving .transport .«loop_region»)) → T (within (span (v .setup)) (looped v l))
+looped-within : (v : StaticSound) (l : LoopCommand) → T (loopable v l) → T (within (sliceLength (v .setup)) (v .moving .transport .«loop_region»)) → T (within (sliceLength (v .setup)) (looped v l))
 looped-within v loop.Keep k h = h
 looped-within v loop.Clear k h = tt
-looped-within v (loop.Set r) k h = lawful-within (v .setup .«sample_rate») (span (v .setup)) r k
+looped-within v (loop.Set r) k h = well-formed-within (v .setup .«sample_rate») (sliceLength (v .setup)) r k
 
 rate-finite : (a : Amount) (x : Float) → T (rateable a) → T (finite x) → T (finite (orElse a x))
 rate-finite amount.Absent x k h = h
 rate-finite (amount.Given y) x k h = k
 
-pub told-formed : (c : Commands) (v : StaticSound) → T (loopable v (c .«loop_region»)) → T (rateable (c .«playback_rate»)) → Formed v → Formed (told c v)
-unfolding told
-told-formed c v k r h =
+pub told-well-formed : (c : Commands) (v : StaticSound) → T (loopable v (c .«loop_region»)) → T (rateable (c .«playback_rate»)) → WellFormed v → WellFormed (beforeSeeks c v)
+unfolding beforeSeeks
+told-well-formed c v k r h =
     record {
       setup = h .setup;
       rate = rate-finite (c .«playback_rate») (v .«playback_rate») r (h .rate);
-      transportFormed = record { loop = looped-within v (c .«loop_region») k (h .transportFormed .loop); here = h .transportFormed .here; low = h .transportFormed .low };
+      transportWellFormed = record { loop = looped-within v (c .«loop_region») k (h .transportWellFormed .loop); here = h .transportWellFormed .here; low = h .transportWellFormed .low };
       fraction = h .fraction;
       window = h .window;
     }
 
 -- ---- seeks
 
-pub jumped-kept : (v : StaticSound) (q : ℕ) → q ≤ most → Formed v → Kept (span (v .setup)) (jumped v q)
+pub jumped-kept : (v : StaticSound) (q : ℕ) → q ≤ most → WellFormed v → Kept (sliceLength (v .setup)) (jumped v q)
 jumped-kept v q k h =
-    record { transportFormed = seek-formed-transport (span (v .setup)) (v .moving .transport) q (span-most (v .setup) (h .setup)) (h .transportFormed) k; window = h .window }
+    record { transportWellFormed = seek-well-formed-transport (sliceLength (v .setup)) (v .moving .transport) q (span-most (v .setup) (h .setup)) (h .transportWellFormed) k; window = h .window }
 
-pub sought-formed : (snd : List Float) (v : StaticSound) (q : ℕ) → q ≤ most → Formed v → Formed (sought snd v q)
+pub sought-well-formed : (snd : List Float) (v : StaticSound) (q : ℕ) → q ≤ most → WellFormed v → WellFormed (sought snd v q)
 unfolding sought
-sought-formed snd v q k h = moved-formed v (v .«fractional_position») _ h (h .fraction) (go (advancing (v .moving .state)))
+sought-well-formed snd v q k h = moved-well-formed v (v .«fractional_position») _ h (h .fraction) (go (advancing (v .moving .state)))
   where
-    j : Kept (span (v .setup)) (jumped v q)
+    j : Kept (sliceLength (v .setup)) (jumped v q)
     j = jumped-kept v q k h
 
-    go : (b : Bool) → Kept (span (v .setup)) (cond b (refilled snd (courseOf v) (jumped v q)) (jumped v q))
-    go true = record { transportFormed = j .transportFormed; window = pushed-windowed snd (courseOf v) (jumped v q) (j .transportFormed .low) (h .window) }
+    go : (b : Bool) → Kept (sliceLength (v .setup)) (cond b (refilled snd (sliceOf v) (jumped v q)) (jumped v q))
+    go true = record { transportWellFormed = j .transportWellFormed; window = pushed-windowed snd (sliceOf v) (jumped v q) (j .transportWellFormed .low) (h .window) }
     go false = j
 
 pub sought-setup : (snd : List Float) (v : StaticSound) (q : ℕ) → (sought snd v q) .setup ≡ v .setup
 unfolding sought
 sought-setup snd v q = refl
 
-pub by-formed : (snd : List Float) (v : StaticSound) (a : Amount) → Formed v → Formed (soughtBy snd v a)
-by-formed snd v amount.Absent h = h
-by-formed snd v (amount.Given x) h = sought-formed snd v (cutOff (targetBy v x)) (cut-le (targetBy v x)) h
+pub by-well-formed : (snd : List Float) (v : StaticSound) (a : Amount) → WellFormed v → WellFormed (soughtBy snd v a)
+by-well-formed snd v amount.Absent h = h
+by-well-formed snd v (amount.Given x) h = sought-well-formed snd v (cutOff (targetBy v x)) (cut-le (targetBy v x)) h
 
 pub by-setup : (snd : List Float) (v : StaticSound) (a : Amount) → (soughtBy snd v a) .setup ≡ v .setup
 by-setup snd v amount.Absent = refl
 by-setup snd v (amount.Given x) = sought-setup snd v (cutOff (targetBy v x))
 
-to-formed : (snd : List Float) (v : StaticSound) (a : Amount) → Formed v → Formed (soughtTo snd v a)
-to-formed snd v amount.Absent h = h
-to-formed snd v (amount.Given x) h = sought-formed snd v (cutOff (targetTo v x)) (cut-le (targetTo v x)) h
+to-well-formed : (snd : List Float) (v : StaticSound) (a : Amount) → WellFormed v → WellFormed (soughtTo snd v a)
+to-well-formed snd v amount.Absent h = h
+to-well-formed snd v (amount.Given x) h = sought-well-formed snd v (cutOff (targetTo v x)) (cut-le (targetTo v x)) h
 
 to-setup : (snd : List Float) (v : StaticSound) (a : Amount) → (soughtTo snd v a) .setup ≡ v .setup
 to-setup snd v amount.Absent = refl
@@ -89,20 +89,20 @@ to-setup snd v (amount.Given x) = sought-setup snd v (cutOff (targetTo v x))
 
 -- ---- the set
 
-pub obeyed-formed : (snd : List Float) (c : Commands) (v : StaticSound) → T (loopable v (c .«loop_region»)) → T (rateable (c .«playback_rate»)) → Formed v → Formed (obeyed snd c v)
+pub obeyed-well-formed : (snd : List Float) (c : Commands) (v : StaticSound) → T (loopable v (c .«loop_region»)) → T (rateable (c .«playback_rate»)) → WellFormed v → WellFormed (obeyed snd c v)
 unfolding obeyed
-obeyed-formed snd c v k r h =
-    let u = told c v in
-    to-formed snd (soughtBy snd u (c .«seek_by»)) (c .«seek_to») (by-formed snd u (c .«seek_by») (told-formed c v k r h))
+obeyed-well-formed snd c v k r h =
+    let u = beforeSeeks c v in
+    to-well-formed snd (soughtBy snd u (c .«seek_by»)) (c .«seek_to») (by-well-formed snd u (c .«seek_by») (told-well-formed c v k r h))
 
 pub obeyed-setup : (snd : List Float) (c : Commands) (v : StaticSound) → (obeyed snd c v) .setup ≡ v .setup
-unfolding obeyed told
+unfolding obeyed beforeSeeks
 obeyed-setup snd c v =
-    let u = told c v in
+    let u = beforeSeeks c v in
     to-setup snd (soughtBy snd u (c .«seek_by»)) (c .«seek_to») ∙ by-setup snd u (c .«seek_by»)
 
-pub obeyed-ours : (snd : List Float) (c : Commands) (v : StaticSound) → Obeyable (length snd) v c → T (ours (length snd) (obeyed snd c v))
-obeyed-ours snd c v h =
-    let p = ours-parts (length snd) v (h .ours) in
-    ours-of (length snd) (obeyed snd c v) (obeyed-formed snd c v (h .loop) (h .rate) (p .0))
+pub obeyed-well-formed-for : (snd : List Float) (c : Commands) (v : StaticSound) → Obeyable (length snd) v c → T (wellFormedFor (length snd) (obeyed snd c v))
+obeyed-well-formed-for snd c v h =
+    let p = well-formed-for-parts (length snd) v (h .wellFormedFor) in
+    well-formed-for-of (length snd) (obeyed snd c v) (obeyed-well-formed snd c v (h .loop) (h .rate) (p .0))
     (p .1 ∙ ap (λ (k : Setup). 2 * k .«num_frames») (sym (obeyed-setup snd c v)))

@@ -10,17 +10,17 @@ use Rattle.numbers.specs.Words.{positiveZero, finite}
 use Rattle.numbers.specs.Frames.{cutOff}
 use Rattle.playback_position.specs.declared.FrameRange.{FrameRange}
 use Rattle.playback_position.specs.declared.FrameRange.the-variants as range
-use Rattle.playback_position.specs.Positions.{stretched, lawfulRegion}
+use Rattle.playback_position.specs.Positions.{regionInFrames, wellFormedRegion}
 use Rattle.playback_state_manager.specs.declared.PlaybackState.{PlaybackState}
 use Rattle.playback_state_manager.specs.States.{advancing, pausing, resuming, stopping}
 use Rattle.transport.specs.Moves.{seek}
-use Rattle.resampler.specs.Windows.{heardNumber}
+use Rattle.resampler.specs.Windows.{currentFrameIndex}
 use Rattle.sound_state.specs.declared.StaticSound.{StaticSound}
 use Rattle.sound_update.specs.declared.Moving.{Moving}
-use Rattle.sound_update.specs.declared.Course.{Course}
-use Rattle.sound_state.specs.Voices.{span, courseOf, moved}
+use Rattle.sound_update.specs.declared.Slice.{Slice}
+use Rattle.sound_state.specs.Voices.{sliceLength, sliceOf, moved}
 use Rattle.sound_update.specs.Updates.{pushed}
-use Rattle.sound_state.specs.WellFormed.{ours}
+use Rattle.sound_state.specs.WellFormed.{wellFormedFor}
 use Rattle.sound_commands.specs.declared.Amount.{Amount}
 use Rattle.sound_commands.specs.declared.Amount.the-variants as amount
 use Rattle.sound_commands.specs.declared.LoopCommand.{LoopCommand}
@@ -37,7 +37,7 @@ use Rattle.sound_state.specs.Refusals.{unless}
 abbrev pub loopable : StaticSound → LoopCommand → Bool
 loopable v loop.Keep = true
 loopable v loop.Clear = true
-loopable v (loop.Set r) = lawfulRegion (v .setup .«sample_rate») (span (v .setup)) r
+loopable v (loop.Set r) = wellFormedRegion (v .setup .«sample_rate») (sliceLength (v .setup)) r
 
 -- 7: the given rate is finite
 abbrev pub rateable : Amount → Bool
@@ -65,7 +65,7 @@ seekable f (amount.Given x) = finite x && lt (f x) (fin false 1 (pos 32))
 unfoldable pub refusedSet : ℕ → StaticSound → Commands → ℕ
 unfolding targetBy targetTo
 refusedSet len v c =
-    unless (ours len v) 1
+    unless (wellFormedFor len v) 1
     (unless (loopable v (c .«loop_region»)) 6
     (unless (rateable (c .«playback_rate»)) 7
     (unless (seekable (targetBy v) (c .«seek_by») && seekable (targetTo v) (c .«seek_to»)) 8 0)))
@@ -79,7 +79,7 @@ orElse (amount.Given y) x = y
 abbrev pub looped : StaticSound → LoopCommand → FrameRange
 looped v loop.Keep = v .moving .transport .«loop_region»
 looped v loop.Clear = range.Absent
-looped v (loop.Set r) = stretched (v .setup .«sample_rate») (span (v .setup)) r
+looped v (loop.Set r) = regionInFrames (v .setup .«sample_rate») (sliceLength (v .setup)) r
 
 abbrev pub woken : ResumeCommand → PlaybackState → PlaybackState
 woken resume.Keep s = s
@@ -94,8 +94,8 @@ ordered c s =
     cond (c .stop) (stopping r) r
 
 -- the voice before its seeks
-unfoldable pub told : Commands → StaticSound → StaticSound
-told c v =
+unfoldable pub beforeSeeks : Commands → StaticSound → StaticSound
+beforeSeeks c v =
     record {
       setup = v .setup;
       «playback_rate» = orElse (c .«playback_rate») (v .«playback_rate»);
@@ -117,13 +117,13 @@ told c v =
 abbrev pub jumped : StaticSound → ℕ → Moving
 jumped v q = record {
   state = v .moving .state;
-  transport = seek (span (v .setup)) (v .moving .transport) q;
+  transport = seek (sliceLength (v .setup)) (v .moving .transport) q;
   resampler = v .moving .resampler;
   wraps = v .moving .wraps;
 }
 
 -- the same with one frame pushed, without the Stopped check
-abbrev pub refilled : List Float → Course → Moving → Moving
+abbrev pub refilled : List Float → Slice → Moving → Moving
 refilled snd c m = record { state = m .state; transport = m .transport; resampler = pushed snd c m; wraps = m .wraps }
 
 -- a seek to frame q, which pushes one frame afterwards if the state advances
@@ -131,7 +131,7 @@ unfoldable pub sought : List Float → StaticSound → ℕ → StaticSound
 unfolding seek pushed
 sought snd v q =
     moved v (v .«fractional_position»)
-    (cond (advancing (v .moving .state)) (refilled snd (courseOf v) (jumped v q)) (jumped v q))
+    (cond (advancing (v .moving .state)) (refilled snd (sliceOf v) (jumped v q)) (jumped v q))
 
 abbrev pub soughtBy : List Float → StaticSound → Amount → StaticSound
 soughtBy snd v amount.Absent = v
@@ -143,17 +143,17 @@ soughtTo snd v (amount.Given x) = sought snd v (cutOff (targetTo v x))
 
 -- an accepted command set
 unfoldable pub obeyed : List Float → Commands → StaticSound → StaticSound
-unfolding told sought targetBy targetTo cutOff
-obeyed snd c v = soughtTo snd (soughtBy snd (told c v) (c .«seek_by»)) (c .«seek_to»)
+unfolding beforeSeeks sought targetBy targetTo cutOff
+obeyed snd c v = soughtTo snd (soughtBy snd (beforeSeeks c v) (c .«seek_by»)) (c .«seek_to»)
 
 -- the reported position: entry 1's frame index divided by the sample rate
 unfoldable pub reported : StaticSound → Float
-reported v = div binary64 (ofInt binary64 (pos (heardNumber (v .moving .resampler))))
+reported v = div binary64 (ofInt binary64 (pos (currentFrameIndex (v .moving .resampler))))
     (ofInt binary64 (pos (v .setup .«sample_rate»)))
 
 -- a command set, accepted and refused; the position is read before the commands
 unfoldable pub commanded : List Float → StaticSound → Commands → Commanded
 commanded snd v c =
     let k = refusedSet (length snd) v c in
-    cond (eqb k 0) (record { refusal = 0; sound = obeyed snd c v; position = reported v })
-    (record { refusal = k; sound = v; position = positiveZero })
+    cond (eqb k 0) (record { refusal = 0; voice = obeyed snd c v; position = reported v })
+    (record { refusal = k; voice = v; position = positiveZero })

@@ -11,8 +11,8 @@ ghost use Rattle.numbers.specs.Words.{finite};
 ghost use Rattle.numbers.specs.Frames.{most};
 ghost use Rattle.playback_state_manager.specs.States.{pausing, stopping};
 ghost use Rattle.transport.specs.Moves.{reloop};
-ghost use Rattle.resampler.specs.Windows.{heardNumber};
-ghost use Rattle.sound_state.specs.WellFormed.{ours};
+ghost use Rattle.resampler.specs.Windows.{currentFrameIndex};
+ghost use Rattle.sound_state.specs.WellFormed.{wellFormedFor};
 ghost use Rattle.sound_commands.specs.Commands.{
   loopable,
   rateable,
@@ -23,7 +23,7 @@ ghost use Rattle.sound_commands.specs.Commands.{
   orElse,
   looped,
   woken,
-  told,
+  beforeSeeks,
   sought,
   soughtBy,
   soughtTo,
@@ -68,7 +68,7 @@ pub struct Commands {
 
 pub struct Commanded {
     pub refusal: u32,
-    pub sound: StaticSound,
+    pub voice: StaticSound,
     pub position: f64,
 }
 
@@ -79,7 +79,7 @@ fn is_loop(voice: StaticSound, command: LoopCommand) -> bool
     match command {
         LoopCommand::Keep => true,
         LoopCommand::Clear => true,
-        LoopCommand::Set(region) => region.is_lawful(setup.sample_rate, setup.num_frames()),
+        LoopCommand::Set(region) => region.is_well_formed(setup.sample_rate, setup.num_frames()),
     }
 }
 
@@ -210,8 +210,8 @@ fn stop(state: PlaybackState, command: bool) -> PlaybackState
 }
 
 // The commands before the seeks: rate, loop, pause, resume, stop.
-fn tell(voice: StaticSound, commands: Commands) -> StaticSound
-    ensures { λ r. ⌜ r ≡ told commands voice ⌝ }
+fn before_seeks(voice: StaticSound, commands: Commands) -> StaticSound
+    ensures { λ r. ⌜ r ≡ beforeSeeks commands voice ⌝ }
 {
     let moving = voice.moving;
     let rate = commands.playback_rate;
@@ -235,7 +235,7 @@ fn tell(voice: StaticSound, commands: Commands) -> StaticSound
 }
 
 fn seek_to_index(voice: StaticSound, index: usize, sound: &[f32]) -> StaticSound
-    requires { ⌜ T (ours (length (now sound)) voice) ⌝ }
+    requires { ⌜ T (wellFormedFor (length (now sound)) voice) ⌝ }
     requires { ⌜ index ≤ most ⌝ }
     ensures { λ r. ⌜ r ≡ sought (now (sound .entry)) voice index ⌝ }
 {
@@ -250,7 +250,7 @@ fn seek_to_index(voice: StaticSound, index: usize, sound: &[f32]) -> StaticSound
     };
     // Pushes one frame so that the target frame is not skipped.
     if state.is_advancing() {
-        let resampler = jumped.push_frame_to_resampler(voice.course(), sound);
+        let resampler = jumped.push_frame_to_resampler(voice.slice(), sound);
         return StaticSound {
             moving: Moving {
                 resampler,
@@ -266,7 +266,7 @@ fn seek_to_index(voice: StaticSound, index: usize, sound: &[f32]) -> StaticSound
 }
 
 fn seek_by(voice: StaticSound, command: Amount, sound: &[f32]) -> StaticSound
-    requires { ⌜ T (ours (length (now sound)) voice) ⌝ }
+    requires { ⌜ T (wellFormedFor (length (now sound)) voice) ⌝ }
     ensures { λ r. ⌜ r ≡ soughtBy (now (sound .entry)) voice command ⌝ }
 {
     match command {
@@ -280,7 +280,7 @@ fn seek_by(voice: StaticSound, command: Amount, sound: &[f32]) -> StaticSound
 }
 
 fn seek_to(voice: StaticSound, command: Amount, sound: &[f32]) -> StaticSound
-    requires { ⌜ T (ours (length (now sound)) voice) ⌝ }
+    requires { ⌜ T (wellFormedFor (length (now sound)) voice) ⌝ }
     ensures { λ r. ⌜ r ≡ soughtTo (now (sound .entry)) voice command ⌝ }
 {
     match command {
@@ -300,14 +300,14 @@ fn read_commands(voice: StaticSound, sound: &[f32], commands: Commands) -> Stati
 {
     let by = commands.seek_by;
     let to = commands.seek_to;
-    let told = tell(voice, commands);
-    let sought = seek_by(told, by, sound);
+    let ready = before_seeks(voice, commands);
+    let sought = seek_by(ready, by, sound);
     seek_to(sought, to, sound)
 }
 
-// The position of the frame that was heard last, in seconds.
+// The position of the frame that was read last, in seconds.
 fn last_played_position(voice: StaticSound) -> f64
-    requires { ⌜ heardNumber (voice .moving .resampler) ≤ most ⌝ }
+    requires { ⌜ currentFrameIndex (voice .moving .resampler) ≤ most ⌝ }
     ensures { λ r. ⌜ r ≡ reported voice ⌝ }
 {
     let setup = voice.setup;
@@ -323,14 +323,14 @@ pub fn on_start_processing(voice: StaticSound, sound: &[f32], commands: Commands
     if refusal != 0 {
         return Commanded {
             refusal,
-            sound: voice,
+            voice,
             position: 0.0,
         };
     }
     let position = last_played_position(voice);
     Commanded {
         refusal: 0,
-        sound: read_commands(voice, sound, commands),
+        voice: read_commands(voice, sound, commands),
         position,
     }
 }

@@ -17,7 +17,7 @@ use Rattle.sound_track.proofs.Same.{first-of, second-of}
 use Rattle.sound_lanes.specs.Lanes.{Lanes, five, sized}
 use Rattle.sound_lanes.proofs.Rows.{sized-parts}
 use Rattle.sound_held.specs.declared.Held.{Held}
-use Rattle.sound_held.specs.Held.{once}
+use Rattle.sound_held.specs.Held.{heldLanes}
 use Rattle.sound_constant.specs.Constant.{first, Constant}
 
 -- ---- equal numbers
@@ -83,7 +83,7 @@ constant-of b s h r f v l g =
 
 -- every lane of constant lanes has a first number
 module _ (b : Lanes) (c : Constant b) where
-  lane-some : (lane : Lanes → List Float) (x : Float) → lane (once (first b) (length (b .rate))) ≡ replicate (length (b .rate)) x → 0 < length (lane b)
+  lane-some : (lane : Lanes → List Float) (x : Float) → lane (heldLanes (first b) (length (b .rate))) ≡ replicate (length (b .rate)) x → 0 < length (lane b)
   lane-some lane x e =
       subst (λ (n : ℕ). 0 < n) (sym (ap (λ (b : Lanes). length (lane b)) (c .each) ∙ ap length e ∙ length-replicate (length (b .rate)) x)) (c .some)
 

@@ -5,7 +5,7 @@ use lib.ListN.{length, getD}
 use lib.Ieee.{nan}
 use Rattle.sound_lanes.specs.Lanes.{Lanes}
 use Rattle.sound_held.specs.declared.Held.{Held}
-use Rattle.sound_held.specs.Held.{once}
+use Rattle.sound_held.specs.Held.{heldLanes}
 
 -- the numbers of the first frame
 abbrev pub first : Lanes → Held
@@ -20,4 +20,4 @@ first b = record {
 -- lanes of at least one frame, which all repeat the first frame's numbers
 pub record Constant (b : Lanes) : Type 0 where
   pub some : 0 < length (b .rate)
-  pub each : b ≡ once (first b) (length (b .rate))
+  pub each : b ≡ heldLanes (first b) (length (b .rate))

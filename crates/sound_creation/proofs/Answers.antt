@@ -15,11 +15,11 @@ module _ (snd : List Float) (s : Settings) where
   unfolding created
   created-passed e = e
 
-  pub created-done : refusedNew (length snd) s ≡ 0 → (created snd s) .sound ≡ made snd s
+  pub created-done : refusedNew (length snd) s ≡ 0 → (created snd s) .voice ≡ made snd s
   unfolding created
   created-done e = ap (λ (k : ℕ). cond (eqb k 0) (made snd s) blankSound) e
 
-  pub created-refused : ((created snd s) .refusal ≡ 0 → ⊥) → (created snd s) .sound ≡ blankSound
+  pub created-refused : ((created snd s) .refusal ≡ 0 → ⊥) → (created snd s) .voice ≡ blankSound
   unfolding created
   created-refused h = go (eqb (refusedNew (length snd) s) 0) refl
     where

@@ -9,7 +9,7 @@ use Rattle.numbers.specs.Words.{positiveZero, finite}
 use Rattle.playback_position.specs.declared.FrameRange.{FrameRange}
 use Rattle.playback_position.specs.declared.FrameRange.the-variants as range
 use Rattle.playback_position.specs.declared.Region.{Region}
-use Rattle.playback_position.specs.Positions.{placeable, placed, stretched, lawfulRegion}
+use Rattle.playback_position.specs.Positions.{finitePosition, positionInFrames, regionInFrames, wellFormedRegion}
 use Rattle.playback_state_manager.specs.declared.PlaybackState.the-variants as state
 use Rattle.transport.specs.declared.Transport.{Transport}
 use Rattle.transport.specs.Moves.{begun}
@@ -17,7 +17,7 @@ use Rattle.resampler.specs.Windows.{fresh}
 use Rattle.sound_state.specs.declared.Setup.{Setup}
 use Rattle.sound_state.specs.declared.StaticSound.{StaticSound}
 use Rattle.sound_state.specs.Refusals.{unless}
-use Rattle.sound_state.specs.Voices.{span, courseOf, moved}
+use Rattle.sound_state.specs.Voices.{sliceLength, sliceOf, moved}
 use Rattle.sound_update.specs.Updates.{uncounted, updates}
 use Rattle.sound_creation.specs.declared.OptionalRegion.{OptionalRegion}
 use Rattle.sound_creation.specs.declared.OptionalRegion.the-variants as optional
@@ -27,11 +27,11 @@ use Rattle.sound_creation.specs.declared.Created.{Created}
 -- the given region in frames, over n frames
 abbrev pub ranged : ℕ → ℕ → OptionalRegion → FrameRange
 ranged hz n optional.Absent = range.Absent
-ranged hz n (optional.Present r) = stretched hz n r
+ranged hz n (optional.Present r) = regionInFrames hz n r
 
 abbrev pub allowed : ℕ → ℕ → OptionalRegion → Bool
 allowed hz n optional.Absent = true
-allowed hz n (optional.Present r) = lawfulRegion hz n r
+allowed hz n (optional.Present r) = wellFormedRegion hz n r
 
 -- what creation fixes; len is the sound's length in samples
 abbrev pub setupOf : ℕ → Settings → Setup
@@ -45,12 +45,13 @@ setupOf len s =
 
 -- 5: start below N, seconds finite
 abbrev pub startable : ℕ → Settings → Bool
-startable n s = placeable (s .«start_position») && ltb (placed (s .«sample_rate») (s .«start_position»)) n
+startable n s = finitePosition (s .«start_position») && ltb (positionInFrames (s .«sample_rate»)
+    (s .«start_position»)) n
 
 -- the refusal of a creation, 0 if it is accepted
 unfoldable pub refusedNew : ℕ → Settings → ℕ
 refusedNew len s =
-    let n = span (setupOf len s) in
+    let n = sliceLength (setupOf len s) in
     unless (ltb 0 (s .«sample_rate») && leb (s .«sample_rate») 768000) 2
     (unless (eqb (len % 2) 0 && ltb 0 (len / 2) && leb (len / 2) 16777216) 3
     (unless (allowed (s .«sample_rate») (len / 2) (s .slice)) 4
@@ -71,13 +72,13 @@ opened k t rate waits =
 
 -- updated three times
 abbrev pub filled : List Float → StaticSound → StaticSound
-filled snd v = moved v (v .«fractional_position») (updates 3 snd (courseOf v) (v .moving))
+filled snd v = moved v (v .«fractional_position») (updates 3 snd (sliceOf v) (v .moving))
 
 -- the transport that creation begins with
 abbrev pub transportOf : Setup → Settings → Transport
 transportOf k s =
-    begun (span k) (k .reverse) (ranged (s .«sample_rate») (span k) (s .«loop_region»))
-    (placed (s .«sample_rate») (s .«start_position»))
+    begun (sliceLength k) (k .reverse) (ranged (s .«sample_rate») (sliceLength k) (s .«loop_region»))
+    (positionInFrames (s .«sample_rate») (s .«start_position»))
 
 -- an accepted creation
 unfoldable pub made : List Float → Settings → StaticSound
@@ -106,4 +107,4 @@ blankSound =
 unfoldable pub created : List Float → Settings → Created
 created snd s =
     let k = refusedNew (length snd) s in
-    record { refusal = k; sound = cond (eqb k 0) (made snd s) blankSound }
+    record { refusal = k; voice = cond (eqb k 0) (made snd s) blankSound }

@@ -47,7 +47,7 @@ pub struct Settings {
 
 pub struct Created {
     pub refusal: u32,
-    pub sound: StaticSound,
+    pub voice: StaticSound,
 }
 
 // The region in frames, over this many frames.
@@ -60,12 +60,12 @@ fn into_frames(region: OptionalRegion, sample_rate: u32, num_frames: usize) -> F
     }
 }
 
-fn is_lawful(region: OptionalRegion, sample_rate: u32, num_frames: usize) -> bool
+fn is_well_formed(region: OptionalRegion, sample_rate: u32, num_frames: usize) -> bool
     ensures { λ r. ⌜ r ≡ allowed «sample_rate» «num_frames» region ⌝ }
 {
     match region {
         OptionalRegion::Absent => true,
-        OptionalRegion::Present(region) => region.is_lawful(sample_rate, num_frames),
+        OptionalRegion::Present(region) => region.is_well_formed(sample_rate, num_frames),
     }
 }
 
@@ -101,7 +101,7 @@ fn is_start(settings: Settings, num_frames: usize) -> bool
     ensures { λ r. ⌜ r ≡ startable «num_frames» settings ⌝ }
 {
     let start = settings.start_position;
-    start.is_placeable() & (start.into_samples(settings.sample_rate) < num_frames)
+    start.is_finite_position() & (start.into_samples(settings.sample_rate) < num_frames)
 }
 
 // The lowest number that applies to a creation, 0 for none.
@@ -117,7 +117,7 @@ fn refusal_of(settings: Settings, samples: usize) -> u32
     if !is_sound(samples) {
         return 3;
     }
-    if !is_lawful(slice, sample_rate, samples / 2) {
+    if !is_well_formed(slice, sample_rate, samples / 2) {
         return 4;
     }
     let setup = setup_of(settings, samples);
@@ -125,7 +125,7 @@ fn refusal_of(settings: Settings, samples: usize) -> u32
     if !is_start(settings, num_frames) {
         return 5;
     }
-    if !is_lawful(loop_region, sample_rate, num_frames) {
+    if !is_well_formed(loop_region, sample_rate, num_frames) {
         return 6;
     }
     if !numbers::is_finite(settings.playback_rate) {
@@ -175,11 +175,11 @@ fn make(settings: Settings, sound: &[f32]) -> StaticSound
     ensures { λ r. ⌜ r ≡ made (now (sound .entry)) settings ⌝ }
 {
     let opened = open(settings, sound.len());
-    let course = opened.course();
+    let slice = opened.slice();
     let first = opened.moving;
-    let second = first.update_position(course, sound);
-    let third = second.update_position(course, sound);
-    let moving = third.update_position(course, sound);
+    let second = first.update_position(slice, sound);
+    let third = second.update_position(slice, sound);
+    let moving = third.update_position(slice, sound);
     StaticSound { moving, ..opened }
 }
 
@@ -223,11 +223,11 @@ pub fn new(settings: Settings, sound: &[f32]) -> Created
     if refusal != 0 {
         return Created {
             refusal,
-            sound: blank(),
+            voice: blank(),
         };
     }
     Created {
         refusal: 0,
-        sound: make(settings, sound),
+        voice: make(settings, sound),
     }
 }

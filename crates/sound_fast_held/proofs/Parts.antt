@@ -14,12 +14,12 @@ use Rattle.numbers.proofs.Lists.{all-front}
 use Rattle.sound_lanes.specs.Lanes.{slow}
 use Rattle.sound_track.specs.declared.Track.{Track}
 use Rattle.sound_track.specs.Tracks.{nexts, On, roomy}
-use Rattle.sound_track.specs.Trails.{Lies}
+use Rattle.sound_track.specs.Contiguous.{InsideSound}
 use Rattle.sound_fast_reading.specs.declared.Way.{Way}
-use Rattle.sound_fast_reading.specs.declared.Ridden.{Ridden}
-use Rattle.sound_fast_reading.specs.Rides.{Ride, rides, ridesOn, begun, Rideable, Rode}
+use Rattle.sound_fast_reading.specs.declared.Reached.{Reached}
+use Rattle.sound_fast_reading.specs.Scans.{Scan, scans, scanFrom, begun, Scannable, Scanned}
 use Rattle.sound_fast_reading.proofs.Moves.{roomy-rest, roomy-both}
-use Rattle.sound_fast_reading.proofs.Rides.{joinedRides, rides-append, rides-at, rode-none}
+use Rattle.sound_fast_reading.proofs.Scans.{joinedScans, scans-append, scans-at, scanned-none}
 
 -- ---- lists of one rate
 
@@ -42,14 +42,14 @@ slow-rate hz dt r n h s = and-l (slow hz dt r) (all (slow hz dt) []) (slow-fewer
 -- ---- a ride, and the next frames of it
 
 -- the way from where a ride has come to
-abbrev pub wayOn : Way → Ridden → Way
+abbrev pub wayOn : Way → Reached → Way
 wayOn w a = record { track = w .track; at = a .at; «fractional_position» = a .«fractional_position»; dt = w .dt; «sample_rate» = w .«sample_rate» }
 
 -- a ride and the ride after it
-abbrev pub bothRidden : Ridden → Ridden → Ridden
-bothRidden a b = record { at = b .at; «fractional_position» = b .«fractional_position»; steps = a .steps + b .steps; next = a .next + b .next }
+abbrev pub bothReached : Reached → Reached → Reached
+bothReached a b = record { at = b .at; «fractional_position» = b .«fractional_position»; steps = a .steps + b .steps; next = a .next + b .next }
 
-module _ (snd : List Float) (w : Way) (r : Float) (n : ℕ) (able : Rideable snd w (replicate n r)) (a : Ridden) (out : List Float) (h : Rode snd w (replicate n r) a out) where
+module _ (snd : List Float) (w : Way) (r : Float) (n : ℕ) (updatable : Scannable snd w (replicate n r)) (a : Reached) (out : List Float) (h : Scanned snd w (replicate n r) a out) where
   abbrev i : ℕ
   i = a .next
 
@@ -60,13 +60,13 @@ module _ (snd : List Float) (w : Way) (r : Float) (n : ℕ) (able : Rideable snd
   long = h .asLong ∙ ap (λ (k : ℕ). 2 * k) (length-replicate n r)
 
   pub most : n ≤ 4096
-  most = subst (λ (k : ℕ). k ≤ 4096) (length-replicate n r) (able .most)
+  most = subst (λ (k : ℕ). k ≤ 4096) (length-replicate n r) (updatable .most)
 
   came : a .at ≡ nexts (a .steps) (w .track) (w .at)
   came =
-      sym (ap (λ (z : Ride). z .at) (h .soFar))
-      ∙ rides-at snd (w .track) (w .«sample_rate») (w .dt) (take i (replicate n r)) (w .at) (w .«fractional_position»)
-      ∙ ap (λ (z : Ride). nexts (z .steps) (w .track) (w .at)) (h .soFar)
+      sym (ap (λ (z : Scan). z .at) (h .soFar))
+      ∙ scans-at snd (w .track) (w .«sample_rate») (w .dt) (take i (replicate n r)) (w .at) (w .«fractional_position»)
+      ∙ ap (λ (z : Scan). nexts (z .steps) (w .track) (w .at)) (h .soFar)
 
   module _ (m : ℕ) (fits : i + m ≤ n) where
     -- the samples that the next m frames are written to, as code cuts them
@@ -81,25 +81,25 @@ module _ (snd : List Float) (w : Way) (r : Float) (n : ℕ) (able : Rideable snd
         let d : length (drop (2 * i) out) ≡ length out - 2 * i = length-drop (2 * i) out in
         length-take-le width (drop (2 * i) out) (omega (arith, d, long)) ∙ omega arith
 
-    pub able-on : Rideable snd (wayOn w a) (replicate m r)
-    able-on =
+    pub updatable-on : Scannable snd (wayOn w a) (replicate m r)
+    updatable-on =
         record {
-          lies = able .lies;
-          timeStep = able .timeStep;
-          slow = slow-fewer (w .«sample_rate») (w .dt) r m n (omega arith) (able .slow);
+          lies = updatable .lies;
+          timeStep = updatable .timeStep;
+          slow = slow-fewer (w .«sample_rate») (w .dt) r m n (omega arith) (updatable .slow);
           most = subst (λ (k : ℕ). k ≤ 4096) (sym (length-replicate m r)) (omega (arith, most));
         }
 
-    pub begins-on : Rode snd (wayOn w a) (replicate m r) (begun (wayOn w a)) part
+    pub begins-on : Scanned snd (wayOn w a) (replicate m r) (begun (wayOn w a)) part
     begins-on =
-        rode-none snd (wayOn w a) (replicate m r) part (part-long ∙ ap (λ (k : ℕ). 2 * k) (sym (length-replicate m r))) (h .on) (h .below) room-here
+        scanned-none snd (wayOn w a) (replicate m r) part (part-long ∙ ap (λ (k : ℕ). 2 * k) (sym (length-replicate m r))) (h .on) (h .below) room-here
       where
         room-here : T (roomy (w .track) 0 (a .at))
         room-here =
             subst (λ (q : ℕ). T (roomy (w .track) 0 q)) (sym came)
             (roomy-rest (w .track) (w .at) (a .steps) 0 (h .begins) (subst (λ (s : ℕ). T (roomy (w .track) s (w .at))) (sym (add-zero (a .steps))) (h .room)))
 
-    module _ (b : Ridden) (new : List Float) (g : Rode snd (wayOn w a) (replicate m r) b new) where
+    module _ (b : Reached) (new : List Float) (g : Scanned snd (wayOn w a) (replicate m r) b new) where
       abbrev j : ℕ
       j = b .next
 
@@ -136,8 +136,8 @@ module _ (snd : List Float) (w : Way) (r : Float) (n : ℕ) (able : Rideable snd
           ∙ sym (replicate-append-replicate i j r)
           ∙ sym (ap₂ (λ (x y : List Float). x ++ y) (take-replicate i n r within) (take-replicate j m r inside))
 
-      pub rode-on : Rode snd w (replicate n r) (bothRidden a b) put
-      rode-on =
+      pub scanned-on : Scanned snd w (replicate n r) (bothReached a b) put
+      scanned-on =
           record {
             within = subst (λ (k : ℕ). i + j ≤ k) (sym (length-replicate n r)) (omega (arith, inside));
             few = sum (a .steps) (b .steps) i j (h .few) (g .few);
@@ -147,10 +147,10 @@ module _ (snd : List Float) (w : Way) (r : Float) (n : ℕ) (able : Rideable snd
             below = g .below;
             room = roomy-both (w .track) (w .at) (a .steps) (b .steps) (h .begins) (h .room) (subst (λ (q : ℕ). T (roomy (w .track) (b .steps) q)) came (g .room));
             soFar =
-                ap (ridesOn snd w) rates-are
-                ∙ rides-append snd (w .track) (w .«sample_rate») (w .dt) (take i (replicate n r)) (take j (replicate m r)) (w .at) (w .«fractional_position»)
-                ∙ ap (λ (z : Ride). joinedRides z (rides snd (w .track) (w .«sample_rate») (w .dt) (take j (replicate m r)) (z .at) (z .«fractional_position»))) (h .soFar)
-                ∙ ap (joinedRides (record { at = a .at; «fractional_position» = a .«fractional_position»; steps = a .steps; samples = take (2 * i) out })) (g .soFar)
+                ap (scanFrom snd w) rates-are
+                ∙ scans-append snd (w .track) (w .«sample_rate») (w .dt) (take i (replicate n r)) (take j (replicate m r)) (w .at) (w .«fractional_position»)
+                ∙ ap (λ (z : Scan). joinedScans z (scans snd (w .track) (w .«sample_rate») (w .dt) (take j (replicate m r)) (z .at) (z .«fractional_position»))) (h .soFar)
+                ∙ ap (joinedScans (record { at = a .at; «fractional_position» = a .«fractional_position»; steps = a .steps; samples = take (2 * i) out })) (g .soFar)
                 ∙ ap (λ (l : List Float). record { at = b .at; «fractional_position» = b .«fractional_position»; steps = a .steps + b .steps; samples = l }) written;
           }
         where

@@ -6,8 +6,8 @@ ghost use Prim.Native.Nat.{_-_, _≤_, _<_};
 ghost use lib.Dec.{T};
 ghost use lib.ListN.{replicate};
 ghost use Rattle.sound_lanes.specs.Lanes.{slow};
-ghost use Rattle.sound_fast_reading.specs.Rides.{begun, Rideable, Rode};
-use sound_fast_reading::Ridden;
+ghost use Rattle.sound_fast_reading.specs.Scans.{begun, Scannable, Scanned};
+use sound_fast_reading::Reached;
 use sound_fast_reading::Way;
 
 // How many of n frames go next: at most 16.
@@ -20,16 +20,16 @@ fn part_of(n: usize) -> usize
 // Four frames per iteration where no step wraps.
 fn straight(
     way: Way,
-    from: Ridden,
+    from: Reached,
     sound: &[f32],
     rate: f64,
     frames: usize,
     out: &mut [f32],
-) -> Ridden
-    requires { ⌜ Rideable (now sound) way (replicate frames rate) ⌝ }
-    requires { ⌜ Rode (now sound) way (replicate frames rate) from (now out) ⌝ }
+) -> Reached
+    requires { ⌜ Scannable (now sound) way (replicate frames rate) ⌝ }
+    requires { ⌜ Scanned (now sound) way (replicate frames rate) from (now out) ⌝ }
     requires { ⌜ T (slow (way .«sample_rate») (way .dt) rate) ⌝ }
-    ensures { λ r. ⌜ Rode (now (sound .entry)) way (replicate frames rate) r (now (out .exit)) ⌝ }
+    ensures { λ r. ⌜ Scanned (now (sound .entry)) way (replicate frames rate) r (now (out .exit)) ⌝ }
 {
     if way.track.backwards {
         return sound_fast_straight::held_back(way, from, sound, rate, frames, out);
@@ -38,12 +38,12 @@ fn straight(
 }
 
 // From the way's beginning: one frame per iteration where no step wraps, then round the loop's edge.
-fn around(way: Way, sound: &[f32], rate: &[f64], out: &mut [f32]) -> Ridden
-    requires { ⌜ Rideable (now sound) way (now rate) ⌝ }
-    requires { ⌜ Rode (now sound) way (now rate) (begun way) (now out) ⌝ }
-    ensures { λ r. ⌜ Rode (now (sound .entry)) way (now (rate .entry)) r (now (out .exit)) ⌝ }
+fn around(way: Way, sound: &[f32], rate: &[f64], out: &mut [f32]) -> Reached
+    requires { ⌜ Scannable (now sound) way (now rate) ⌝ }
+    requires { ⌜ Scanned (now sound) way (now rate) (begun way) (now out) ⌝ }
+    ensures { λ r. ⌜ Scanned (now (sound .entry)) way (now (rate .entry)) r (now (out .exit)) ⌝ }
 {
-    let from = Ridden {
+    let from = Reached {
         at: way.at,
         fractional_position: way.fractional_position,
         steps: 0,
@@ -51,17 +51,17 @@ fn around(way: Way, sound: &[f32], rate: &[f64], out: &mut [f32]) -> Ridden
     };
     if way.track.backwards {
         let ones = sound_fast_straight::ones_back(way, from, sound, rate, out);
-        return sound_fast_wrapping::round_back(way, ones, sound, rate, out);
+        return sound_fast_wrapping::wrapping_back(way, ones, sound, rate, out);
     }
     let ones = sound_fast_straight::ones_on(way, from, sound, rate, out);
-    sound_fast_wrapping::round_on(way, ones, sound, rate, out)
+    sound_fast_wrapping::wrapping_on(way, ones, sound, rate, out)
 }
 
 // At most 16 frames more.
-fn few(way: Way, from: Ridden, sound: &[f32], rate: f64, frames: usize, out: &mut [f32]) -> Ridden
-    requires { ⌜ Rideable (now sound) way (replicate frames rate) ⌝ }
-    requires { ⌜ Rode (now sound) way (replicate frames rate) from (now out) ⌝ }
-    ensures { λ r. ⌜ Rode (now (sound .entry)) way (replicate frames rate) r (now (out .exit)) ⌝ }
+fn few(way: Way, from: Reached, sound: &[f32], rate: f64, frames: usize, out: &mut [f32]) -> Reached
+    requires { ⌜ Scannable (now sound) way (replicate frames rate) ⌝ }
+    requires { ⌜ Scanned (now sound) way (replicate frames rate) from (now out) ⌝ }
+    ensures { λ r. ⌜ Scanned (now (sound .entry)) way (replicate frames rate) r (now (out .exit)) ⌝ }
 {
     let m = part_of(frames - from.next);
     let a = 2 * from.next;
@@ -76,7 +76,7 @@ fn few(way: Way, from: Ridden, sound: &[f32], rate: f64, frames: usize, out: &mu
         sample_rate: way.sample_rate,
     };
     let r = around(here, sound, &rates[..m], &mut out[a..e]);
-    Ridden {
+    Reached {
         at: r.at,
         fractional_position: r.fractional_position,
         steps: from.steps + r.steps,
@@ -85,12 +85,12 @@ fn few(way: Way, from: Ridden, sound: &[f32], rate: f64, frames: usize, out: &mu
 }
 
 // To the track's end.
-pub fn ride_held(way: Way, sound: &[f32], rate: f64, frames: usize, out: &mut [f32]) -> Ridden
-    requires { ⌜ Rideable (now sound) way (replicate frames rate) ⌝ }
-    requires { ⌜ Rode (now sound) way (replicate frames rate) (begun way) (now out) ⌝ }
-    ensures { λ r. ⌜ Rode (now (sound .entry)) way (replicate frames rate) r (now (out .exit)) ⌝ }
+pub fn scan_held(way: Way, sound: &[f32], rate: f64, frames: usize, out: &mut [f32]) -> Reached
+    requires { ⌜ Scannable (now sound) way (replicate frames rate) ⌝ }
+    requires { ⌜ Scanned (now sound) way (replicate frames rate) (begun way) (now out) ⌝ }
+    ensures { λ r. ⌜ Scanned (now (sound .entry)) way (replicate frames rate) r (now (out .exit)) ⌝ }
 {
-    let mut r = Ridden {
+    let mut r = Reached {
         at: way.at,
         fractional_position: way.fractional_position,
         steps: 0,

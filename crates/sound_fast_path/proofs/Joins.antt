@@ -1,4 +1,4 @@
--- A ride and the frames after it make the block: the lanes cut, the two joined, the steps few. Assumes nothing.
+-- A scan and the frames after it make the block: the lanes cut, the two joined, the steps few. Assumes nothing.
 use mathlib.Core.Path.{_≡_, refl, sym, ap, ap₂, _∙_, subst}
 use mathlib.Core.List.{List, [], _∷_, _++_, append-nil}
 use Prim.Native.Nat.{ℕ, zero, suc, _+_, _-_, _*_, _≤_, _<_}
@@ -17,25 +17,25 @@ use Rattle.playback_position.specs.declared.FrameRange.{FrameRange}
 use Rattle.playback_position.specs.declared.FrameRange.the-variants.{Absent, Frames}
 use Rattle.playback_position.specs.Positions.{within}
 use Rattle.playback_position.proofs.Ranges.{ranged-parts}
-use Rattle.sound_update.specs.declared.Course.{Course}
+use Rattle.sound_update.specs.declared.Slice.{Slice}
 use Rattle.sound_update.specs.declared.Moving.{Moving}
 use Rattle.sound_state.specs.declared.Setup.{Setup}
 use Rattle.sound_state.specs.declared.StaticSound.{StaticSound}
-use Rattle.sound_state.specs.Voices.{span, courseOf, moved}
-use Rattle.sound_state.specs.WellFormed.{setUp, Formed}
-use Rattle.sound_state.proofs.Formed.{setup-parts, able-of}
+use Rattle.sound_state.specs.Voices.{sliceLength, sliceOf, moved}
+use Rattle.sound_state.specs.WellFormed.{wellFormedSetup, WellFormed}
+use Rattle.sound_state.proofs.WellFormed.{setup-parts, updatable-of}
 use Rattle.sound_track.specs.declared.Track.{Track}
 use Rattle.sound_track.specs.Tracks.{trackOf}
-use Rattle.sound_track.specs.Trails.{Lies}
+use Rattle.sound_track.specs.Contiguous.{InsideSound}
 use Rattle.sound_slow_path.specs.declared.Processed.{Processed}
 use Rattle.sound_slow_path.specs.Plays.{Played, plays, Outcome, acceptedWith, acceptedAs}
-use Rattle.sound_slow_path.specs.Turns.{Playable}
+use Rattle.sound_slow_path.specs.FrameSteps.{Playable}
 use Rattle.sound_slow_path.proofs.Lowest.{lower-four}
 use Rattle.sound_slow_path.proofs.Plays.{joined, plays-append, plays-length, plays-lowest}
 use Rattle.sound_slow_path.proofs.Keeps.{plays-steps}
-use Rattle.sound_fast_reading.specs.declared.Ridden.{Ridden}
-use Rattle.sound_fast_path.specs.Rides.{riddenTo, playedFrom}
-use Rattle.sound_fast_path.proofs.Rides.{Heard}
+use Rattle.sound_fast_reading.specs.declared.Reached.{Reached}
+use Rattle.sound_fast_path.specs.Scans.{scannedTo, playedFrom}
+use Rattle.sound_fast_path.proofs.Scans.{Heard}
 
 -- ---- the lanes from frame i on, as code cuts them
 
@@ -62,7 +62,7 @@ module _ (snd : List Float) (v : StaticSound) (dt : Float) (b : Lanes) (out : Li
   playable-from i h =
       subst (λ (l : Lanes). Playable snd v dt l (length (cut (2 * i) out))) (sym (part-lanes i b))
       (record {
-        formed = p .formed;
+        wellFormed = p .wellFormed;
         lent = p .lent;
         sized = rest-sized i b (p .sized);
         long =
@@ -84,7 +84,7 @@ module _ (snd : List Float) (v : StaticSound) (dt : Float) (b : Lanes) (out : Li
       ∙ ap (λ (l : List Lane). let q = plays snd dt l v in acceptedWith q (take (2 * i) out ++ q .samples)) (ap rows (part-lanes i b) ∙ rest-rows i b)
 
   -- where no frame is left
-  pub played-none-left : (i : ℕ) → i ≡ length (b .rate) → record { answer = record { refusal = 0; sound = v; steps = 0; «lowest_count» = 4 }; samples = out } ≡ playedFrom snd dt b i v out
+  pub played-none-left : (i : ℕ) → i ≡ length (b .rate) → record { answer = record { refusal = 0; voice = v; steps = 0; «lowest_count» = 4 }; samples = out } ≡ playedFrom snd dt b i v out
   unfolding plays
   played-none-left i e =
       let rows-long : length (rows b) ≡ i = beside-length (b .fade) (b .volume) (b .left) (b .right) (b .rate) ∙ sym e in
@@ -92,7 +92,7 @@ module _ (snd : List Float) (v : StaticSound) (dt : Float) (b : Lanes) (out : Li
       let none : drop i (rows b) ≡ [] = drop-of-length-le (rows b) (le-of-eq rows-long) in
       sym
       (ap (λ (l : List Lane). let q = plays snd dt l v in acceptedWith q (take (2 * i) out ++ q .samples)) none
-      ∙ ap (λ (o : List Float). record { answer = record { refusal = 0; sound = v; steps = 0; «lowest_count» = 4 }; samples = o }) (append-nil (take (2 * i) out) ∙ take-all (2 * i) out (le-of-eq long)))
+      ∙ ap (λ (o : List Float). record { answer = record { refusal = 0; voice = v; steps = 0; «lowest_count» = 4 }; samples = o }) (append-nil (take (2 * i) out) ∙ take-all (2 * i) out (le-of-eq long)))
 
   rows-left : (i : ℕ) → length (drop i (rows b)) ≡ length (b .rate) - i
   rows-left i = length-drop i (rows b) ∙ ap (λ (n : ℕ). n - i) (beside-length (b .fade) (b .volume) (b .left) (b .right) (b .rate))
@@ -118,11 +118,11 @@ module _ (snd : List Float) (v : StaticSound) (dt : Float) (b : Lanes) (out : Li
   pub from-few : (i : ℕ) (r : Processed) (samples : List Float) → record { answer = r; samples = samples } ≡ playedFrom snd dt b i v out → r .steps ≤ 257 * (length (b .rate) - i)
   from-few i r samples e =
       subst (λ (s : ℕ). s ≤ 257 * (length (b .rate) - i)) (sym (ap (λ (o : Outcome). o .answer .steps) e))
-      (subst (λ (m : ℕ). (plays snd dt (drop i (rows b)) v) .steps ≤ 257 * m) (rows-left i) (plays-steps snd dt (p .timeStep) (drop i (rows b)) v (near-rest i) (p .formed)))
+      (subst (λ (m : ℕ). (plays snd dt (drop i (rows b)) v) .steps ≤ 257 * m) (rows-left i) (plays-steps snd dt (p .timeStep) (drop i (rows b)) v (near-rest i) (p .wellFormed)))
 
 -- ---- the track lies in the sound
 
-span-some : (k : Setup) → T (setUp k) → 0 < span k
+span-some : (k : Setup) → T (wellFormedSetup k) → 0 < sliceLength k
 span-some k h = let f = setup-parts k h in go (k .slice) (f .slice) (f .some)
   where
     go : (r : FrameRange) → T (within (k .«num_frames») r) → 0 < k .«num_frames» → 0 < elim r as (λ (r : FrameRange). ℕ) [ Absent ↦ k .«num_frames» | Frames s e ↦ e - s ]
@@ -132,30 +132,30 @@ span-some k h = let f = setup-parts k h in go (k .slice) (f .slice) (f .some)
         less : (s e : ℕ) → s < e → 0 < e - s
         less s e h = omega arith
 
-pub lies-of : (snd : List Float) (v : StaticSound) → Formed v → length snd ≡ 2 * v .setup .«num_frames» → Lies snd (trackOf (v .moving .transport .«loop_region») (courseOf v))
+pub lies-of : (snd : List Float) (v : StaticSound) → WellFormed v → length snd ≡ 2 * v .setup .«num_frames» → InsideSound snd (trackOf (v .moving .transport .«loop_region») (sliceOf v))
 lies-of snd v w len =
-    let a = able-of snd v w len in
-    go (v .moving .transport .«loop_region») (w .transportFormed .loop) (span-some (v .setup) (w .setup)) (a .few) (a .inside) (short (length snd) (v .setup .«num_frames») len (setup-parts (v .setup) (w .setup) .few))
+    let a = updatable-of snd v w len in
+    go (v .moving .transport .«loop_region») (w .transportWellFormed .loop) (span-some (v .setup) (w .setup)) (a .few) (a .inside) (short (length snd) (v .setup .«num_frames») len (setup-parts (v .setup) (w .setup) .few))
   where
     short : (m n : ℕ) → m ≡ 2 * n → n ≤ 16777216 → m ≤ 33554432
     short m n e h = omega arith
 
-    go : (r : FrameRange) → (let c = courseOf v in
-        T (within (c .«num_frames») r) → 0 < c .«num_frames» → c .«num_frames» ≤ 16777216 → 2 * (c .start + c .«num_frames») ≤ length snd → length snd ≤ 33554432 → Lies snd (trackOf r c))
-    go Absent h some few inside m = record { some = some; inside = le-refl (courseOf v .«num_frames»); few = few; lent = inside; short = m }
+    go : (r : FrameRange) → (let c = sliceOf v in
+        T (within (c .«num_frames») r) → 0 < c .«num_frames» → c .«num_frames» ≤ 16777216 → 2 * (c .start + c .«num_frames») ≤ length snd → length snd ≤ 33554432 → InsideSound snd (trackOf r c))
+    go Absent h some few inside m = record { some = some; inside = le-refl (sliceOf v .«num_frames»); few = few; lent = inside; short = m }
     go (Frames s e) h some few inside m =
-        let g = ranged-parts ((courseOf v) .«num_frames») s e h in
+        let g = ranged-parts ((sliceOf v) .«num_frames») s e h in
         record { some = g .more; inside = g .inside; few = few; lent = inside; short = m }
 
 -- ---- together
 
-pub ridden-on : (snd : List Float) (dt : Float) (b : Lanes) (v u : StaticSound) (k : Track) (r : Ridden) (q : Processed) (out end : List Float) → Heard snd dt b v k r out
-    → u ≡ moved v (r .«fractional_position») (riddenTo snd k v (r .steps) (r .at)) → record { answer = q; samples = end } ≡ playedFrom snd dt b (r .next) u out
-    → record { answer = record { refusal = 0; sound = q .sound; steps = r .steps + q .steps; «lowest_count» = q .«lowest_count» }; samples = end } ≡ acceptedAs (plays snd dt (rows b) v)
-ridden-on snd dt b v u k r q out end h eu e =
+pub reached-on : (snd : List Float) (dt : Float) (b : Lanes) (v u : StaticSound) (k : Track) (r : Reached) (q : Processed) (out end : List Float) → Heard snd dt b v k r out
+    → u ≡ moved v (r .«fractional_position») (scannedTo snd k v (r .steps) (r .at)) → record { answer = q; samples = end } ≡ playedFrom snd dt b (r .next) u out
+    → record { answer = record { refusal = 0; voice = q .voice; steps = r .steps + q .steps; «lowest_count» = q .«lowest_count» }; samples = end } ≡ acceptedAs (plays snd dt (rows b) v)
+reached-on snd dt b v u k r q out end h eu e =
     let i = r .next in
     let p = plays snd dt (drop i (rows b)) u in
-    ap (λ (o : Outcome). record { answer = record { refusal = 0; sound = o .answer .sound; steps = r .steps + o .answer .steps; «lowest_count» = o .answer .«lowest_count» }; samples = o .samples }) e
+    ap (λ (o : Outcome). record { answer = record { refusal = 0; voice = o .answer .voice; steps = r .steps + o .answer .steps; «lowest_count» = o .answer .«lowest_count» }; samples = o .samples }) e
     ∙ ap (λ (n : ℕ). acceptedAs (record { voice = p .voice; samples = take (2 * i) out ++ p .samples; steps = r .steps + p .steps; «lowest_count» = n })) (sym (lower-four (p .«lowest_count») (plays-lowest snd dt (drop i (rows b)) u)))
     ∙ ap acceptedAs
     (sym
@@ -164,13 +164,13 @@ ridden-on snd dt b v u k r q out end h eu e =
     ∙ ap (λ (q : Played). joined q (plays snd dt (drop i (rows b)) (q .voice))) (h .soFar)
     ∙ ap (λ (u : StaticSound). joined (record { voice = u; samples = take (2 * i) out; steps = r .steps; «lowest_count» = 4 }) (plays snd dt (drop i (rows b)) u)) (sym eu)))
 
--- a ride of all frames: nothing is left
-pub ridden-whole : (snd : List Float) (dt : Float) (b : Lanes) (v u : StaticSound) (k : Track) (r : Ridden) (out : List Float) → Playable snd u dt b (length out) → Heard snd dt b v k r out
-    → u ≡ moved v (r .«fractional_position») (riddenTo snd k v (r .steps) (r .at)) → r .next ≡ length (b .rate)
-    → record { answer = record { refusal = 0; sound = u; steps = r .steps; «lowest_count» = 4 }; samples = out } ≡ acceptedAs (plays snd dt (rows b) v)
-ridden-whole snd dt b v u k r out p h eu e =
-    ap (λ (n : ℕ). record { answer = record { refusal = 0; sound = u; steps = n; «lowest_count» = 4 }; samples = out }) (none (r .steps))
-    ∙ ridden-on snd dt b v u k r (record { refusal = 0; sound = u; steps = 0; «lowest_count» = 4 }) out out h eu (played-none-left snd u dt b out p (r .next) e)
+-- a scan of all frames: nothing is left
+pub reached-whole : (snd : List Float) (dt : Float) (b : Lanes) (v u : StaticSound) (k : Track) (r : Reached) (out : List Float) → Playable snd u dt b (length out) → Heard snd dt b v k r out
+    → u ≡ moved v (r .«fractional_position») (scannedTo snd k v (r .steps) (r .at)) → r .next ≡ length (b .rate)
+    → record { answer = record { refusal = 0; voice = u; steps = r .steps; «lowest_count» = 4 }; samples = out } ≡ acceptedAs (plays snd dt (rows b) v)
+reached-whole snd dt b v u k r out p h eu e =
+    ap (λ (n : ℕ). record { answer = record { refusal = 0; voice = u; steps = n; «lowest_count» = 4 }; samples = out }) (none (r .steps))
+    ∙ reached-on snd dt b v u k r (record { refusal = 0; voice = u; steps = 0; «lowest_count» = 4 }) out out h eu (played-none-left snd u dt b out p (r .next) e)
   where
     none : (n : ℕ) → n ≡ n + 0
     none n = omega arith

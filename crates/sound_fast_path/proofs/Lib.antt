@@ -1,4 +1,4 @@
--- Laws of rides.
-pub mod Rides
+-- Laws of scans.
+pub mod Scans
 pub mod Joins
 pub mod After

@@ -1,2 +1,2 @@
 -- A block along a track.
-pub mod Rides
+pub mod Scans

@@ -1,54 +1,55 @@
-// The fast path: if the window is four neighbouring frames of the track (a trail), the frames are read in the sound
+// The fast path: if the window is four neighbouring frames of the track (a contiguous window), the frames are read in
+// the sound
 // (crates sound_fast_straight and sound_fast_wrapping), then multiplied by their gains (crate sound_gains).
 // Otherwise, and after the track's end, the block is played by sound_slow_path.
 ghost use mathlib.Core.Path.{_≡_};
 ghost use Prim.Native.Nat.{_≤_};
 ghost use lib.ListN.{length};
 ghost use Rattle.sound_lanes.specs.Lanes.{five, rows};
-ghost use Rattle.sound_fast_reading.specs.Rides.{begun, Rideable, Rode};
+ghost use Rattle.sound_fast_reading.specs.Scans.{begun, Scannable, Scanned};
 ghost use Rattle.sound_slow_path.specs.Plays.{plays, acceptedAs};
-ghost use Rattle.sound_slow_path.specs.Turns.{Playable};
-ghost use Rattle.sound_fast_path.specs.Rides.{playedFrom};
+ghost use Rattle.sound_slow_path.specs.FrameSteps.{Playable};
+ghost use Rattle.sound_fast_path.specs.Scans.{playedFrom};
 
 mod held;
 
 pub use held::play_held;
-use sound_fast_reading::Ridden;
+use sound_fast_reading::Reached;
 use sound_fast_reading::Way;
 use sound_slow_path::Processed;
 use sound_slow_path::Timed;
 use sound_state::StaticSound;
 
 // A voice, the time step of its block, and the first frame that is left.
-pub struct Rest {
+pub struct Remaining {
     pub voice: StaticSound,
     pub dt: f64,
     pub next: usize,
 }
 
 // The straight loop, then the wrapping loop.
-fn stretch(way: Way, from: Ridden, sound: &[f32], rate: &[f64], out: &mut [f32]) -> Ridden
-    requires { ⌜ Rideable (now sound) way (now rate) ⌝ }
-    requires { ⌜ Rode (now sound) way (now rate) from (now out) ⌝ }
-    ensures { λ r. ⌜ Rode (now (sound .entry)) way (now (rate .entry)) r (now (out .exit)) ⌝ }
+fn stretch(way: Way, from: Reached, sound: &[f32], rate: &[f64], out: &mut [f32]) -> Reached
+    requires { ⌜ Scannable (now sound) way (now rate) ⌝ }
+    requires { ⌜ Scanned (now sound) way (now rate) from (now out) ⌝ }
+    ensures { λ r. ⌜ Scanned (now (sound .entry)) way (now (rate .entry)) r (now (out .exit)) ⌝ }
 {
     if way.track.backwards {
         let fours = sound_fast_straight::straight_back(way, from, sound, rate, out);
         let ones = sound_fast_straight::ones_back(way, fours, sound, rate, out);
-        return sound_fast_wrapping::round_back(way, ones, sound, rate, out);
+        return sound_fast_wrapping::wrapping_back(way, ones, sound, rate, out);
     }
     let fours = sound_fast_straight::straight_on(way, from, sound, rate, out);
     let ones = sound_fast_straight::ones_on(way, fours, sound, rate, out);
-    sound_fast_wrapping::round_on(way, ones, sound, rate, out)
+    sound_fast_wrapping::wrapping_on(way, ones, sound, rate, out)
 }
 
 // To the track's end, with rates that differ.
-fn ride_varied(way: Way, sound: &[f32], rate: &[f64], out: &mut [f32]) -> Ridden
-    requires { ⌜ Rideable (now sound) way (now rate) ⌝ }
-    requires { ⌜ Rode (now sound) way (now rate) (begun way) (now out) ⌝ }
-    ensures { λ r. ⌜ Rode (now (sound .entry)) way (now (rate .entry)) r (now (out .exit)) ⌝ }
+fn scan_varied(way: Way, sound: &[f32], rate: &[f64], out: &mut [f32]) -> Reached
+    requires { ⌜ Scannable (now sound) way (now rate) ⌝ }
+    requires { ⌜ Scanned (now sound) way (now rate) (begun way) (now out) ⌝ }
+    ensures { λ r. ⌜ Scanned (now (sound .entry)) way (now (rate .entry)) r (now (out .exit)) ⌝ }
 {
-    let mut r = Ridden {
+    let mut r = Reached {
         at: way.at,
         fractional_position: way.fractional_position,
         steps: 0,
@@ -64,20 +65,20 @@ fn ride_varied(way: Way, sound: &[f32], rate: &[f64], out: &mut [f32]) -> Ridden
 }
 
 // To the track's end. If all rates are the same, the advance is computed once.
-fn ride(way: Way, sound: &[f32], rate: &[f64], out: &mut [f32]) -> Ridden
-    requires { ⌜ Rideable (now sound) way (now rate) ⌝ }
-    requires { ⌜ Rode (now sound) way (now rate) (begun way) (now out) ⌝ }
-    ensures { λ r. ⌜ Rode (now (sound .entry)) way (now (rate .entry)) r (now (out .exit)) ⌝ }
+fn scan(way: Way, sound: &[f32], rate: &[f64], out: &mut [f32]) -> Reached
+    requires { ⌜ Scannable (now sound) way (now rate) ⌝ }
+    requires { ⌜ Scanned (now sound) way (now rate) (begun way) (now out) ⌝ }
+    ensures { λ r. ⌜ Scanned (now (sound .entry)) way (now (rate .entry)) r (now (out .exit)) ⌝ }
 {
     if sound_fast_reading::is_steady(rate) {
-        return sound_fast_held::ride_held(way, sound, rate[0], rate.len(), out);
+        return sound_fast_held::scan_held(way, sound, rate[0], rate.len(), out);
     }
-    ride_varied(way, sound, rate, out)
+    scan_varied(way, sound, rate, out)
 }
 
 // Plays the rest frame by frame, from the first frame that is left.
 fn play_from(
-    rest: Rest,
+    remaining: Remaining,
     sound: &[f32],
     fade: &[f32],
     volume: &[f32],
@@ -86,19 +87,22 @@ fn play_from(
     rate: &[f64],
     out: &mut [f32],
 ) -> Processed
-    requires { ⌜ Playable (now sound) (rest .voice) (rest .dt)
+    requires { ⌜ Playable (now sound) (remaining .voice) (remaining .dt)
         (five (now fade) (now volume) (now left) (now right) (now rate)) (length (now out)) ⌝ }
-    requires { ⌜ rest .next ≤ length (now rate) ⌝ }
+    requires { ⌜ remaining .next ≤ length (now rate) ⌝ }
     ensures { λ r. ⌜ record { answer = r; samples = now (out .exit) }
-        ≡ playedFrom (now (sound .entry)) (rest .dt)
+        ≡ playedFrom (now (sound .entry)) (remaining .dt)
         (five (now (fade .entry)) (now (volume .entry)) (now (left .entry)) (now (right .entry)) (now (rate .entry)))
-        (rest .next) (rest .voice) (now (out .entry)) ⌝ }
+        (remaining .next) (remaining .voice) (now (out .entry)) ⌝ }
 {
-    let voice = rest.voice;
-    let i = rest.next;
+    let voice = remaining.voice;
+    let i = remaining.next;
     let k = 2 * i;
     sound_slow_path::play(
-        Timed { voice, dt: rest.dt },
+        Timed {
+            voice,
+            dt: remaining.dt,
+        },
         sound,
         &fade[i..],
         &volume[i..],
@@ -109,7 +113,7 @@ fn play_from(
     )
 }
 
-// A block of a started, advancing voice: along the track if the window is a trail, the rest frame by frame.
+// A block of a started, advancing voice: along the track if the window is a contiguous window, the rest frame by frame.
 pub fn play(
     timed: Timed,
     sound: &[f32],
@@ -129,12 +133,12 @@ pub fn play(
 {
     let voice = timed.voice;
     let dt = timed.dt;
-    let course = voice.course();
+    let slice = voice.slice();
     let moving = voice.moving;
     let transport = moving.transport;
     let loop_region = transport.loop_region;
-    let track = sound_track::track_of(loop_region, course);
-    if !sound_track::is_trail(moving, sound, track) {
+    let track = sound_track::track_of(loop_region, slice);
+    if !sound_track::is_contiguous(moving, sound, track) {
         return sound_slow_path::play(timed, sound, fade, volume, left, right, rate, out);
     }
     let window = moving.resampler;
@@ -146,33 +150,33 @@ pub fn play(
         dt,
         sample_rate: voice.setup.sample_rate,
     };
-    let ridden = ride(way, sound, rate, out);
-    sound_gains::by_frame(fade, volume, left, right, ridden.next, out);
-    let wraps = sound_track::wraps_after(track, transport.position, ridden.steps, moving.wraps);
+    let reached = scan(way, sound, rate, out);
+    sound_gains::by_frame(fade, volume, left, right, reached.next, out);
+    let wraps = sound_track::wraps_after(track, transport.position, reached.steps, moving.wraps);
     let passed = StaticSound {
-        fractional_position: ridden.fractional_position,
-        moving: sound_track::trail_at(moving, sound, track, ridden.at, wraps),
+        fractional_position: reached.fractional_position,
+        moving: sound_track::contiguous_at(moving, sound, track, reached.at, wraps),
         ..voice
     };
-    if ridden.next == rate.len() {
+    if reached.next == rate.len() {
         return Processed {
             refusal: 0,
-            sound: passed,
-            steps: ridden.steps,
+            voice: passed,
+            steps: reached.steps,
             lowest_count: 4,
         };
     }
-    let rest = Rest {
+    let remaining = Remaining {
         voice: passed,
         dt,
-        next: ridden.next,
+        next: reached.next,
     };
-    let played = play_from(rest, sound, fade, volume, left, right, rate, out);
-    let after = played.sound;
-    let steps = ridden.steps + played.steps;
+    let played = play_from(remaining, sound, fade, volume, left, right, rate, out);
+    let after = played.voice;
+    let steps = reached.steps + played.steps;
     Processed {
         refusal: 0,
-        sound: after,
+        voice: after,
         steps,
         lowest_count: played.lowest_count,
     }

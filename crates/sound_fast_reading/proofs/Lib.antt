@@ -1,3 +1,3 @@
--- Laws of rides along a track.
+-- Laws of scans along a track.
 pub mod Moves
-pub mod Rides
+pub mod Scans

@@ -21,7 +21,7 @@ use Rattle.sound_track.specs.declared.Track.{Track}
 use Rattle.sound_track.specs.Tracks.{nexts, On, roomy}
 use Rattle.sound_track.proofs.Tracks.{far, on-nexts, nexts-within}
 use Rattle.sound_track.proofs.Same.{first-of, second-of}
-use Rattle.sound_track.proofs.Trails.{Inside, inside-of, inside-first, inside-rest}
+use Rattle.sound_track.proofs.Contiguous.{Inside, inside-of, inside-first, inside-rest}
 use Rattle.sound_fast_reading.specs.Moves.{Slow, Move, number, Same}
 
 -- ---- the sum
@@ -65,9 +65,9 @@ module _ (hz : ℕ) (dt f r : Float) (below : T (proper f)) (time : T (lt positi
       subst (λ (a : Stepped). a .steps ≤ 257) (sym e)
       (sum-steps f (advance hz r dt) 256 (le-refl 256) below (advance-finite-clear hz r dt time slows) slows)
 
-  pub moved-below : T (proper (a .rest))
+  pub moved-below : T (proper (a .fraction))
   moved-below =
-      subst (λ (a : Stepped). T (proper (a .rest))) (sym e)
+      subst (λ (a : Stepped). T (proper (a .fraction))) (sym e)
       (sum-proper f (advance hz r dt) below (advance-finite-clear hz r dt time slows) slows)
 
 -- the same of an advance
@@ -81,7 +81,7 @@ module _ (f a : Float) (below : T (proper f)) (slow : Slow a) (s : Stepped) (e :
       record {
         is = e;
         few = less (s .steps) stepped-few;
-        below = subst (λ (s : Stepped). T (proper (s .rest))) (sym e) (sum-proper f a below (slow .finiteClear) (slow .most));
+        below = subst (λ (s : Stepped). T (proper (s .fraction))) (sym e) (sum-proper f a below (slow .finiteClear) (slow .most));
       }
     where
       less : (n : ℕ) → n ≤ 257 → n < 258

@@ -1,3 +1,3 @@
--- One frame's steps, and a run along a track (a ride).
+-- One frame's steps, and a run along a track (a scan).
 pub mod Moves
-pub mod Rides
+pub mod Scans

@@ -19,7 +19,7 @@ pub record Slow (a : Float) : Type 0 where
 pub record Move (f a : Float) (s : Stepped) : Type 0 where
   pub is : s ≡ stepped (add binary64 f a)
   pub few : s .steps < 258
-  pub below : T (proper (s .rest))
+  pub below : T (proper (s .fraction))
 
 -- not a NaN
 abbrev pub number : Float → Bool

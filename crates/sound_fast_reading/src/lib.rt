@@ -23,7 +23,7 @@ pub struct Way {
 }
 
 // The state of the fast path: position and fraction, the steps made, and the next frame.
-pub struct Ridden {
+pub struct Reached {
     pub at: usize,
     pub fractional_position: f64,
     pub steps: usize,

@@ -1,2 +1,2 @@
--- Laws of a ride that does not wrap.
+-- Laws of a scan that does not wrap.
 pub mod Straight

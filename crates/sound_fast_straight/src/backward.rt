@@ -6,13 +6,13 @@ ghost use lib.Dec.{T};
 ghost use lib.ListN.{length, replicate};
 ghost use Rattle.numbers.specs.Words.{proper};
 ghost use Rattle.sound_lanes.specs.Lanes.{slow};
-ghost use Rattle.sound_fast_reading.specs.Rides.{Rideable, Rode};
+ghost use Rattle.sound_fast_reading.specs.Scans.{Scannable, Scanned};
 ghost use Rattle.sound_fast_straight.specs.Readings.{readFrom};
 use crate::four_held;
 use crate::four_moves;
 use frame::Frame;
 use frame::interpolate_frame;
-use sound_fast_reading::Ridden;
+use sound_fast_reading::Reached;
 use sound_fast_reading::Way;
 
 // The reading of the four frames from p + 3 down.
@@ -31,11 +31,17 @@ fn read_back(sound: &[f32], p: usize, fractional_position: f64) -> Frame
 }
 
 // Four frames per iteration; p is the lowest position of the window's four.
-pub fn straight_back(way: Way, from: Ridden, sound: &[f32], rate: &[f64], out: &mut [f32]) -> Ridden
-    requires { ⌜ Rideable (now sound) way (now rate) ⌝ }
-    requires { ⌜ Rode (now sound) way (now rate) from (now out) ⌝ }
+pub fn straight_back(
+    way: Way,
+    from: Reached,
+    sound: &[f32],
+    rate: &[f64],
+    out: &mut [f32],
+) -> Reached
+    requires { ⌜ Scannable (now sound) way (now rate) ⌝ }
+    requires { ⌜ Scanned (now sound) way (now rate) from (now out) ⌝ }
     requires { ⌜ way .track .backwards ≡ true ⌝ }
-    ensures { λ r. ⌜ Rode (now (sound .entry)) way (now (rate .entry)) r (now (out .exit)) ⌝ }
+    ensures { λ r. ⌜ Scanned (now (sound .entry)) way (now (rate .entry)) r (now (out .exit)) ⌝ }
 {
     if from.at < way.track.low + 4 {
         return from;
@@ -53,7 +59,7 @@ pub fn straight_back(way: Way, from: Ridden, sound: &[f32], rate: &[f64], out: &
         let n3 = n2 + m.third.steps;
         let n4 = n3 + m.fourth.steps;
         if p <= end + n4 {
-            return Ridden {
+            return Reached {
                 at: p + 3 - start,
                 fractional_position,
                 steps: from.steps + (first - p),
@@ -61,18 +67,18 @@ pub fn straight_back(way: Way, from: Ridden, sound: &[f32], rate: &[f64], out: &
             };
         }
         let w = read_back(sound, p, fractional_position);
-        let x = read_back(sound, p - n1, m.first.rest);
-        let y = read_back(sound, p - n2, m.second.rest);
-        let z = read_back(sound, p - n3, m.third.rest);
+        let x = read_back(sound, p - n1, m.first.fraction);
+        let y = read_back(sound, p - n2, m.second.fraction);
+        let z = read_back(sound, p - n3, m.third.fraction);
         sound_fast_reading::store(out, 2 * i, w);
         sound_fast_reading::store(out, 2 * i + 2, x);
         sound_fast_reading::store(out, 2 * i + 4, y);
         sound_fast_reading::store(out, 2 * i + 6, z);
         p -= n4;
-        fractional_position = m.fourth.rest;
+        fractional_position = m.fourth.fraction;
         i += 4;
     }
-    Ridden {
+    Reached {
         at: p + 3 - start,
         fractional_position,
         steps: from.steps + (first - p),
@@ -83,17 +89,17 @@ pub fn straight_back(way: Way, from: Ridden, sound: &[f32], rate: &[f64], out: &
 // The same if all frames have the same rate.
 pub fn held_back(
     way: Way,
-    from: Ridden,
+    from: Reached,
     sound: &[f32],
     rate: f64,
     frames: usize,
     out: &mut [f32],
-) -> Ridden
-    requires { ⌜ Rideable (now sound) way (replicate frames rate) ⌝ }
-    requires { ⌜ Rode (now sound) way (replicate frames rate) from (now out) ⌝ }
+) -> Reached
+    requires { ⌜ Scannable (now sound) way (replicate frames rate) ⌝ }
+    requires { ⌜ Scanned (now sound) way (replicate frames rate) from (now out) ⌝ }
     requires { ⌜ way .track .backwards ≡ true ⌝ }
     requires { ⌜ T (slow (way .«sample_rate») (way .dt) rate) ⌝ }
-    ensures { λ r. ⌜ Rode (now (sound .entry)) way (replicate frames rate) r (now (out .exit)) ⌝ }
+    ensures { λ r. ⌜ Scanned (now (sound .entry)) way (replicate frames rate) r (now (out .exit)) ⌝ }
 {
     let advance = sound_fast_reading::advance_of(way.sample_rate, way.dt, rate);
     if from.at < way.track.low + 4 {
@@ -112,7 +118,7 @@ pub fn held_back(
         let n3 = n2 + m.third.steps;
         let n4 = n3 + m.fourth.steps;
         if p <= limit + n4 {
-            return Ridden {
+            return Reached {
                 at: p + 3 - way.track.start,
                 fractional_position,
                 steps: from.steps + (first - p),
@@ -120,18 +126,18 @@ pub fn held_back(
             };
         }
         let w = read_back(sound, p, fractional_position);
-        let x = read_back(sound, p - n1, m.first.rest);
-        let y = read_back(sound, p - n2, m.second.rest);
-        let z = read_back(sound, p - n3, m.third.rest);
+        let x = read_back(sound, p - n1, m.first.fraction);
+        let y = read_back(sound, p - n2, m.second.fraction);
+        let z = read_back(sound, p - n3, m.third.fraction);
         sound_fast_reading::store(out, 2 * i, w);
         sound_fast_reading::store(out, 2 * i + 2, x);
         sound_fast_reading::store(out, 2 * i + 4, y);
         sound_fast_reading::store(out, 2 * i + 6, z);
         p -= n4;
-        fractional_position = m.fourth.rest;
+        fractional_position = m.fourth.fraction;
         i += 4;
     }
-    Ridden {
+    Reached {
         at: p + 3 - way.track.start,
         fractional_position,
         steps: from.steps + (first - p),
@@ -140,11 +146,11 @@ pub fn held_back(
 }
 
 // One frame per iteration.
-pub fn ones_back(way: Way, from: Ridden, sound: &[f32], rate: &[f64], out: &mut [f32]) -> Ridden
-    requires { ⌜ Rideable (now sound) way (now rate) ⌝ }
-    requires { ⌜ Rode (now sound) way (now rate) from (now out) ⌝ }
+pub fn ones_back(way: Way, from: Reached, sound: &[f32], rate: &[f64], out: &mut [f32]) -> Reached
+    requires { ⌜ Scannable (now sound) way (now rate) ⌝ }
+    requires { ⌜ Scanned (now sound) way (now rate) from (now out) ⌝ }
     requires { ⌜ way .track .backwards ≡ true ⌝ }
-    ensures { λ r. ⌜ Rode (now (sound .entry)) way (now (rate .entry)) r (now (out .exit)) ⌝ }
+    ensures { λ r. ⌜ Scanned (now (sound .entry)) way (now (rate .entry)) r (now (out .exit)) ⌝ }
 {
     let start = way.track.start;
     let mut r = from;
@@ -156,9 +162,9 @@ pub fn ones_back(way: Way, from: Ridden, sound: &[f32], rate: &[f64], out: &mut 
         }
         let x = read_back(sound, start + r.at - 3, r.fractional_position);
         sound_fast_reading::store(out, 2 * i, x);
-        r = Ridden {
+        r = Reached {
             at: r.at - m.steps,
-            fractional_position: m.rest,
+            fractional_position: m.fraction,
             steps: r.steps + m.steps,
             next: i + 1,
         };

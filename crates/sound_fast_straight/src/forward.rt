@@ -6,13 +6,13 @@ ghost use lib.Dec.{T};
 ghost use lib.ListN.{length, replicate};
 ghost use Rattle.numbers.specs.Words.{proper};
 ghost use Rattle.sound_lanes.specs.Lanes.{slow};
-ghost use Rattle.sound_fast_reading.specs.Rides.{Rideable, Rode};
+ghost use Rattle.sound_fast_reading.specs.Scans.{Scannable, Scanned};
 ghost use Rattle.sound_fast_straight.specs.Readings.{readFrom};
 use crate::four_held;
 use crate::four_moves;
 use frame::Frame;
 use frame::interpolate_frame;
-use sound_fast_reading::Ridden;
+use sound_fast_reading::Reached;
 use sound_fast_reading::Way;
 
 // The reading of the four frames from p on.
@@ -31,11 +31,11 @@ fn read_on(sound: &[f32], p: usize, fractional_position: f64) -> Frame
 }
 
 // Four frames per iteration.
-pub fn straight_on(way: Way, from: Ridden, sound: &[f32], rate: &[f64], out: &mut [f32]) -> Ridden
-    requires { ⌜ Rideable (now sound) way (now rate) ⌝ }
-    requires { ⌜ Rode (now sound) way (now rate) from (now out) ⌝ }
+pub fn straight_on(way: Way, from: Reached, sound: &[f32], rate: &[f64], out: &mut [f32]) -> Reached
+    requires { ⌜ Scannable (now sound) way (now rate) ⌝ }
+    requires { ⌜ Scanned (now sound) way (now rate) from (now out) ⌝ }
     requires { ⌜ way .track .backwards ≡ false ⌝ }
-    ensures { λ r. ⌜ Rode (now (sound .entry)) way (now (rate .entry)) r (now (out .exit)) ⌝ }
+    ensures { λ r. ⌜ Scanned (now (sound .entry)) way (now (rate .entry)) r (now (out .exit)) ⌝ }
 {
     if way.track.high <= from.at + 4 {
         return from;
@@ -53,7 +53,7 @@ pub fn straight_on(way: Way, from: Ridden, sound: &[f32], rate: &[f64], out: &mu
         let p3 = p2 + m.third.steps;
         let p4 = p3 + m.fourth.steps;
         if end <= p4 {
-            return Ridden {
+            return Reached {
                 at: p - start,
                 fractional_position,
                 steps: from.steps + (p - first),
@@ -61,18 +61,18 @@ pub fn straight_on(way: Way, from: Ridden, sound: &[f32], rate: &[f64], out: &mu
             };
         }
         let w = read_on(sound, p, fractional_position);
-        let x = read_on(sound, p1, m.first.rest);
-        let y = read_on(sound, p2, m.second.rest);
-        let z = read_on(sound, p3, m.third.rest);
+        let x = read_on(sound, p1, m.first.fraction);
+        let y = read_on(sound, p2, m.second.fraction);
+        let z = read_on(sound, p3, m.third.fraction);
         sound_fast_reading::store(out, 2 * i, w);
         sound_fast_reading::store(out, 2 * i + 2, x);
         sound_fast_reading::store(out, 2 * i + 4, y);
         sound_fast_reading::store(out, 2 * i + 6, z);
         p = p4;
-        fractional_position = m.fourth.rest;
+        fractional_position = m.fourth.fraction;
         i += 4;
     }
-    Ridden {
+    Reached {
         at: p - start,
         fractional_position,
         steps: from.steps + (p - first),
@@ -83,17 +83,17 @@ pub fn straight_on(way: Way, from: Ridden, sound: &[f32], rate: &[f64], out: &mu
 // The same if all frames have the same rate.
 pub fn held_on(
     way: Way,
-    from: Ridden,
+    from: Reached,
     sound: &[f32],
     rate: f64,
     frames: usize,
     out: &mut [f32],
-) -> Ridden
-    requires { ⌜ Rideable (now sound) way (replicate frames rate) ⌝ }
-    requires { ⌜ Rode (now sound) way (replicate frames rate) from (now out) ⌝ }
+) -> Reached
+    requires { ⌜ Scannable (now sound) way (replicate frames rate) ⌝ }
+    requires { ⌜ Scanned (now sound) way (replicate frames rate) from (now out) ⌝ }
     requires { ⌜ way .track .backwards ≡ false ⌝ }
     requires { ⌜ T (slow (way .«sample_rate») (way .dt) rate) ⌝ }
-    ensures { λ r. ⌜ Rode (now (sound .entry)) way (replicate frames rate) r (now (out .exit)) ⌝ }
+    ensures { λ r. ⌜ Scanned (now (sound .entry)) way (replicate frames rate) r (now (out .exit)) ⌝ }
 {
     let advance = sound_fast_reading::advance_of(way.sample_rate, way.dt, rate);
     if way.track.high <= from.at + 4 {
@@ -112,7 +112,7 @@ pub fn held_on(
         let p3 = p2 + m.third.steps;
         let p4 = p3 + m.fourth.steps;
         if limit <= p4 {
-            return Ridden {
+            return Reached {
                 at: p - way.track.start,
                 fractional_position,
                 steps: from.steps + (p - first),
@@ -120,18 +120,18 @@ pub fn held_on(
             };
         }
         let w = read_on(sound, p, fractional_position);
-        let x = read_on(sound, p1, m.first.rest);
-        let y = read_on(sound, p2, m.second.rest);
-        let z = read_on(sound, p3, m.third.rest);
+        let x = read_on(sound, p1, m.first.fraction);
+        let y = read_on(sound, p2, m.second.fraction);
+        let z = read_on(sound, p3, m.third.fraction);
         sound_fast_reading::store(out, 2 * i, w);
         sound_fast_reading::store(out, 2 * i + 2, x);
         sound_fast_reading::store(out, 2 * i + 4, y);
         sound_fast_reading::store(out, 2 * i + 6, z);
         p = p4;
-        fractional_position = m.fourth.rest;
+        fractional_position = m.fourth.fraction;
         i += 4;
     }
-    Ridden {
+    Reached {
         at: p - way.track.start,
         fractional_position,
         steps: from.steps + (p - first),
@@ -140,11 +140,11 @@ pub fn held_on(
 }
 
 // One frame per iteration.
-pub fn ones_on(way: Way, from: Ridden, sound: &[f32], rate: &[f64], out: &mut [f32]) -> Ridden
-    requires { ⌜ Rideable (now sound) way (now rate) ⌝ }
-    requires { ⌜ Rode (now sound) way (now rate) from (now out) ⌝ }
+pub fn ones_on(way: Way, from: Reached, sound: &[f32], rate: &[f64], out: &mut [f32]) -> Reached
+    requires { ⌜ Scannable (now sound) way (now rate) ⌝ }
+    requires { ⌜ Scanned (now sound) way (now rate) from (now out) ⌝ }
     requires { ⌜ way .track .backwards ≡ false ⌝ }
-    ensures { λ r. ⌜ Rode (now (sound .entry)) way (now (rate .entry)) r (now (out .exit)) ⌝ }
+    ensures { λ r. ⌜ Scanned (now (sound .entry)) way (now (rate .entry)) r (now (out .exit)) ⌝ }
 {
     let start = way.track.start;
     let mut r = from;
@@ -156,9 +156,9 @@ pub fn ones_on(way: Way, from: Ridden, sound: &[f32], rate: &[f64], out: &mut [f
         }
         let x = read_on(sound, start + r.at, r.fractional_position);
         sound_fast_reading::store(out, 2 * i, x);
-        r = Ridden {
+        r = Reached {
             at: r.at + m.steps,
-            fractional_position: m.rest,
+            fractional_position: m.fraction,
             steps: r.steps + m.steps,
             next: i + 1,
         };

@@ -44,17 +44,17 @@ pub fn four_moves(
     requires { ⌜ length (now rate) < 8192 ⌝ }
     ensures { λ r. ⌜ Move «fractional_position» (advance «sample_rate» (getD (now (rate .entry)) i nan) dt)
         (r .first) ⌝ }
-    ensures { λ r. ⌜ Move (r .first .rest) (advance «sample_rate» (getD (now (rate .entry)) (i + 1) nan) dt)
+    ensures { λ r. ⌜ Move (r .first .fraction) (advance «sample_rate» (getD (now (rate .entry)) (i + 1) nan) dt)
         (r .second) ⌝ }
-    ensures { λ r. ⌜ Move (r .second .rest) (advance «sample_rate» (getD (now (rate .entry)) (i + 2) nan) dt)
+    ensures { λ r. ⌜ Move (r .second .fraction) (advance «sample_rate» (getD (now (rate .entry)) (i + 2) nan) dt)
         (r .third) ⌝ }
-    ensures { λ r. ⌜ Move (r .third .rest) (advance «sample_rate» (getD (now (rate .entry)) (i + 3) nan) dt)
+    ensures { λ r. ⌜ Move (r .third .fraction) (advance «sample_rate» (getD (now (rate .entry)) (i + 3) nan) dt)
         (r .fourth) ⌝ }
 {
     let first = sound_fast_reading::moved(sample_rate, dt, fractional_position, rate[i]);
-    let second = sound_fast_reading::moved(sample_rate, dt, first.rest, rate[i + 1]);
-    let third = sound_fast_reading::moved(sample_rate, dt, second.rest, rate[i + 2]);
-    let fourth = sound_fast_reading::moved(sample_rate, dt, third.rest, rate[i + 3]);
+    let second = sound_fast_reading::moved(sample_rate, dt, first.fraction, rate[i + 1]);
+    let third = sound_fast_reading::moved(sample_rate, dt, second.fraction, rate[i + 2]);
+    let fourth = sound_fast_reading::moved(sample_rate, dt, third.fraction, rate[i + 3]);
     Moves {
         first,
         second,
@@ -68,14 +68,14 @@ pub fn four_held(fractional_position: f64, advance: f64) -> Moves
     requires { ⌜ T (proper «fractional_position») ⌝ }
     requires { ⌜ Slow advance ⌝ }
     ensures { λ r. ⌜ Move «fractional_position» advance (r .first) ⌝ }
-    ensures { λ r. ⌜ Move (r .first .rest) advance (r .second) ⌝ }
-    ensures { λ r. ⌜ Move (r .second .rest) advance (r .third) ⌝ }
-    ensures { λ r. ⌜ Move (r .third .rest) advance (r .fourth) ⌝ }
+    ensures { λ r. ⌜ Move (r .first .fraction) advance (r .second) ⌝ }
+    ensures { λ r. ⌜ Move (r .second .fraction) advance (r .third) ⌝ }
+    ensures { λ r. ⌜ Move (r .third .fraction) advance (r .fourth) ⌝ }
 {
     let first = sound_fast_reading::stepped_by(fractional_position, advance);
-    let second = sound_fast_reading::stepped_by(first.rest, advance);
-    let third = sound_fast_reading::stepped_by(second.rest, advance);
-    let fourth = sound_fast_reading::stepped_by(third.rest, advance);
+    let second = sound_fast_reading::stepped_by(first.fraction, advance);
+    let third = sound_fast_reading::stepped_by(second.fraction, advance);
+    let fourth = sound_fast_reading::stepped_by(third.fraction, advance);
     Moves {
         first,
         second,

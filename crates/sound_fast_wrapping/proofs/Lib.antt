@@ -1,2 +1,2 @@
--- Laws of a ride round a track.
+-- Laws of a scan round a track.
 pub mod Readings

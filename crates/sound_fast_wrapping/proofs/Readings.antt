@@ -8,7 +8,7 @@ use Rattle.frame.specs.declared.Frame.{Frame}
 use Rattle.frame.specs.Frames.{frameOf, interpolated}
 use Rattle.sound_track.specs.declared.Track.{Track}
 use Rattle.sound_track.specs.Tracks.{next}
-use Rattle.sound_fast_reading.specs.Rides.{readOn}
+use Rattle.sound_fast_reading.specs.Scans.{readOn}
 
 pub read-as : (snd : List Float) (k : Track) (q b c d : ℕ) (f n : Float) (w x y z r : Frame)
     → b ≡ next k q → c ≡ next k b → d ≡ next k c

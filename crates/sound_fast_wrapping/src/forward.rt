@@ -4,17 +4,17 @@ ghost use mathlib.Core.Bool.{false};
 ghost use lib.Dec.{T};
 ghost use Rattle.numbers.specs.Words.{proper};
 ghost use Rattle.sound_track.specs.Tracks.{On};
-ghost use Rattle.sound_track.specs.Trails.{Lies};
-ghost use Rattle.sound_fast_reading.specs.Rides.{readOn, Rideable, Rode};
+ghost use Rattle.sound_track.specs.Contiguous.{InsideSound};
+ghost use Rattle.sound_fast_reading.specs.Scans.{readOn, Scannable, Scanned};
 use frame::Frame;
 use frame::interpolate_frame;
-use sound_fast_reading::Ridden;
+use sound_fast_reading::Reached;
 use sound_fast_reading::Way;
 use sound_track::Track;
 
 // The reading at a position: of the four frames from there on.
 fn read_after(sound: &[f32], track: Track, at: usize, fractional_position: f64) -> Frame
-    requires { ⌜ Lies (now sound) track ⌝ }
+    requires { ⌜ InsideSound (now sound) track ⌝ }
     requires { ⌜ On track at ⌝ }
     requires { ⌜ T (proper «fractional_position») ⌝ }
     requires { ⌜ track .backwards ≡ false ⌝ }
@@ -32,29 +32,29 @@ fn read_after(sound: &[f32], track: Track, at: usize, fractional_position: f64) 
     )
 }
 
-pub fn round_on(way: Way, from: Ridden, sound: &[f32], rate: &[f64], out: &mut [f32]) -> Ridden
-    requires { ⌜ Rideable (now sound) way (now rate) ⌝ }
-    requires { ⌜ Rode (now sound) way (now rate) from (now out) ⌝ }
+pub fn wrapping_on(way: Way, from: Reached, sound: &[f32], rate: &[f64], out: &mut [f32]) -> Reached
+    requires { ⌜ Scannable (now sound) way (now rate) ⌝ }
+    requires { ⌜ Scanned (now sound) way (now rate) from (now out) ⌝ }
     requires { ⌜ way .track .backwards ≡ false ⌝ }
-    ensures { λ r. ⌜ Rode (now (sound .entry)) way (now (rate .entry)) r (now (out .exit)) ⌝ }
+    ensures { λ r. ⌜ Scanned (now (sound .entry)) way (now (rate .entry)) r (now (out .exit)) ⌝ }
 {
     let track = way.track;
     let mut r = from;
     while r.next + 1 < rate.len() {
         let i = r.next;
         let a = sound_fast_reading::moved(way.sample_rate, way.dt, r.fractional_position, rate[i]);
-        let b = sound_fast_reading::moved(way.sample_rate, way.dt, a.rest, rate[i + 1]);
+        let b = sound_fast_reading::moved(way.sample_rate, way.dt, a.fraction, rate[i + 1]);
         if !sound_track::has_room_after(track, r.at, a.steps + b.steps) {
             return r;
         }
         let half = sound_track::after_steps(track, r.at, a.steps);
         let x = read_after(sound, track, r.at, r.fractional_position);
-        let y = read_after(sound, track, half, a.rest);
+        let y = read_after(sound, track, half, a.fraction);
         sound_fast_reading::store(out, 2 * i, x);
         sound_fast_reading::store(out, 2 * i + 2, y);
-        r = Ridden {
+        r = Reached {
             at: sound_track::after_steps(track, half, b.steps),
-            fractional_position: b.rest,
+            fractional_position: b.fraction,
             steps: r.steps + a.steps + b.steps,
             next: i + 2,
         };

@@ -4,5 +4,5 @@
 mod backward;
 mod forward;
 
-pub use backward::round_back;
-pub use forward::round_on;
+pub use backward::wrapping_back;
+pub use forward::wrapping_on;

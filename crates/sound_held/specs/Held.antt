@@ -5,6 +5,6 @@ use lib.ListN.{replicate}
 use Rattle.sound_lanes.specs.Lanes.{Lanes, five}
 use Rattle.sound_held.specs.declared.Held.{Held}
 
-abbrev pub once : Held → ℕ → Lanes
-once x n = five (replicate n (x .fade)) (replicate n (x .volume)) (replicate n (x .left)) (replicate n (x .right))
+abbrev pub heldLanes : Held → ℕ → Lanes
+heldLanes x n = five (replicate n (x .fade)) (replicate n (x .volume)) (replicate n (x .left)) (replicate n (x .right))
     (replicate n (x .rate))

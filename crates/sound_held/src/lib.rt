@@ -4,8 +4,8 @@ ghost use Prim.Native.Nat.{_/_};
 ghost use lib.ListN.{length};
 ghost use Rattle.sound_lanes.specs.Lanes.{rows};
 ghost use Rattle.sound_slow_path.specs.Plays.{plays, acceptedAs};
-ghost use Rattle.sound_slow_path.specs.Turns.{Playable};
-ghost use Rattle.sound_held.specs.Held.{once};
+ghost use Rattle.sound_slow_path.specs.FrameSteps.{Playable};
+ghost use Rattle.sound_held.specs.Held.{heldLanes};
 use sound_slow_path::Processed;
 use sound_slow_path::Timed;
 
@@ -20,10 +20,10 @@ pub struct Held {
 
 // Plays the block frame by frame.
 pub fn play(timed: Timed, sound: &[f32], held: Held, out: &mut [f32]) -> Processed
-    requires { ⌜ Playable (now sound) (timed .voice) (timed .dt) (once held (length (now out) / 2))
+    requires { ⌜ Playable (now sound) (timed .voice) (timed .dt) (heldLanes held (length (now out) / 2))
         (length (now out)) ⌝ }
     ensures { λ r. ⌜ record { answer = r; samples = now (out .exit) }
-        ≡ acceptedAs (plays (now (sound .entry)) (timed .dt) (rows (once held (length (now (out .entry)) / 2)))
+        ≡ acceptedAs (plays (now (sound .entry)) (timed .dt) (rows (heldLanes held (length (now (out .entry)) / 2)))
         (timed .voice)) ⌝ }
 {
     let fade = [held.fade];

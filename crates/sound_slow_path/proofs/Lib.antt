@@ -4,4 +4,4 @@ pub mod Loops
 pub mod Lowest
 pub mod Plays
 pub mod Spread
-pub mod Turns
+pub mod FrameSteps

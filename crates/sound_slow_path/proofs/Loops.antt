@@ -21,15 +21,15 @@ use Rattle.sound_lanes.specs.Lanes.{Lane, Lanes, rows, near, slow}
 use Rattle.sound_lanes.proofs.Rows.{beside-at, beside-length, near-all}
 use Rattle.sound_update.specs.declared.Moving.{Moving}
 use Rattle.sound_state.specs.declared.StaticSound.{StaticSound}
-use Rattle.sound_update.specs.declared.Course.{Course}
-use Rattle.sound_state.specs.Voices.{courseOf, moved}
+use Rattle.sound_update.specs.declared.Slice.{Slice}
+use Rattle.sound_state.specs.Voices.{sliceOf, moved}
 use Rattle.sound_update.specs.Updates.{updates}
-use Rattle.sound_state.specs.WellFormed.{Formed}
-use Rattle.sound_state.proofs.Formed.{span-most, kept-of, moved-formed}
+use Rattle.sound_state.specs.WellFormed.{WellFormed}
+use Rattle.sound_state.proofs.WellFormed.{span-most, kept-of, moved-well-formed}
 use Rattle.sound_update.proofs.Kept.{updates-kept}
-use Rattle.sound_slow_path.specs.declared.Turned.{Turned}
-use Rattle.sound_slow_path.specs.Plays.{Played, plays, turned, total, lower, readBy, frameHeard, Outcome, acceptedAs}
-use Rattle.sound_slow_path.specs.Turns.{frameAt, turnOf, Turning}
+use Rattle.sound_slow_path.specs.declared.AfterFrame.{AfterFrame}
+use Rattle.sound_slow_path.specs.Plays.{Played, plays, afterFrame, total, lower, readBy, frameWithGains, Outcome, acceptedAs}
+use Rattle.sound_slow_path.specs.FrameSteps.{frameAt, frameSteps, Steppable}
 use Rattle.sound_slow_path.proofs.Plays.{plays-next}
 
 all-at : (p : Float → Bool) (l : List Float) (i : ℕ) → i < length l → T (all p l) → T (p (getD l i nan))
@@ -57,7 +57,7 @@ played v samples steps low = record { voice = v; samples = samples; steps = step
 -- one frame after what is played
 abbrev onward : List Float → Float → Lane → Played → Played
 onward snd dt l p =
-    played (turned snd dt (p .voice) l) (p .samples ++ (frameHeard (p .voice) l .left ∷ frameHeard (p .voice) l .right ∷ [])) (p .steps + whole (total dt (p .voice) l))
+    played (afterFrame snd dt (p .voice) l) (p .samples ++ (frameWithGains (p .voice) l .left ∷ frameWithGains (p .voice) l .right ∷ [])) (p .steps + whole (total dt (p .voice) l))
     (lower (p .«lowest_count») (readBy (p .voice) .count))
 
 -- the frame that the code makes
@@ -66,19 +66,19 @@ framed m f l =
     let w = m .resampler in
     frameAt (nth w 0) (nth w 1) (nth w 2) (nth w 3) f (l .fade) (l .volume) (l .left) (l .right)
 
-abbrev turning : List Float → Float → StaticSound → Moving → Float → Lane → Turned
-turning snd dt v m f l = turnOf snd (courseOf v) (v .setup .«sample_rate») (l .rate) dt m f
+abbrev turning : List Float → Float → StaticSound → Moving → Float → Lane → AfterFrame
+turning snd dt v m f l = frameSteps snd (sliceOf v) (v .setup .«sample_rate») (l .rate) dt m f
 
 -- it is the definition's
 onward-is : (snd : List Float) (dt : Float) (v : StaticSound) (m : Moving) (f : Float) (l : Lane) (samples : List Float) (steps low : ℕ)
     → onward snd dt l (played (moved v f m) samples steps low)
     ≡ played (moved v ((turning snd dt v m f l) .«fractional_position») ((turning snd dt v m f l) .moving)) (samples ++ ((framed m f l) .left ∷ (framed m f l) .right ∷ [])) (steps + (turning snd dt v m f l) .steps)
     (lower low (m .resampler .«time_until_empty»))
-unfolding turned total frameHeard frameAt turnOf reading
+unfolding afterFrame total frameWithGains frameAt frameSteps reading
 onward-is snd dt v m f l samples steps low = refl
 
 module _ (snd : List Float) (dt : Float) (b : Lanes) (v : StaticSound) where
-  pub played-more : (i steps low : ℕ) (out : List Float) (m : Moving) (f : Float) (x : Frame) (k : ℕ) (t : Turned) → i < length (b .rate) → 2 * i + 1 < length out
+  pub played-more : (i steps low : ℕ) (out : List Float) (m : Moving) (f : Float) (x : Frame) (k : ℕ) (t : AfterFrame) → i < length (b .rate) → 2 * i + 1 < length out
       → plays snd dt (take i (rows b)) v ≡ played (moved v f m) (take (2 * i) out) steps low
       → x ≡ framed m f (laneAt b i) → k ≡ lower low (m .resampler .«time_until_empty») → t ≡ turning snd dt v m f (laneAt b i)
       → plays snd dt (take (i + 1) (rows b)) v
@@ -94,7 +94,7 @@ module _ (snd : List Float) (dt : Float) (b : Lanes) (v : StaticSound) where
       ∙ onward-is snd dt v m f l (take (2 * i) out) steps low
       ∙ sym
       (ap (played (moved v (t .«fractional_position») (t .moving)) (take (2 * (i + 1)) (set (set out (2 * i) (x .left)) (2 * i + 1) (x .right))) (steps + t .steps)) ek
-      ∙ ap₂ (λ (x : Frame) (t : Turned). played (moved v (t .«fractional_position») (t .moving)) (take (2 * (i + 1)) (set (set out (2 * i) (x .left)) (2 * i + 1) (x .right))) (steps + t .steps) next) ex et
+      ∙ ap₂ (λ (x : Frame) (t : AfterFrame). played (moved v (t .«fractional_position») (t .moving)) (take (2 * (i + 1)) (set (set out (2 * i) (x .left)) (2 * i + 1) (x .right))) (steps + t .steps) next) ex et
       ∙ ap (λ (n : ℕ). played (moved v ((turning snd dt v m f l) .«fractional_position») ((turning snd dt v m f l) .moving)) (take n (set (set out (2 * i) ((framed m f l) .left)) (2 * i + 1) ((framed m f l) .right))) (steps + (turning snd dt v m f l) .steps) next) d
       ∙ ap (λ (z : List Float). played (moved v ((turning snd dt v m f l) .«fractional_position») ((turning snd dt v m f l) .moving)) z (steps + (turning snd dt v m f l) .steps) next) (two out (2 * i) ((framed m f l) .left) ((framed m f l) .right) long))
 
@@ -104,7 +104,7 @@ module _ (snd : List Float) (dt : Float) (b : Lanes) (v : StaticSound) where
 
   pub played-all : (i steps low : ℕ) (out : List Float) (u : StaticSound) → length (b .rate) ≤ i → i ≤ length (b .rate) → length out ≡ 2 * length (b .rate)
       → plays snd dt (take i (rows b)) v ≡ played u (take (2 * i) out) steps low
-      → record { answer = record { refusal = 0; sound = u; steps = steps; «lowest_count» = low }; samples = out } ≡ acceptedAs (plays snd dt (rows b) v)
+      → record { answer = record { refusal = 0; voice = u; steps = steps; «lowest_count» = low }; samples = out } ≡ acceptedAs (plays snd dt (rows b) v)
   played-all i steps low out u h k g e =
       let all-rows : take i (rows b) ≡ rows b = take-all i (rows b) (subst (λ (n : ℕ). n ≤ i) (sym (beside-length (b .fade) (b .volume) (b .left) (b .right) (b .rate))) h) in
       let all-out : take (2 * i) out ≡ out = take-all (2 * i) out (omega arith) in
@@ -115,20 +115,20 @@ module _ (snd : List Float) (dt : Float) (b : Lanes) (v : StaticSound) where
   slow-at hz i h k = all-at (slow hz dt) (b .rate) i h (subst T (near-all hz dt (b .fade) (b .volume) (b .left) (b .right) (b .rate)) k)
 
 -- one frame's steps are few, and leave a well formed voice
-module _ (snd : List Float) (c : Course) (hz : ℕ) (rate dt : Float) (m : Moving) (f : Float) where
-  pub turned-few : (t : Turned) → Turning snd c hz rate dt m f → t ≡ turnOf snd c hz rate dt m f → t .steps ≤ 257
-  unfolding turnOf ofInt
+module _ (snd : List Float) (c : Slice) (hz : ℕ) (rate dt : Float) (m : Moving) (f : Float) where
+  pub turned-few : (t : AfterFrame) → Steppable snd c hz rate dt m f → t ≡ frameSteps snd c hz rate dt m f → t .steps ≤ 257
+  unfolding frameSteps ofInt
   turned-few t h e =
-      subst (λ (t : Turned). t .steps ≤ 257) (sym e)
+      subst (λ (t : AfterFrame). t .steps ≤ 257) (sym e)
       (sum-steps f (advance hz rate dt) 256 (le-refl 256) (h .below) (advance-finite-clear hz rate dt (h .timeStep) (h .slow)) (h .slow))
 
-pub turned-on : (snd : List Float) (dt : Float) (v : StaticSound) (rate : Float) (m : Moving) (f : Float) (t : Turned) → Formed (moved v f m)
-    → Turning snd (courseOf v) (v .setup .«sample_rate») rate dt m f → t ≡ turnOf snd (courseOf v) (v .setup .«sample_rate») rate dt m f → Formed (moved v (t .«fractional_position») (t .moving))
-unfolding turnOf
+pub turned-on : (snd : List Float) (dt : Float) (v : StaticSound) (rate : Float) (m : Moving) (f : Float) (t : AfterFrame) → WellFormed (moved v f m)
+    → Steppable snd (sliceOf v) (v .setup .«sample_rate») rate dt m f → t ≡ frameSteps snd (sliceOf v) (v .setup .«sample_rate») rate dt m f → WellFormed (moved v (t .«fractional_position») (t .moving))
+unfolding frameSteps
 turned-on snd dt v rate m f t w h e =
-    subst (λ (t : Turned). Formed (moved v (t .«fractional_position») (t .moving))) (sym e)
+    subst (λ (t : AfterFrame). WellFormed (moved v (t .«fractional_position») (t .moving))) (sym e)
     (let hz = v .setup .«sample_rate» in
     let x = add binary64 f (advance hz rate dt) in
-    moved-formed (moved v f m) (part x) (updates (whole x) snd (courseOf v) m) w
+    moved-well-formed (moved v f m) (part x) (updates (whole x) snd (sliceOf v) m) w
     (sum-proper f (advance hz rate dt) (h .below) (advance-finite-clear hz rate dt (h .timeStep) (h .slow)) (h .slow))
-    (updates-kept (whole x) snd (courseOf v) m (span-most (v .setup) (w .setup)) (kept-of (moved v f m) w)))
+    (updates-kept (whole x) snd (sliceOf v) m (span-most (v .setup) (w .setup)) (kept-of (moved v f m) w)))

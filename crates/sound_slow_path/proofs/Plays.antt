@@ -12,7 +12,7 @@ use Rattle.numbers.specs.Words.{whole}
 use Rattle.frame.specs.declared.Frame.{Frame}
 use Rattle.sound_lanes.specs.Lanes.{Lane}
 use Rattle.sound_state.specs.declared.StaticSound.{StaticSound}
-use Rattle.sound_slow_path.specs.Plays.{Played, lower, then, plays, total, turned, readBy, frameHeard}
+use Rattle.sound_slow_path.specs.Plays.{Played, lower, then, plays, total, afterFrame, readBy, frameWithGains}
 use Rattle.sound_slow_path.proofs.Lowest.{lowest, lower-assoc, lower-four, four-lower}
 
 -- ---- one list of lanes and then another
@@ -40,7 +40,7 @@ module _ (snd : List Float) (dt : Float) where
   unfolding plays
   plays-lowest [] v = le-refl 4
   plays-lowest (l ∷ ls) v =
-      let u = turned snd dt v l in
+      let u = afterFrame snd dt v l in
       let h = plays-lowest ls u in
       let k = lowest (readBy v .count) ((plays snd dt ls u) .«lowest_count») .second in
       omega arith
@@ -53,9 +53,9 @@ module _ (snd : List Float) (dt : Float) where
       ap₂ (λ (k m : ℕ). record { voice = q .voice; samples = q .samples; steps = k; «lowest_count» = m })
       (sym (zero-add (q .steps))) (sym (lower-four (q .«lowest_count») (plays-lowest ys v)))
   plays-append (l ∷ xs) ys v =
-      let u = turned snd dt v l in
-      ap (then (frameHeard v l) (whole (total dt v l)) (readBy v .count)) (plays-append xs ys u)
-      ∙ then-joined (frameHeard v l) (whole (total dt v l)) (readBy v .count) (plays snd dt xs u) (plays snd dt ys ((plays snd dt xs u) .voice))
+      let u = afterFrame snd dt v l in
+      ap (then (frameWithGains v l) (whole (total dt v l)) (readBy v .count)) (plays-append xs ys u)
+      ∙ then-joined (frameWithGains v l) (whole (total dt v l)) (readBy v .count) (plays snd dt xs u) (plays snd dt ys ((plays snd dt xs u) .voice))
 
   -- one frame more
   pub plays-next : (ls : List Lane) (v : StaticSound) (i : ℕ) (z : Lane) → i < length ls
@@ -63,8 +63,8 @@ module _ (snd : List Float) (dt : Float) where
       let l = getD ls i z in
       plays snd dt (take (suc i) ls) v
       ≡ record {
-        voice = turned snd dt (p .voice) l;
-        samples = p .samples ++ (frameHeard (p .voice) l .left ∷ frameHeard (p .voice) l .right ∷ []);
+        voice = afterFrame snd dt (p .voice) l;
+        samples = p .samples ++ (frameWithGains (p .voice) l .left ∷ frameWithGains (p .voice) l .right ∷ []);
         steps = p .steps + whole (total dt (p .voice) l);
         «lowest_count» = lower (p .«lowest_count») (readBy (p .voice) .count);
       }
@@ -75,8 +75,8 @@ module _ (snd : List Float) (dt : Float) where
       ap (λ (x : List Lane). plays snd dt x v) (take-suc ls i z h)
       ∙ plays-append (take i ls) (l ∷ []) v
       ∙ ap₂ (λ (n m : ℕ). record {
-        voice = turned snd dt (p .voice) l;
-        samples = p .samples ++ (frameHeard (p .voice) l .left ∷ frameHeard (p .voice) l .right ∷ []);
+        voice = afterFrame snd dt (p .voice) l;
+        samples = p .samples ++ (frameWithGains (p .voice) l .left ∷ frameWithGains (p .voice) l .right ∷ []);
         steps = p .steps + n;
         «lowest_count» = m;
       }) (add-zero (whole (total dt (p .voice) l))) (one-more (p .«lowest_count») (readBy (p .voice) .count) (plays-lowest (take i ls) v))
@@ -86,16 +86,16 @@ module _ (snd : List Float) (dt : Float) where
   unfolding plays
   plays-length [] v = refl
   plays-length (l ∷ ls) v =
-      let u = turned snd dt v l in
+      let u = afterFrame snd dt v l in
       two-more (length ((plays snd dt ls u) .samples)) (length ls) (plays-length ls u)
 
   -- what a block leaves as it is
   pub plays-setup : (ls : List Lane) (v : StaticSound) → (plays snd dt ls v) .voice .setup ≡ v .setup
-  unfolding plays turned
+  unfolding plays afterFrame
   plays-setup [] v = refl
-  plays-setup (l ∷ ls) v = plays-setup ls (turned snd dt v l)
+  plays-setup (l ∷ ls) v = plays-setup ls (afterFrame snd dt v l)
 
   pub plays-started : (ls : List Lane) (v : StaticSound) → (plays snd dt ls v) .voice .started ≡ v .started
-  unfolding plays turned
+  unfolding plays afterFrame
   plays-started [] v = refl
-  plays-started (l ∷ ls) v = plays-started ls (turned snd dt v l)
+  plays-started (l ∷ ls) v = plays-started ls (afterFrame snd dt v l)

@@ -10,7 +10,7 @@ use lib.Ieee.{Float, nan}
 use borrow.Author.Tests.{eqb-true}
 use Rattle.sound_lanes.specs.Lanes.{Lane, Lanes, five, sized}
 use Rattle.sound_lanes.proofs.Rows.{sized-parts}
-use Rattle.sound_slow_path.specs.Turns.{Alike, again, spread}
+use Rattle.sound_slow_path.specs.FrameSteps.{Alike, again, spread}
 use Rattle.sound_slow_path.proofs.Loops.{laneAt}
 
 -- the choice by its test

@@ -1,3 +1,3 @@
 -- A started, advancing block, and one frame of it.
 pub mod Plays
-pub mod Turns
+pub mod FrameSteps

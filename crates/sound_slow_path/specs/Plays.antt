@@ -10,7 +10,7 @@ use Rattle.resampler.specs.declared.Reading.{Reading}
 use Rattle.resampler.specs.Windows.{reading}
 use Rattle.sound_lanes.specs.Lanes.{Lane}
 use Rattle.sound_state.specs.declared.StaticSound.{StaticSound}
-use Rattle.sound_state.specs.Voices.{courseOf, moved}
+use Rattle.sound_state.specs.Voices.{sliceOf, moved}
 use Rattle.sound_slow_path.specs.declared.Processed.{Processed}
 use Rattle.sound_update.specs.Updates.{updates}
 
@@ -22,25 +22,25 @@ unfolding advance
 total dt v l = add binary64 (v .«fractional_position») (advance (v .setup .«sample_rate») (l .rate) dt)
 
 -- the voice after one frame: as many updates as the sum's whole part; its fractional part is the new fraction
-unfoldable pub turned : List Float → Float → StaticSound → Lane → StaticSound
+unfoldable pub afterFrame : List Float → Float → StaticSound → Lane → StaticSound
 unfolding total updates whole part
-turned snd dt v l =
+afterFrame snd dt v l =
     let x = total dt v l in
-    moved v (part x) (updates (whole x) snd (courseOf v) (v .moving))
+    moved v (part x) (updates (whole x) snd (sliceOf v) (v .moving))
 
 -- a reading times fade, times volume, times the channel's gain
-abbrev pub heard : Lane → Float → Float → Float
-heard l x gain = mul binary32 (mul binary32 (mul binary32 x (l .fade)) (l .volume)) gain
+abbrev pub withGains : Lane → Float → Float → Float
+withGains l x gain = mul binary32 (mul binary32 (mul binary32 x (l .fade)) (l .volume)) gain
 
 -- the window is read before the voice moves
 abbrev pub readBy : StaticSound → Reading
 readBy v = reading (v .moving .resampler) (narrowed (v .«fractional_position»))
 
 -- the frame written
-unfoldable pub frameHeard : StaticSound → Lane → Frame
-frameHeard v l =
+unfoldable pub frameWithGains : StaticSound → Lane → Frame
+frameWithGains v l =
     let x = readBy v .frame in
-    record { left = heard l (x .left) (l .left); right = heard l (x .right) (l .right) }
+    record { left = withGains l (x .left) (l .left); right = withGains l (x .right) (l .right) }
 
 -- ---- a block
 
@@ -67,10 +67,10 @@ then f n t p =
 
 -- the whole block; for no frames the count is 4
 unfoldable pub plays : List Float → Float → List Lane → StaticSound → Played
-unfolding turned frameHeard total whole reading
+unfolding afterFrame frameWithGains total whole reading
 plays snd dt [] v = record { voice = v; samples = []; steps = 0; «lowest_count» = 4 }
-plays snd dt (l ∷ ls) v = then (frameHeard v l) (whole (total dt v l))
-    (readBy v .count) (plays snd dt ls (turned snd dt v l))
+plays snd dt (l ∷ ls) v = then (frameWithGains v l) (whole (total dt v l))
+    (readBy v .count) (plays snd dt ls (afterFrame snd dt v l))
 
 -- ---- the outcome of a call
 
@@ -81,7 +81,7 @@ pub record Outcome : Type 0 where
 
 abbrev pub acceptedWith : Played → List Float → Outcome
 acceptedWith p out = record {
-  answer = record { refusal = 0; sound = p .voice; steps = p .steps; «lowest_count» = p .«lowest_count» };
+  answer = record { refusal = 0; voice = p .voice; steps = p .steps; «lowest_count» = p .«lowest_count» };
   samples = out;
 }
 

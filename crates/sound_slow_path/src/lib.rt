@@ -7,13 +7,20 @@ ghost use lib.ListN.{length};
 ghost use Rattle.numbers.specs.Words.{proper};
 ghost use Rattle.sound_lanes.specs.Lanes.{five, rows};
 ghost use Rattle.sound_slow_path.specs.Plays.{lower, plays, acceptedAs};
-ghost use Rattle.sound_slow_path.specs.Turns.{heardAt, turnOf, Turning, Alike, spread, Playable};
+ghost use Rattle.sound_slow_path.specs.FrameSteps.{
+  frameWithGainsAt,
+  frameSteps,
+  Steppable,
+  Alike,
+  spread,
+  Playable,
+};
 use frame::Frame;
 use resampler::Reading;
 use resampler::Resampler;
 use sound_state::StaticSound;
-use sound_update::Course;
 use sound_update::Moving;
+use sound_update::Slice;
 
 // A voice, and the time step of its block.
 pub struct Timed {
@@ -24,13 +31,13 @@ pub struct Timed {
 // The result of a block: refusal (0 for none), the voice after it, its steps, and the lowest count that it read.
 pub struct Processed {
     pub refusal: u32,
-    pub sound: StaticSound,
+    pub voice: StaticSound,
     pub steps: usize,
     pub lowest_count: usize,
 }
 
 // The result of one frame: the moving part, the fraction, and its steps.
-pub struct Turned {
+pub struct AfterFrame {
     pub moving: Moving,
     pub fractional_position: f64,
     pub steps: usize,
@@ -44,7 +51,7 @@ fn lower(a: usize, b: usize) -> usize
 }
 
 // Frame i: the window's reading times fade, times volume, times each channel's gain; and the count of the reading.
-fn frame_heard(
+fn frame_with_gains(
     window: Resampler,
     fractional_position: f64,
     fade: &[f32],
@@ -58,7 +65,7 @@ fn frame_heard(
     requires { ⌜ i < length (now volume) ⌝ }
     requires { ⌜ i < length (now left) ⌝ }
     requires { ⌜ i < length (now right) ⌝ }
-    ensures { λ r. ⌜ r ≡ heardAt window «fractional_position» (now (fade .entry)) (now (volume .entry))
+    ensures { λ r. ⌜ r ≡ frameWithGainsAt window «fractional_position» (now (fade .entry)) (now (volume .entry))
         (now (left .entry)) (now (right .entry)) i ⌝ }
 {
     let read = window.get(numbers::narrow(fractional_position));
@@ -78,23 +85,23 @@ fn frame_heard(
 }
 
 // One frame's steps.
-fn turn(
+fn frame_steps(
     moving: Moving,
     fractional_position: f64,
-    course: Course,
+    slice: Slice,
     sample_rate: u32,
     rate: f64,
     dt: f64,
     sound: &[f32],
-) -> Turned
-    requires { ⌜ Turning (now sound) course «sample_rate» rate dt moving «fractional_position» ⌝ }
-    ensures { λ r. ⌜ r ≡ turnOf (now (sound .entry)) course «sample_rate» rate dt moving «fractional_position» ⌝ }
+) -> AfterFrame
+    requires { ⌜ Steppable (now sound) slice «sample_rate» rate dt moving «fractional_position» ⌝ }
+    ensures { λ r. ⌜ r ≡ frameSteps (now (sound .entry)) slice «sample_rate» rate dt moving «fractional_position» ⌝ }
 {
     let advance = (sample_rate as f64) * numbers::magnitude(rate) * dt;
     let sum = numbers::advance_by(fractional_position, advance);
-    Turned {
-        moving: moving.update_positions(course, sound, sum.steps),
-        fractional_position: sum.rest,
+    AfterFrame {
+        moving: moving.update_positions(slice, sound, sum.steps),
+        fractional_position: sum.fraction,
         steps: sum.steps,
     }
 }
@@ -127,7 +134,7 @@ pub fn play_spread(
         (now (left .entry)) (now (right .entry)) (now (rate .entry))))) (timed .voice)) ⌝ }
 {
     let voice = timed.voice;
-    let course = voice.course();
+    let slice = voice.slice();
     let frames = out.len() / 2;
     let mut moving = voice.moving;
     let mut fractional_position = voice.fractional_position;
@@ -137,14 +144,14 @@ pub fn play_spread(
     while i < frames {
         let window = moving.resampler;
         let j = lane_frame(rate.len(), i);
-        let read = frame_heard(window, fractional_position, fade, volume, left, right, j);
+        let read = frame_with_gains(window, fractional_position, fade, volume, left, right, j);
         out[2 * i] = read.frame.left;
         out[2 * i + 1] = read.frame.right;
         lowest_count = lower(lowest_count, read.count);
-        let next = turn(
+        let next = frame_steps(
             moving,
             fractional_position,
-            course,
+            slice,
             voice.setup.sample_rate,
             rate[j],
             timed.dt,
@@ -157,7 +164,7 @@ pub fn play_spread(
     }
     Processed {
         refusal: 0,
-        sound: StaticSound {
+        voice: StaticSound {
             fractional_position,
             moving,
             ..voice

@@ -10,13 +10,13 @@ use lib.Seq.{drop-cons}
 use borrow.Author.Tests.{lt-leb}
 use Rattle.numbers.specs.Words.{finite, proper}
 use Rattle.numbers.specs.Lists.{all}
-use Rattle.transport.specs.WellFormed.{formedTransport}
+use Rattle.transport.specs.WellFormed.{wellFormedTransport}
 use Rattle.resampler.specs.declared.RecentFrame.{RecentFrame}
 use Rattle.resampler.specs.declared.Resampler.{Resampler}
 use Rattle.resampler.specs.Windows.{blank, zeroFrame, numbered, windowed}
 use Rattle.sound_state.specs.declared.StaticSound.{StaticSound}
-use Rattle.sound_state.specs.Voices.{span}
-use Rattle.sound_state.specs.WellFormed.{setUp, ours}
+use Rattle.sound_state.specs.Voices.{sliceLength}
+use Rattle.sound_state.specs.WellFormed.{wellFormedSetup, wellFormedFor}
 
 -- ---- the window, entry by entry
 
@@ -66,14 +66,14 @@ windowed-tests w e =
 
 -- ---- the voice
 
-pub ours-unset : (len : ℕ) (v : StaticSound) → setUp (v .setup) ≡ false → ours len v ≡ false
-unfolding ours
-ours-unset len v e =
-    ap (λ (b : Bool). b && finite (v .«playback_rate») && formedTransport (span (v .setup)) (v .moving .transport) && proper (v .«fractional_position») && windowed (v .moving .resampler) && eqb len (2 * v .setup .«num_frames»)) e
+pub well-formed-for-unset : (len : ℕ) (v : StaticSound) → wellFormedSetup (v .setup) ≡ false → wellFormedFor len v ≡ false
+unfolding wellFormedFor
+well-formed-for-unset len v e =
+    ap (λ (b : Bool). b && finite (v .«playback_rate») && wellFormedTransport (sliceLength (v .setup)) (v .moving .transport) && proper (v .«fractional_position») && windowed (v .moving .resampler) && eqb len (2 * v .setup .«num_frames»)) e
 
-pub ours-set : (len : ℕ) (v : StaticSound) → setUp (v .setup) ≡ true
-    → ours len v
-    ≡ finite (v .«playback_rate») && formedTransport (span (v .setup)) (v .moving .transport) && proper (v .«fractional_position») && windowed (v .moving .resampler) && eqb len (2 * v .setup .«num_frames»)
-unfolding ours
-ours-set len v e =
-    ap (λ (b : Bool). b && finite (v .«playback_rate») && formedTransport (span (v .setup)) (v .moving .transport) && proper (v .«fractional_position») && windowed (v .moving .resampler) && eqb len (2 * v .setup .«num_frames»)) e
+pub well-formed-for-set : (len : ℕ) (v : StaticSound) → wellFormedSetup (v .setup) ≡ true
+    → wellFormedFor len v
+    ≡ finite (v .«playback_rate») && wellFormedTransport (sliceLength (v .setup)) (v .moving .transport) && proper (v .«fractional_position») && windowed (v .moving .resampler) && eqb len (2 * v .setup .«num_frames»)
+unfolding wellFormedFor
+well-formed-for-set len v e =
+    ap (λ (b : Bool). b && finite (v .«playback_rate») && wellFormedTransport (sliceLength (v .setup)) (v .moving .transport) && proper (v .«fractional_position») && windowed (v .moving .resampler) && eqb len (2 * v .setup .«num_frames»)) e

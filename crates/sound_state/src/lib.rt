@@ -1,14 +1,14 @@
 // The state of a voice, by value, and when it is well formed (kira's StaticSound).
 ghost use mathlib.Core.Path.{_≡_};
-ghost use Rattle.transport.specs.WellFormed.{formedTransport};
+ghost use Rattle.transport.specs.WellFormed.{wellFormedTransport};
 ghost use Rattle.resampler.specs.Windows.{zeroFrame, numbered, windowed};
-ghost use Rattle.sound_state.specs.Voices.{span, offset, backwards, courseOf};
-ghost use Rattle.sound_state.specs.WellFormed.{setUp, ours};
+ghost use Rattle.sound_state.specs.Voices.{sliceLength, sliceStart, backwards, sliceOf};
+ghost use Rattle.sound_state.specs.WellFormed.{wellFormedSetup, wellFormedFor};
 use playback_position::FrameRange;
 use resampler::RecentFrame;
 use resampler::Resampler;
-use sound_update::Course;
 use sound_update::Moving;
+use sound_update::Slice;
 use transport::Transport;
 
 // What creation fixes for good.
@@ -30,7 +30,7 @@ pub struct StaticSound {
 impl Setup {
     // N: the number of frames in the slice, or of all frames.
     pub fn num_frames(self) -> usize
-        ensures { λ r. ⌜ r ≡ span self ⌝ }
+        ensures { λ r. ⌜ r ≡ sliceLength self ⌝ }
     {
         let slice = self.slice;
         match slice {
@@ -41,7 +41,7 @@ impl Setup {
 
     // The index of the slice's first frame in the sound.
     pub fn start(self) -> usize
-        ensures { λ r. ⌜ r ≡ offset self ⌝ }
+        ensures { λ r. ⌜ r ≡ sliceStart self ⌝ }
     {
         let slice = self.slice;
         match slice {
@@ -50,8 +50,8 @@ impl Setup {
         }
     }
 
-    fn is_set_up(self) -> bool
-        ensures { λ r. ⌜ r ≡ setUp self ⌝ }
+    fn is_well_formed_setup(self) -> bool
+        ensures { λ r. ⌜ r ≡ wellFormedSetup self ⌝ }
     {
         let slice = self.slice;
         ((self.sample_rate > 0) & (self.sample_rate <= 768000))
@@ -70,8 +70,8 @@ fn is_playing_backwards(playback_rate: f64, reverse: bool) -> bool
     }
 }
 
-fn is_formed_transport(transport: Transport, num_frames: usize) -> bool
-    ensures { λ r. ⌜ r ≡ formedTransport «num_frames» transport ⌝ }
+fn is_well_formed_transport(transport: Transport, num_frames: usize) -> bool
+    ensures { λ r. ⌜ r ≡ wellFormedTransport «num_frames» transport ⌝ }
 {
     let loop_region = transport.loop_region;
     loop_region.is_within(num_frames)
@@ -110,11 +110,11 @@ fn is_windowed(resampler: Resampler) -> bool
 }
 
 impl StaticSound {
-    pub fn course(self) -> Course
-        ensures { λ r. ⌜ r ≡ courseOf self ⌝ }
+    pub fn slice(self) -> Slice
+        ensures { λ r. ⌜ r ≡ sliceOf self ⌝ }
     {
         let setup = self.setup;
-        Course {
+        Slice {
             start: setup.start(),
             num_frames: setup.num_frames(),
             backwards: is_playing_backwards(self.playback_rate, setup.reverse),
@@ -123,15 +123,15 @@ impl StaticSound {
 
     // Whether the voice is well formed and the sound, of len samples, is as long as the voice records.
     pub fn is_well_formed(self, len: usize) -> bool
-        ensures { λ r. ⌜ r ≡ ours len self ⌝ }
+        ensures { λ r. ⌜ r ≡ wellFormedFor len self ⌝ }
     {
         let setup = self.setup;
         let moving = self.moving;
-        if !setup.is_set_up() {
+        if !setup.is_well_formed_setup() {
             return false;
         }
         numbers::is_finite(self.playback_rate)
-            & is_formed_transport(moving.transport, setup.num_frames())
+            & is_well_formed_transport(moving.transport, setup.num_frames())
             & numbers::is_proper(self.fractional_position)
             & is_windowed(moving.resampler)
             & (len == 2 * setup.num_frames)

@@ -8,7 +8,7 @@ use borrow.Author.Tests.{ltb-true, ltb-false, lt-ltb, le-ltb}
 use Rattle.sound_update.specs.declared.Wraps.{Wraps}
 use Rattle.sound_update.specs.Updates.{raised}
 use Rattle.sound_track.specs.declared.Track.{Track}
-use Rattle.sound_track.specs.Tracks.{turns, next, nexts, countedAt, counts, rounds, raisedBy}
+use Rattle.sound_track.specs.Tracks.{wrapsAt, next, nexts, countedAt, counts, wrapsOf, raisedBy}
 
 pub counts-add : (m n : ℕ) (k : Track) (p : ℕ) (w : Wraps) → counts (m + n) k p w ≡ counts n k (nexts m k p) (counts m k p w)
 unfolding counts nexts
@@ -44,31 +44,31 @@ other false true e = (refl, refl)
 other t false e = absurd (false≢true e)
 
 pub counts-forth : (n : ℕ) (k : Track) (p : ℕ) (w : Wraps) → k .backwards ≡ false
-    → counts n k p w ≡ record { forward = raisedBy (rounds n k p) (w .forward); backward = w .backward }
-unfolding counts rounds raisedBy
+    → counts n k p w ≡ record { forward = raisedBy (wrapsOf n k p) (w .forward); backward = w .backward }
+unfolding counts wrapsOf raisedBy
 counts-forth zero k p w e = refl
 counts-forth (suc n) k p w e =
-    let t = turns k p in
+    let t = wrapsAt k p in
     let o = only t (k .backwards) e in
     counts-forth n k (next k p) (countedAt k p w) e
     ∙ ap₂ (λ (f b : ℕ). record { forward = f; backward = b })
-    (ap (λ (s : Bool). raisedBy (rounds n k (next k p)) (raised s (w .forward))) (o .0)
-    ∙ ap (raisedBy (rounds n k (next k p))) (raised-if t (w .forward))
-    ∙ once t (rounds n k (next k p)) (w .forward)) (ap (λ (s : Bool). raised s (w .backward)) (o .1))
+    (ap (λ (s : Bool). raisedBy (wrapsOf n k (next k p)) (raised s (w .forward))) (o .0)
+    ∙ ap (raisedBy (wrapsOf n k (next k p))) (raised-if t (w .forward))
+    ∙ once t (wrapsOf n k (next k p)) (w .forward)) (ap (λ (s : Bool). raised s (w .backward)) (o .1))
 
 pub counts-back : (n : ℕ) (k : Track) (p : ℕ) (w : Wraps) → k .backwards ≡ true
-    → counts n k p w ≡ record { forward = w .forward; backward = raisedBy (rounds n k p) (w .backward) }
-unfolding counts rounds raisedBy
+    → counts n k p w ≡ record { forward = w .forward; backward = raisedBy (wrapsOf n k p) (w .backward) }
+unfolding counts wrapsOf raisedBy
 counts-back zero k p w e = refl
 counts-back (suc n) k p w e =
-    let t = turns k p in
+    let t = wrapsAt k p in
     let o = other t (k .backwards) e in
     counts-back n k (next k p) (countedAt k p w) e
     ∙ ap₂ (λ (f b : ℕ). record { forward = f; backward = b })
     (ap (λ (s : Bool). raised s (w .forward)) (o .0))
-    (ap (λ (s : Bool). raisedBy (rounds n k (next k p)) (raised s (w .backward))) (o .1)
-    ∙ ap (raisedBy (rounds n k (next k p))) (raised-if t (w .backward))
-    ∙ once t (rounds n k (next k p)) (w .backward))
+    (ap (λ (s : Bool). raisedBy (wrapsOf n k (next k p)) (raised s (w .backward))) (o .1)
+    ∙ ap (raisedBy (wrapsOf n k (next k p))) (raised-if t (w .backward))
+    ∙ once t (wrapsOf n k (next k p)) (w .backward))
 
 -- ---- raised at once
 

@@ -1,5 +1,5 @@
--- Laws of tracks and trails.
+-- Laws of tracks and contiguous windows.
 pub mod Tracks
 pub mod Counts
-pub mod Trails
+pub mod Contiguous
 pub mod Same

@@ -1,4 +1,4 @@
--- The test for a trail: what it is case by case, and that it tells one. Assumes nothing.
+-- The test for a contiguous window: what it is case by case, and that it tells one. Assumes nothing.
 use mathlib.Core.Path.{_≡_, refl, sym, ap, ap₂, _∙_, subst}
 use Prim.Native.Nat.{ℕ, zero, suc, _≤_, _<_}
 use native.Mathlib.Omega.{arith}
@@ -16,7 +16,7 @@ use Rattle.resampler.specs.Windows.{blank}
 use Rattle.sound_update.specs.declared.Moving.{Moving}
 use Rattle.sound_track.specs.declared.Track.{Track}
 use Rattle.sound_track.specs.Tracks.{On, onTrack, roomy}
-use Rattle.sound_track.specs.Trails.{Lies, ahead, passed, trailOf, firstPlace, sameEntry, sameWindow, isTrail, Trailing}
+use Rattle.sound_track.specs.Contiguous.{InsideSound, ahead, passed, contiguousOf, firstIndex, sameEntry, sameWindow, isContiguous, Contiguous}
 
 pub eq-number : (a b : Float) → eq a b ≡ true → T (not (isNan a)) × T (not (isNan b))
 unfolding eq isNan
@@ -109,9 +109,9 @@ window-is a b x y z w m n fx fy fz fw h =
 -- ---- the test
 
 module _ (snd : List Float) (k : Track) (m : Moving) where
-  pub no-playing : m .transport .playing ≡ false → false ≡ isTrail snd k m
-  unfolding isTrail
-  no-playing e = ap (λ (b : Bool). b && onTrack k (firstPlace m) && roomy k 0 (firstPlace m) && eqb (m .transport .position) (ahead k (firstPlace m)) && sameWindow (m .resampler) (passed snd k (firstPlace m))) (sym e)
+  pub no-playing : m .transport .playing ≡ false → false ≡ isContiguous snd k m
+  unfolding isContiguous
+  no-playing e = ap (λ (b : Bool). b && onTrack k (firstIndex m) && roomy k 0 (firstIndex m) && eqb (m .transport .position) (ahead k (firstIndex m)) && sameWindow (m .resampler) (passed snd k (firstIndex m))) (sym e)
 
   go-on : (a b c d e : Bool) → a ≡ true → b ≡ true → c ≡ true → (d && e) ≡ (a && b && c && d && e)
   go-on true true true d e p q r = refl
@@ -119,31 +119,31 @@ module _ (snd : List Float) (k : Track) (m : Moving) where
   go-on true false c d e p q r = absurd (false≢true q)
   go-on true true false d e p q r = absurd (false≢true r)
 
-  pub no-place : m .transport .playing ≡ true → onTrack k (firstPlace m) ≡ false → false ≡ isTrail snd k m
-  unfolding isTrail
+  pub no-place : m .transport .playing ≡ true → onTrack k (firstIndex m) ≡ false → false ≡ isContiguous snd k m
+  unfolding isContiguous
   no-place p e =
-      ap₂ (λ (a b : Bool). a && b && roomy k 0 (firstPlace m) && eqb (m .transport .position) (ahead k (firstPlace m)) && sameWindow (m .resampler) (passed snd k (firstPlace m))) (sym p) (sym e)
+      ap₂ (λ (a b : Bool). a && b && roomy k 0 (firstIndex m) && eqb (m .transport .position) (ahead k (firstIndex m)) && sameWindow (m .resampler) (passed snd k (firstIndex m))) (sym p) (sym e)
 
-  pub no-room : m .transport .playing ≡ true → onTrack k (firstPlace m) ≡ true → roomy k 0 (firstPlace m) ≡ false → false ≡ isTrail snd k m
-  unfolding isTrail
+  pub no-room : m .transport .playing ≡ true → onTrack k (firstIndex m) ≡ true → roomy k 0 (firstIndex m) ≡ false → false ≡ isContiguous snd k m
+  unfolding isContiguous
   no-room p o e =
-      ap₂ (λ (a b : Bool). a && b && eqb (m .transport .position) (ahead k (firstPlace m)) && sameWindow (m .resampler) (passed snd k (firstPlace m))) (ap₂ _&&_ (sym p) (sym o)) (sym e)
+      ap₂ (λ (a b : Bool). a && b && eqb (m .transport .position) (ahead k (firstIndex m)) && sameWindow (m .resampler) (passed snd k (firstIndex m))) (ap₂ _&&_ (sym p) (sym o)) (sym e)
 
-  pub the-rest : m .transport .playing ≡ true → onTrack k (firstPlace m) ≡ true → roomy k 0 (firstPlace m) ≡ true
-      → (eqb (m .transport .position) (ahead k (firstPlace m)) && sameWindow (m .resampler) (passed snd k (firstPlace m))) ≡ isTrail snd k m
-  unfolding isTrail
+  pub the-rest : m .transport .playing ≡ true → onTrack k (firstIndex m) ≡ true → roomy k 0 (firstIndex m) ≡ true
+      → (eqb (m .transport .position) (ahead k (firstIndex m)) && sameWindow (m .resampler) (passed snd k (firstIndex m))) ≡ isContiguous snd k m
+  unfolding isContiguous
   the-rest p o r = go-on _ _ _ _ _ p o r
 
   -- what it tells
-  pub trailing : m .transport .playing ≡ true → On k (firstPlace m) → roomy k 0 (firstPlace m) ≡ true → m .transport .position ≡ ahead k (firstPlace m)
-      → m .resampler ≡ passed snd k (firstPlace m) → Trailing snd k m
-  trailing p o r at win =
+  pub contiguous : m .transport .playing ≡ true → On k (firstIndex m) → roomy k 0 (firstIndex m) ≡ true → m .transport .position ≡ ahead k (firstIndex m)
+      → m .resampler ≡ passed snd k (firstIndex m) → Contiguous snd k m
+  contiguous p o r at win =
       record {
         is =
             ap₂ (λ (x : ℕ) (b : Bool). record { state = m .state; transport = record { position = x; «loop_region» = m .transport .«loop_region»; playing = b }; wraps = m .wraps; resampler = m .resampler }) at p
-            ∙ ap (λ (w : Resampler). record { state = m .state; transport = record { position = ahead k (firstPlace m); «loop_region» = m .transport .«loop_region»; playing = true }; wraps = m .wraps; resampler = w }) win;
+            ∙ ap (λ (w : Resampler). record { state = m .state; transport = record { position = ahead k (firstIndex m); «loop_region» = m .transport .«loop_region»; playing = true }; wraps = m .wraps; resampler = w }) win;
         on = o;
-        room = holds (roomy k 0 (firstPlace m)) r;
+        room = holds (roomy k 0 (firstIndex m)) r;
       }
 
 -- the test of a place, in a sound that the track lies in
@@ -155,7 +155,7 @@ above-of : (b : Bool) (l h n q : ℕ) → ltb q n && cond b (leb l q) (ltb q h) 
 above-of true l h n q t e = leb-true l q (second-of (ltb q n) (leb l q) t)
 above-of false l h n q t e = absurd (false≢true e)
 
-pub on-of : (snd : List Float) (k : Track) (q : ℕ) → Lies snd k → onTrack k q ≡ true → On k q
+pub on-of : (snd : List Float) (k : Track) (q : ℕ) → InsideSound snd k → onTrack k q ≡ true → On k q
 on-of snd k q l t =
     record {
       here = ltb-true q (k .count) (first-of (ltb q (k .count)) (cond (k .backwards) (leb (k .low) q) (ltb q (k .high))) t);

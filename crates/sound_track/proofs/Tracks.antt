@@ -9,7 +9,7 @@ use mathlib.Core.Bool.{Bool, true, false, cond, false≢true, true≢false}
 use lib.Dec.{ltb, eqb}
 use borrow.Author.Tests.{eq-eqb, ne-eqb, ltb-true, ltb-false}
 use Rattle.sound_track.specs.declared.Track.{Track}
-use Rattle.sound_track.specs.Tracks.{turns, next, nexts, rounds, On}
+use Rattle.sound_track.specs.Tracks.{wrapsAt, next, nexts, wrapsOf, On}
 
 -- how many steps come before the one that goes round
 abbrev pub far : Track → ℕ → ℕ
@@ -88,10 +88,10 @@ nowhere false q = omega arith
 -- ---- one step
 
 module _ (k : Track) (q : ℕ) (o : On k q) where
-  pub stays-on : 0 < far k q → turns k q ≡ false
+  pub stays-on : 0 < far k q → wrapsAt k q ≡ false
   stays-on z = stays (k .backwards) (k .low) (k .high) q (o .below) (o .above) z
 
-  pub goes-round : far k q ≡ 0 → turns k q ≡ true
+  pub goes-round : far k q ≡ 0 → wrapsAt k q ≡ true
   goes-round z = turned (k .backwards) (k .low) (k .high) q (o .below) (o .above) z
 
   pub next-along : 0 < far k q → next k q ≡ along k q 1
@@ -166,11 +166,11 @@ nexts-add (suc m) n k q = ap (λ (m : ℕ). nexts m k q) (more m n) ∙ nexts-ad
 -- n steps that do not go round
 pub record Within (n : ℕ) (k : Track) (q : ℕ) : Type 0 where
   pub place : nexts n k q ≡ along k q n
-  pub turns : rounds n k q ≡ 0
+  pub turns : wrapsOf n k q ≡ 0
   pub left : far k (nexts n k q) + n ≡ far k q
 
 pub nexts-within : (n : ℕ) (k : Track) (q : ℕ) → On k q → n ≤ far k q → Within n k q
-unfolding nexts rounds
+unfolding nexts wrapsOf
 nexts-within zero k q o h = record { place = nowhere (k .backwards) q; turns = refl; left = omega arith }
 nexts-within (suc n) k q o h =
     let z : 0 < far k q = omega arith in
@@ -180,14 +180,14 @@ nexts-within (suc n) k q o h =
     let l = i .left in
     record {
       place = i .place ∙ ap (λ (x : ℕ). along k x n) e ∙ further (k .backwards) q n;
-      turns = ap (λ (t : Bool). cond t (suc (rounds n k (next k q))) (rounds n k (next k q))) (stays-on k q o z) ∙ i .turns;
+      turns = ap (λ (t : Bool). cond t (suc (wrapsOf n k (next k q))) (wrapsOf n k (next k q))) (stays-on k q o z) ∙ i .turns;
       left = omega arith;
     }
 
 -- n steps that do
 pub record Beyond (n : ℕ) (k : Track) (q : ℕ) : Type 0 where
   pub place : nexts n k q ≡ along k (entry k) ((n - far k q - 1) % (k .high - k .low))
-  pub turns : rounds n k q ≡ suc ((n - far k q - 1) / (k .high - k .low))
+  pub turns : wrapsOf n k q ≡ suc ((n - far k q - 1) / (k .high - k .low))
 
 abbrev Over : ℕ → Track → Type 0
 Over n k = (q : ℕ) → On k q → far k q < n → Beyond n k q
@@ -195,7 +195,7 @@ Over n k = (q : ℕ) → On k q → far k q < n → Beyond n k q
 -- n steps from where the track is entered
 record Around (n : ℕ) (k : Track) : Type 0 where
   place : nexts n k (entry k) ≡ along k (entry k) (n % (k .high - k .low))
-  turns : rounds n k (entry k) ≡ n / (k .high - k .low)
+  turns : wrapsOf n k (entry k) ≡ n / (k .high - k .low)
 
 around : (n : ℕ) (k : Track) → On k (entry k) → Over n k → Around n k
 around n k o ih = go (ltb n r) refl
@@ -233,7 +233,7 @@ around n k o ih = go (ltb n r) refl
         }
 
 over-more : (n : ℕ) (k : Track) (q : ℕ) → On k q → far k q < suc n → Over n k → Beyond (suc n) k q
-unfolding nexts rounds
+unfolding nexts wrapsOf
 over-more n k q o h ih = far-or-not k q o (Beyond (suc n) k q) turn stay
   where
     r : ℕ
@@ -246,8 +246,8 @@ over-more n k q o h ih = far-or-not k q o (Beyond (suc n) k q) turn stay
         record {
           place = ap (nexts n k) (next-entry k q o z) ∙ a .place ∙ ap (λ (x : ℕ). along k (entry k) (x % r)) s;
           turns =
-              ap (λ (t : Bool). cond t (suc (rounds n k (next k q))) (rounds n k (next k q))) (goes-round k q o z)
-              ∙ ap suc (ap (rounds n k) (next-entry k q o z) ∙ a .turns ∙ ap (λ (x : ℕ). x / r) s);
+              ap (λ (t : Bool). cond t (suc (wrapsOf n k (next k q))) (wrapsOf n k (next k q))) (goes-round k q o z)
+              ∙ ap suc (ap (wrapsOf n k) (next-entry k q o z) ∙ a .turns ∙ ap (λ (x : ℕ). x / r) s);
         }
 
     stay : 0 < far k q → Beyond (suc n) k q
@@ -257,7 +257,7 @@ over-more n k q o h ih = far-or-not k q o (Beyond (suc n) k q) turn stay
         let s : n - far k (next k q) - 1 ≡ suc n - far k q - 1 = omega arith in
         record {
           place = w .place ∙ ap (λ (x : ℕ). along k (entry k) (x % r)) s;
-          turns = ap (λ (t : Bool). cond t (suc (rounds n k (next k q))) (rounds n k (next k q))) (stays-on k q o z) ∙ w .turns ∙ ap (λ (x : ℕ). suc (x / r)) s;
+          turns = ap (λ (t : Bool). cond t (suc (wrapsOf n k (next k q))) (wrapsOf n k (next k q))) (stays-on k q o z) ∙ w .turns ∙ ap (λ (x : ℕ). suc (x / r)) s;
         }
 
 pub nexts-beyond : (n : ℕ) (k : Track) → Over n k
@@ -274,14 +274,14 @@ module _ (n : ℕ) (k : Track) (q : ℕ) (o : On k q) (forth : k .backwards ≡ 
   far-forth : far k q ≡ k .high - 1 - q
   far-forth = ap (λ (b : Bool). cond b (q - k .low) (k .high - 1 - q)) forth
 
-  pub forth-on : q + n < k .high → (nexts n k q ≡ q + n) × (rounds n k q ≡ 0)
+  pub forth-on : q + n < k .high → (nexts n k q ≡ q + n) × (wrapsOf n k q ≡ 0)
   forth-on h =
       let f = far-forth in
       let w = nexts-within n k q o (omega arith) in
       (w .place ∙ ap (λ (b : Bool). cond b (q - n) (q + n)) forth, w .turns)
 
   pub forth-over : k .high ≤ q + n
-      → (nexts n k q ≡ k .low + (q + n - k .high) % (k .high - k .low)) × (rounds n k q ≡ suc ((q + n - k .high) / (k .high - k .low)))
+      → (nexts n k q ≡ k .low + (q + n - k .high) % (k .high - k .low)) × (wrapsOf n k q ≡ suc ((q + n - k .high) / (k .high - k .low)))
   forth-over h =
       let f = far-forth in
       let l = o .below forth in
@@ -313,14 +313,14 @@ module _ (n : ℕ) (k : Track) (q : ℕ) (o : On k q) (back : k .backwards ≡ t
   far-back : far k q ≡ q - k .low
   far-back = ap (λ (b : Bool). cond b (q - k .low) (k .high - 1 - q)) back
 
-  pub back-on : k .low + n ≤ q → (nexts n k q ≡ q - n) × (rounds n k q ≡ 0)
+  pub back-on : k .low + n ≤ q → (nexts n k q ≡ q - n) × (wrapsOf n k q ≡ 0)
   back-on h =
       let f = far-back in
       let w = nexts-within n k q o (omega arith) in
       (w .place ∙ ap (λ (b : Bool). cond b (q - n) (q + n)) back, w .turns)
 
   pub back-over : q < k .low + n
-      → (nexts n k q ≡ k .high - 1 - (k .low + n - q - 1) % (k .high - k .low)) × (rounds n k q ≡ suc ((k .low + n - q - 1) / (k .high - k .low)))
+      → (nexts n k q ≡ k .high - 1 - (k .low + n - q - 1) % (k .high - k .low)) × (wrapsOf n k q ≡ suc ((k .low + n - q - 1) / (k .high - k .low)))
   back-over h =
       let f = far-back in
       let l = o .above back in

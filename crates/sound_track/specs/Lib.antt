@@ -1,3 +1,3 @@
--- The track, and windows that are four neighbouring frames of it (trails).
+-- The track, and windows that are four neighbouring frames of it (contiguous windows).
 pub mod Tracks
-pub mod Trails
+pub mod Contiguous

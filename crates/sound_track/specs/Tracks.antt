@@ -5,13 +5,13 @@ use mathlib.Core.Bool.{Bool, true, false, not, _&&_, _||_, cond}
 use lib.Dec.{T, leb, ltb, eqb}
 use Rattle.playback_position.specs.declared.FrameRange.{FrameRange}
 use Rattle.playback_position.specs.declared.FrameRange.the-variants.{Absent, Frames}
-use Rattle.sound_update.specs.declared.Course.{Course}
+use Rattle.sound_update.specs.declared.Slice.{Slice}
 use Rattle.sound_update.specs.declared.Wraps.{Wraps}
 use Rattle.sound_update.specs.Updates.{raised}
 use Rattle.sound_track.specs.declared.Track.{Track}
 
 -- between the loop's ends, or the sound's
-abbrev pub trackOf : FrameRange → Course → Track
+abbrev pub trackOf : FrameRange → Slice → Track
 trackOf Absent c = record {
   start = c .start;
   count = c .«num_frames»;
@@ -32,12 +32,12 @@ trackOf (Frames s e) c = record {
 -- ---- steps
 
 -- whether the step from q wraps: forward onto the end, backward from the start
-abbrev pub turns : Track → ℕ → Bool
-turns k q = cond (k .backwards) (eqb q (k .low)) (eqb (q + 1) (k .high))
+abbrev pub wrapsAt : Track → ℕ → Bool
+wrapsAt k q = cond (k .backwards) (eqb q (k .low)) (eqb (q + 1) (k .high))
 
 -- the position after q
 abbrev pub next : Track → ℕ → ℕ
-next k q = cond (turns k q) (cond (k .backwards) (k .high - 1) (k .low)) (cond (k .backwards) (q - 1) (q + 1))
+next k q = cond (wrapsAt k q) (cond (k .backwards) (k .high - 1) (k .low)) (cond (k .backwards) (q - 1) (q + 1))
 
 -- the position after n steps
 unfoldable pub nexts : ℕ → Track → ℕ → ℕ
@@ -47,8 +47,8 @@ nexts (suc n) k q = nexts n k (next k q)
 -- the counts after the step from p
 abbrev pub countedAt : Track → ℕ → Wraps → Wraps
 countedAt k p w = record {
-  forward = raised (turns k p && not (k .backwards)) (w .forward);
-  backward = raised (turns k p && k .backwards) (w .backward);
+  forward = raised (wrapsAt k p && not (k .backwards)) (w .forward);
+  backward = raised (wrapsAt k p && k .backwards) (w .backward);
 }
 
 -- the counts after n steps from p
@@ -57,9 +57,9 @@ counts zero k p w = w
 counts (suc n) k p w = counts n k (next k p) (countedAt k p w)
 
 -- how often n steps from p wrap
-unfoldable pub rounds : ℕ → Track → ℕ → ℕ
-rounds zero k p = 0
-rounds (suc n) k p = cond (turns k p) (suc (rounds n k (next k p))) (rounds n k (next k p))
+unfoldable pub wrapsOf : ℕ → Track → ℕ → ℕ
+wrapsOf zero k p = 0
+wrapsOf (suc n) k p = cond (wrapsAt k p) (suc (wrapsOf n k (next k p))) (wrapsOf n k (next k p))
 
 -- a count, raised n times
 unfoldable pub raisedBy : ℕ → ℕ → ℕ

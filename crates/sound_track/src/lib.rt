@@ -1,28 +1,29 @@
-// The track. During uninterrupted playback the window equals four neighbouring frames of the track (a "trail"), so
+// The track. During uninterrupted playback the window equals four neighbouring frames of the track (it is contiguous),
+// so
 // the fast path reads them in the sound and keeps only the position of the first.
 ghost use mathlib.Core.Path.{_≡_};
 ghost use mathlib.Core.Bool.{true, false};
 ghost use Prim.Native.Nat.{_+_, _*_, _<_};
 ghost use lib.ListN.{length};
 ghost use Rattle.frame.specs.Frames.{frameOf};
-ghost use Rattle.sound_track.specs.Tracks.{trackOf, next, nexts, counts, rounds, raisedBy, On, onTrack, roomy};
-ghost use Rattle.sound_track.specs.Trails.{
+ghost use Rattle.sound_track.specs.Tracks.{trackOf, next, nexts, counts, wrapsOf, raisedBy, On, onTrack, roomy};
+ghost use Rattle.sound_track.specs.Contiguous.{
   seen,
   passed,
-  trailOf,
-  Lies,
+  contiguousOf,
+  InsideSound,
   same,
   sameEntry,
   sameWindow,
-  isTrail,
-  Trailing,
+  isContiguous,
+  Contiguous,
 };
 use frame::Frame;
 use playback_position::FrameRange;
 use resampler::RecentFrame;
 use resampler::Resampler;
-use sound_update::Course;
 use sound_update::Moving;
+use sound_update::Slice;
 use sound_update::Wraps;
 use transport::Transport;
 
@@ -37,25 +38,25 @@ pub struct Track {
     pub backwards: bool,
 }
 
-pub fn track_of(loop_region: FrameRange, course: Course) -> Track
-    ensures { λ r. ⌜ r ≡ trackOf «loop_region» course ⌝ }
+pub fn track_of(loop_region: FrameRange, slice: Slice) -> Track
+    ensures { λ r. ⌜ r ≡ trackOf «loop_region» slice ⌝ }
 {
     match loop_region {
         FrameRange::Absent => Track {
-            start: course.start,
-            count: course.num_frames,
+            start: slice.start,
+            count: slice.num_frames,
             low: 0,
-            high: course.num_frames,
+            high: slice.num_frames,
             looped: false,
-            backwards: course.backwards,
+            backwards: slice.backwards,
         },
         FrameRange::Frames(start, end) => Track {
-            start: course.start,
-            count: course.num_frames,
+            start: slice.start,
+            count: slice.num_frames,
             low: start,
             high: end,
             looped: true,
-            backwards: course.backwards,
+            backwards: slice.backwards,
         },
     }
 }
@@ -185,10 +186,10 @@ fn has_room(track: Track, at: usize) -> bool
 }
 
 // How often n steps wrap.
-fn rounds(track: Track, at: usize, n: usize) -> usize
+fn wraps_of(track: Track, at: usize, n: usize) -> usize
     requires { ⌜ On track at ⌝ }
     requires { ⌜ n < 4294967296 ⌝ }
-    ensures { λ r. ⌜ r ≡ rounds n track at ⌝ }
+    ensures { λ r. ⌜ r ≡ wrapsOf n track at ⌝ }
 {
     let round = track.high - track.low;
     if track.backwards {
@@ -221,7 +222,7 @@ pub fn wraps_after(track: Track, at: usize, n: usize, wraps: Wraps) -> Wraps
     requires { ⌜ n < 4294967296 ⌝ }
     ensures { λ r. ⌜ r ≡ counts n track at wraps ⌝ }
 {
-    let more = rounds(track, at, n);
+    let more = wraps_of(track, at, n);
     if track.backwards {
         Wraps {
             forward: wraps.forward,
@@ -250,7 +251,7 @@ pub fn frame_in(sound: &[f32], i: usize) -> Frame
 
 // The frame at a position of the track.
 pub fn frame_at(sound: &[f32], track: Track, at: usize) -> Frame
-    requires { ⌜ Lies (now sound) track ⌝ }
+    requires { ⌜ InsideSound (now sound) track ⌝ }
     requires { ⌜ On track at ⌝ }
     ensures { λ r. ⌜ r ≡ frameOf (now (sound .entry)) (track .start + at) ⌝ }
 {
@@ -258,7 +259,7 @@ pub fn frame_at(sound: &[f32], track: Track, at: usize) -> Frame
 }
 
 fn entry_at(sound: &[f32], track: Track, at: usize) -> RecentFrame
-    requires { ⌜ Lies (now sound) track ⌝ }
+    requires { ⌜ InsideSound (now sound) track ⌝ }
     requires { ⌜ On track at ⌝ }
     ensures { λ r. ⌜ r ≡ seen (now (sound .entry)) (track .start) at ⌝ }
 {
@@ -268,11 +269,11 @@ fn entry_at(sound: &[f32], track: Track, at: usize) -> RecentFrame
     }
 }
 
-// The moving part whose window is the trail from a position on, with these counts of wraps.
-pub fn trail_at(moving: Moving, sound: &[f32], track: Track, at: usize, wraps: Wraps) -> Moving
-    requires { ⌜ Lies (now sound) track ⌝ }
+// The moving part whose window is the contiguous window from a position on, with these counts of wraps.
+pub fn contiguous_at(moving: Moving, sound: &[f32], track: Track, at: usize, wraps: Wraps) -> Moving
+    requires { ⌜ InsideSound (now sound) track ⌝ }
     requires { ⌜ On track at ⌝ }
-    ensures { λ r. ⌜ r ≡ trailOf (now (sound .entry)) track moving wraps at ⌝ }
+    ensures { λ r. ⌜ r ≡ contiguousOf (now (sound .entry)) track moving wraps at ⌝ }
 {
     let transport = moving.transport;
     let state = moving.state;
@@ -345,12 +346,12 @@ fn is_same_window(a: Resampler, b: Resampler) -> bool
         & is_same_entry(a3, b3)
 }
 
-// Whether the window is a trail, and the next update pushes a frame.
-pub fn is_trail(moving: Moving, sound: &[f32], track: Track) -> bool
-    requires { ⌜ Lies (now sound) track ⌝ }
+// Whether the window is a contiguous window, and the next update pushes a frame.
+pub fn is_contiguous(moving: Moving, sound: &[f32], track: Track) -> bool
+    requires { ⌜ InsideSound (now sound) track ⌝ }
     requires { ⌜ length (moving .resampler .frames) ≡ 4 ⌝ }
-    ensures { λ r. ⌜ r ≡ isTrail (now (sound .entry)) track moving ⌝ }
-    ensures { λ r. ⌜ (r ≡ true → Trailing (now (sound .entry)) track moving) ⌝ }
+    ensures { λ r. ⌜ r ≡ isContiguous (now (sound .entry)) track moving ⌝ }
+    ensures { λ r. ⌜ (r ≡ true → Contiguous (now (sound .entry)) track moving) ⌝ }
 {
     let transport = moving.transport;
     let window = moving.resampler;
@@ -365,8 +366,8 @@ pub fn is_trail(moving: Moving, sound: &[f32], track: Track) -> bool
     if !has_room(track, at) {
         return false;
     }
-    let there = trail_at(moving, sound, track, at, moving.wraps);
+    let there = contiguous_at(moving, sound, track, at, moving.wraps);
     let landed = there.transport;
-    let trail = there.resampler;
-    (transport.position == landed.position) & is_same_window(window, trail)
+    let contiguous = there.resampler;
+    (transport.position == landed.position) & is_same_window(window, contiguous)
 }

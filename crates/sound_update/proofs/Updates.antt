@@ -11,28 +11,28 @@ use Rattle.transport.specs.declared.Transport.{Transport}
 use Rattle.transport.specs.Moves.{under, back, first, landed, forward, backward}
 use Rattle.resampler.specs.declared.RecentFrame.{RecentFrame}
 use Rattle.resampler.specs.Windows.{blank, push}
-use Rattle.sound_update.specs.declared.Course.{Course}
+use Rattle.sound_update.specs.declared.Slice.{Slice}
 use Rattle.sound_update.specs.declared.Moving.{Moving}
 use Rattle.sound_update.specs.declared.window.Frames.{Frames}
 use Rattle.sound_update.specs.declared.window.Numbers.{Numbers}
 use Rattle.sound_update.specs.Windows.{framesOf, numbersOf, windowOf}
 use Rattle.sound_update.specs.Updates.{pushed, stepped, updated, updates, movingOf}
 
-pub updates-one : (n : ℕ) (snd : List Float) (c : Course) (m : Moving) → 0 < n → updates (n - 1) snd c (updated snd c m) ≡ updates n snd c m
+pub updates-one : (n : ℕ) (snd : List Float) (c : Slice) (m : Moving) → 0 < n → updates (n - 1) snd c (updated snd c m) ≡ updates n snd c m
 unfolding updates
 updates-one n snd c m h = sym (ap (λ (k : ℕ). updates k snd c m) (more n h))
   where
     more : (n : ℕ) → 0 < n → n ≡ suc (n - 1)
     more n h = omega arith
 
-pub updates-none : (n : ℕ) (snd : List Float) (c : Course) (m : Moving) → n ≡ 0 → updates n snd c m ≡ m
+pub updates-none : (n : ℕ) (snd : List Float) (c : Slice) (m : Moving) → n ≡ 0 → updates n snd c m ≡ m
 unfolding updates
 updates-none n snd c m e = ap (λ (k : ℕ). updates k snd c m) e
 
 -- ---- what moves, in parts beside a loop that stays
 
 -- a step keeps the loop
-stepped-loop : (c : Course) (t : Transport) → (stepped c t) .«loop_region» ≡ t .«loop_region»
+stepped-loop : (c : Slice) (t : Transport) → (stepped c t) .«loop_region» ≡ t .«loop_region»
 unfolding stepped forward backward
 stepped-loop c t = go (c .backwards) (t .playing)
   where
@@ -98,7 +98,7 @@ together-as loop m x f n e h g ef en =
     ∙ ap (apart loop) e ∙ together loop m h g
 
 -- an update has four frames, and the loop that it had
-pub updated-apart : (snd : List Float) (c : Course) (loop : FrameRange) (m w x : Moving) (f : Frames) (n : Numbers) → w ≡ m → x ≡ updated snd c w → m .transport .«loop_region» ≡ loop
+pub updated-apart : (snd : List Float) (c : Slice) (loop : FrameRange) (m w x : Moving) (f : Frames) (n : Numbers) → w ≡ m → x ≡ updated snd c w → m .transport .«loop_region» ≡ loop
     → f ≡ framesOf (x .resampler) → n ≡ numbersOf (x .resampler)
     → movingOf loop (x .state) (x .transport .position) (x .transport .playing) (x .wraps) (windowOf f n) ≡ updated snd c m
 unfolding updated pushed push

@@ -11,27 +11,27 @@ use Rattle.playback_state_manager.specs.declared.PlaybackState.{PlaybackState}
 use Rattle.playback_state_manager.specs.declared.PlaybackState.the-variants as state
 use Rattle.transport.specs.declared.Transport.{Transport}
 use Rattle.transport.specs.Moves.{forward, backward, wraps}
-use Rattle.transport.specs.WellFormed.{FormedTransport}
+use Rattle.transport.specs.WellFormed.{WellFormedTransport}
 use Rattle.resampler.specs.declared.Resampler.{Resampler}
 use Rattle.resampler.specs.declared.MaybeFrame.{MaybeFrame}
 use Rattle.resampler.specs.declared.MaybeFrame.the-variants as maybe
 use Rattle.resampler.specs.Windows.{push, isEmpty}
 use Rattle.sound_update.specs.declared.Wraps.{Wraps}
 use Rattle.sound_update.specs.declared.Moving.{Moving}
-use Rattle.sound_update.specs.declared.Course.{Course}
+use Rattle.sound_update.specs.declared.Slice.{Slice}
 
 -- frame i of the sound, or no frame if not playing
 abbrev pub sounding : List Float → Bool → ℕ → MaybeFrame
 sounding snd playing i = cond playing (maybe.Present (frameOf snd i)) maybe.Absent
 
 -- the window with the frame at the position pushed
-unfoldable pub pushed : List Float → Course → Moving → Resampler
+unfoldable pub pushed : List Float → Slice → Moving → Resampler
 unfolding push
 pushed snd c m = push (m .resampler) (sounding snd (m .transport .playing) (c .start + m .transport .position))
     (m .transport .position)
 
 -- the transport after one step
-unfoldable pub stepped : Course → Transport → Transport
+unfoldable pub stepped : Slice → Transport → Transport
 unfolding forward backward
 stepped c t = cond (c .backwards) (backward t) (forward (c .«num_frames») t)
 
@@ -44,7 +44,7 @@ abbrev pub raised : Bool → ℕ → ℕ
 raised more n = cond (more && ltb n 4294967295) (n + 1) n
 
 -- the counts after a step of t: one more for its direction if it wraps, however many lengths it covers
-unfoldable pub counted : Course → Transport → Wraps → Wraps
+unfoldable pub counted : Slice → Transport → Wraps → Wraps
 unfolding wraps
 counted c t k =
     let w = wraps (c .backwards) t in
@@ -55,7 +55,7 @@ counted c t k =
 
 -- push the frame at the position, step the transport and count its wrap, and if it is not playing and the count is 0,
 -- become Stopped
-unfoldable pub updated : List Float → Course → Moving → Moving
+unfoldable pub updated : List Float → Slice → Moving → Moving
 unfolding pushed stepped counted
 updated snd c m =
     let t = stepped c (m .transport) in
@@ -68,7 +68,7 @@ updated snd c m =
     }
 
 -- n updates, one after the other
-unfoldable pub updates : ℕ → List Float → Course → Moving → Moving
+unfoldable pub updates : ℕ → List Float → Slice → Moving → Moving
 unfolding updated
 updates zero snd c m = m
 updates (suc n) snd c m = updates n snd c (updated snd c m)
@@ -84,7 +84,7 @@ movingOf loop s p playing k w =
     }
 
 -- what an update requires: a transport that is well formed in its N frames, which are inside the sound
-pub record Able (snd : List Float) (c : Course) (m : Moving) : Type 0 where
-  pub transportFormed : FormedTransport (c .«num_frames») (m .transport)
+pub record Updatable (snd : List Float) (c : Slice) (m : Moving) : Type 0 where
+  pub transportWellFormed : WellFormedTransport (c .«num_frames») (m .transport)
   pub few : c .«num_frames» ≤ 16777216
   pub inside : 2 * (c .start + c .«num_frames») ≤ length snd

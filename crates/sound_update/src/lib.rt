@@ -5,7 +5,7 @@ ghost use mathlib.Core.Bool.{true};
 ghost use Prim.Native.Nat.{_+_, _*_, _<_};
 ghost use lib.ListN.{length};
 ghost use Rattle.frame.specs.Frames.{frameOf};
-ghost use Rattle.transport.specs.WellFormed.{FormedTransport};
+ghost use Rattle.transport.specs.WellFormed.{WellFormedTransport};
 ghost use Rattle.sound_update.specs.Updates.{
   sounding,
   pushed,
@@ -15,7 +15,7 @@ ghost use Rattle.sound_update.specs.Updates.{
   updated,
   updates,
   movingOf,
-  Able,
+  Updatable,
 };
 
 mod window;
@@ -45,7 +45,7 @@ pub struct Moving {
 }
 
 // What an update reads and does not change.
-pub struct Course {
+pub struct Slice {
     pub start: usize,
     pub num_frames: usize,
     pub backwards: bool,
@@ -73,14 +73,14 @@ fn frame_to_push(sound: &[f32], playing: bool, i: usize) -> MaybeFrame
     }
 }
 
-fn step(transport: Transport, course: Course) -> Transport
-    requires { ⌜ FormedTransport (course .«num_frames») transport ⌝ }
-    ensures { λ r. ⌜ r ≡ stepped course transport ⌝ }
+fn step(transport: Transport, slice: Slice) -> Transport
+    requires { ⌜ WellFormedTransport (slice .«num_frames») transport ⌝ }
+    ensures { λ r. ⌜ r ≡ stepped slice transport ⌝ }
 {
-    if course.backwards {
+    if slice.backwards {
         transport.decrement_position()
     } else {
-        transport.increment_position(course.num_frames)
+        transport.increment_position(slice.num_frames)
     }
 }
 
@@ -92,12 +92,12 @@ fn raise(count: u32) -> u32
 }
 
 // The counts after the next step.
-fn count(transport: Transport, course: Course, wraps: Wraps) -> Wraps
-    requires { ⌜ FormedTransport (course .«num_frames») transport ⌝ }
-    ensures { λ r. ⌜ r ≡ counted course transport wraps ⌝ }
+fn count(transport: Transport, slice: Slice, wraps: Wraps) -> Wraps
+    requires { ⌜ WellFormedTransport (slice .«num_frames») transport ⌝ }
+    ensures { λ r. ⌜ r ≡ counted slice transport wraps ⌝ }
 {
-    if transport.wraps(course.backwards) {
-        if course.backwards {
+    if transport.wraps(slice.backwards) {
+        if slice.backwards {
             return Wraps {
                 forward: wraps.forward,
                 backward: raise(wraps.backward),
@@ -113,28 +113,28 @@ fn count(transport: Transport, course: Course, wraps: Wraps) -> Wraps
 
 impl Moving {
     // Pushes the frame at the position, or no frame if the transport is not playing.
-    pub fn push_frame_to_resampler(self, course: Course, sound: &[f32]) -> Resampler
-        requires { ⌜ Able (now sound) course self ⌝ }
-        ensures { λ r. ⌜ r ≡ pushed (now (sound .entry)) course self ⌝ }
+    pub fn push_frame_to_resampler(self, slice: Slice, sound: &[f32]) -> Resampler
+        requires { ⌜ Updatable (now sound) slice self ⌝ }
+        ensures { λ r. ⌜ r ≡ pushed (now (sound .entry)) slice self ⌝ }
     {
         let transport = self.transport;
         let resampler = self.resampler;
-        let frame = frame_to_push(sound, transport.playing, course.start + transport.position);
+        let frame = frame_to_push(sound, transport.playing, slice.start + transport.position);
         resampler.push_frame(frame, transport.position)
     }
 
     // Pushes the frame at the position and steps. If it is not playing and the window is empty, the voice becomes
     // Stopped.
-    pub fn update_position(self, course: Course, sound: &[f32]) -> Moving
-        requires { ⌜ Able (now sound) course self ⌝ }
-        ensures { λ r. ⌜ r ≡ updated (now (sound .entry)) course self ⌝ }
+    pub fn update_position(self, slice: Slice, sound: &[f32]) -> Moving
+        requires { ⌜ Updatable (now sound) slice self ⌝ }
+        ensures { λ r. ⌜ r ≡ updated (now (sound .entry)) slice self ⌝ }
     {
         let state = self.state;
         let transport = self.transport;
         let before = self.wraps;
-        let resampler = self.push_frame_to_resampler(course, sound);
-        let wraps = count(transport, course, before);
-        let transport = step(transport, course);
+        let resampler = self.push_frame_to_resampler(slice, sound);
+        let wraps = count(transport, slice, before);
+        let transport = step(transport, slice);
         if !transport.playing & resampler.empty() {
             return Moving {
                 state: PlaybackState::Stopped,
@@ -153,9 +153,9 @@ impl Moving {
 
     // As many updates as steps. The loop carries the moving part in pieces, so that neither padding nor the loop
     // region is copied, and no frame index is in the same vector as the samples.
-    pub fn update_positions(self, course: Course, sound: &[f32], steps: usize) -> Moving
-        requires { ⌜ Able (now sound) course self ⌝ }
-        ensures { λ r. ⌜ r ≡ updates steps (now (sound .entry)) course self ⌝ }
+    pub fn update_positions(self, slice: Slice, sound: &[f32], steps: usize) -> Moving
+        requires { ⌜ Updatable (now sound) slice self ⌝ }
+        ensures { λ r. ⌜ r ≡ updates steps (now (sound .entry)) slice self ⌝ }
     {
         let first = self.transport;
         let loop_region = first.loop_region;
@@ -170,7 +170,7 @@ impl Moving {
         while left > 0 {
             let window = window_of(frames, numbers);
             let moving = moving_of(loop_region, state, position, playing, wraps, window);
-            let next = moving.update_position(course, sound);
+            let next = moving.update_position(slice, sound);
             let after = next.transport;
             let pushed = next.resampler;
             state = next.state;

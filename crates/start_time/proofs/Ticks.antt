@@ -9,7 +9,7 @@ use lib.Dec.{ltb}
 use Rattle.playback_state_manager.specs.declared.StartAnswer.the-variants as answer
 use Rattle.start_time.specs.declared.StartSignal.{StartSignal}
 use Rattle.start_time.specs.declared.StartSignal.the-variants as start
-use Rattle.start_time.specs.Ticks.{turn, half, since, reached, answering}
+use Rattle.start_time.specs.Ticks.{tickRange, half, since, reached, answering}
 
 module _ (m : ℕ) where
   -- what is added and wrapped is undone by the rest of a turn
@@ -39,12 +39,12 @@ module _ (m : ℕ) where
       ∙ ap (λ (n : ℕ). (n + k) % m) (wrapped due now h l)))
 
 -- what the code's difference is
-pub since-only : (r due now : ℕ) → r < turn → due < turn → (r + due) % turn ≡ now → r ≡ since due now
-since-only r due now h k e = only turn r due now h k e
+pub since-only : (r due now : ℕ) → r < tickRange → due < tickRange → (r + due) % tickRange ≡ now → r ≡ since due now
+since-only r due now h k e = only tickRange r due now h k e
 
 -- moving both by the same amount, wrapped or not, changes nothing
-pub reached-moved : (due now k : ℕ) → due < turn → now < turn → reached ((due + k) % turn) ((now + k) % turn) ≡ reached due now
-reached-moved due now k h l = ap (λ (n : ℕ). ltb n half) (moved turn due now k (omega arith) h l)
+pub reached-moved : (due now k : ℕ) → due < tickRange → now < tickRange → reached ((due + k) % tickRange) ((now + k) % tickRange) ≡ reached due now
+reached-moved due now k h l = ap (λ (n : ℕ). ltb n half) (moved tickRange due now k (omega arith) h l)
 
 -- ---- the answer of a due tick
 

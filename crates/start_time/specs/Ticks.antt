@@ -9,15 +9,15 @@ use Rattle.start_time.specs.declared.StartSignal.{StartSignal}
 use Rattle.start_time.specs.declared.StartSignal.the-variants as start
 
 -- all ticks, 2 ^ 32, and half of them
-abbrev pub turn : ℕ
-turn = 4294967296
+abbrev pub tickRange : ℕ
+tickRange = 4294967296
 
 abbrev pub half : ℕ
 half = 2147483648
 
 -- now minus due, wrapped to 32 bits
 abbrev pub since : ℕ → ℕ → ℕ
-since due now = (now + (turn - due)) % turn
+since due now = (now + (tickRange - due)) % tickRange
 
 -- whether a due tick is reached; exactly half the range away is not
 abbrev pub reached : ℕ → ℕ → Bool

@@ -14,12 +14,12 @@ use Rattle.numbers.specs.Words.{finite, positiveZero}
 use lib.Ieee.{lt}
 use Rattle.sound_lanes.specs.Lanes.{Lanes, rows, sized, timeStep, judged}
 use Rattle.sound_state.specs.declared.StaticSound.{StaticSound}
-use Rattle.sound_state.specs.WellFormed.{ours}
-use Rattle.sound_state.proofs.Formed.{ours-parts}
+use Rattle.sound_state.specs.WellFormed.{wellFormedFor}
+use Rattle.sound_state.proofs.WellFormed.{well-formed-for-parts}
 use Rattle.sound_block.specs.declared.Signals.{Signals}
 use Rattle.sound_slow_path.specs.Plays.{Outcome, acceptedWith, acceptedAs}
 use Rattle.sound_block.specs.Blocks.{block}
-use Rattle.sound_slow_path.specs.Turns.{Playable}
+use Rattle.sound_slow_path.specs.FrameSteps.{Playable}
 use Rattle.sound_slow_path.specs.declared.Processed.{Processed}
 use Rattle.static_sound.specs.Entries.{refusedBlock, refusedWith, holds, room, mixed, processed, processedInto}
 use Rattle.static_sound.proofs.Refusals.{accepted-parts}
@@ -34,23 +34,23 @@ pub passes : {b d : Bool} → b ≡ d → not b ≡ false → d ≡ true
 passes {b} e t = sym e ∙ not-false b t
 
 module _ (len : ℕ) (v : StaticSound) (dt : Float) (b : Lanes) (placed : Bool) where
-  pub number-1 : ours len v ≡ false → 1 ≡ refusedBlock len v dt b placed
+  pub number-1 : wellFormedFor len v ≡ false → 1 ≡ refusedBlock len v dt b placed
   unfolding refusedBlock
   number-1 h = simp h
 
-  pub number-9 : ours len v ≡ true → sized b ≡ false → 9 ≡ refusedBlock len v dt b placed
+  pub number-9 : wellFormedFor len v ≡ true → sized b ≡ false → 9 ≡ refusedBlock len v dt b placed
   unfolding refusedBlock
   number-9 h s = simp (h, s)
 
-  pub number-9-place : ours len v ≡ true → sized b ≡ true → placed ≡ false → 9 ≡ refusedBlock len v dt b placed
+  pub number-9-place : wellFormedFor len v ≡ true → sized b ≡ true → placed ≡ false → 9 ≡ refusedBlock len v dt b placed
   unfolding refusedBlock
   number-9-place h s p = simp (h, s, p)
 
-  pub number-10 : ours len v ≡ true → sized b ≡ true → placed ≡ true → timeStep dt ≡ false → 10 ≡ refusedBlock len v dt b placed
+  pub number-10 : wellFormedFor len v ≡ true → sized b ≡ true → placed ≡ true → timeStep dt ≡ false → 10 ≡ refusedBlock len v dt b placed
   unfolding refusedBlock
   number-10 h s p t = simp (h, s, p, t)
 
-  pub number-judged : ours len v ≡ true → sized b ≡ true → placed ≡ true → timeStep dt ≡ true → judged (v .setup .«sample_rate») dt b ≡ refusedBlock len v dt b placed
+  pub number-judged : wellFormedFor len v ≡ true → sized b ≡ true → placed ≡ true → timeStep dt ≡ true → judged (v .setup .«sample_rate») dt b ≡ refusedBlock len v dt b placed
   unfolding refusedBlock
   number-judged h s p t = simp (h, s, p, t)
 
@@ -60,8 +60,8 @@ playable : (snd : List Float) (v : StaticSound) (dt : Float) (b : Lanes) (placed
     → Playable snd v dt b m
 playable snd v dt b placed m h k =
     let p = accepted-parts (length snd) v dt b placed h in
-    let o = ours-parts (length snd) v (p .ours) in
-    record { formed = o .0; lent = o .1; sized = p .sized; long = k; timeStep = and-r (finite dt) (lt positiveZero dt) (p .timeStep); near = p .near }
+    let o = well-formed-for-parts (length snd) v (p .wellFormedFor) in
+    record { wellFormed = o .0; lent = o .1; sized = p .sized; long = k; timeStep = and-r (finite dt) (lt positiveZero dt) (p .timeStep); near = p .near }
 
 -- ---- the two entries
 

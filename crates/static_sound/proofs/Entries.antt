@@ -13,14 +13,14 @@ use Rattle.numbers.specs.Words.{positiveZero, finite}
 use Rattle.sound_lanes.specs.Lanes.{Lanes, rows, timeStep}
 use Rattle.sound_state.specs.declared.Setup.{Setup}
 use Rattle.sound_state.specs.declared.StaticSound.{StaticSound}
-use Rattle.sound_state.specs.WellFormed.{ours}
-use Rattle.sound_state.proofs.Formed.{ours-parts, ours-of}
+use Rattle.sound_state.specs.WellFormed.{wellFormedFor}
+use Rattle.sound_state.proofs.WellFormed.{well-formed-for-parts, well-formed-for-of}
 use Rattle.sound_block.specs.declared.Signals.{Signals}
 use Rattle.sound_block.specs.Blocks.{block}
 use Rattle.sound_slow_path.specs.Plays.{Outcome, acceptedWith}
 use Rattle.static_sound.specs.Entries.{refusedBlock, refusedWith, holds, processed, room, mixed, processedInto}
 use Rattle.sound_block.proofs.Blocks.{block-setup}
-use Rattle.sound_block.proofs.Keeps.{block-formed}
+use Rattle.sound_block.proofs.Keeps.{block-well-formed}
 use Rattle.static_sound.proofs.Refusals.{Accepted}
 
 -- ---- an accepted block
@@ -29,12 +29,12 @@ pub time-step-above : (dt : Float) → T (timeStep dt) → T (lt positiveZero dt
 time-step-above dt h = and-r (finite dt) (lt positiveZero dt) h
 
 -- an accepted block leaves a state that is well formed over its sound
-pub block-ours : (snd : List Float) (v : StaticSound) (dt : Float) (b : Lanes) (g : Signals) (placed : Bool) → Accepted (length snd) v dt b placed
-    → T (ours (length snd) ((block snd dt (rows b) g v) .voice))
-block-ours snd v dt b g placed h =
-    let p = ours-parts (length snd) v (h .ours) in
+pub block-well-formed-for : (snd : List Float) (v : StaticSound) (dt : Float) (b : Lanes) (g : Signals) (placed : Bool) → Accepted (length snd) v dt b placed
+    → T (wellFormedFor (length snd) ((block snd dt (rows b) g v) .voice))
+block-well-formed-for snd v dt b g placed h =
+    let p = well-formed-for-parts (length snd) v (h .wellFormedFor) in
     let u = (block snd dt (rows b) g v) .voice in
-    ours-of (length snd) u (block-formed snd dt (time-step-above dt (h .timeStep)) (rows b) g v (h .near) (p .0))
+    well-formed-for-of (length snd) u (block-well-formed snd dt (time-step-above dt (h .timeStep)) (rows b) g v (h .near) (p .0))
     (p .1 ∙ ap (λ (k : Setup). 2 * k .«num_frames») (sym (block-setup snd dt (rows b) g v)))
 
 -- ---- by the refusal

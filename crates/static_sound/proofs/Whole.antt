@@ -11,7 +11,7 @@ use lib.Ieee.{Float}
 use borrow.Author.Tests.{eqb-true, eqb-false, eq-eqb, ne-eqb, le-leb, lt-leb}
 use Rattle.sound_lanes.specs.Lanes.{Lanes, rows}
 use Rattle.sound_held.specs.declared.Held.{Held}
-use Rattle.sound_held.specs.Held.{once}
+use Rattle.sound_held.specs.Held.{heldLanes}
 use Rattle.sound_constant.specs.Constant.{first, Constant}
 use Rattle.sound_state.specs.declared.StaticSound.{StaticSound}
 use Rattle.sound_block.specs.declared.Signals.{Signals}
@@ -71,9 +71,9 @@ room-fits m n e = go (eqb (m % 2) 0) refl
     go false h = let k = eqb-false (m % 2) 0 h in sym (ne-eqb m (2 * n) (λ l. k (omega arith)))
 
 pub held-whole : (snd : List Float) (v : StaticSound) (dt : Float) (x : Held) (g : Signals) (out : List Float) (o : Outcome)
-    → o ≡ processedInto snd v dt (once x (length out / 2)) g out 0 → o ≡ processed snd v dt (once x (length out / 2)) g out
+    → o ≡ processedInto snd v dt (heldLanes x (length out / 2)) g out 0 → o ≡ processed snd v dt (heldLanes x (length out / 2)) g out
 held-whole snd v dt x g out o e =
-    e ∙ whole snd v dt (once x (length out / 2)) g out 0 (room-fits (length out) (length (replicate (length out / 2) (x .rate))) (length-replicate (length out / 2) (x .rate))) (λ h. refl)
+    e ∙ whole snd v dt (heldLanes x (length out / 2)) g out 0 (room-fits (length out) (length (replicate (length out / 2) (x .rate))) (length-replicate (length out / 2) (x .rate))) (λ h. refl)
 
 -- ---- lanes
 
@@ -103,6 +103,6 @@ module _ (snd : List Float) (v : StaticSound) (dt : Float) (b : Lanes) (g : Sign
 
 -- constant lanes are their first frame's numbers, given once
 pub constant-into : (snd : List Float) (v : StaticSound) (dt : Float) (b : Lanes) (g : Signals) (mix : List Float) (from : ℕ) (o : Outcome) → Constant b
-    → (x : Held) → x ≡ first b → o ≡ processedInto snd v dt (once x (length (b .rate))) g mix from → o ≡ processedInto snd v dt b g mix from
+    → (x : Held) → x ≡ first b → o ≡ processedInto snd v dt (heldLanes x (length (b .rate))) g mix from → o ≡ processedInto snd v dt b g mix from
 constant-into snd v dt b g mix from o c x f e =
-    e ∙ ap (λ (x : Held). processedInto snd v dt (once x (length (b .rate))) g mix from) f ∙ ap (λ (b : Lanes). processedInto snd v dt b g mix from) (sym (c .each))
+    e ∙ ap (λ (x : Held). processedInto snd v dt (heldLanes x (length (b .rate))) g mix from) f ∙ ap (λ (b : Lanes). processedInto snd v dt b g mix from) (sym (c .each))

@@ -11,10 +11,10 @@ use Rattle.playback_position.specs.declared.FrameRange.the-variants as range
 use Rattle.sound_lanes.specs.Lanes.{Lanes, rows, sized, timeStep, laned, near}
 use Rattle.numbers.specs.Lists.{all}
 use Rattle.sound_state.specs.declared.StaticSound.{StaticSound}
-use Rattle.sound_state.specs.Voices.{offset}
-use Rattle.sound_state.specs.WellFormed.{ours}
+use Rattle.sound_state.specs.Voices.{sliceStart}
+use Rattle.sound_state.specs.WellFormed.{wellFormedFor}
 use Rattle.sound_held.specs.declared.Held.{Held}
-use Rattle.sound_held.specs.Held.{once}
+use Rattle.sound_held.specs.Held.{heldLanes}
 use Rattle.sound_block.specs.declared.Signals.{Signals}
 use Rattle.sound_state.specs.Refusals.{unless}
 use Rattle.sound_slow_path.specs.Plays.{Outcome, acceptedWith}
@@ -23,7 +23,7 @@ use Rattle.sound_block.specs.Blocks.{block}
 -- the refusal of a block, 0 if it is accepted; `placed` says whether it fits into the output
 unfoldable pub refusedBlock : ℕ → StaticSound → Float → Lanes → Bool → ℕ
 refusedBlock len v dt b placed =
-    unless (ours len v) 1
+    unless (wellFormedFor len v) 1
     (unless (sized b && placed) 9
     (unless (timeStep dt) 10
     (unless (all laned (rows b)) 11
@@ -32,7 +32,7 @@ refusedBlock len v dt b placed =
 -- the given state and samples, 0 steps, and 4 for the count
 abbrev pub refusedWith : ℕ → StaticSound → List Float → Outcome
 refusedWith k v out = record {
-  answer = record { refusal = k; sound = v; steps = 0; «lowest_count» = 4 };
+  answer = record { refusal = k; voice = v; steps = 0; «lowest_count» = 4 };
   samples = out;
 }
 
@@ -66,11 +66,11 @@ processedInto snd v dt b g mix from =
 -- a block whose numbers are given once: the block over lanes that repeat them, one frame for each two samples of the
 -- output
 abbrev pub processedHeld : List Float → StaticSound → Float → Held → Signals → List Float → Outcome
-processedHeld snd v dt x g out = processed snd v dt (once x (length out / 2)) g out
+processedHeld snd v dt x g out = processed snd v dt (heldLanes x (length out / 2)) g out
 
 -- n frames of it into a mix
 abbrev pub processedHeldInto : List Float → StaticSound → Float → Held → Signals → List Float → ℕ → ℕ → Outcome
-processedHeldInto snd v dt x g mix from n = processedInto snd v dt (once x n) g mix from
+processedHeldInto snd v dt x g mix from n = processedInto snd v dt (heldLanes x n) g mix from
 
 -- the stretch: samples 2 * start to 2 * end of the slice, or all of them
 abbrev pub sliced : FrameRange → List Float → List Float
@@ -79,11 +79,11 @@ sliced (range.Frames s e) snd = take (2 * e - 2 * s) (drop (2 * s) snd)
 
 -- the stretch; if refused, the empty part
 unfoldable pub stretchOf : List Float → StaticSound → List Float
-stretchOf snd v = cond (ours (length snd) v) (sliced (v .setup .slice) snd) []
+stretchOf snd v = cond (wellFormedFor (length snd) v) (sliced (v .setup .slice) snd) []
 
 -- where the stretch begins, in samples; if refused, at their start
 unfoldable pub stretchAt : ℕ → StaticSound → ℕ
-stretchAt len v = cond (ours len v) (2 * offset (v .setup)) 0
+stretchAt len v = cond (wellFormedFor len v) (2 * sliceStart (v .setup)) 0
 
 -- the address of sample n of the samples at p: a block of memory, and the offset in bytes
 abbrev pub sampleAt : ℕ × ℕ → ℕ → ℕ × ℕ

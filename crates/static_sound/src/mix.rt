@@ -7,8 +7,8 @@ ghost use Rattle.sound_lanes.specs.Lanes.{five};
 ghost use Rattle.static_sound.specs.Entries.{processedInto};
 use crate::once::process_held_into;
 use crate::refusal_of;
+use sound_block::Signalled;
 use sound_block::Signals;
-use sound_block::Told;
 use sound_block::block;
 use sound_slow_path::Processed;
 use sound_slow_path::Timed;
@@ -60,7 +60,7 @@ pub(crate) fn process_lanes(
     if refusal != 0 {
         return Processed {
             refusal,
-            sound: voice,
+            voice,
             steps: 0,
             lowest_count: 4,
         };
@@ -68,7 +68,7 @@ pub(crate) fn process_lanes(
     let a = 2 * from;
     let e = a + 2 * rate.len();
     block(
-        Told { voice, dt, signals },
+        Signalled { voice, dt, signals },
         sound,
         fade,
         volume,

@@ -1,10 +1,10 @@
 // A block whose five numbers are given once, into an output of its own or into the middle of a longer mix.
 ghost use mathlib.Core.Path.{_≡_};
-ghost use Rattle.sound_held.specs.Held.{once};
+ghost use Rattle.sound_held.specs.Held.{heldLanes};
 ghost use Rattle.static_sound.specs.Entries.{refusedBlock, processedHeld, processedHeldInto};
 use crate::mix::has_room;
+use sound_block::Signalled;
 use sound_block::Signals;
-use sound_block::Told;
 use sound_block::block_held;
 use sound_held::Held;
 use sound_slow_path::Processed;
@@ -14,7 +14,7 @@ use sound_state::StaticSound;
 // The lowest number that applies to a block of this many frames, 0 for none. If there are frames, the numbers are
 // checked as one frame's.
 fn refusal_held(timed: Timed, samples: usize, held: Held, frames: usize, placed: bool) -> u32
-    ensures { λ r. ⌜ r ≡ refusedBlock samples (timed .voice) (timed .dt) (once held frames) placed ⌝ }
+    ensures { λ r. ⌜ r ≡ refusedBlock samples (timed .voice) (timed .dt) (heldLanes held frames) placed ⌝ }
 {
     let voice = timed.voice;
     if !voice.is_well_formed(samples) {
@@ -83,12 +83,17 @@ pub fn process_held_into(
     if refusal != 0 {
         return Processed {
             refusal,
-            sound: voice,
+            voice,
             steps: 0,
             lowest_count: 4,
         };
     }
     let a = 2 * from;
     let e = a + 2 * frames;
-    block_held(Told { voice, dt, signals }, sound, held, &mut mix[a..e])
+    block_held(
+        Signalled { voice, dt, signals },
+        sound,
+        held,
+        &mut mix[a..e],
+    )
 }

@@ -37,7 +37,7 @@ loopCommand s =
 abbrev pub takenFrom : List Float → StaticSound → LoopFound → Commanded
 takenFrom snd v f =
     cond (eqb (f .refusal) 0) (commanded snd v (loopCommand (f .slot)))
-    (record { refusal = f .refusal; sound = v; position = positiveZero })
+    (record { refusal = f .refusal; voice = v; position = positiveZero })
 
 unfoldable pub taken : List Float → LoopTable → ℕ → StaticSound → Commanded
 taken snd t k v = takenFrom snd v (found t k)

@@ -39,7 +39,7 @@ pub fn take(table: LoopTable, slot: usize, voice: StaticSound, sound: &[f32]) ->
     if found.refusal != 0 {
         return Commanded {
             refusal: found.refusal,
-            sound: voice,
+            voice,
             position: 0.0,
         };
     }

@@ -11,7 +11,7 @@ use Rattle.test_exports.specs.Answers.{walked, moved}
 
 -- a leaf's answer under the export's type
 abbrev pub copied : Stepped → Moved
-copied s = record { steps = s .steps; rest = s .rest }
+copied s = record { steps = s .steps; rest = s .fraction }
 
 abbrev pub still : Moved
 still = record { steps = 0; rest = positiveZero }

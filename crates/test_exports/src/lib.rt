@@ -54,7 +54,7 @@ pub extern "C" fn cableowl_test_advance_by(fraction: f64, advance: f64) -> Moved
         let s = numbers::advance_by(fraction, a);
         Moved {
             steps: s.steps as u64,
-            rest: s.rest,
+            rest: s.fraction,
         }
     } else {
         Moved {

@@ -4,7 +4,7 @@ ghost use mathlib.Core.Bool.{cond};
 ghost use lib.Dec.{ltb};
 ghost use Rattle.playback_position.specs.Positions.{ordered};
 ghost use Rattle.transport.specs.Moves.{forward, backward, seek, reloop, begun};
-ghost use Rattle.transport.specs.WellFormed.{formedTransport};
+ghost use Rattle.transport.specs.WellFormed.{wellFormedTransport};
 ghost use Rattle.test_exports.specs.Answers.{yes};
 ghost use Rattle.test_exports.specs.Places.{rangeOf};
 ghost use Rattle.test_exports.specs.Moves.{transportOf, plainTransport, nowhere};
@@ -65,8 +65,8 @@ fn is_ordered(loop_region: FrameRange) -> bool
 }
 
 // What a step forward requires.
-fn is_formed_transport(t: Transport, num_frames: usize) -> bool
-    ensures { λ r. ⌜ r ≡ formedTransport «num_frames» t ⌝ }
+fn is_well_formed_transport(t: Transport, num_frames: usize) -> bool
+    ensures { λ r. ⌜ r ≡ wellFormedTransport «num_frames» t ⌝ }
 {
     let loop_region = t.loop_region;
     loop_region.is_within(num_frames)
@@ -79,11 +79,11 @@ pub extern "C" fn cableowl_test_increment_position(
     t: PlainTransport,
     num_frames: u64,
 ) -> PlainTransport
-    ensures { λ r. ⌜ r ≡ cond (formedTransport «num_frames» (transportOf t))
+    ensures { λ r. ⌜ r ≡ cond (wellFormedTransport «num_frames» (transportOf t))
         (plainTransport (forward «num_frames» (transportOf t))) nowhere ⌝ }
 {
     let given = transport_of(t);
-    if is_formed_transport(given, num_frames as usize) {
+    if is_well_formed_transport(given, num_frames as usize) {
         plain_transport(given.increment_position(num_frames as usize))
     } else {
         NOWHERE

@@ -1,6 +1,6 @@
 // Positions and regions as plain numbers, and their frames.
 ghost use mathlib.Core.Path.{_≡_};
-ghost use Rattle.playback_position.specs.Positions.{placed, stretched, lawfulRegion};
+ghost use Rattle.playback_position.specs.Positions.{positionInFrames, regionInFrames, wellFormedRegion};
 ghost use Rattle.test_exports.specs.Answers.{bit};
 ghost use Rattle.test_exports.specs.Places.{positionOf, endOf, regionOf, rangeOf, plainRange};
 use playback_position::EndPosition;
@@ -92,7 +92,7 @@ pub fn plain_range(range: FrameRange) -> PlainRange
 
 #[no_mangle]
 pub extern "C" fn cableowl_test_into_samples(position: PlainPosition, sample_rate: u32) -> u64
-    ensures { λ r. ⌜ r ≡ placed «sample_rate» (positionOf position) ⌝ }
+    ensures { λ r. ⌜ r ≡ positionInFrames «sample_rate» (positionOf position) ⌝ }
 {
     position_of(position).into_samples(sample_rate) as u64
 }
@@ -103,7 +103,7 @@ pub extern "C" fn cableowl_test_into_frames(
     sample_rate: u32,
     num_frames: u64,
 ) -> PlainRange
-    ensures { λ r. ⌜ r ≡ plainRange (stretched «sample_rate» «num_frames» (regionOf region)) ⌝ }
+    ensures { λ r. ⌜ r ≡ plainRange (regionInFrames «sample_rate» «num_frames» (regionOf region)) ⌝ }
 {
     plain_range(region_of(region).into_frames(sample_rate, num_frames as usize))
 }
@@ -114,7 +114,7 @@ pub extern "C" fn cableowl_test_is_lawful(
     sample_rate: u32,
     num_frames: u64,
 ) -> u32
-    ensures { λ r. ⌜ r ≡ bit (lawfulRegion «sample_rate» «num_frames» (regionOf region)) ⌝ }
+    ensures { λ r. ⌜ r ≡ bit (wellFormedRegion «sample_rate» «num_frames» (regionOf region)) ⌝ }
 {
-    super::number(region_of(region).is_lawful(sample_rate, num_frames as usize))
+    super::number(region_of(region).is_well_formed(sample_rate, num_frames as usize))
 }

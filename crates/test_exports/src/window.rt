@@ -1,7 +1,7 @@
 // The window of four as plain numbers: what is pushed, read and heard.
 ghost use mathlib.Core.Path.{_≡_};
 ghost use Rattle.frame.specs.Frames.{interpolated};
-ghost use Rattle.resampler.specs.Windows.{fresh, push, reading, heardNumber, isEmpty};
+ghost use Rattle.resampler.specs.Windows.{fresh, push, reading, currentFrameIndex, isEmpty};
 ghost use Rattle.test_exports.specs.Answers.{bit};
 ghost use Rattle.test_exports.specs.Windows.{
   frameOf,
@@ -157,7 +157,7 @@ pub extern "C" fn cableowl_test_get(w: PlainWindow, fractional_position: f32) ->
 
 #[no_mangle]
 pub extern "C" fn cableowl_test_current_frame_index(w: PlainWindow) -> u64
-    ensures { λ r. ⌜ r ≡ heardNumber (windowOf w) ⌝ }
+    ensures { λ r. ⌜ r ≡ currentFrameIndex (windowOf w) ⌝ }
 {
     window_of(w).current_frame_index() as u64
 }

@@ -101,19 +101,34 @@ fn show_moves(given: Tally) -> Tally {
     show(t, b"loop (4, 5), backward from 4", moved.position as u64, 4)
 }
 
-fn is_lawful_loop(start: usize, end: usize) -> u64 {
+fn is_well_formed_loop(start: usize, end: usize) -> u64 {
     let region = Region {
         start: PlaybackPosition::Samples(start),
         end: EndPosition::Custom(PlaybackPosition::Samples(end)),
     };
-    number(region.is_lawful(1, N))
+    number(region.is_well_formed(1, N))
 }
 
 fn show_places(given: Tally) -> Tally {
     let mut t = given;
-    t = show(t, b"loop (4, 4) is lawful", is_lawful_loop(4, 4), 0);
-    t = show(t, b"loop (4, 11) is lawful", is_lawful_loop(4, 11), 0);
-    t = show(t, b"loop (0, 10) is lawful", is_lawful_loop(0, 10), 1);
+    t = show(
+        t,
+        b"loop (4, 4) is well_formed",
+        is_well_formed_loop(4, 4),
+        0,
+    );
+    t = show(
+        t,
+        b"loop (4, 11) is well_formed",
+        is_well_formed_loop(4, 11),
+        0,
+    );
+    t = show(
+        t,
+        b"loop (0, 10) is well_formed",
+        is_well_formed_loop(0, 10),
+        1,
+    );
     let start = PlaybackPosition::Seconds(2.5).into_samples(1);
     t = show(t, b"2.5 s at 1 Hz, start", start as u64, 3);
     show(t, b"2.5 s at 1 Hz, seek", numbers::cut(2.5) as u64, 2)

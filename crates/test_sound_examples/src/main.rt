@@ -75,7 +75,7 @@ fn settings(sample_rate: u32, start: usize, loop_region: OptionalRegion) -> Sett
 fn three_frames() -> StaticSound {
     let sound = [1.0f32, 1.0, 2.0, 2.0, 3.0, 3.0];
     let made = sound_creation::new(settings(1, 0, OptionalRegion::Absent), &sound);
-    made.sound
+    made.voice
 }
 
 fn play(
@@ -136,7 +136,7 @@ fn state_after_three() -> u64 {
     let rate = [1.0f64; 3];
     let mut out = [9.0f32; 6];
     let made = play(three_frames(), &sound, &unit, &rate, 1.0, &mut out);
-    state_number(made.sound)
+    state_number(made.voice)
 }
 
 fn state_after_four() -> u64 {
@@ -145,7 +145,7 @@ fn state_after_four() -> u64 {
     let rate = [1.0f64; 4];
     let mut out = [9.0f32; 8];
     let made = play(three_frames(), &sound, &unit, &rate, 1.0, &mut out);
-    state_number(made.sound)
+    state_number(made.voice)
 }
 
 fn show_three_frames(given: Tally) -> Tally {
@@ -185,12 +185,12 @@ fn loop_command(start: usize, end: usize) -> u64 {
     let sound = [0.0f32; 20];
     let made = sound_creation::new(settings(1, 0, OptionalRegion::Absent), &sound);
     let set = LoopCommand::Set(frames(start, end));
-    let told = sound_commands::on_start_processing(
-        made.sound,
+    let commanded = sound_commands::on_start_processing(
+        made.voice,
         &sound,
         commands(set, Amount::Absent),
     );
-    told.refusal as u64
+    commanded.refusal as u64
 }
 
 fn show_loops(given: Tally) -> Tally {
@@ -208,9 +208,9 @@ fn show_loops(given: Tally) -> Tally {
         creation_with_loop(0, 10),
         0,
     );
-    t = show(t, b"told loop (4, 4)", loop_command(4, 4), 6);
-    t = show(t, b"told loop (4, 11)", loop_command(4, 11), 6);
-    show(t, b"told loop (0, 10)", loop_command(0, 10), 0)
+    t = show(t, b"commanded loop (4, 4)", loop_command(4, 4), 6);
+    t = show(t, b"commanded loop (4, 11)", loop_command(4, 11), 6);
+    show(t, b"commanded loop (0, 10)", loop_command(0, 10), 0)
 }
 
 // ---- an advance of 256
@@ -222,7 +222,7 @@ fn advanced(lane_rate: f64) -> Processed {
     let unit = [1.0f32; 1];
     let rate = [lane_rate; 1];
     let mut out = [9.0f32; 2];
-    play(made.sound, &sound, &unit, &rate, 1.0, &mut out)
+    play(made.voice, &sound, &unit, &rate, 1.0, &mut out)
 }
 
 fn show_advances(given: Tally) -> Tally {
@@ -241,14 +241,14 @@ fn show_advances(given: Tally) -> Tally {
 fn at_15() -> StaticSound {
     let sound = [0.0f32; 32];
     let made = sound_creation::new(settings(44100, 12, OptionalRegion::Absent), &sound);
-    made.sound
+    made.voice
 }
 
 fn seek_by_nothing() -> u64 {
     let sound = [0.0f32; 32];
     let set = commands(LoopCommand::Keep, Amount::Given(0.0));
-    let told = sound_commands::on_start_processing(at_15(), &sound, set);
-    position(told.sound)
+    let commanded = sound_commands::on_start_processing(at_15(), &sound, set);
+    position(commanded.voice)
 }
 
 fn show_seeks(given: Tally) -> Tally {
@@ -269,7 +269,7 @@ fn created_at_rate(playback_rate: f64, reverse: bool) -> u64 {
         ..plain
     };
     let made = sound_creation::new(held, &sound);
-    position(made.sound)
+    position(made.voice)
 }
 
 // Created at 4 of ten frames at rate 1: at 7, or with reverse at 2.
@@ -278,18 +278,18 @@ fn ten_frames(reverse: bool) -> StaticSound {
     let plain = settings(1, 4, OptionalRegion::Absent);
     let held = Settings { reverse, ..plain };
     let made = sound_creation::new(held, &sound);
-    made.sound
+    made.voice
 }
 
-fn told_rate(voice: StaticSound, rate: f64) -> StaticSound {
+fn commanded_rate(voice: StaticSound, rate: f64) -> StaticSound {
     let sound = [0.0f32; 20];
     let plain = commands(LoopCommand::Keep, Amount::Absent);
     let set = Commands {
         playback_rate: Amount::Given(rate),
         ..plain
     };
-    let told = sound_commands::on_start_processing(voice, &sound, set);
-    told.sound
+    let commanded = sound_commands::on_start_processing(voice, &sound, set);
+    commanded.voice
 }
 
 fn one_frame_more(voice: StaticSound) -> StaticSound {
@@ -298,18 +298,18 @@ fn one_frame_more(voice: StaticSound) -> StaticSound {
     let rate = [1.0f64; 1];
     let mut out = [9.0f32; 2];
     let made = play(voice, &sound, &unit, &rate, 1.0, &mut out);
-    made.sound
+    made.voice
 }
 
 // A rate command, then a block.
-fn told_before(rate: f64, reverse: bool) -> u64 {
-    position(one_frame_more(told_rate(ten_frames(reverse), rate)))
+fn commanded_before(rate: f64, reverse: bool) -> u64 {
+    position(one_frame_more(commanded_rate(ten_frames(reverse), rate)))
 }
 
 // A rate command between the two parts of a cut block.
-fn told_between(rate: f64, reverse: bool) -> u64 {
+fn commanded_between(rate: f64, reverse: bool) -> u64 {
     let first = one_frame_more(ten_frames(reverse));
-    position(one_frame_more(told_rate(first, rate)))
+    position(one_frame_more(commanded_rate(first, rate)))
 }
 
 fn amplitude_of_minus_zero() -> u64 {
@@ -329,16 +329,41 @@ fn show_zeros_at_creation(given: Tally) -> Tally {
     show(t, b"created at -0, reverse", created_at_rate(-0.0, true), 3)
 }
 
-fn show_zeros_told(given: Tally) -> Tally {
+fn show_zeros_commanded(given: Tally) -> Tally {
     let mut t = given;
-    t = show(t, b"at 7 told 0, a frame later", told_before(0.0, false), 8);
-    t = show(t, b"told -0", told_before(-0.0, false), 6);
-    t = show(t, b"at 2 told 0, reverse", told_before(0.0, true), 1);
-    t = show(t, b"told -0, reverse", told_before(-0.0, true), 3);
-    t = show(t, b"at 8 told 0 at the cut", told_between(0.0, false), 9);
-    t = show(t, b"told -0", told_between(-0.0, false), 7);
-    t = show(t, b"at 1 told 0, reverse", told_between(0.0, true), 0);
-    show(t, b"told -0, reverse", told_between(-0.0, true), 2)
+    t = show(
+        t,
+        b"at 7 commanded 0, a frame later",
+        commanded_before(0.0, false),
+        8,
+    );
+    t = show(t, b"commanded -0", commanded_before(-0.0, false), 6);
+    t = show(
+        t,
+        b"at 2 commanded 0, reverse",
+        commanded_before(0.0, true),
+        1,
+    );
+    t = show(t, b"commanded -0, reverse", commanded_before(-0.0, true), 3);
+    t = show(
+        t,
+        b"at 8 commanded 0 at the cut",
+        commanded_between(0.0, false),
+        9,
+    );
+    t = show(t, b"commanded -0", commanded_between(-0.0, false), 7);
+    t = show(
+        t,
+        b"at 1 commanded 0, reverse",
+        commanded_between(0.0, true),
+        0,
+    );
+    show(
+        t,
+        b"commanded -0, reverse",
+        commanded_between(-0.0, true),
+        2,
+    )
 }
 
 fn show_zeros_in_lanes(given: Tally) -> Tally {
@@ -362,7 +387,7 @@ fn refused_block() -> bool {
     let rate = [1.0f64; 2];
     let mut out = [9.0f32; 4];
     let made = play(three_frames(), &sound, &unit, &rate, 0.0, &mut out);
-    let voice = made.sound;
+    let voice = made.voice;
     (made.refusal == 10)
         & (made.steps == 0)
         & (position(voice) == position(three_frames()))
@@ -374,10 +399,10 @@ fn refused_block() -> bool {
 fn refused_command_set() -> bool {
     let sound = [0.0f32; 32];
     let set = commands(LoopCommand::Keep, Amount::Given(97391.55));
-    let told = sound_commands::on_start_processing(at_15(), &sound, set);
-    (told.refusal == 8)
-        & (position(told.sound) == 15)
-        & (float_bits::bits_of_f64(told.position) == 0)
+    let commanded = sound_commands::on_start_processing(at_15(), &sound, set);
+    (commanded.refusal == 8)
+        & (position(commanded.voice) == 15)
+        & (float_bits::bits_of_f64(commanded.position) == 0)
 }
 
 fn show_refusals(given: Tally) -> Tally {
@@ -405,7 +430,7 @@ fn main() {
     t = show_advances(t);
     t = show_seeks(t);
     t = show_zeros_at_creation(t);
-    t = show_zeros_told(t);
+    t = show_zeros_commanded(t);
     t = show_zeros_in_lanes(t);
     t = show_refusals(t);
     io::print_decimal(1, t.examples);

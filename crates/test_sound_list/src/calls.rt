@@ -187,7 +187,7 @@ fn is_output(out: &[f32; 32], count: usize) -> bool {
 }
 
 fn is_processed(made: Processed) -> bool {
-    let voice = made.sound;
+    let voice = made.voice;
     input::is(made.refusal as u64)
         & input::is(made.steps as u64)
         & input::is(made.lowest_count as u64)
@@ -209,13 +209,13 @@ pub(crate) fn blank() -> StaticSound {
         start_waits: false,
     };
     let made = sound_creation::new(settings, &sound);
-    made.sound
+    made.voice
 }
 
 pub(crate) fn create(sound: &[f32]) -> Answer {
     let settings = next_settings();
     let made = sound_creation::new(settings, sound);
-    let voice = made.sound;
+    let voice = made.voice;
     Answer {
         voice,
         same: input::is(made.refusal as u64) & states::are(voice),
@@ -225,7 +225,7 @@ pub(crate) fn create(sound: &[f32]) -> Answer {
 pub(crate) fn command(voice: StaticSound, sound: &[f32]) -> Answer {
     let commands = next_commands();
     let made = sound_commands::on_start_processing(voice, sound, commands);
-    let voice = made.sound;
+    let voice = made.voice;
     Answer {
         voice,
         same: input::is(made.refusal as u64) & input::is_double(made.position) & states::are(voice),
@@ -233,7 +233,7 @@ pub(crate) fn command(voice: StaticSound, sound: &[f32]) -> Answer {
 }
 
 fn played(made: Processed, out: &[f32; 32], samples: usize) -> Answer {
-    let voice = made.sound;
+    let voice = made.voice;
     Answer {
         voice,
         same: is_processed(made) & is_output(out, samples),

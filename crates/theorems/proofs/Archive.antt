@@ -48,16 +48,16 @@ parts p f r c s h d =
       accepted = d .accepted;
       same = λ a.
           let e = d .same (below a) in
-          (after-is (p .refusal) (p .sound) c h ∙ ap encoded (e .0) ∙ sym (after-is (r .refusal) (r .sound) s (d .accepted .1)), e .1);
+          (after-is (p .refusal) (p .voice) c h ∙ ap encoded (e .0) ∙ sym (after-is (r .refusal) (r .voice) s (d .accepted .1)), e .1);
       lowest = λ a. d .lowest (below a);
       alike =
-          ap bare (after-means (p .refusal) (p .sound) c h) ∙ d .alike
-          ∙ sym (ap bare (after-means (r .refusal) (r .sound) s (d .accepted .1)));
+          ap bare (after-means (p .refusal) (p .voice) c h) ∙ d .alike
+          ∙ sym (ap bare (after-means (r .refusal) (r .voice) s (d .accepted .1)));
     }
   where
     -- what the first part's record means
-    below : T (awake (decoded (after (f .refusal) (f .sound) c))) → T (awake (f .sound))
-    below a = subst (λ (v : StaticSound). T (awake v)) (after-means (f .refusal) (f .sound) c (d .accepted .0)) a
+    below : T (awake (decoded (after (f .refusal) (f .voice) c))) → T (awake (f .voice))
+    below a = subst (λ (v : StaticSound). T (awake v)) (after-means (f .refusal) (f .voice) c (d .accepted .0)) a
 
 -- signals of a later part mean those of a later part
 pub quiet-means : (g : CableowlSignals) → signalsOf (quietC g) ≡ quiet (signalsOf g)
@@ -73,14 +73,14 @@ archive-cut-blocks snd c dt b g out k x =
     let p = processed snd (decoded c) dt b (signalsOf g) out in
     let f = processed snd (decoded c) dt (firstLanes k b) (signalsOf g) (take (2 * k) out) in
     let r : StaticSound → Outcome = λ v. processed snd v dt (restLanes k b) (signalsOf (quietC g)) (drop (2 * k) out) in
-    let d : CutInTwo p f (r (f .answer .sound)) =
-    subst (λ (w : Signals). CutInTwo p f (processed snd (f .answer .sound) dt (restLanes k b) w (drop (2 * k) out))) (sym (quiet-means g))
+    let d : CutInTwo p f (r (f .answer .voice)) =
+    subst (λ (w : Signals). CutInTwo p f (processed snd (f .answer .voice) dt (restLanes k b) w (drop (2 * k) out))) (sym (quiet-means g))
     (cut-blocks snd (decoded c) dt b (signalsOf g) out k (record { accepted = x .accepted; inside = x .inside }))
     in
-    let s = after (f .answer .refusal) (f .answer .sound) c in
+    let s = after (f .answer .refusal) (f .answer .voice) c in
     subst (λ (v : StaticSound). CutInTwoC (raw p c) (raw f c) (raw (r v) s))
-    (sym (after-means (f .answer .refusal) (f .answer .sound) c (d .answers .accepted .0)))
-    (record { answers = parts (p .answer) (f .answer) (r (f .answer .sound) .answer) c s (x .accepted) (d .answers); samples = d .samples })
+    (sym (after-means (f .answer .refusal) (f .answer .voice) c (d .answers .accepted .0)))
+    (record { answers = parts (p .answer) (f .answer) (r (f .answer .voice) .answer) c s (x .accepted) (d .answers); samples = d .samples })
 
 pub archive-cut-mixes : CutMixesC
 unfolding processedIntoC
@@ -88,11 +88,11 @@ archive-cut-mixes snd c dt b g mix from k x =
     let p = processedInto snd (decoded c) dt b (signalsOf g) mix from in
     let f = processedInto snd (decoded c) dt (firstLanes k b) (signalsOf g) mix from in
     let r : StaticSound → Outcome = λ v. processedInto snd v dt (restLanes k b) (signalsOf (quietC g)) (f .samples) (from + k) in
-    let d : CutInMix p f (r (f .answer .sound)) =
-    subst (λ (w : Signals). CutInMix p f (processedInto snd (f .answer .sound) dt (restLanes k b) w (f .samples) (from + k))) (sym (quiet-means g))
+    let d : CutInMix p f (r (f .answer .voice)) =
+    subst (λ (w : Signals). CutInMix p f (processedInto snd (f .answer .voice) dt (restLanes k b) w (f .samples) (from + k))) (sym (quiet-means g))
     (cut-mixes snd (decoded c) dt b (signalsOf g) mix from k (record { accepted = x .accepted; inside = x .inside }))
     in
-    let s = after (f .answer .refusal) (f .answer .sound) c in
+    let s = after (f .answer .refusal) (f .answer .voice) c in
     subst (λ (v : StaticSound). CutInMixC (raw p c) (raw f c) (raw (r v) s))
-    (sym (after-means (f .answer .refusal) (f .answer .sound) c (d .answers .accepted .0)))
-    (record { answers = parts (p .answer) (f .answer) (r (f .answer .sound) .answer) c s (x .accepted) (d .answers); samples = d .samples })
+    (sym (after-means (f .answer .refusal) (f .answer .voice) c (d .answers .accepted .0)))
+    (record { answers = parts (p .answer) (f .answer) (r (f .answer .voice) .answer) c s (x .accepted) (d .answers); samples = d .samples })

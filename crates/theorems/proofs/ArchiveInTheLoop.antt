@@ -45,16 +45,16 @@ after-meant : (d : CallC) (c : CableowlState) → decoded (afterC d c) ≡ below
 unfolding processedC processedIntoC commandedC takenC
 after-meant (Block snd dt b g out) c =
     let o = processed snd (decoded c) dt b (signalsOf g) out in
-    back (o .answer .refusal) (o .answer .sound) c (λ n. ap (λ (o : Outcome). o .answer .sound) (processed-refused snd (decoded c) dt b (signalsOf g) out n))
+    back (o .answer .refusal) (o .answer .voice) c (λ n. ap (λ (o : Outcome). o .answer .voice) (processed-refused snd (decoded c) dt b (signalsOf g) out n))
 after-meant (Mix snd dt b g mix from) c =
     let o = processedInto snd (decoded c) dt b (signalsOf g) mix from in
-    back (o .answer .refusal) (o .answer .sound) c (λ n. ap (λ (o : Outcome). o .answer .sound) (into-refused snd (decoded c) dt b (signalsOf g) mix from n))
+    back (o .answer .refusal) (o .answer .voice) c (λ n. ap (λ (o : Outcome). o .answer .voice) (into-refused snd (decoded c) dt b (signalsOf g) mix from n))
 after-meant (Command snd k) c =
     let r = commanded snd (decoded c) (commandsOf k) in
-    back (r .refusal) (r .sound) c (λ n. ap (λ (a : Commanded). a .sound) (commanded-refused snd (decoded c) (commandsOf k) n))
+    back (r .refusal) (r .voice) c (λ n. ap (λ (a : Commanded). a .voice) (commanded-refused snd (decoded c) (commandsOf k) n))
 after-meant (Take snd t k) c =
     let r = taken snd t k (decoded c) in
-    back (r .refusal) (r .sound) c (taken-refused snd t k (decoded c))
+    back (r .refusal) (r .voice) c (taken-refused snd t k (decoded c))
 after-meant (Stretch snd) c = refl
 
 accepted-meant : (d : CallC) (c : CableowlState) → acceptedC d c ≡ below.accepted (meant d) (decoded c)
@@ -96,7 +96,7 @@ pub archive-in-the-loop : InTheLoopC
 archive-in-the-loop s e ds c x =
     let r = row-meant ds c in
     let k = subst (λ (b : Bool). T (not b)) (some-meant reloopsC below.reloops reloops-meant ds c) (x .no-loop-command) in
-    let i = in-the-loop s e (map meant ds) (decoded c) (record { formed = x .formed; inside = x .inside; no-loop-command = k }) in
+    let i = in-the-loop s e (map meant ds) (decoded c) (record { wellFormed = x .wellFormed; inside = x .inside; no-loop-command = k }) in
     record {
       inside = subst (λ (v : StaticSound). Inside s e (v .moving .transport)) (sym r) (i .inside);
       stopped = λ q.

@@ -32,7 +32,7 @@ use Rattle.theorems.proofs.MixSchedules.{any-sizes-mix, all-accepted-mi
 -- an accepted row of records m against the row r below
 record AsBelow (m : RunC) (r : Run) : Type 0 where
   accepted : T (r .accepted)
-  state : m .state ≡ encoded (r .sound)
+  state : m .state ≡ encoded (r .voice)
   samples : m .samples ≡ r .samples
   steps : m .steps ≡ r .steps
   lowest : m .«lowest_count» ≡ r .«lowest_count»
@@ -43,7 +43,7 @@ alone-below : (o : Outcome) (c : CableowlState) → T (eqb (o .answer .refusal) 
 alone-below o c h =
     record {
       accepted = h;
-      state = after-is (o .answer .refusal) (o .answer .sound) c (eqb→eq (o .answer .refusal) 0 h);
+      state = after-is (o .answer .refusal) (o .answer .voice) c (eqb→eq (o .answer .refusal) 0 h);
       samples = refl;
       steps = refl;
       lowest = refl;
@@ -52,11 +52,11 @@ alone-below o c h =
 
 -- the state at a cut is awake below too
 cut-below : (o : Outcome) (c : CableowlState) (ms : List CableowlState) (rs : List StaticSound) → o .answer .refusal ≡ 0 → (T (all awakeC ms) → T (all awake rs))
-    → T (all awakeC (after (o .answer .refusal) (o .answer .sound) c ∷ ms)) → T (all awake (o .answer .sound ∷ rs))
+    → T (all awakeC (after (o .answer .refusal) (o .answer .voice) c ∷ ms)) → T (all awake (o .answer .voice ∷ rs))
 cut-below o c ms rs e f a =
-    let s = after (o .answer .refusal) (o .answer .sound) c in
-    and-i (awake (o .answer .sound)) (all awake rs)
-    (subst (λ (v : StaticSound). T (awake v)) (after-means (o .answer .refusal) (o .answer .sound) c e) (and-l (awakeC s) (all awakeC ms) a))
+    let s = after (o .answer .refusal) (o .answer .voice) c in
+    and-i (awake (o .answer .voice)) (all awake rs)
+    (subst (λ (v : StaticSound). T (awake v)) (after-means (o .answer .refusal) (o .answer .voice) c e) (and-l (awakeC s) (all awakeC ms) a))
     (f (and-r (awakeC s) (all awakeC ms) a))
 
 module _ (snd : List Float) (dt : Float) where
@@ -66,15 +66,15 @@ module _ (snd : List Float) (dt : Float) where
   played-below k [] b g c out h = alone-below (processed snd (decoded c) dt (firstLanes k b) (signalsOf g) (take (2 * k) out)) c h
   played-below k (j ∷ ks) b g c out h =
       let o = processed snd (decoded c) dt (firstLanes k b) (signalsOf g) (take (2 * k) out) in
-      let s = after (o .answer .refusal) (o .answer .sound) c in
+      let s = after (o .answer .refusal) (o .answer .voice) c in
       let m = playedByC snd dt j ks (restLanes k b) (quietC g) s (drop (2 * k) out) in
       let e = eqb→eq (o .answer .refusal) 0 (and-l (eqb (o .answer .refusal) 0) (m .accepted) h) in
-      let w : AsBelow m (playedBy snd dt j ks (restLanes k b) (quiet (signalsOf g)) (o .answer .sound) (drop (2 * k) out)) =
-      subst (λ (v : StaticSound). AsBelow m (playedBy snd dt j ks (restLanes k b) (quiet (signalsOf g)) v (drop (2 * k) out))) (after-means (o .answer .refusal) (o .answer .sound) c e)
+      let w : AsBelow m (playedBy snd dt j ks (restLanes k b) (quiet (signalsOf g)) (o .answer .voice) (drop (2 * k) out)) =
+      subst (λ (v : StaticSound). AsBelow m (playedBy snd dt j ks (restLanes k b) (quiet (signalsOf g)) v (drop (2 * k) out))) (after-means (o .answer .refusal) (o .answer .voice) c e)
       (subst (λ (x : Signals). AsBelow m (playedBy snd dt j ks (restLanes k b) x (decoded s) (drop (2 * k) out))) (quiet-means g)
       (played-below j ks (restLanes k b) (quietC g) s (drop (2 * k) out) (and-r (eqb (o .answer .refusal) 0) (m .accepted) h)))
       in
-      let r = playedBy snd dt j ks (restLanes k b) (quiet (signalsOf g)) (o .answer .sound) (drop (2 * k) out) in
+      let r = playedBy snd dt j ks (restLanes k b) (quiet (signalsOf g)) (o .answer .voice) (drop (2 * k) out) in
       record {
         accepted = and-i (eqb (o .answer .refusal) 0) (r .accepted) (and-l (eqb (o .answer .refusal) 0) (m .accepted) h) (w .accepted);
         state = w .state;
@@ -90,15 +90,15 @@ module _ (snd : List Float) (dt : Float) where
   mixed-below k [] b g c mix from h = alone-below (processedInto snd (decoded c) dt (firstLanes k b) (signalsOf g) mix from) c h
   mixed-below k (j ∷ ks) b g c mix from h =
       let o = processedInto snd (decoded c) dt (firstLanes k b) (signalsOf g) mix from in
-      let s = after (o .answer .refusal) (o .answer .sound) c in
+      let s = after (o .answer .refusal) (o .answer .voice) c in
       let m = mixedByC snd dt j ks (restLanes k b) (quietC g) s (o .samples) (from + k) in
       let e = eqb→eq (o .answer .refusal) 0 (and-l (eqb (o .answer .refusal) 0) (m .accepted) h) in
-      let w : AsBelow m (mixedBy snd dt j ks (restLanes k b) (quiet (signalsOf g)) (o .answer .sound) (o .samples) (from + k)) =
-      subst (λ (v : StaticSound). AsBelow m (mixedBy snd dt j ks (restLanes k b) (quiet (signalsOf g)) v (o .samples) (from + k))) (after-means (o .answer .refusal) (o .answer .sound) c e)
+      let w : AsBelow m (mixedBy snd dt j ks (restLanes k b) (quiet (signalsOf g)) (o .answer .voice) (o .samples) (from + k)) =
+      subst (λ (v : StaticSound). AsBelow m (mixedBy snd dt j ks (restLanes k b) (quiet (signalsOf g)) v (o .samples) (from + k))) (after-means (o .answer .refusal) (o .answer .voice) c e)
       (subst (λ (x : Signals). AsBelow m (mixedBy snd dt j ks (restLanes k b) x (decoded s) (o .samples) (from + k))) (quiet-means g)
       (mixed-below j ks (restLanes k b) (quietC g) s (o .samples) (from + k) (and-r (eqb (o .answer .refusal) 0) (m .accepted) h)))
       in
-      let r = mixedBy snd dt j ks (restLanes k b) (quiet (signalsOf g)) (o .answer .sound) (o .samples) (from + k) in
+      let r = mixedBy snd dt j ks (restLanes k b) (quiet (signalsOf g)) (o .answer .voice) (o .samples) (from + k) in
       record {
         accepted = and-i (eqb (o .answer .refusal) 0) (r .accepted) (and-l (eqb (o .answer .refusal) 0) (m .accepted) h) (w .accepted);
         state = w .state;
@@ -115,14 +115,14 @@ module _ (snd : List Float) (dt : Float) where
   played-above k [] b g c out h = h
   played-above k (j ∷ ks) b g c out h =
       let o = processed snd (decoded c) dt (firstLanes k b) (signalsOf g) (take (2 * k) out) in
-      let s = after (o .answer .refusal) (o .answer .sound) c in
-      let r = playedBy snd dt j ks (restLanes k b) (quiet (signalsOf g)) (o .answer .sound) (drop (2 * k) out) in
+      let s = after (o .answer .refusal) (o .answer .voice) c in
+      let r = playedBy snd dt j ks (restLanes k b) (quiet (signalsOf g)) (o .answer .voice) (drop (2 * k) out) in
       let a = and-l (eqb (o .answer .refusal) 0) (r .accepted) h in
       and-i (eqb (o .answer .refusal) 0) ((playedByC snd dt j ks (restLanes k b) (quietC g) s (drop (2 * k) out)) .accepted) a
       (played-above j ks (restLanes k b) (quietC g) s (drop (2 * k) out)
       (subst (λ (x : Signals). T ((playedBy snd dt j ks (restLanes k b) x (decoded s) (drop (2 * k) out)) .accepted)) (sym (quiet-means g))
       (subst (λ (v : StaticSound). T ((playedBy snd dt j ks (restLanes k b) (quiet (signalsOf g)) v (drop (2 * k) out)) .accepted))
-      (sym (after-means (o .answer .refusal) (o .answer .sound) c (eqb→eq (o .answer .refusal) 0 a))) (and-r (eqb (o .answer .refusal) 0) (r .accepted) h))))
+      (sym (after-means (o .answer .refusal) (o .answer .voice) c (eqb→eq (o .answer .refusal) 0 a))) (and-r (eqb (o .answer .refusal) 0) (r .accepted) h))))
 
   mixed-above : (k : ℕ) (ks : List ℕ) (b : Lanes) (g : CableowlSignals) (c : CableowlState) (mix : List Float) (from : ℕ)
       → T ((mixedBy snd dt k ks b (signalsOf g) (decoded c) mix from) .accepted) → T ((mixedByC snd dt k ks b g c mix from) .accepted)
@@ -130,14 +130,14 @@ module _ (snd : List Float) (dt : Float) where
   mixed-above k [] b g c mix from h = h
   mixed-above k (j ∷ ks) b g c mix from h =
       let o = processedInto snd (decoded c) dt (firstLanes k b) (signalsOf g) mix from in
-      let s = after (o .answer .refusal) (o .answer .sound) c in
-      let r = mixedBy snd dt j ks (restLanes k b) (quiet (signalsOf g)) (o .answer .sound) (o .samples) (from + k) in
+      let s = after (o .answer .refusal) (o .answer .voice) c in
+      let r = mixedBy snd dt j ks (restLanes k b) (quiet (signalsOf g)) (o .answer .voice) (o .samples) (from + k) in
       let a = and-l (eqb (o .answer .refusal) 0) (r .accepted) h in
       and-i (eqb (o .answer .refusal) 0) ((mixedByC snd dt j ks (restLanes k b) (quietC g) s (o .samples) (from + k)) .accepted) a
       (mixed-above j ks (restLanes k b) (quietC g) s (o .samples) (from + k)
       (subst (λ (x : Signals). T ((mixedBy snd dt j ks (restLanes k b) x (decoded s) (o .samples) (from + k)) .accepted)) (sym (quiet-means g))
       (subst (λ (v : StaticSound). T ((mixedBy snd dt j ks (restLanes k b) (quiet (signalsOf g)) v (o .samples) (from + k)) .accepted))
-      (sym (after-means (o .answer .refusal) (o .answer .sound) c (eqb→eq (o .answer .refusal) 0 a))) (and-r (eqb (o .answer .refusal) 0) (r .accepted) h))))
+      (sym (after-means (o .answer .refusal) (o .answer .voice) c (eqb→eq (o .answer .refusal) 0 a))) (and-r (eqb (o .answer .refusal) 0) (r .accepted) h))))
 
 -- two rows agree as those below do
 agree : (m n : RunC) (r s : Run) → AsBelow m r → AsBelow n s → Agree r s → AgreeC m n
@@ -151,8 +151,8 @@ agree m n r s x y a =
       alike = ap bare (means m r x) ∙ a .alike ∙ sym (ap bare (means n s y));
     }
   where
-    means : (m : RunC) (r : Run) → AsBelow m r → decoded (m .state) ≡ r .sound
-    means m r x = ap decoded (x .state) ∙ decoded-encoded (r .sound)
+    means : (m : RunC) (r : Run) → AsBelow m r → decoded (m .state) ≡ r .voice
+    means m r x = ap decoded (x .state) ∙ decoded-encoded (r .voice)
 
 pub archive-any-sizes : AnySizesC
 archive-any-sizes snd dt b g c k ks out j js other ways =

@@ -16,17 +16,17 @@ use Rattle.playback_state_manager.specs.declared.PlaybackState.the-variants.{St
 use Rattle.playback_state_manager.specs.States.{advancing, number}
 use Rattle.sound_lanes.specs.Lanes.{Lane, laned, near}
 use Rattle.sound_state.specs.declared.StaticSound.{StaticSound}
-use Rattle.sound_state.specs.WellFormed.{Formed}
+use Rattle.sound_state.specs.WellFormed.{WellFormed}
 use Rattle.sound_block.specs.declared.Signals.{Signals}
 use Rattle.sound_slow_path.specs.Plays.{Played, lower, plays}
 use Rattle.sound_slow_path.proofs.Lowest.{four-lower}
 use Rattle.sound_block.specs.Blocks.{silent, begun, live, block, quiet}
 use Rattle.sound_slow_path.proofs.Plays.{plays-append, plays-started, plays-setup}
 use Rattle.sound_block.proofs.Blocks.{zeros-append, block-live, block-silent, Taken, begun-taken, begun-quiet}
-use Rattle.sound_block.proofs.Keeps.{begun-formed}
-use Rattle.sound_slow_path.proofs.Keeps.{plays-formed}
+use Rattle.sound_block.proofs.Keeps.{begun-well-formed}
+use Rattle.sound_slow_path.proofs.Keeps.{plays-well-formed}
 use Rattle.theorems.specs.Alike.{bare, awake}
-use Rattle.theorems.specs.LawfulEnd.{EndsOnly}
+use Rattle.theorems.specs.AllowedEnd.{EndsOnly}
 use Rattle.theorems.proofs.Ends.{plays-ends, plays-idle}
 
 pub record CutPlayed (uncut first rest : Played) : Type 0 where
@@ -55,7 +55,7 @@ module _ (snd : List Float) (dt : Float) (xs ys : List Lane) where
   cut-silent g v h e = rw (rest-silent g v h e) (record { samples = zeros-append xs ys; same = λ n. (refl, refl); lowest = λ n. sym (four-lower 4 (le-refl 4)); alike = refl })
 
   module _ (t : T (lt positiveZero dt)) where
-    cut-live : (g : Signals) (v : StaticSound) → Taken g (v .started) → Formed v → live v ≡ true → T (all laned (xs ++ ys)) → T (all (near (v .setup .«sample_rate») dt) (xs ++ ys))
+    cut-live : (g : Signals) (v : StaticSound) → Taken g (v .started) → WellFormed v → live v ≡ true → T (all laned (xs ++ ys)) → T (all (near (v .setup .«sample_rate») dt) (xs ++ ys))
         → CutPlayed (plays snd dt (xs ++ ys) v) (plays snd dt xs v) (block snd dt ys (quiet g) ((plays snd dt xs v) .voice))
     cut-live g v h w e a k = go (plays-ends snd dt xs v)
       where
@@ -74,16 +74,16 @@ module _ (snd : List Float) (dt : Float) (xs ys : List Lane) where
             let i =
             plays-idle snd dt t ys u (all-rest laned xs ys a)
             (rw (plays-setup snd dt xs v) (all-rest n xs ys k))
-            (plays-formed snd dt t xs v (all-front n xs ys k) w) s
+            (plays-well-formed snd dt t xs v (all-front n xs ys k) w) s
             in
             rw (plays-append snd dt xs ys v, rest-silent g u held (ap (λ (y : PlaybackState). u .started && advancing y) (s .stopped) ∙ and-false (u .started)))
             (record { samples = ap (λ (z : List Float). (plays snd dt xs v) .samples ++ z) (i .samples); same = λ n. absurd (not-awake u (s .stopped) n); lowest = λ n. absurd (not-awake u (s .stopped) n); alike = i .alike })
 
-    pub block-cut : (g : Signals) (v : StaticSound) → Formed v → T (all laned (xs ++ ys)) → T (all (near (v .setup .«sample_rate») dt) (xs ++ ys))
+    pub block-cut : (g : Signals) (v : StaticSound) → WellFormed v → T (all laned (xs ++ ys)) → T (all (near (v .setup .«sample_rate») dt) (xs ++ ys))
         → CutPlayed (block snd dt (xs ++ ys) g v) (block snd dt xs g v) (block snd dt ys (quiet g) ((block snd dt xs g v) .voice))
     unfolding begun
     block-cut g v w a k = go (live (begun g v)) refl
       where
         go : (c : Bool) → live (begun g v) ≡ c → CutPlayed (block snd dt (xs ++ ys) g v) (block snd dt xs g v) (block snd dt ys (quiet g) ((block snd dt xs g v) .voice))
-        go true e = rw (block-live snd dt (xs ++ ys) g v e, block-live snd dt xs g v e) (cut-live g (begun g v) (begun-taken g v) (begun-formed g v w) e a k)
+        go true e = rw (block-live snd dt (xs ++ ys) g v e, block-live snd dt xs g v e) (cut-live g (begun g v) (begun-taken g v) (begun-well-formed g v w) e a k)
         go false e = rw (block-silent snd dt (xs ++ ys) g v e, block-silent snd dt xs g v e) (cut-silent g (begun g v) (begun-taken g v) e)

@@ -17,15 +17,15 @@ use Rattle.sound_lanes.specs.Lanes.{Lane, Lanes, rows, near, firstLanes, restLa
 use Rattle.sound_lanes.proofs.Rows.{beside-length}
 use Rattle.sound_state.specs.declared.Setup.{Setup}
 use Rattle.sound_state.specs.declared.StaticSound.{StaticSound}
-use Rattle.sound_state.specs.WellFormed.{Formed}
-use Rattle.sound_state.proofs.Formed.{ours-parts}
+use Rattle.sound_state.specs.WellFormed.{WellFormed}
+use Rattle.sound_state.proofs.WellFormed.{well-formed-for-parts}
 use Rattle.sound_block.specs.declared.Signals.{Signals}
-use Rattle.sound_slow_path.specs.Plays.{total, turned, plays, Outcome, acceptedWith}
+use Rattle.sound_slow_path.specs.Plays.{total, afterFrame, plays, Outcome, acceptedWith}
 use Rattle.sound_block.specs.Blocks.{begun, live, block, quiet}
 use Rattle.static_sound.specs.Entries.{holds, room, mixed, processed}
 use Rattle.sound_block.proofs.Blocks.{block-live, block-silent, block-setup}
-use Rattle.sound_block.proofs.Keeps.{begun-formed}
-use Rattle.sound_slow_path.proofs.Keeps.{turned-formed}
+use Rattle.sound_block.proofs.Keeps.{begun-well-formed}
+use Rattle.sound_slow_path.proofs.Keeps.{turned-well-formed}
 use Rattle.static_sound.proofs.Refusals.{Accepted, accepted-parts}
 use Rattle.static_sound.proofs.Entries.{time-step-above, processed-passed, processed-done, into-passed, into-done}
 use Rattle.theorems.specs.Sums.{sum}
@@ -40,7 +40,7 @@ few k n = leb n (k + 1)
 
 module _ (k : ℕ) (small : k ≤ 256) (snd : List Float) (dt : Float) (t : T (lt positiveZero dt)) where
   -- one frame
-  frame-few : (v : StaticSound) (l : Lane) → Formed v → T (near (v .setup .«sample_rate») dt l) → T (atMost k (v .setup .«sample_rate») dt l) → whole (total dt v l) ≤ k + 1
+  frame-few : (v : StaticSound) (l : Lane) → WellFormed v → T (near (v .setup .«sample_rate») dt l) → T (atMost k (v .setup .«sample_rate») dt l) → whole (total dt v l) ≤ k + 1
   unfolding total
   frame-few v l h n s =
       let a = advance (v .setup .«sample_rate») (l .rate) dt in
@@ -54,17 +54,17 @@ module _ (k : ℕ) (small : k ≤ 256) (snd : List Float) (dt : Float) (t : T (l
     pub each : T (all (few k) (stepsOf snd dt ls v))
     pub sum : (plays snd dt ls v) .steps ≤ length ls * (k + 1)
 
-  frames-few : (ls : List Lane) (v : StaticSound) → Formed v → T (all (near (v .setup .«sample_rate») dt) ls) → T (all (atMost k (v .setup .«sample_rate») dt) ls) → Frames ls v
-  unfolding stepsOf plays turned
+  frames-few : (ls : List Lane) (v : StaticSound) → WellFormed v → T (all (near (v .setup .«sample_rate») dt) ls) → T (all (atMost k (v .setup .«sample_rate») dt) ls) → Frames ls v
+  unfolding stepsOf plays afterFrame
   frames-few [] v h n s = record { each = tt; sum = omega arith }
   frames-few (l ∷ ls) v h n s =
       let a = near (v .setup .«sample_rate») dt l in
       let b = all (near (v .setup .«sample_rate») dt) ls in
       let c = atMost k (v .setup .«sample_rate») dt l in
       let d = all (atMost k (v .setup .«sample_rate») dt) ls in
-      let u = turned snd dt v l in
+      let u = afterFrame snd dt v l in
       let w = frame-few v l h (and-l a b n) (and-l c d s) in
-      let r = frames-few ls u (turned-formed snd dt t v l (and-l a b n) h) (and-r a b n) (and-r c d s) in
+      let r = frames-few ls u (turned-well-formed snd dt t v l (and-l a b n) h) (and-r a b n) (and-r c d s) in
       record {
         each = and-i (few k (whole (total dt v l))) (all (few k) (stepsOf snd dt ls u)) (le→leb (whole (total dt v l)) (k + 1) w) (r .each);
         sum = join (whole (total dt v l)) ((plays snd dt ls u) .steps) (length ls) (k + 1) w (r .sum);
@@ -83,7 +83,7 @@ module _ (k : ℕ) (small : k ≤ 256) (snd : List Float) (v : StaticSound) (dt 
   block-within placed out p s = go (live (begun g v)) refl
     where
       f : Frames k small snd dt (time-step-above dt (p .timeStep)) (rows b) (begun g v)
-      f = frames-few k small snd dt (time-step-above dt (p .timeStep)) (rows b) (begun g v) (begun-formed g v (ours-parts (length snd) v (p .ours) .0)) (p .near) s
+      f = frames-few k small snd dt (time-step-above dt (p .timeStep)) (rows b) (begun g v) (begun-well-formed g v (well-formed-for-parts (length snd) v (p .wellFormedFor) .0)) (p .near) s
 
       sized : length (rows b) ≡ length (b .rate)
       sized = beside-length (b .fade) (b .volume) (b .left) (b .right) (b .rate)
@@ -128,9 +128,9 @@ module _ (k : ℕ) (small : k ≤ 256) (snd : List Float) (dt : Float) where
 
   -- a block leaves the setup
   setup-kept : (b : Lanes) (g : Signals) (v : StaticSound) (out : List Float) → T (eqb ((processed snd v dt b g out) .answer .refusal) 0)
-      → ((processed snd v dt b g out) .answer .sound) .setup ≡ v .setup
+      → ((processed snd v dt b g out) .answer .voice) .setup ≡ v .setup
   setup-kept b g v out h =
-      ap (λ (o : Outcome). o .answer .sound .setup) (processed-done snd v dt b g out (processed-passed snd v dt b g out (eqb→eq ((processed snd v dt b g out) .answer .refusal) 0 h)))
+      ap (λ (o : Outcome). o .answer .voice .setup) (processed-done snd v dt b g out (processed-passed snd v dt b g out (eqb→eq ((processed snd v dt b g out) .answer .refusal) 0 h)))
       ∙ block-setup snd dt (rows b) g v
 
   stream-few : (b : Lanes) (g : Signals) (v : StaticSound) (j : ℕ) (js : List ℕ) (out : List Float) → j + sum js ≡ length (b .rate)
@@ -144,15 +144,15 @@ module _ (k : ℕ) (small : k ≤ 256) (snd : List Float) (dt : Float) where
       whole-of j n e = omega arith
   stream-few b g v j (i ∷ is) out e h s =
       let o = processed snd v dt (firstLanes j b) g (take (2 * j) out) in
-      let r = playedBy snd dt i is (restLanes j b) (quiet g) (o .answer .sound) (drop (2 * j) out) in
+      let r = playedBy snd dt i is (restLanes j b) (quiet g) (o .answer .voice) (drop (2 * j) out) in
       let first = and-l (eqb (o .answer .refusal) 0) (r .accepted) h in
-      let slow : Slow k (o .answer .sound) dt (restLanes j b) =
+      let slow : Slow k (o .answer .voice) dt (restLanes j b) =
       subst (λ (x : Setup). T (all (atMost k (x .«sample_rate») dt) (rows (restLanes j b)))) (sym (setup-kept (firstLanes j b) g v (take (2 * j) out) first))
       (rest-all (atMost k (v .setup .«sample_rate») dt) j b s)
       in
       join (o .answer .steps) (r .steps) j (sum is) (length (b .rate)) (length (drop j (b .rate))) e (length-drop j (b .rate))
       (first-few b g v j out (omega arith) s first)
-      (stream-few (restLanes j b) (quiet g) (o .answer .sound) i is (drop (2 * j) out) (left (length (b .rate)) (sum is) e ∙ sym (length-drop j (b .rate))) (and-r (eqb (o .answer .refusal) 0) (r .accepted) h) slow)
+      (stream-few (restLanes j b) (quiet g) (o .answer .voice) i is (drop (2 * j) out) (left (length (b .rate)) (sum is) e ∙ sym (length-drop j (b .rate))) (and-r (eqb (o .answer .refusal) 0) (r .accepted) h) slow)
     where
       left : (n m : ℕ) → j + (i + m) ≡ n → i + m ≡ n - j
       left n m e = omega arith

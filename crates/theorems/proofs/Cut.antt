@@ -15,14 +15,14 @@ use Rattle.sound_lanes.specs.Lanes.{Lane, Lanes, rows, timeStep, laned, near, f
 use Rattle.sound_lanes.proofs.Rows.{rows-cut, first-sized, rest-sized}
 use Rattle.sound_state.specs.declared.Setup.{Setup}
 use Rattle.sound_state.specs.declared.StaticSound.{StaticSound}
-use Rattle.sound_state.specs.WellFormed.{ours}
-use Rattle.sound_state.proofs.Formed.{ours-parts}
+use Rattle.sound_state.specs.WellFormed.{wellFormedFor}
+use Rattle.sound_state.proofs.WellFormed.{well-formed-for-parts}
 use Rattle.sound_block.specs.declared.Signals.{Signals}
 use Rattle.sound_block.specs.Blocks.{block, quiet}
 use Rattle.static_sound.specs.Entries.{refusedBlock, holds}
 use Rattle.sound_block.proofs.Blocks.{block-setup}
 use Rattle.static_sound.proofs.Refusals.{Accepted, accepted-parts, accepted-of}
-use Rattle.static_sound.proofs.Entries.{time-step-above, block-ours, processed-passed, processed-done}
+use Rattle.static_sound.proofs.Entries.{time-step-above, block-well-formed-for, processed-passed, processed-done}
 use Rattle.theorems.specs.Cut.{CutBlocks}
 use Rattle.theorems.proofs.Blocks.{CutPlayed, block-cut}
 
@@ -49,7 +49,7 @@ module _ (snd : List Float) (v : StaticSound) (dt : Float) (b : Lanes) (g : Sign
   pub first-accepted : (here : Bool) → T here → k ≤ length (b .rate) → Accepted (length snd) v dt (firstLanes k b) here
   first-accepted here h q =
       record {
-        ours = p .ours;
+        wellFormedFor = p .wellFormedFor;
         sized = first-sized k b q (p .sized);
         placed = h;
         timeStep = p .timeStep;
@@ -60,7 +60,7 @@ module _ (snd : List Float) (v : StaticSound) (dt : Float) (b : Lanes) (g : Sign
   pub rest-accepted : (here : Bool) → T here → k ≤ length (b .rate) → Accepted (length snd) ((block snd dt (rows (firstLanes k b)) g v) .voice) dt (restLanes k b) here
   rest-accepted here h q =
       record {
-        ours = block-ours snd v dt (firstLanes k b) g true (first-accepted true tt q);
+        wellFormedFor = block-well-formed-for snd v dt (firstLanes k b) g true (first-accepted true tt q);
         sized = rest-sized k b (p .sized);
         placed = h;
         timeStep = p .timeStep;
@@ -74,7 +74,7 @@ module _ (snd : List Float) (v : StaticSound) (dt : Float) (b : Lanes) (g : Sign
       let ys = rows (restLanes k b) in
       subst (λ (ls : List Lane). T (all laned ls) → T (all (near (v .setup .«sample_rate») dt) ls) → CutPlayed (block snd dt ls g v) (block snd dt xs g v) (block snd dt ys (quiet g) ((block snd dt xs g v) .voice)))
       (rows-cut k b)
-      (block-cut snd dt xs ys (time-step-above dt (p .timeStep)) g v (ours-parts (length snd) v (p .ours) .0))
+      (block-cut snd dt xs ys (time-step-above dt (p .timeStep)) g v (well-formed-for-parts (length snd) v (p .wellFormedFor) .0))
       (p .laned) (p .near)
 
 -- ---- the plain entry

@@ -30,20 +30,20 @@ use Rattle.sound_lanes.specs.Lanes.{Lane, laned, near}
 use Rattle.sound_state.specs.declared.Setup.{Setup}
 use Rattle.sound_update.specs.declared.Moving.{Moving}
 use Rattle.sound_update.specs.declared.Wraps.{Wraps}
-use Rattle.sound_update.specs.declared.Course.{Course}
+use Rattle.sound_update.specs.declared.Slice.{Slice}
 use Rattle.sound_state.specs.declared.StaticSound.{StaticSound}
-use Rattle.sound_state.specs.Voices.{courseOf}
+use Rattle.sound_state.specs.Voices.{sliceOf}
 use Rattle.sound_update.specs.Updates.{sounding, pushed, stepped, raised, counted, updated, updates}
-use Rattle.sound_state.specs.WellFormed.{Formed}
-use Rattle.sound_slow_path.specs.Plays.{Played, total, turned, frameHeard, plays}
+use Rattle.sound_state.specs.WellFormed.{WellFormed}
+use Rattle.sound_slow_path.specs.Plays.{Played, total, afterFrame, frameWithGains, plays}
 use Rattle.sound_block.specs.Blocks.{zeros}
-use Rattle.sound_slow_path.proofs.Keeps.{turned-formed}
+use Rattle.sound_slow_path.proofs.Keeps.{turned-well-formed}
 use Rattle.theorems.specs.Alike.{unnumbered, bare}
-use Rattle.theorems.specs.LawfulEnd.{Ended, EndsOnly}
+use Rattle.theorems.specs.AllowedEnd.{Ended, EndsOnly}
 
 -- ---- updates
 
-pub stepped-still : (c : Course) (t : Transport) → t .playing ≡ false → stepped c t ≡ t
+pub stepped-still : (c : Slice) (t : Transport) → t .playing ≡ false → stepped c t ≡ t
 unfolding stepped
 stepped-still c t e = go (c .backwards)
   where
@@ -56,7 +56,7 @@ both-same : {A : Type 0} (b : Bool) (x y z : A) → x ≡ z → y ≡ z → cond
 both-same true x y z p q = p
 both-same false x y z p q = q
 
-module _ (snd : List Float) (c : Course) where
+module _ (snd : List Float) (c : Slice) where
   updated-ended : (m : Moving) → Ended m → Ended (updated snd c m)
   unfolding updated push
   updated-ended m h =
@@ -122,27 +122,27 @@ module _ (snd : List Float) (c : Course) where
 -- ---- frames
 
 module _ (snd : List Float) (dt : Float) where
-  turned-ended : (v : StaticSound) (l : Lane) → Ended (v .moving) → Ended (turned snd dt v l .moving)
-  unfolding turned
-  turned-ended v l h = updates-ended snd (courseOf v) (whole (total dt v l)) (v .moving) h
+  turned-ended : (v : StaticSound) (l : Lane) → Ended (v .moving) → Ended (afterFrame snd dt v l .moving)
+  unfolding afterFrame
+  turned-ended v l h = updates-ended snd (sliceOf v) (whole (total dt v l)) (v .moving) h
 
-  turned-ends : (v : StaticSound) (l : Lane) → EndsOnly (v .moving .state) (turned snd dt v l .moving)
-  unfolding turned
-  turned-ends v l = updates-ends snd (courseOf v) (whole (total dt v l)) (v .moving)
+  turned-ends : (v : StaticSound) (l : Lane) → EndsOnly (v .moving .state) (afterFrame snd dt v l .moving)
+  unfolding afterFrame
+  turned-ends v l = updates-ends snd (sliceOf v) (whole (total dt v l)) (v .moving)
 
   plays-ended : (ls : List Lane) (v : StaticSound) → Ended (v .moving) → Ended ((plays snd dt ls v) .voice .moving)
   unfolding plays
   plays-ended [] v h = h
-  plays-ended (l ∷ ls) v h = plays-ended ls (turned snd dt v l) (turned-ended v l h)
+  plays-ended (l ∷ ls) v h = plays-ended ls (afterFrame snd dt v l) (turned-ended v l h)
 
   -- a block leaves the state as it is, or the voice has ended
   pub plays-ends : (ls : List Lane) (v : StaticSound) → EndsOnly (v .moving .state) ((plays snd dt ls v) .voice .moving)
   unfolding plays
   plays-ends [] v = inl refl
-  plays-ends (l ∷ ls) v = go (turned-ends v l) (plays-ends ls (turned snd dt v l))
+  plays-ends (l ∷ ls) v = go (turned-ends v l) (plays-ends ls (afterFrame snd dt v l))
     where
       u : StaticSound
-      u = turned snd dt v l
+      u = afterFrame snd dt v l
 
       go : EndsOnly (v .moving .state) (u .moving) → EndsOnly (u .moving .state) ((plays snd dt ls u) .voice .moving) → EndsOnly (v .moving .state) ((plays snd dt ls u) .voice .moving)
       go (inl e) (inl f) = inl (f ∙ e)
@@ -152,8 +152,8 @@ module _ (snd : List Float) (dt : Float) where
 -- ---- what is heard
 
 frame-last-zero : (v : StaticSound) (l : Lane) → Windowed (v .moving .resampler) → T (proper (v .«fractional_position»)) → v .moving .resampler .«time_until_empty» ≡ 0 → T (laned l)
-    → frameHeard v l ≡ lastZero
-unfolding frameHeard
+    → frameWithGains v l ≡ lastZero
+unfolding frameWithGains
 frame-last-zero v l w p e k =
     let a = finiteClear (l .fade) in
     let b = finiteClear (l .volume) in
@@ -208,12 +208,12 @@ bare-ended v w h =
     (ap₂ (λ (l : List RecentFrame) (n : ℕ). record { frames = l; «time_until_empty» = n }) f (h .empty))
 
 module _ (snd : List Float) (dt : Float) (t : T (lt positiveZero dt)) where
-  bare-turned : (v : StaticSound) (l : Lane) → T (near (v .setup .«sample_rate») dt l) → Formed v → Ended (v .moving) → bare (turned snd dt v l) ≡ bare v
-  unfolding turned
+  bare-turned : (v : StaticSound) (l : Lane) → T (near (v .setup .«sample_rate») dt l) → WellFormed v → Ended (v .moving) → bare (afterFrame snd dt v l) ≡ bare v
+  unfolding afterFrame
   bare-turned v l k w h =
-      bare-ended (turned snd dt v l) (turned-formed snd dt t v l k w .window) (turned-ended snd dt v l h)
-      ∙ ap₂ (spare (v .setup) (v .«playback_rate») (v .started)) (updates-still snd (courseOf v) (whole (total dt v l)) (v .moving) h)
-      (updates-uncounted snd (courseOf v) (whole (total dt v l)) (v .moving) h)
+      bare-ended (afterFrame snd dt v l) (turned-well-formed snd dt t v l k w .window) (turned-ended snd dt v l h)
+      ∙ ap₂ (spare (v .setup) (v .«playback_rate») (v .started)) (updates-still snd (sliceOf v) (whole (total dt v l)) (v .moving) h)
+      (updates-uncounted snd (sliceOf v) (whole (total dt v l)) (v .moving) h)
       ∙ sym (bare-ended v (w .window) h)
 
   -- the rest of a block, played on an ended voice
@@ -221,14 +221,14 @@ module _ (snd : List Float) (dt : Float) (t : T (lt positiveZero dt)) where
     pub samples : p .samples ≡ zeros ls
     pub alike : bare (p .voice) ≡ bare v
 
-  pub plays-idle : (ls : List Lane) (v : StaticSound) → T (all laned ls) → T (all (near (v .setup .«sample_rate») dt) ls) → Formed v → Ended (v .moving) → Idle ls v (plays snd dt ls v)
-  unfolding plays zeros turned
+  pub plays-idle : (ls : List Lane) (v : StaticSound) → T (all laned ls) → T (all (near (v .setup .«sample_rate») dt) ls) → WellFormed v → Ended (v .moving) → Idle ls v (plays snd dt ls v)
+  unfolding plays zeros afterFrame
   plays-idle [] v a k w h = record { samples = refl; alike = refl }
   plays-idle (l ∷ ls) v a k w h =
       let n = near (v .setup .«sample_rate») dt l in
       let r = all (near (v .setup .«sample_rate») dt) ls in
-      let u = turned snd dt v l in
-      let i = plays-idle ls u (and-r (laned l) (all laned ls) a) (and-r n r k) (turned-formed snd dt t v l (and-l n r k) w) (turned-ended snd dt v l h) in
+      let u = afterFrame snd dt v l in
+      let i = plays-idle ls u (and-r (laned l) (all laned ls) a) (and-r n r k) (turned-well-formed snd dt t v l (and-l n r k) w) (turned-ended snd dt v l h) in
       let f = frame-last-zero v l (w .window) (w .fraction) (h .empty) (and-l (laned l) (all laned ls) a) in
       record {
         samples = ap₂ (λ (x : Frame) (z : List Float). x .left ∷ x .right ∷ z) f (i .samples);

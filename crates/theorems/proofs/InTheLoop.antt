@@ -29,11 +29,11 @@ use Rattle.resampler.specs.Windows.{isEmpty}
 use Rattle.sound_lanes.specs.Lanes.{Lane, rows}
 use Rattle.sound_state.specs.declared.Setup.{Setup}
 use Rattle.sound_update.specs.declared.Moving.{Moving}
-use Rattle.sound_update.specs.declared.Course.{Course}
+use Rattle.sound_update.specs.declared.Slice.{Slice}
 use Rattle.sound_state.specs.declared.StaticSound.{StaticSound}
-use Rattle.sound_state.specs.Voices.{span, courseOf}
+use Rattle.sound_state.specs.Voices.{sliceLength, sliceOf}
 use Rattle.sound_update.specs.Updates.{pushed, stepped, updated, updates}
-use Rattle.sound_state.proofs.Formed.{formed-parts}
+use Rattle.sound_state.proofs.WellFormed.{well-formed-parts}
 use Rattle.sound_commands.specs.declared.Amount.{Amount}
 use Rattle.sound_commands.specs.declared.Amount.the-variants as amount
 use Rattle.sound_commands.specs.declared.LoopCommand.{LoopCommand}
@@ -42,7 +42,7 @@ use Rattle.sound_commands.specs.declared.ResumeCommand.{ResumeCommand}
 use Rattle.sound_commands.specs.declared.ResumeCommand.the-variants as resume
 use Rattle.sound_commands.specs.declared.Commands.{Commands}
 use Rattle.sound_commands.specs.declared.Commanded.{Commanded}
-use Rattle.sound_commands.specs.Commands.{targetBy, targetTo, looped, woken, ordered, told, jumped, refilled, sought, soughtBy, soughtTo, obeyed, commanded}
+use Rattle.sound_commands.specs.Commands.{targetBy, targetTo, looped, woken, ordered, beforeSeeks, jumped, refilled, sought, soughtBy, soughtTo, obeyed, commanded}
 use Rattle.sound_commands.proofs.Orders.{by-setup, obeyed-setup}
 use Rattle.sound_commands.proofs.Answers.{commanded-passed, commanded-done, commanded-refused}
 use Rattle.loop_table.specs.declared.LoopTable.{LoopTable}
@@ -50,7 +50,7 @@ use Rattle.loop_table.specs.declared.LoopFound.{LoopFound}
 use Rattle.loop_table.specs.Tables.{found}
 use Rattle.take_loop.specs.Taking.{loopCommand, taken}
 use Rattle.sound_block.specs.declared.Signals.{Signals}
-use Rattle.sound_slow_path.specs.Plays.{total, turned, plays}
+use Rattle.sound_slow_path.specs.Plays.{total, afterFrame, plays}
 use Rattle.sound_block.specs.Blocks.{begun, live, silent, block, givenUp}
 use Rattle.static_sound.specs.Entries.{processed, processedInto}
 use Rattle.sound_block.proofs.Blocks.{block-setup}
@@ -104,7 +104,7 @@ module _ (s e : ℕ) where
   onward : (m n w : Moving) → Holds m n → Holds n w → Holds m w
   onward m n w a b = record { inside = b .inside; state = b .state ∙ a .state }
 
-  module _ (snd : List Float) (c : Course) (k : e ≤ c .«num_frames») where
+  module _ (snd : List Float) (c : Slice) (k : e ≤ c .«num_frames») where
     updated-holds : (m : Moving) → Inside s e (m .transport) → Holds m (updated snd c m)
     unfolding updated stepped
     updated-holds m h =
@@ -125,15 +125,15 @@ module _ (s e : ℕ) where
   -- ---- a voice whose loop lies in its N frames
 
   pub record In (v : StaticSound) : Type 0 where
-    pub fits : e ≤ span (v .setup)
+    pub fits : e ≤ sliceLength (v .setup)
     pub inside : Inside s e (v .moving .transport)
 
   plays-hold : (snd : List Float) (dt : Float) (ls : List Lane) (v : StaticSound) → In v → Holds (v .moving) ((plays snd dt ls v) .voice .moving)
-  unfolding plays turned
+  unfolding plays afterFrame
   plays-hold snd dt [] v h = stayed (v .moving) (h .inside)
   plays-hold snd dt (l ∷ ls) v h =
-      let u = turned snd dt v l in
-      let a = updates-hold snd (courseOf v) (h .fits) (whole (total dt v l)) (v .moving) (h .inside) in
+      let u = afterFrame snd dt v l in
+      let a = updates-hold snd (sliceOf v) (h .fits) (whole (total dt v l)) (v .moving) (h .inside) in
       onward (v .moving) (u .moving) ((plays snd dt ls u) .voice .moving) a (plays-hold snd dt ls u (record { fits = h .fits; inside = a .inside }))
 
   -- a block: the state is what its signals made of it
@@ -153,10 +153,10 @@ module _ (s e : ℕ) where
   unfolding sought
   sought-holds snd v q h = go (advancing (v .moving .state))
     where
-      j : Inside s e (seek (span (v .setup)) (v .moving .transport) q)
-      j = seek-inside (span (v .setup)) (v .moving .transport) q (h .fits) (h .inside)
+      j : Inside s e (seek (sliceLength (v .setup)) (v .moving .transport) q)
+      j = seek-inside (sliceLength (v .setup)) (v .moving .transport) q (h .fits) (h .inside)
 
-      go : (b : Bool) → Holds (v .moving) (cond b (refilled snd (courseOf v) (jumped v q)) (jumped v q))
+      go : (b : Bool) → Holds (v .moving) (cond b (refilled snd (sliceOf v) (jumped v q)) (jumped v q))
       go true = record { inside = j; state = refl }
       go false = record { inside = j; state = refl }
 
@@ -173,14 +173,14 @@ module _ (s e : ℕ) where
   kept-loop v loop.Clear h = absurd h
   kept-loop v (loop.Set r) h = absurd h
 
-  obeyed-holds : (snd : List Float) (c : Commands) (v : StaticSound) → T (not (changesLoop (c .«loop_region»))) → In v → Holds ((told c v) .moving) ((obeyed snd c v) .moving)
-  unfolding obeyed told
+  obeyed-holds : (snd : List Float) (c : Commands) (v : StaticSound) → T (not (changesLoop (c .«loop_region»))) → In v → Holds ((beforeSeeks c v) .moving) ((obeyed snd c v) .moving)
+  unfolding obeyed beforeSeeks
   obeyed-holds snd c v k h =
-      let u = told c v in
+      let u = beforeSeeks c v in
       let i : In u = record { fits = h .fits; inside = record { loop = kept-loop v (c .«loop_region») k ∙ h .inside .loop; going = h .inside .going; from = h .inside .from; to = h .inside .to } } in
       let w = soughtBy snd u (c .«seek_by») in
       let a = by-holds snd u (c .«seek_by») i in
-      let f : e ≤ span (w .setup) = subst (λ (x : Setup). e ≤ span x) (sym (by-setup snd u (c .«seek_by»))) (i .fits) in
+      let f : e ≤ sliceLength (w .setup) = subst (λ (x : Setup). e ≤ sliceLength x) (sym (by-setup snd u (c .«seek_by»))) (i .fits) in
       onward (u .moving) (w .moving) ((soughtTo snd w (c .«seek_to»)) .moving) a (to-holds snd w (c .«seek_to») (record { fits = f; inside = a .inside }))
 
 -- ---- the states: neither Stopping nor Stopped
@@ -241,7 +241,7 @@ ordered-alive c s e k = last (c .stop) e
 -- ---- a loop that is not taken
 
 -- refused by the table, or by the command set: the given voice
-pub taken-refused : (snd : List Float) (t : LoopTable) (k : ℕ) (v : StaticSound) → ((taken snd t k v) .refusal ≡ 0 → ⊥) → (taken snd t k v) .sound ≡ v
+pub taken-refused : (snd : List Float) (t : LoopTable) (k : ℕ) (v : StaticSound) → ((taken snd t k v) .refusal ≡ 0 → ⊥) → (taken snd t k v) .voice ≡ v
 unfolding taken
 taken-refused snd t k v = go (eqb (f .refusal) 0)
   where
@@ -252,9 +252,9 @@ taken-refused snd t k v = go (eqb (f .refusal) 0)
     c = loopCommand (f .slot)
 
     go : (b : Bool)
-        → let r = cond {A = Commanded} b (commanded snd v (loopCommand (f .slot))) (record { refusal = f .refusal; sound = v; position = positiveZero }) in
-        (r .refusal ≡ 0 → ⊥) → r .sound ≡ v
-    go true n = ap (λ (a : Commanded). a .sound) (commanded-refused snd v c n)
+        → let r = cond {A = Commanded} b (commanded snd v (loopCommand (f .slot))) (record { refusal = f .refusal; voice = v; position = positiveZero }) in
+        (r .refusal ≡ 0 → ⊥) → r .voice ≡ v
+    go true n = ap (λ (a : Commanded). a .voice) (commanded-refused snd v c n)
     go false n = refl
 
 -- ---- one call
@@ -265,7 +265,7 @@ Asked kind c v = T (not (accepted c v && kind c))
 
 -- the voice after a call: as the block or the set leaves it, or untouched
 pub record Next (s e : ℕ) (c : Call) (v w : StaticSound) : Type 0 where
-  pub fits : e ≤ span (w .setup)
+  pub fits : e ≤ sliceLength (w .setup)
   pub inside : Inside s e (w .moving .transport)
   pub alive : Asked stops c v → alive (v .moving .state) → alive (w .moving .state)
 
@@ -295,17 +295,17 @@ module _ (s e : ℕ) (v : StaticSound) (h : In s e v) where
   block-next c snd dt ls g k =
       let b = block-holds s e snd dt ls g v h in
       record {
-        fits = subst (λ (x : Setup). e ≤ span x) (sym (block-setup snd dt ls g v)) (h .fits);
+        fits = subst (λ (x : Setup). e ≤ sliceLength x) (sym (block-setup snd dt ls g v)) (h .fits);
         inside = b .inside;
         alive = λ a i. subst alive (sym (b .state)) (begun-alive g (k a) i);
       }
 
   set-next : (call : Call) (snd : List Float) (c : Commands) → T (not (changesLoop (c .«loop_region»))) → (Asked stops call v → T (not (c .stop))) → Next s e call v (obeyed snd c v)
-  unfolding told
+  unfolding beforeSeeks
   set-next call snd c k j =
       let b = obeyed-holds s e snd c v k h in
       record {
-        fits = subst (λ (x : Setup). e ≤ span x) (sym (obeyed-setup snd c v)) (h .fits);
+        fits = subst (λ (x : Setup). e ≤ sliceLength x) (sym (obeyed-setup snd c v)) (h .fits);
         inside = b .inside;
         alive = λ a i. subst alive (sym (b .state)) (ordered-alive c (v .moving .state) (j a) i);
       }
@@ -321,7 +321,7 @@ module _ (s e : ℕ) (v : StaticSound) (h : In s e v) where
       c : Call
       c = Block snd dt b g out
 
-      go : (t : Bool) → eqb ((processed snd v dt b g out) .answer .refusal) 0 ≡ t → Next s e (Block snd dt b g out) v ((processed snd v dt b g out) .answer .sound)
+      go : (t : Bool) → eqb ((processed snd v dt b g out) .answer .refusal) 0 ≡ t → Next s e (Block snd dt b g out) v ((processed snd v dt b g out) .answer .voice)
       go true q =
           rw (processed-done snd v dt b g out (processed-passed snd v dt b g out (eqb-true ((processed snd v dt b g out) .answer .refusal) 0 q)))
           (block-next c snd dt (rows b) g (asked (stops c) (accepted c v) q))
@@ -331,7 +331,7 @@ module _ (s e : ℕ) (v : StaticSound) (h : In s e v) where
       c : Call
       c = Mix snd dt b g mix from
 
-      go : (t : Bool) → eqb ((processedInto snd v dt b g mix from) .answer .refusal) 0 ≡ t → Next s e (Mix snd dt b g mix from) v ((processedInto snd v dt b g mix from) .answer .sound)
+      go : (t : Bool) → eqb ((processedInto snd v dt b g mix from) .answer .refusal) 0 ≡ t → Next s e (Mix snd dt b g mix from) v ((processedInto snd v dt b g mix from) .answer .voice)
       go true q =
           rw (into-done snd v dt b g mix from (into-passed snd v dt b g mix from (eqb-true ((processedInto snd v dt b g mix from) .answer .refusal) 0 q)))
           (block-next c snd dt (rows b) g (asked (stops c) (accepted c v) q))
@@ -341,7 +341,7 @@ module _ (s e : ℕ) (v : StaticSound) (h : In s e v) where
       c : Call
       c = Command snd o
 
-      go : (t : Bool) → eqb ((commanded snd v o) .refusal) 0 ≡ t → Next s e (Command snd o) v ((commanded snd v o) .sound)
+      go : (t : Bool) → eqb ((commanded snd v o) .refusal) 0 ≡ t → Next s e (Command snd o) v ((commanded snd v o) .voice)
       go true q =
           rw (commanded-done snd v o (commanded-passed snd v o (eqb-true ((commanded snd v o) .refusal) 0 q)))
           (set-next c snd o (asked (reloops c) (accepted c v) q k) (asked (stops c) (accepted c v) q))
@@ -380,8 +380,8 @@ pub in-the-loop : InTheLoop
 in-the-loop s e cs v x =
     record { inside = row-inside s e cs v i (x .no-loop-command); stopped = λ q. ends (someAccepted stops cs v) (ending (v .moving .state)) (λ a b. subst alive q (row-alive s e cs v i (x .no-loop-command) a b)) }
   where
-    fits : e ≤ span (v .setup)
-    fits = (ranged-parts (span (v .setup)) s e (subst (λ (r : FrameRange). T (within (span (v .setup)) r)) (x .inside .loop) ((formed-parts v (x .formed)) .transportFormed .loop))) .inside
+    fits : e ≤ sliceLength (v .setup)
+    fits = (ranged-parts (sliceLength (v .setup)) s e (subst (λ (r : FrameRange). T (within (sliceLength (v .setup)) r)) (x .inside .loop) ((well-formed-parts v (x .wellFormed)) .transportWellFormed .loop))) .inside
 
     i : In s e v
     i = record { fits = fits; inside = x .inside }

@@ -6,7 +6,7 @@ pub mod Schedules
 pub mod Streams
 pub mod Mix
 pub mod Kept
-pub mod LawfulEnd
+pub mod AllowedEnd
 pub mod Steps
 pub mod Reports
 pub mod AnyOrder
@@ -15,7 +15,7 @@ pub mod Budget
 pub mod Held
 pub mod StartTicks
 pub mod Plain
-pub mod Rounds
+pub mod LoopWraps
 pub mod MixSchedules
 pub mod AtZero
 pub mod Examples

@@ -30,7 +30,7 @@ use Rattle.theorems.proofs.Streams.{all-accepted}
 -- a row into a mix against the plain row r
 record AsPlain (from n : ℕ) (mix : List Float) (m r : Run) : Type 0 where
   accepted : T (r .accepted)
-  sound : m .sound ≡ r .sound
+  voice : m .voice ≡ r .voice
   samples : m .samples ≡ mixed from n mix (r .samples)
   steps : m .steps ≡ r .steps
   lowest : m .«lowest_count» ≡ r .«lowest_count»
@@ -61,7 +61,7 @@ module _ (snd : List Float) (dt : Float) where
       let c : length (take k (b .rate)) ≡ length (b .rate) = length-take-le k (b .rate) q ∙ (omega arith) in
       record {
         accepted = eq→eqb (plain-accepted snd v dt f g mix from a xs t);
-        sound = ap (λ (o : Outcome). o .answer .sound) i;
+        voice = ap (λ (o : Outcome). o .answer .voice) i;
         samples = ap (λ (o : Outcome). o .samples) i ∙ ap (λ (n : ℕ). mixed from n mix ((processed snd v dt f g xs) .samples)) c;
         steps = ap (λ (o : Outcome). o .answer .steps) i;
         lowest = ap (λ (o : Outcome). o .answer .«lowest_count») i;
@@ -73,22 +73,22 @@ module _ (snd : List Float) (dt : Float) where
       let xs = take (2 * k) out in
       let o = processedInto snd v dt f g mix from in
       let p = processed snd v dt f g xs in
-      let m = mixedBy snd dt j ks (restLanes k b) (quiet g) (o .answer .sound) (o .samples) (from + k) in
+      let m = mixedBy snd dt j ks (restLanes k b) (quiet g) (o .answer .voice) (o .samples) (from + k) in
       let a = eqb→eq (o .answer .refusal) 0 (and-l (eqb (o .answer .refusal) 0) (m .accepted) h) in
       let t = first-holds k b out q l in
       let i = plain-is snd v dt f g mix from a xs t in
-      let s = ap (λ (o : Outcome). o .answer .sound) i in
-      let w : AsPlain (from + k) (length (drop k (b .rate))) (o .samples) m (playedBy snd dt j ks (restLanes k b) (quiet g) (o .answer .sound) (drop (2 * k) out)) =
-      as-plain j ks (restLanes k b) (quiet g) (o .answer .sound) (o .samples) (from + k) (drop (2 * k) out) (left (length (b .rate)) (sum ks) e ∙ sym (length-drop k (b .rate)))
+      let s = ap (λ (o : Outcome). o .answer .voice) i in
+      let w : AsPlain (from + k) (length (drop k (b .rate))) (o .samples) m (playedBy snd dt j ks (restLanes k b) (quiet g) (o .answer .voice) (drop (2 * k) out)) =
+      as-plain j ks (restLanes k b) (quiet g) (o .answer .voice) (o .samples) (from + k) (drop (2 * k) out) (left (length (b .rate)) (sum ks) e ∙ sym (length-drop k (b .rate)))
       (rest-length k b out l) (and-r (eqb (o .answer .refusal) 0) (m .accepted) h)
       in
-      let w' : AsPlain (from + k) (length (drop k (b .rate))) (o .samples) m (playedBy snd dt j ks (restLanes k b) (quiet g) (p .answer .sound) (drop (2 * k) out)) =
+      let w' : AsPlain (from + k) (length (drop k (b .rate))) (o .samples) m (playedBy snd dt j ks (restLanes k b) (quiet g) (p .answer .voice) (drop (2 * k) out)) =
       subst (λ (u : StaticSound). AsPlain (from + k) (length (drop k (b .rate))) (o .samples) m (playedBy snd dt j ks (restLanes k b) (quiet g) u (drop (2 * k) out))) s w
       in
-      let r = playedBy snd dt j ks (restLanes k b) (quiet g) (p .answer .sound) (drop (2 * k) out) in
+      let r = playedBy snd dt j ks (restLanes k b) (quiet g) (p .answer .voice) (drop (2 * k) out) in
       record {
         accepted = and-i (eqb (p .answer .refusal) 0) (r .accepted) (eq→eqb (plain-accepted snd v dt f g mix from a xs t)) (w' .accepted);
-        sound = w' .sound;
+        voice = w' .voice;
         samples =
             w' .samples
             ∙ ap (λ (z : List Float). mixed (from + k) (length (drop k (b .rate))) z (r .samples)) (ap (λ (o : Outcome). o .samples) i)
@@ -128,15 +128,15 @@ any-sizes-mix snd dt b g v k ks j js mix from ways =
       samples = x .samples ∙ ap (mixed from (length (b .rate)) mix) (a .samples) ∙ sym (y .samples);
       same = λ c.
           let z = a .same (subst (λ (us : List StaticSound). T (all awake us)) (x .cuts) (c .0), subst (λ (us : List StaticSound). T (all awake us)) (y .cuts) (c .1)) in
-          (x .sound ∙ z .0 ∙ sym (y .sound), x .steps ∙ z .1 ∙ sym (y .steps));
+          (x .voice ∙ z .0 ∙ sym (y .voice), x .steps ∙ z .1 ∙ sym (y .steps));
       lowest = λ c.
           x .lowest
           ∙ a .lowest (subst (λ (us : List StaticSound). T (all awake us)) (x .cuts) (c .0), subst (λ (us : List StaticSound). T (all awake us)) (y .cuts) (c .1))
           ∙ sym (y .lowest);
-      alike = ap bare (x .sound) ∙ a .alike ∙ sym (ap bare (y .sound));
+      alike = ap bare (x .voice) ∙ a .alike ∙ sym (ap bare (y .voice));
     }
 
--- ---- a lawful stream is accepted into a mix that has room for it
+-- ---- an acceptable stream is accepted into a mix that has room for it
 
 -- what is accepted into an output of its own is accepted wherever there is room
 into-accepted : (snd : List Float) (v : StaticSound) (dt : Float) (b : Lanes) (g : Signals) (out mix : List Float) (from : ℕ)
@@ -145,7 +145,7 @@ into-accepted snd v dt b g out mix from e h =
     let r = room from (length (b .rate)) mix in
     let p = accepted-parts (length snd) v dt b (holds b out) (processed-passed snd v dt b g out e) in
     ap (λ (o : Outcome). o .answer .refusal)
-    (into-done snd v dt b g mix from (accepted-of (length snd) v dt b r (record { ours = p .ours; sized = p .sized; placed = h; timeStep = p .timeStep; laned = p .laned; near = p .near })))
+    (into-done snd v dt b g mix from (accepted-of (length snd) v dt b r (record { wellFormedFor = p .wellFormedFor; sized = p .sized; placed = h; timeStep = p .timeStep; laned = p .laned; near = p .near })))
 
 module _ (snd : List Float) (dt : Float) where
   from-plain : (k : ℕ) (ks : List ℕ) (b : Lanes) (g : Signals) (v : StaticSound) (mix : List Float) (from : ℕ) (out : List Float)
@@ -161,19 +161,19 @@ module _ (snd : List Float) (dt : Float) where
       let f = firstLanes k b in
       let xs = take (2 * k) out in
       let p = processed snd v dt f g xs in
-      let rest = playedBy snd dt j ks (restLanes k b) (quiet g) (p .answer .sound) (drop (2 * k) out) in
+      let rest = playedBy snd dt j ks (restLanes k b) (quiet g) (p .answer .voice) (drop (2 * k) out) in
       let o = processedInto snd v dt f g mix from in
       let a = into-accepted snd v dt f g xs mix from (eqb→eq (p .answer .refusal) 0 (and-l (eqb (p .answer .refusal) 0) (rest .accepted) h)) (first-room q) in
       let t = first-holds k b out q l in
       let i = plain-is snd v dt f g mix from a xs t in
-      let s = ap (λ (o : Outcome). o .answer .sound) i in
+      let s = ap (λ (o : Outcome). o .answer .voice) i in
       let w =
-      from-plain j ks (restLanes k b) (quiet g) (o .answer .sound) (o .samples) (from + k) (drop (2 * k) out) (left (length (b .rate)) (sum ks) e ∙ sym (length-drop k (b .rate)))
+      from-plain j ks (restLanes k b) (quiet g) (o .answer .voice) (o .samples) (from + k) (drop (2 * k) out) (left (length (b .rate)) (sum ks) e ∙ sym (length-drop k (b .rate)))
       (rest-length k b out l)
       (subst (λ (z : List Float). T (room (from + k) (length (drop k (b .rate))) z)) (sym (ap (λ (o : Outcome). o .samples) i)) (rest-room q (p .samples) (plain-length snd v dt f g mix from a xs t)))
       (subst (λ (u : StaticSound). T ((playedBy snd dt j ks (restLanes k b) (quiet g) u (drop (2 * k) out)) .accepted)) (sym s) (and-r (eqb (p .answer .refusal) 0) (rest .accepted) h))
       in
-      and-i (eqb (o .answer .refusal) 0) ((mixedBy snd dt j ks (restLanes k b) (quiet g) (o .answer .sound) (o .samples) (from + k)) .accepted) (eq→eqb a) w
+      and-i (eqb (o .answer .refusal) 0) ((mixedBy snd dt j ks (restLanes k b) (quiet g) (o .answer .voice) (o .samples) (from + k)) .accepted) (eq→eqb a) w
     where
       there : Room from (length (b .rate)) mix
       there = room-parts from (length (b .rate)) mix r

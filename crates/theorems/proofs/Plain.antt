@@ -20,11 +20,11 @@ use Rattle.static_sound.specs.Entries.{refusedBlock, holds, room, mixed, proces
 use Rattle.sound_block.proofs.Blocks.{block-length}
 use Rattle.static_sound.proofs.Refusals.{Accepted, accepted-parts, accepted-of}
 use Rattle.static_sound.proofs.Entries.{processed-done, into-passed, into-done}
-use Rattle.theorems.specs.LawfulEnd.{Ended, MixEnds}
+use Rattle.theorems.specs.AllowedEnd.{Ended, MixEnds}
 use Rattle.theorems.specs.Steps.{Stepped, MixStepsMade}
 use Rattle.theorems.proofs.Mix.{Room, room-parts}
 use Rattle.theorems.proofs.Steps.{steps-made}
-use Rattle.theorems.proofs.LawfulEnd.{block-ends}
+use Rattle.theorems.proofs.AllowedEnd.{block-ends}
 
 -- an outcome's samples put into a mix
 abbrev pub putInto : List Float → ℕ → ℕ → Outcome → Outcome
@@ -43,7 +43,7 @@ module _ (snd : List Float) (v : StaticSound) (dt : Float) (b : Lanes) (g : Sign
     pub plain-passed : refusedBlock (length snd) v dt b (holds b out) ≡ 0
     plain-passed =
         let p = passed in
-        accepted-of (length snd) v dt b (holds b out) (record { ours = p .ours; sized = p .sized; placed = h; timeStep = p .timeStep; laned = p .laned; near = p .near })
+        accepted-of (length snd) v dt b (holds b out) (record { wellFormedFor = p .wellFormedFor; sized = p .sized; placed = h; timeStep = p .timeStep; laned = p .laned; near = p .near })
 
     pub plain-accepted : (processed snd v dt b g out) .answer .refusal ≡ 0
     plain-accepted = ap (λ (o : Outcome). o .answer .refusal) (processed-done snd v dt b g out plain-passed)

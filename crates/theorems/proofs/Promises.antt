@@ -16,12 +16,12 @@ use Rattle.theorems.proofs.MixSchedules.{any-sizes-mix, all-accepted-mi
 use Rattle.theorems.proofs.Plain.{mix-steps-made, mix-ends}
 use Rattle.theorems.proofs.Streams.{all-accepted}
 use Rattle.theorems.proofs.Kept.{creation-keeps, blank-is-not, commands-keep, blocks-keep, mixes-keep}
-use Rattle.theorems.proofs.LawfulEnd.{update-ends, block-ends}
+use Rattle.theorems.proofs.AllowedEnd.{update-ends, block-ends}
 use Rattle.theorems.proofs.Steps.{steps-made}
 use Rattle.theorems.proofs.Reports.{creation-feeds, commands-feed, blocks-feed, mixes-feed, blocks-tell, mixes-tell, silence-tells}
 use Rattle.theorems.proofs.AnyOrder.{any-order, there-and-back, permutations}
 use Rattle.theorems.proofs.InTheLoop.{in-the-loop}
-use Rattle.theorems.proofs.Rounds.{updates-fit, blocks-fit, mixes-fit}
+use Rattle.theorems.proofs.LoopWraps.{updates-fit, blocks-fit, mixes-fit}
 use Rattle.theorems.proofs.Held.{held-blocks}
 use Rattle.theorems.proofs.Budget.{block-budget, mix-budget, stream-budget, two-steps}
 use Rattle.theorems.proofs.StartTicks.{half-reached, moved-together, tick-starts, mix-tick-starts}

@@ -21,21 +21,21 @@ use Rattle.resampler.specs.Windows.{blank, push, reading}
 use Rattle.playback_state_manager.specs.States.{advancing}
 use Rattle.sound_lanes.specs.Lanes.{Lane, Lanes, rows}
 use Rattle.sound_update.specs.declared.Moving.{Moving}
-use Rattle.sound_update.specs.declared.Course.{Course}
+use Rattle.sound_update.specs.declared.Slice.{Slice}
 use Rattle.sound_update.specs.Updates.{sounding, pushed, stepped, updated, updates}
 use Rattle.sound_state.specs.declared.StaticSound.{StaticSound}
-use Rattle.sound_state.specs.Voices.{offset, courseOf, moved}
+use Rattle.sound_state.specs.Voices.{sliceStart, sliceOf, moved}
 use Rattle.sound_creation.specs.Creation.{setupOf, opened, transportOf, made}
 use Rattle.sound_creation.proofs.Answers.{created-passed, created-done}
 use Rattle.sound_commands.specs.declared.Amount.{Amount}
 use Rattle.sound_commands.specs.declared.Amount.the-variants as amount
 use Rattle.sound_commands.specs.declared.Commands.{Commands}
 use Rattle.sound_commands.specs.declared.Commanded.{Commanded}
-use Rattle.sound_commands.specs.Commands.{refusedSet, told, jumped, refilled, sought, soughtBy, soughtTo, obeyed, reported, commanded}
+use Rattle.sound_commands.specs.Commands.{refusedSet, beforeSeeks, jumped, refilled, sought, soughtBy, soughtTo, obeyed, reported, commanded}
 use Rattle.sound_block.specs.declared.Signals.{Signals}
 use Rattle.sound_block.specs.Blocks.{begun, live, silent, block}
 use Rattle.sound_block.proofs.Blocks.{block-live, block-silent}
-use Rattle.sound_slow_path.specs.Plays.{Played, lower, total, turned, plays, acceptedWith}
+use Rattle.sound_slow_path.specs.Plays.{Played, lower, total, afterFrame, plays, acceptedWith}
 use Rattle.sound_slow_path.proofs.Lowest.{lower-first, lower-second, lowest}
 use Rattle.static_sound.specs.Entries.{refusedBlock, refusedWith, holds, room, mixed, processed, processedInto}
 use Rattle.static_sound.proofs.Entries.{processed-passed, processed-done, into-passed, into-done}
@@ -49,7 +49,7 @@ fed-moved : (snd : List Float) (start : ℕ) (m u : Moving) → u .resampler ≡
     → Fed snd start m → Fed snd start u
 fed-moved snd start m u e f h = record { before = h .before; number = h .number; since = h .since; pushed = e ∙ h .pushed; ended = λ k. f (h .ended k) }
 
-module _ (snd : List Float) (c : Course) where
+module _ (snd : List Float) (c : Slice) where
   -- a playing transport pushes a frame of the sound, whatever was before
   first-fed : (m : Moving) → m .transport .playing ≡ true → Fed snd (c .start) (refilled snd c m)
   unfolding pushed nones
@@ -99,7 +99,7 @@ creation-feeds snd s e =
     subst (FedVoice snd) (sym (created-done snd s (created-passed snd s e)))
     (let k = setupOf (length snd) s in
     let v = opened k (transportOf k s) (s .«playback_rate») (s .«start_waits») in
-    let c = courseOf v in
+    let c = sliceOf v in
     updates-fed snd c 2 (updated snd c (v .moving)) (stepped-fed snd c (v .moving) (first-fed snd c (v .moving) refl)))
 
 and-still : (a b : Bool) → a ≡ false → (a && b) ≡ false
@@ -110,11 +110,11 @@ module _ (snd : List Float) where
   unfolding sought seek
   sought-fed v q h = go (advancing (v .moving .state))
     where
-      jump : Fed snd (offset (v .setup)) (jumped v q)
-      jump = fed-moved snd (offset (v .setup)) (v .moving) (jumped v q) refl (λ e. and-still _ _ e) h
+      jump : Fed snd (sliceStart (v .setup)) (jumped v q)
+      jump = fed-moved snd (sliceStart (v .setup)) (v .moving) (jumped v q) refl (λ e. and-still _ _ e) h
 
-      go : (b : Bool) → Fed snd (offset (v .setup)) (cond b (refilled snd (courseOf v) (jumped v q)) (jumped v q))
-      go true = pushed-fed snd (courseOf v) (jumped v q) jump
+      go : (b : Bool) → Fed snd (sliceStart (v .setup)) (cond b (refilled snd (sliceOf v) (jumped v q)) (jumped v q))
+      go true = pushed-fed snd (sliceOf v) (jumped v q) jump
       go false = jump
 
   by-fed : (v : StaticSound) (a : Amount) → FedVoice snd v → FedVoice snd (soughtBy snd v a)
@@ -126,24 +126,24 @@ module _ (snd : List Float) where
   to-fed v (amount.Given x) h = sought-fed v _ h
 
   obeyed-fed : (v : StaticSound) (c : Commands) → FedVoice snd v → FedVoice snd (obeyed snd c v)
-  unfolding obeyed told
+  unfolding obeyed beforeSeeks
   obeyed-fed v c h =
-      to-fed (soughtBy snd (told c v) (c .«seek_by»)) (c .«seek_to»)
-      (by-fed (told c v) (c .«seek_by») (fed-moved snd (offset (v .setup)) (v .moving) ((told c v) .moving) refl (λ e. e) h))
+      to-fed (soughtBy snd (beforeSeeks c v) (c .«seek_by»)) (c .«seek_to»)
+      (by-fed (beforeSeeks c v) (c .«seek_by») (fed-moved snd (sliceStart (v .setup)) (v .moving) ((beforeSeeks c v) .moving) refl (λ e. e) h))
 
   module _ (dt : Float) where
-    turned-fed : (v : StaticSound) (l : Lane) → FedVoice snd v → FedVoice snd (turned snd dt v l)
-    unfolding turned
-    turned-fed v l h = updates-fed snd (courseOf v) (whole (total dt v l)) (v .moving) h
+    turned-fed : (v : StaticSound) (l : Lane) → FedVoice snd v → FedVoice snd (afterFrame snd dt v l)
+    unfolding afterFrame
+    turned-fed v l h = updates-fed snd (sliceOf v) (whole (total dt v l)) (v .moving) h
 
     plays-fed : (ls : List Lane) (v : StaticSound) → FedVoice snd v → FedVoice snd ((plays snd dt ls v) .voice)
     unfolding plays
     plays-fed [] v h = h
-    plays-fed (l ∷ ls) v h = plays-fed ls (turned snd dt v l) (turned-fed v l h)
+    plays-fed (l ∷ ls) v h = plays-fed ls (afterFrame snd dt v l) (turned-fed v l h)
 
     begun-fed : (g : Signals) (v : StaticSound) → FedVoice snd v → FedVoice snd (begun g v)
     unfolding begun
-    begun-fed g v h = fed-moved snd (offset (v .setup)) (v .moving) ((begun g v) .moving) refl (λ e. e) h
+    begun-fed g v h = fed-moved snd (sliceStart (v .setup)) (v .moving) ((begun g v) .moving) refl (λ e. e) h
 
     block-fed : (ls : List Lane) (g : Signals) (v : StaticSound) → FedVoice snd v → FedVoice snd ((block snd dt ls g v) .voice)
     unfolding block
@@ -159,7 +159,7 @@ commands-feed snd v c h = go (eqb (refusedSet (length snd) v c) 0)
   where
     go : (b : Bool)
         → FedVoice snd
-        ((cond {A = Commanded} b (record { refusal = 0; sound = obeyed snd c v; position = reported v }) (record { refusal = refusedSet (length snd) v c; sound = v; position = positiveZero })) .sound)
+        ((cond {A = Commanded} b (record { refusal = 0; voice = obeyed snd c v; position = reported v }) (record { refusal = refusedSet (length snd) v c; voice = v; position = positiveZero })) .voice)
     go true = obeyed-fed snd v c h
     go false = h
 
@@ -169,7 +169,7 @@ blocks-feed snd v dt b g out h = go (eqb (refusedBlock (length snd) v dt b (hold
   where
     go : (t : Bool)
         → FedVoice snd
-        ((cond t (acceptedWith (block snd dt (rows b) g v) ((block snd dt (rows b) g v) .samples)) (refusedWith (refusedBlock (length snd) v dt b (holds b out)) v out)) .answer .sound)
+        ((cond t (acceptedWith (block snd dt (rows b) g v) ((block snd dt (rows b) g v) .samples)) (refusedWith (refusedBlock (length snd) v dt b (holds b out)) v out)) .answer .voice)
     go true = block-fed snd dt (rows b) g v h
     go false = h
 
@@ -182,7 +182,7 @@ mixes-feed snd v dt b g mix from h = go (eqb k 0)
 
     go : (t : Bool)
         → FedVoice snd
-        ((cond t (acceptedWith (block snd dt (rows b) g v) (mixed from (length (b .rate)) mix ((block snd dt (rows b) g v) .samples))) (refusedWith k v mix)) .answer .sound)
+        ((cond t (acceptedWith (block snd dt (rows b) g v) (mixed from (length (b .rate)) mix ((block snd dt (rows b) g v) .samples))) (refusedWith k v mix)) .answer .voice)
     go true = block-fed snd dt (rows b) g v h
     go false = h
 
@@ -204,7 +204,7 @@ module _ (snd : List Float) (v : StaticSound) (h : FedVoice snd v) where
   unfolding push
   fed-count =
       ap (λ (w : Resampler). w .«time_until_empty») (h .pushed)
-      ∙ nones-count (h .since) (push (h .before) (Present (frameOf snd (offset (v .setup) + h .number))) (h .number)) refl
+      ∙ nones-count (h .since) (push (h .before) (Present (frameOf snd (sliceStart (v .setup) + h .number))) (h .number)) refl
 
   fed-ended : countOf v < 4 → v .moving .transport .playing ≡ false
   fed-ended k = let e = fed-count in h .ended (omega arith)
@@ -213,10 +213,10 @@ module _ (snd : List Float) (v : StaticSound) (h : FedVoice snd v) where
   unfolding nones push
   fed-newest e = go (h .since) (h .pushed) (sym fed-count ∙ e)
     where
-      go : (ns : List ℕ) → v .moving .resampler ≡ nones ns (push (h .before) (Present (frameOf snd (offset (v .setup) + h .number))) (h .number)) → 4 - length ns ≡ 4 → Sounding snd v
+      go : (ns : List ℕ) → v .moving .resampler ≡ nones ns (push (h .before) (Present (frameOf snd (sliceStart (v .setup) + h .number))) (h .number)) → 4 - length ns ≡ 4 → Sounding snd v
       go [] p k =
           let q = ap (λ (w : Resampler). getD (w .frames) 3 blank) p in
-          ap (λ (r : RecentFrame). r .frame) q ∙ ap (λ (n : ℕ). frameOf snd (offset (v .setup) + n)) (sym (ap (λ (r : RecentFrame). r .«frame_index») q))
+          ap (λ (r : RecentFrame). r .frame) q ∙ ap (λ (n : ℕ). frameOf snd (sliceStart (v .setup) + n)) (sym (ap (λ (r : RecentFrame). r .«frame_index») q))
       go (n ∷ ns) p k = absurd (over (length ns) k)
         where
           over : (n : ℕ) → 4 - suc n ≡ 4 → ⊥
@@ -228,9 +228,9 @@ module _ (snd : List Float) (dt : Float) where
   pub lowest-least : (ls : List Lane) (v : StaticSound) (k : ℕ) → k < length ls → (plays snd dt ls v) .«lowest_count» ≤ countOf (atRead snd dt ls v k)
   unfolding plays reading
   lowest-least [] v k h = absurd (not-suc-le-zero h)
-  lowest-least (l ∷ ls) v zero h = lowest (countOf v) ((plays snd dt ls (turned snd dt v l)) .«lowest_count») .first
+  lowest-least (l ∷ ls) v zero h = lowest (countOf v) ((plays snd dt ls (afterFrame snd dt v l)) .«lowest_count») .first
   lowest-least (l ∷ ls) v (suc k) h =
-      let u = turned snd dt v l in
+      let u = afterFrame snd dt v l in
       let a = lowest (countOf v) ((plays snd dt ls u) .«lowest_count») .second in
       let b = lowest-least ls u k (le-of-suc-le-suc h) in
       omega arith
@@ -246,18 +246,18 @@ module _ (snd : List Float) (dt : Float) where
     where
       not-below : 4 < 4 → ⊥
       not-below h = omega arith
-  lowest-read (l ∷ ls) v h = go (leb t r) refl (λ k. lowest-read ls (turned snd dt v l) k)
+  lowest-read (l ∷ ls) v h = go (leb t r) refl (λ k. lowest-read ls (afterFrame snd dt v l) k)
     where
       t : ℕ
       t = countOf v
 
       r : ℕ
-      r = (plays snd dt ls (turned snd dt v l)) .«lowest_count»
+      r = (plays snd dt ls (afterFrame snd dt v l)) .«lowest_count»
 
       more : (a b : ℕ) → a < b → suc a < suc b
       more a b h = omega arith
 
-      go : (b : Bool) → leb t r ≡ b → (r < 4 → Read ls (turned snd dt v l)) → Read (l ∷ ls) v
+      go : (b : Bool) → leb t r ≡ b → (r < 4 → Read ls (afterFrame snd dt v l)) → Read (l ∷ ls) v
       go true e f = record { read = 0; within = omega arith; count = lower-first t r (leb-true t r e) }
       go false e f =
           let k = lower-second t r (leb-false t r e) in

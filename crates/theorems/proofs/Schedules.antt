@@ -15,7 +15,7 @@ use Rattle.sound_lanes.specs.Lanes.{Lane, Lanes, rows, laned, near, firstLanes,
 use Rattle.sound_lanes.proofs.Rows.{beside-take, beside-length, rows-cut}
 use Rattle.sound_state.specs.declared.Setup.{Setup}
 use Rattle.sound_state.specs.declared.StaticSound.{StaticSound}
-use Rattle.sound_state.proofs.Formed.{ours-parts}
+use Rattle.sound_state.proofs.WellFormed.{well-formed-for-parts}
 use Rattle.sound_block.specs.declared.Signals.{Signals}
 use Rattle.sound_slow_path.specs.Plays.{Played, lower, Outcome, acceptedWith}
 use Rattle.sound_block.specs.Blocks.{block, quiet}
@@ -33,9 +33,9 @@ pub record Whole (dt : Float) (ls : List Lane) (v : StaticSound) (p : Played) (r
   pub laned : T (all laned ls)
   pub near : T (all (near (v .setup .«sample_rate») dt) ls)
   pub samples : r .samples ≡ p .samples
-  pub same : T (all awake (r .cuts)) → (r .sound ≡ p .voice) × (r .steps ≡ p .steps)
+  pub same : T (all awake (r .cuts)) → (r .voice ≡ p .voice) × (r .steps ≡ p .steps)
   pub lowest : T (all awake (r .cuts)) → r .«lowest_count» ≡ p .«lowest_count»
-  pub alike : bare (r .sound) ≡ bare (p .voice)
+  pub alike : bare (r .voice) ≡ bare (p .voice)
 
 -- a block that takes all that is left
 rows-all : (k : ℕ) (b : Lanes) → k + 0 ≡ length (b .rate) → rows (firstLanes k b) ≡ rows b
@@ -85,7 +85,7 @@ module _ (snd : List Float) (dt : Float) where
           (subst (λ (s : Setup). T (all (near (s .«sample_rate») dt) ys)) (block-setup snd dt (rows b) g v) (w .near))
 
       d : CutPlayed (block snd dt (rows b ++ ys) g v) (block snd dt (rows b) g v) (block snd dt ys (quiet g) ((block snd dt (rows b) g v) .voice))
-      d = block-cut snd dt (rows b) ys (time-step-above dt (p .timeStep)) g v (ours-parts (length snd) v (p .ours) .0) la ne
+      d = block-cut snd dt (rows b) ys (time-step-above dt (p .timeStep)) g v (well-formed-for-parts (length snd) v (p .wellFormedFor) .0) la ne
 
   -- what an accepted block gives
   taken : (b : Lanes) (g : Signals) (v : StaticSound) (out : List Float) → T (eqb ((processed snd v dt b g out) .answer .refusal) 0)
@@ -106,11 +106,11 @@ module _ (snd : List Float) (dt : Float) where
       let f = firstLanes k b in
       let ys = rows (restLanes k b) in
       let o = processed snd v dt f g (take (2 * k) out) in
-      let r = playedBy snd dt j ks (restLanes k b) (quiet g) (o .answer .sound) (drop (2 * k) out) in
+      let r = playedBy snd dt j ks (restLanes k b) (quiet g) (o .answer .voice) (drop (2 * k) out) in
       let t = taken f g v (take (2 * k) out) (and-l (eqb (o .answer .refusal) 0) (r .accepted) h) in
-      let w = run-whole j ks (restLanes k b) (quiet g) (o .answer .sound) (drop (2 * k) out) (left (length (b .rate)) (sum ks) e ∙ sym (length-drop k (b .rate))) (and-r (eqb (o .answer .refusal) 0) (r .accepted) h) in
-      let x : Whole dt ys ((done f g v) .answer .sound) (block snd dt ys (quiet g) ((done f g v) .answer .sound)) r =
-      subst (λ (z : Outcome). Whole dt ys (z .answer .sound) (block snd dt ys (quiet g) (z .answer .sound)) r) (t .0) w
+      let w = run-whole j ks (restLanes k b) (quiet g) (o .answer .voice) (drop (2 * k) out) (left (length (b .rate)) (sum ks) e ∙ sym (length-drop k (b .rate))) (and-r (eqb (o .answer .refusal) 0) (r .accepted) h) in
+      let x : Whole dt ys ((done f g v) .answer .voice) (block snd dt ys (quiet g) ((done f g v) .answer .voice)) r =
+      subst (λ (z : Outcome). Whole dt ys (z .answer .voice) (block snd dt ys (quiet g) (z .answer .voice)) r) (t .0) w
       in
       subst (λ (ls : List Lane). Whole dt ls v (block snd dt ls g v) (followed o r)) (rows-cut k b)
       (subst (λ (z : Outcome). Whole dt (rows f ++ ys) v (block snd dt (rows f ++ ys) g v) (followed z r)) (sym (t .0)) (next f ys g v (take (2 * k) out) r (t .1) x))

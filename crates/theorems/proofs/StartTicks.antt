@@ -12,7 +12,7 @@ use borrow.Author.Tests.{lt-ltb, le-ltb}
 use Rattle.playback_state_manager.specs.declared.StartAnswer.the-variants.{Now, Waiting}
 use Rattle.start_time.specs.declared.StartSignal.{StartSignal}
 use Rattle.start_time.specs.declared.StartSignal.the-variants.{Tick}
-use Rattle.start_time.specs.Ticks.{turn, half, reached, answering}
+use Rattle.start_time.specs.Ticks.{tickRange, half, reached, answering}
 use Rattle.start_time.proofs.Ticks.{reached-moved}
 use Rattle.sound_lanes.specs.Lanes.{Lane, rows}
 use Rattle.sound_state.specs.declared.StaticSound.{StaticSound}
@@ -96,7 +96,7 @@ halves m h due l k =
     (counted h due (m - due) (omega arith) (subst (λ (x : ℕ). h ≤ x) (sym s) k))
 
 pub half-reached : HalfReached
-half-reached due l = halves turn half due l (omega arith)
+half-reached due l = halves tickRange half due l (omega arith)
 
 pub moved-together : MovedTogether
 moved-together due now k x = reached-moved due now k (x .0) (x .1)

@@ -1,4 +1,4 @@
--- A lawful stream is accepted in blocks of any sizes up to 4,096 frames: the first block passes every test, and what it leaves is a lawful stream again.
+-- A well formed stream is accepted in blocks of any sizes up to 4,096 frames: the first block passes every test, and what it leaves is an acceptable stream again.
 -- By induction on the blocks. Assumes nothing.
 use mathlib.Core.Path.{_≡_, sym, ap, _∙_, subst}
 use Prim.Native.Nat.{ℕ, _+_, _-_, _*_, _≤_, min}
@@ -19,7 +19,7 @@ use Rattle.sound_block.specs.Blocks.{block, quiet}
 use Rattle.sound_slow_path.specs.Plays.{acceptedWith}
 use Rattle.static_sound.specs.Entries.{holds, processed}
 use Rattle.static_sound.proofs.Refusals.{Accepted, accepted-of}
-use Rattle.static_sound.proofs.Entries.{block-ours, processed-done}
+use Rattle.static_sound.proofs.Entries.{block-well-formed-for, processed-done}
 use Rattle.theorems.specs.Sums.{sum}
 use Rattle.theorems.specs.Schedules.{playedBy, Stream, AllAccepted}
 use Rattle.theorems.proofs.Cut.{first-all, rest-all, rest-near}
@@ -38,7 +38,7 @@ module _ (snd : List Float) (dt : Float) (b : Lanes) (g : Signals) (v : StaticSo
   first-passes : k ≤ 4096 → Accepted (length snd) v dt (firstLanes k b) (holds (firstLanes k b) (take (2 * k) out))
   first-passes few =
       record {
-        ours = s .ours;
+        wellFormedFor = s .wellFormedFor;
         sized =
             sized-of (firstLanes k b)
             (record {
@@ -62,7 +62,7 @@ module _ (snd : List Float) (dt : Float) (b : Lanes) (g : Signals) (v : StaticSo
   rest-streams : k ≤ 4096 → Stream snd dt (restLanes k b) ((block snd dt (rows (firstLanes k b)) g v) .voice)
   rest-streams few =
       record {
-        ours = block-ours snd v dt (firstLanes k b) g (holds (firstLanes k b) (take (2 * k) out)) (first-passes few);
+        wellFormedFor = block-well-formed-for snd v dt (firstLanes k b) g (holds (firstLanes k b) (take (2 * k) out)) (first-passes few);
         fade = rest-alike k (b .fade) (b .rate) (s .fade);
         volume = rest-alike k (b .volume) (b .rate) (s .volume);
         left = rest-alike k (b .left) (b .rate) (s .left);

@@ -49,8 +49,8 @@ pub record Parts (uncut first rest : Processed) : Type 0 where
   -- both parts are accepted
   pub accepted : (first .refusal ≡ 0) × (rest .refusal ≡ 0)
   -- unless the voice has stopped by the cut, the state after and the steps are the same
-  pub same : Awake (first .sound) → (uncut .sound ≡ rest .sound) × (uncut .steps ≡ first .steps + rest .steps)
+  pub same : Awake (first .voice) → (uncut .voice ≡ rest .voice) × (uncut .steps ≡ first .steps + rest .steps)
   -- and the whole reports the lower of the two counts
-  pub lowest : Awake (first .sound) → uncut .«lowest_count» ≡ lower (first .«lowest_count») (rest .«lowest_count»)
+  pub lowest : Awake (first .voice) → uncut .«lowest_count» ≡ lower (first .«lowest_count») (rest .«lowest_count»)
   -- in every case the states after agree in everything but the fraction and the window's frame indices
-  pub alike : bare (uncut .sound) ≡ bare (rest .sound)
+  pub alike : bare (uncut .voice) ≡ bare (rest .voice)

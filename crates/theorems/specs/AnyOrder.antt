@@ -37,7 +37,7 @@ walked n [] t = t
 walked n (k ∷ l) t = walked n l (step n k t)
 
 -- for a sequence of steps from t in the loop (s, e)
-pub record Round (n s e : ℕ) (l : List Step) (t : Transport) : Type 0 where
+pub record WalkInLoop (n s e : ℕ) (l : List Step) (t : Transport) : Type 0 where
   pub place : (walked n l t) .position ≡ s + cycled (t .position - s + forwards l) (backwards l) (e - s)
   pub inside : (k : ℕ) → Inside s e (walked n (take k l) t)
 
@@ -47,7 +47,7 @@ pub record InLoop (n s e : ℕ) (t : Transport) : Type 0 where
   pub inside : Inside s e t
 
 abbrev pub AnyOrder : Type 0
-AnyOrder = (n s e : ℕ) (l : List Step) (t : Transport) → InLoop n s e t → Round n s e l t
+AnyOrder = (n s e : ℕ) (l : List Step) (t : Transport) → InLoop n s e t → WalkInLoop n s e l t
 
 abbrev pub ThereAndBack : Type 0
 ThereAndBack = (n s e : ℕ) (t : Transport) → InLoop n s e t → (backward (forward n t) ≡ t)

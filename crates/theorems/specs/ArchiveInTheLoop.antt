@@ -82,7 +82,7 @@ pub record StaysC (s e : ℕ) (ds : List CallC) (c : CableowlState) : Type 0 whe
 
 -- hypothesis; an unlawful record represents the blank voice, which is not well formed
 pub record EnteredC (s e : ℕ) (ds : List CallC) (c : CableowlState) : Type 0 where
-  pub formed : T (wellFormed (decoded c))
+  pub wellFormed : T (wellFormed (decoded c))
   pub inside : Inside s e (decoded c .moving .transport)
   pub no-loop-command : T (not (someAcceptedC reloopsC ds c))
 

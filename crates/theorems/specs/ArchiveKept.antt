@@ -10,10 +10,10 @@ use lib.Dec.{T}
 use lib.ListN.{length, take, drop}
 use lib.Ieee.{Float}
 use Rattle.numbers.specs.Words.{positiveZero}
-use Rattle.playback_position.specs.Positions.{placeable, endable, lawfulRegion}
+use Rattle.playback_position.specs.Positions.{finitePosition, finiteEnd, wellFormedRegion}
 use Rattle.sound_lanes.specs.Lanes.{Lanes}
 use Rattle.sound_state.specs.declared.StaticSound.{StaticSound}
-use Rattle.sound_state.specs.WellFormed.{ours}
+use Rattle.sound_state.specs.WellFormed.{wellFormedFor}
 use Rattle.sound_creation.specs.Creation.{blankSound, allowed}
 use Rattle.sound_commands.specs.Commands.{loopable, rateable, seekable}
 use Rattle.static_sound.specs.Entries.{stretchOf}
@@ -24,8 +24,8 @@ use Rattle.c_inputs.specs.declared.CableowlSignals.{CableowlSignals}
 use Rattle.c_inputs.specs.declared.CableowlPlace.{CableowlPlace}
 use Rattle.c_inputs.specs.declared.CableowlRegion.{CableowlRegion}
 use Rattle.cableowl.specs.declared.CableowlPart.{CableowlPart}
-use Rattle.c_state.specs.Records.{lawful, decoded, encoded}
-use Rattle.c_inputs.specs.Inputs.{placeOf, endOf, regionIf, optionalOf, loopOf, amountOf}
+use Rattle.c_state.specs.Records.{wellFormedState, decoded, encoded}
+use Rattle.c_inputs.specs.Inputs.{positionOf, endOf, regionIf, optionalOf, loopOf, amountOf}
 use Rattle.cableowl.specs.Entries.{OutcomeC, createdC, commandedC, processedC, processedIntoC, partC}
 use Rattle.theorems.specs.Kept.{Either}
 
@@ -33,7 +33,7 @@ use Rattle.theorems.specs.Kept.{Either}
 
 -- a record that the next call accepts over this sound
 abbrev pub Good : List Float → CableowlState → Type 0
-Good snd c = T (lawful c) × T (ours (length snd) (decoded c))
+Good snd c = T (wellFormedState c) × T (wellFormedFor (length snd) (decoded c))
 
 -- for a block's outcome, given the record and the samples before
 abbrev pub BlockKeepsC : List Float → CableowlState → List Float → OutcomeC → Type 0
@@ -56,26 +56,27 @@ pub record ArchiveKeeps : Type 0 where
 -- ---- saved and passed again
 
 -- a record whose bytes represent a state, and one whose bytes do not
-abbrev pub Lawful : CableowlState → Type 0
-Lawful c = T (lawful c)
+abbrev pub WellFormedState : CableowlState → Type 0
+WellFormedState c = T (wellFormedState c)
 
-abbrev pub Unlawful : CableowlState → Type 0
-Unlawful c = lawful c ≡ false
+abbrev pub IllFormedState : CableowlState → Type 0
+IllFormedState c = wellFormedState c ≡ false
 
 pub record ReadBack : Type 0 where
   pub voice : (v : StaticSound) → decoded (encoded v) ≡ v
-  pub numbers : (c : CableowlState) → Lawful c → encoded (decoded c) ≡ c
+  pub numbers : (c : CableowlState) → WellFormedState c → encoded (decoded c) ≡ c
 
 -- ---- unknown bytes
 
-pub record UnlawfulRefused : Type 0 where
-  pub commands : (snd : List Float) (c : CableowlState) (k : CableowlCommands) → Unlawful c
+pub record IllFormedRefused : Type 0 where
+  pub commands : (snd : List Float) (c : CableowlState) (k : CableowlCommands) → IllFormedState c
       → (commandedC snd c k) .refusal ≡ 1
-  pub block : (snd : List Float) (c : CableowlState) (dt : Float) (b : Lanes) (g : CableowlSignals) → Unlawful c
+  pub block : (snd : List Float) (c : CableowlState) (dt : Float) (b : Lanes) (g : CableowlSignals) → IllFormedState c
       → (out : List Float) → (processedC snd c dt b g out) .answer .refusal ≡ 1
-  pub mix : (snd : List Float) (c : CableowlState) (dt : Float) (b : Lanes) (g : CableowlSignals) → Unlawful c
+  pub mix : (snd : List Float) (c : CableowlState) (dt : Float) (b : Lanes) (g : CableowlSignals) → IllFormedState c
       → (mix : List Float) (from : ℕ) → (processedIntoC snd c dt b g mix from) .answer .refusal ≡ 1
-  pub stretch : (snd : List Float) (c : CableowlState) → Unlawful c → partC snd c ≡ record { offset = 0; length = 0 }
+  pub stretch : (snd : List Float) (c : CableowlState) → IllFormedState c → partC snd c
+      ≡ record { offset = 0; length = 0 }
 
 -- a tag above the last known one
 abbrev pub Unknown : ℕ → ℕ → Type 0
@@ -83,12 +84,12 @@ Unknown last tag = last < tag
 
 -- an unknown tag fails its field's check
 pub record TagsRefused : Type 0 where
-  pub place : (p : CableowlPlace) → Unknown 1 (p .kind) → placeable (placeOf p) ≡ false
-  pub end : (p : CableowlPlace) → Unknown 2 (p .kind) → endable (endOf p) ≡ false
+  pub place : (p : CableowlPlace) → Unknown 1 (p .kind) → finitePosition (positionOf p) ≡ false
+  pub end : (p : CableowlPlace) → Unknown 2 (p .kind) → finiteEnd (endOf p) ≡ false
   pub start : (hz n : ℕ) (r : CableowlRegion) → Unknown 1 (r .start .kind)
-      → lawfulRegion hz n (regionIf true r) ≡ false
+      → wellFormedRegion hz n (regionIf true r) ≡ false
   pub ending : (hz n : ℕ) (r : CableowlRegion) → Unknown 2 (r .end .kind)
-      → lawfulRegion hz n (regionIf true r) ≡ false
+      → wellFormedRegion hz n (regionIf true r) ≡ false
   pub optional : (hz n has : ℕ) (r : CableowlRegion) → Unknown 1 has → allowed hz n (optionalOf has r) ≡ false
   pub loop : (v : StaticSound) (k : ℕ) (r : CableowlRegion) → Unknown 2 k → loopable v (loopOf k r) ≡ false
   pub rate : (has : ℕ) (x : Float) → Unknown 1 has → rateable (amountOf has x) ≡ false

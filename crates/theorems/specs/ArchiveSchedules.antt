@@ -16,7 +16,7 @@ use Rattle.c_state.specs.Records.{decoded}
 use Rattle.cableowl.specs.Entries.{OutcomeC, processedC, processedIntoC}
 use Rattle.theorems.specs.Sums.{sum}
 use Rattle.theorems.specs.Alike.{bare, awake}
-use Rattle.theorems.specs.Schedules.{LawfulCut, LawfulCutMix}
+use Rattle.theorems.specs.Schedules.{AllowedCut, AllowedCutMix}
 use Rattle.theorems.specs.Archive.{quietC}
 
 -- the outcome of a sequence of blocks: whether each was accepted, the record after, all samples, all steps, the
@@ -116,15 +116,15 @@ AnySizesMixC =
     → TwoWaysMixC snd dt b g c k ks j js mix from
     → AgreeC (mixedByC snd dt k ks b g c mix from) (mixedByC snd dt j js b g c mix from)
 
--- every way to cut a lawful stream into blocks of at most 4,096 frames is accepted
+-- every way to cut an acceptable stream into blocks of at most 4,096 frames is accepted
 abbrev pub AllAcceptedC : Type 0
 AllAcceptedC =
     (snd : List Float) (dt : Float) (b : Lanes) (g : CableowlSignals) (c : CableowlState) (k : ℕ) (ks : List ℕ)
     (out : List Float)
-    → LawfulCut snd dt b (decoded c) k ks out → T ((playedByC snd dt k ks b g c out) .accepted)
+    → AllowedCut snd dt b (decoded c) k ks out → T ((playedByC snd dt k ks b g c out) .accepted)
 
 abbrev pub AllAcceptedMixC : Type 0
 AllAcceptedMixC =
     (snd : List Float) (dt : Float) (b : Lanes) (g : CableowlSignals) (c : CableowlState) (k : ℕ) (ks : List ℕ)
     (mix : List Float) (from : ℕ)
-    → LawfulCutMix snd dt b (decoded c) k ks mix from → T ((mixedByC snd dt k ks b g c mix from) .accepted)
+    → AllowedCutMix snd dt b (decoded c) k ks mix from → T ((mixedByC snd dt k ks b g c mix from) .accepted)

@@ -86,13 +86,13 @@ pub record Coincide : Type 0 where
   -- playback_position
   pub playback-position-playbackposition-into-samples :
       Decides playback_position.PlaybackPosition.into_samples.Reads.Post
-  pub playback-position-playbackposition-is-placeable :
-      Decides playback_position.PlaybackPosition.is_placeable.Reads.Post
+  pub playback-position-playbackposition-is-finite-position :
+      Decides playback_position.PlaybackPosition.is_finite_position.Reads.Post
   pub playback-position-endposition-into-samples : Decides playback_position.EndPosition.into_samples.Reads.Post
-  pub playback-position-endposition-is-endable : Decides playback_position.EndPosition.is_endable.Reads.Post
+  pub playback-position-endposition-is-finite-end : Decides playback_position.EndPosition.is_finite_end.Reads.Post
   pub playback-position-framerange-is-within : Decides playback_position.FrameRange.is_within.Reads.Post
   pub playback-position-region-into-frames : Decides playback_position.Region.into_frames.Reads.Post
-  pub playback-position-region-is-lawful : Decides playback_position.Region.is_lawful.Reads.Post
+  pub playback-position-region-is-well-formed : Decides playback_position.Region.is_well_formed.Reads.Post
   -- transport
   pub transport-transport-new : Decides transport.Transport.new.Reads.Post
   pub transport-transport-set-loop-region : Decides transport.Transport.set_loop_region.Reads.Post
@@ -125,7 +125,7 @@ pub record Coincide : Type 0 where
   -- sound_state
   pub sound-state-setup-num-frames : Decides sound_state.Setup.num_frames.Reads.Post
   pub sound-state-setup-start : Decides sound_state.Setup.start.Reads.Post
-  pub sound-state-staticsound-course : Decides sound_state.StaticSound.course.Reads.Post
+  pub sound-state-staticsound-slice : Decides sound_state.StaticSound.slice.Reads.Post
   pub sound-state-staticsound-is-well-formed : Decides sound_state.StaticSound.is_well_formed.Reads.Post
   -- sound_update
   pub sound-update-moving-push-frame-to-resampler : Decides sound_update.Moving.push_frame_to_resampler.Reads.Post
@@ -142,8 +142,8 @@ pub record Coincide : Type 0 where
   pub sound-track-wraps-after : Decides sound_track.wraps_after.Reads.Post
   pub sound-track-frame-in : Decides sound_track.frame_in.Reads.Post
   pub sound-track-frame-at : Decides sound_track.frame_at.Reads.Post
-  pub sound-track-trail-at : Decides sound_track.trail_at.Reads.Post
-  pub sound-track-is-trail : Decides sound_track.is_trail.Reads.Post
+  pub sound-track-contiguous-at : Decides sound_track.contiguous_at.Reads.Post
+  pub sound-track-is-contiguous : Decides sound_track.is_contiguous.Reads.Post
   -- sound_creation
   pub sound-creation-blank : Decides sound_creation.blank.Reads.Post
   pub sound-creation-new : Decides sound_creation.new.Reads.Post
@@ -179,7 +179,7 @@ pub record Coincide : Type 0 where
   pub loop-table-looptable-write : Decides loop_table.LoopTable.write.Reads.Post
   pub loop-table-looptable-clear : Decides loop_table.LoopTable.clear.Reads.Post
   pub loop-table-looptable-read : Decides loop_table.LoopTable.read.Reads.Post
-  pub loop-table-looptable-is-lawful : Decides loop_table.LoopTable.is_lawful.Reads.Post
+  pub loop-table-looptable-is-well-formed : Decides loop_table.LoopTable.is_well_formed.Reads.Post
   pub loop-copies-loopcopy-new : Decides loop_copies.LoopCopy.new.Reads.Post
   pub loop-copies-loopcopy-write : Decides loop_copies.LoopCopy.write.Reads.Post
   pub loop-copies-loopcopy-clear : Decides loop_copies.LoopCopy.clear.Reads.Post

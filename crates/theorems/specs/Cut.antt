@@ -31,5 +31,5 @@ CutBlocks =
     (snd : List Float) (v : StaticSound) (dt : Float) (b : Lanes) (g : Signals) (out : List Float) (k : ℕ)
     → MayCut snd v dt b g out k
     → let first = processed snd v dt (firstLanes k b) g (take (2 * k) out) in
-    let rest = processed snd (first .answer .sound) dt (restLanes k b) (quiet g) (drop (2 * k) out) in
+    let rest = processed snd (first .answer .voice) dt (restLanes k b) (quiet g) (drop (2 * k) out) in
     CutInTwo (processed snd v dt b g out) first rest

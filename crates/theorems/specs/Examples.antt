@@ -13,7 +13,7 @@ use Rattle.frame.specs.declared.Frame.{Frame}
 use Rattle.playback_position.specs.declared.PlaybackPosition.the-variants.{Seconds, Samples}
 use Rattle.playback_position.specs.declared.EndPosition.the-variants.{Custom}
 use Rattle.playback_position.specs.declared.FrameRange.the-variants.{Absent, Frames}
-use Rattle.playback_position.specs.Positions.{placed}
+use Rattle.playback_position.specs.Positions.{positionInFrames}
 use Rattle.transport.specs.declared.Transport.{Transport}
 use Rattle.transport.specs.Moves.{forward, backward, seek}
 use Rattle.resampler.specs.declared.RecentFrame.{RecentFrame}
@@ -31,7 +31,7 @@ pub data Shown : Type 0 where
   moved : ℕ → Bool → Shown
   place : ℕ → Shown
   window : ℕ → List ℕ → ℕ → Shown
-  heard : Frame → Shown
+  frameRead : Frame → Shown
 
 -- ---- the transport
 
@@ -70,8 +70,8 @@ from start reverse =
     }
 
 abbrev numbers : Created → Shown
-numbers c = window (c .refusal) (map (λ (r : RecentFrame). r .«frame_index») (c .sound .moving .resampler .frames))
-    (c .sound .moving .transport .position)
+numbers c = window (c .refusal) (map (λ (r : RecentFrame). r .«frame_index») (c .voice .moving .resampler .frames))
+    (c .voice .moving .transport .position)
 
 -- ---- the window
 
@@ -107,11 +107,11 @@ table =
     ∷ (shown (seek 10 (looped 0) 2), at 2)
     ∷ (shown (forward 10 (plain 9)), ended 10)
     ∷ (shown (backward (plain 0)), ended 0)
-    ∷ (place (placed 1 (Seconds (halves 5))), place 3)
-    ∷ (place (cutOff (targetTo (created ten (from 0 false) .sound) (halves 5))), place 2)
+    ∷ (place (positionInFrames 1 (Seconds (halves 5))), place 3)
+    ∷ (place (cutOff (targetTo (created ten (from 0 false) .voice) (halves 5))), place 2)
     ∷ (numbers (created ten (from 0 false)), window 0 (0 ∷ 0 ∷ 1 ∷ 2 ∷ []) 3)
     ∷ (numbers (created ten (from 2 true)), window 0 (7 ∷ 7 ∷ 6 ∷ 5 ∷ []) 4)
-    ∷ (heard ((reading rising (halves 1)) .frame), heard (both (halves 3)))
+    ∷ (frameRead ((reading rising (halves 1)) .frame), frameRead (both (halves 3)))
     ∷ []
 
 abbrev pub ExamplesHold : Type 0

@@ -7,7 +7,7 @@ use mathlib.Core.List.{List}
 use lib.ListN.{length, take, drop}
 use lib.Ieee.{Float}
 use Rattle.sound_held.specs.declared.Held.{Held}
-use Rattle.sound_held.specs.Held.{once}
+use Rattle.sound_held.specs.Held.{heldLanes}
 use Rattle.sound_state.specs.declared.StaticSound.{StaticSound}
 use Rattle.sound_block.specs.declared.Signals.{Signals}
 use Rattle.sound_block.specs.Blocks.{quiet}
@@ -22,17 +22,17 @@ use Rattle.theorems.specs.Budget.{SlowBlock, SlowMix, Within}
 abbrev pub HeldCut : Type 0
 HeldCut =
     (snd : List Float) (v : StaticSound) (dt : Float) (x : Held) (g : Signals) (out : List Float) (k : ℕ)
-    → MayCut snd v dt (once x (length out / 2)) g out k
+    → MayCut snd v dt (heldLanes x (length out / 2)) g out k
     → let first = processedHeld snd v dt x g (take (2 * k) out) in
-    let rest = processedHeld snd (first .answer .sound) dt x (quiet g) (drop (2 * k) out) in
+    let rest = processedHeld snd (first .answer .voice) dt x (quiet g) (drop (2 * k) out) in
     CutInTwo (processedHeld snd v dt x g out) first rest
 
 abbrev pub HeldMixCut : Type 0
 HeldMixCut =
     (snd : List Float) (v : StaticSound) (dt : Float) (x : Held) (g : Signals) (mix : List Float) (from n k : ℕ)
-    → MayCutMix snd v dt (once x n) g mix from k
+    → MayCutMix snd v dt (heldLanes x n) g mix from k
     → let first = processedHeldInto snd v dt x g mix from k in
-    let rest = processedHeldInto snd (first .answer .sound) dt x (quiet g) (first .samples) (from + k) (n - k) in
+    let rest = processedHeldInto snd (first .answer .voice) dt x (quiet g) (first .samples) (from + k) (n - k) in
     CutInMix (processedHeldInto snd v dt x g mix from n) first rest
 
 abbrev pub HeldKeeps : Type 0
@@ -48,26 +48,26 @@ HeldMixKeeps =
 abbrev pub HeldSteps : Type 0
 HeldSteps =
     (snd : List Float) (v : StaticSound) (dt : Float) (x : Held) (g : Signals) (out : List Float)
-    → AcceptedBlock snd v dt (once x (length out / 2)) g out
-    → Stepped snd v dt (once x (length out / 2)) g (processedHeld snd v dt x g out)
+    → AcceptedBlock snd v dt (heldLanes x (length out / 2)) g out
+    → Stepped snd v dt (heldLanes x (length out / 2)) g (processedHeld snd v dt x g out)
 
 abbrev pub HeldMixSteps : Type 0
 HeldMixSteps =
     (snd : List Float) (v : StaticSound) (dt : Float) (x : Held) (g : Signals) (mix : List Float) (from n : ℕ)
-    → AcceptedMix snd v dt (once x n) g mix from
-    → Stepped snd v dt (once x n) g (processedHeldInto snd v dt x g mix from n)
+    → AcceptedMix snd v dt (heldLanes x n) g mix from
+    → Stepped snd v dt (heldLanes x n) g (processedHeldInto snd v dt x g mix from n)
 
 abbrev pub HeldBudget : Type 0
 HeldBudget =
     (k : ℕ) (snd : List Float) (v : StaticSound) (dt : Float) (x : Held) (g : Signals) (out : List Float)
-    → SlowBlock k snd v dt (once x (length out / 2)) g out
-    → Within k snd v dt (once x (length out / 2)) g ((processedHeld snd v dt x g out) .answer)
+    → SlowBlock k snd v dt (heldLanes x (length out / 2)) g out
+    → Within k snd v dt (heldLanes x (length out / 2)) g ((processedHeld snd v dt x g out) .answer)
 
 abbrev pub HeldMixBudget : Type 0
 HeldMixBudget =
     (k : ℕ) (snd : List Float) (v : StaticSound) (dt : Float) (x : Held) (g : Signals) (mix : List Float) (from n : ℕ)
-    → SlowMix k snd v dt (once x n) g mix from
-    → Within k snd v dt (once x n) g ((processedHeldInto snd v dt x g mix from n) .answer)
+    → SlowMix k snd v dt (heldLanes x n) g mix from
+    → Within k snd v dt (heldLanes x n) g ((processedHeldInto snd v dt x g mix from n) .answer)
 
 pub record HeldBlocks : Type 0 where
   pub cut : HeldCut

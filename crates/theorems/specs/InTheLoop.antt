@@ -47,10 +47,10 @@ pub data Call : Type 0 where
 
 -- the voice that a call returns; a stretch returns none, so it does not change
 abbrev pub after : Call → StaticSound → StaticSound
-after (Block snd dt b g out) v = (processed snd v dt b g out) .answer .sound
-after (Mix snd dt b g mix from) v = (processedInto snd v dt b g mix from) .answer .sound
-after (Command snd c) v = (commanded snd v c) .sound
-after (Take snd t k) v = (taken snd t k v) .sound
+after (Block snd dt b g out) v = (processed snd v dt b g out) .answer .voice
+after (Mix snd dt b g mix from) v = (processedInto snd v dt b g mix from) .answer .voice
+after (Command snd c) v = (commanded snd v c) .voice
+after (Take snd t k) v = (taken snd t k v) .voice
 after (Stretch snd) v = v
 
 -- a stretch has no refusal: over a wrong voice it is empty
@@ -121,7 +121,7 @@ pub record Stays (s e : ℕ) (cs : List Call) (v : StaticSound) : Type 0 where
 
 -- hypothesis
 pub record Entered (s e : ℕ) (cs : List Call) (v : StaticSound) : Type 0 where
-  pub formed : T (wellFormed v)
+  pub wellFormed : T (wellFormed v)
   pub inside : Inside s e (v .moving .transport)
   pub no-loop-command : T (not (someAccepted reloops cs v))
 

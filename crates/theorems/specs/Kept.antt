@@ -11,7 +11,7 @@ use lib.Ieee.{Float}
 use Rattle.numbers.specs.Words.{positiveZero}
 use Rattle.sound_lanes.specs.Lanes.{Lanes}
 use Rattle.sound_state.specs.declared.StaticSound.{StaticSound}
-use Rattle.sound_state.specs.WellFormed.{wellFormed, ours}
+use Rattle.sound_state.specs.WellFormed.{wellFormed, wellFormedFor}
 use Rattle.sound_creation.specs.declared.Settings.{Settings}
 use Rattle.sound_commands.specs.declared.Commands.{Commands}
 use Rattle.sound_block.specs.declared.Signals.{Signals}
@@ -27,7 +27,7 @@ Either refusal a r = (refusal ≡ 0 → a) × ((refusal ≡ 0 → ⊥) → r)
 abbrev pub CreationKeeps : Type 0
 CreationKeeps =
     (snd : List Float) (s : Settings)
-    → let a = created snd s in Either (a .refusal) (T (ours (length snd) (a .sound))) (a .sound ≡ blankSound)
+    → let a = created snd s in Either (a .refusal) (T (wellFormedFor (length snd) (a .voice))) (a .voice ≡ blankSound)
 
 abbrev pub BlankIsNot : Type 0
 BlankIsNot = wellFormed blankSound ≡ false
@@ -35,13 +35,13 @@ BlankIsNot = wellFormed blankSound ≡ false
 abbrev pub CommandsKeep : Type 0
 CommandsKeep =
     (snd : List Float) (v : StaticSound) (c : Commands)
-    → let a = commanded snd v c in Either (a .refusal) (T (ours (length snd) (a .sound)))
-    ((a .sound ≡ v) × (a .position ≡ positiveZero))
+    → let a = commanded snd v c in Either (a .refusal) (T (wellFormedFor (length snd) (a .voice)))
+    ((a .voice ≡ v) × (a .position ≡ positiveZero))
 
 -- for a block's outcome, given the state and the samples before
 abbrev pub BlockKeeps : List Float → StaticSound → List Float → Outcome → Type 0
 BlockKeeps snd v out o =
-    Either (o .answer .refusal) (T (ours (length snd) (o .answer .sound))) ((o .answer .sound ≡ v)
+    Either (o .answer .refusal) (T (wellFormedFor (length snd) (o .answer .voice))) ((o .answer .voice ≡ v)
     × (o .answer .steps ≡ 0) × (o .answer .«lowest_count» ≡ 4) × (o .samples ≡ out))
 
 abbrev pub BlocksKeep : Type 0

@@ -6,12 +6,12 @@ pub mod Cut
 pub mod Schedules
 pub mod Mix
 pub mod Kept
-pub mod LawfulEnd
+pub mod AllowedEnd
 pub mod Steps
 pub mod Reports
 pub mod AnyOrder
 pub mod InTheLoop
-pub mod Rounds
+pub mod LoopWraps
 pub mod Budget
 pub mod Held
 pub mod StartTicks

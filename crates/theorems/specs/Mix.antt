@@ -29,5 +29,5 @@ CutMixes =
     (snd : List Float) (v : StaticSound) (dt : Float) (b : Lanes) (g : Signals) (mix : List Float) (from k : ℕ)
     → MayCutMix snd v dt b g mix from k
     → let first = processedInto snd v dt (firstLanes k b) g mix from in
-    let rest = processedInto snd (first .answer .sound) dt (restLanes k b) (quiet g) (first .samples) (from + k) in
+    let rest = processedInto snd (first .answer .voice) dt (restLanes k b) (quiet g) (first .samples) (from + k) in
     CutInMix (processedInto snd v dt b g mix from) first rest

@@ -4,7 +4,7 @@ use Rattle.theorems.specs.Cut.{CutBlocks}
 use Rattle.theorems.specs.Mix.{CutMixes}
 use Rattle.theorems.specs.Schedules.{AnySizes, AnySizesMix, AllAccepted, AllAcceptedMix}
 use Rattle.theorems.specs.Kept.{CreationKeeps, BlankIsNot, CommandsKeep, BlocksKeep, MixesKeep}
-use Rattle.theorems.specs.LawfulEnd.{UpdateEnds, BlockEnds, MixEnds}
+use Rattle.theorems.specs.AllowedEnd.{UpdateEnds, BlockEnds, MixEnds}
 use Rattle.theorems.specs.Steps.{StepsMade, MixStepsMade}
 use Rattle.theorems.specs.Reports.{
   CreationFeeds,
@@ -18,7 +18,7 @@ use Rattle.theorems.specs.Reports.{
 use Rattle.theorems.specs.Stays.{SeekStartsNothing, StoppedStays}
 use Rattle.theorems.specs.AnyOrder.{AnyOrder, ThereAndBack, Permutations}
 use Rattle.theorems.specs.InTheLoop.{InTheLoop}
-use Rattle.theorems.specs.Rounds.{UpdatesFit, BlocksFit, MixesFit}
+use Rattle.theorems.specs.LoopWraps.{UpdatesFit, BlocksFit, MixesFit}
 use Rattle.theorems.specs.Budget.{BlockBudget, MixBudget, StreamBudget, TwoSteps}
 use Rattle.theorems.specs.Held.{HeldBlocks}
 use Rattle.theorems.specs.StartTicks.{HalfReached, MovedTogether, TickStarts, MixTickStarts}
@@ -27,7 +27,7 @@ use Rattle.theorems.specs.Wraps.{RustAgrees}
 use Rattle.theorems.specs.Examples.{ExamplesHold}
 use Rattle.theorems.specs.Archive.{CutBlocksC, CutMixesC}
 use Rattle.theorems.specs.ArchiveSchedules.{AnySizesC, AnySizesMixC, AllAcceptedC, AllAcceptedMixC}
-use Rattle.theorems.specs.ArchiveKept.{ArchiveKeeps, ReadBack, UnlawfulRefused, TagsRefused, PartIsStretch}
+use Rattle.theorems.specs.ArchiveKept.{ArchiveKeeps, ReadBack, IllFormedRefused, TagsRefused, PartIsStretch}
 use Rattle.theorems.specs.ArchiveInTheLoop.{InTheLoopC}
 use Rattle.theorems.specs.Coincide.{Coincide}
 use Rattle.theorems.specs.Witnesses.{Witnesses}
@@ -50,7 +50,7 @@ pub record Promises : Type 0 where
   pub archive-all-accepted-mix : AllAcceptedMixC
   pub archive-keeps : ArchiveKeeps
   pub archive-read-back : ReadBack
-  pub archive-unlawful-refused : UnlawfulRefused
+  pub archive-unlawful-refused : IllFormedRefused
   pub archive-tags-refused : TagsRefused
   pub archive-part-is-stretch : PartIsStretch
   -- an accepted call returns a well formed state, a refused one what it was given

@@ -16,7 +16,7 @@ use Rattle.resampler.specs.Windows.{blank, push}
 use Rattle.sound_lanes.specs.Lanes.{Lane, Lanes, rows}
 use Rattle.sound_update.specs.declared.Moving.{Moving}
 use Rattle.sound_state.specs.declared.StaticSound.{StaticSound}
-use Rattle.sound_state.specs.Voices.{offset}
+use Rattle.sound_state.specs.Voices.{sliceStart}
 use Rattle.sound_creation.specs.declared.Settings.{Settings}
 use Rattle.sound_creation.specs.Creation.{created}
 use Rattle.sound_commands.specs.declared.Commands.{Commands}
@@ -44,7 +44,7 @@ pub record Fed (snd : List Float) (start : ℕ) (m : Moving) : Type 0 where
   pub ended : 0 < length since → m .transport .playing ≡ false
 
 abbrev pub FedVoice : List Float → StaticSound → Type 0
-FedVoice snd v = Fed snd (offset (v .setup)) (v .moving)
+FedVoice snd v = Fed snd (sliceStart (v .setup)) (v .moving)
 
 -- ---- every call returns a fed voice
 
@@ -53,21 +53,21 @@ abbrev pub AcceptedNew : List Float → Settings → Type 0
 AcceptedNew snd s = (created snd s) .refusal ≡ 0
 
 abbrev pub CreationFeeds : Type 0
-CreationFeeds = (snd : List Float) (s : Settings) → AcceptedNew snd s → FedVoice snd ((created snd s) .sound)
+CreationFeeds = (snd : List Float) (s : Settings) → AcceptedNew snd s → FedVoice snd ((created snd s) .voice)
 
 abbrev pub CommandsFeed : Type 0
 CommandsFeed = (snd : List Float) (v : StaticSound) (c : Commands) → FedVoice snd v
-    → FedVoice snd ((commanded snd v c) .sound)
+    → FedVoice snd ((commanded snd v c) .voice)
 
 abbrev pub BlocksFeed : Type 0
 BlocksFeed =
     (snd : List Float) (v : StaticSound) (dt : Float) (b : Lanes) (g : Signals) (out : List Float)
-    → FedVoice snd v → FedVoice snd ((processed snd v dt b g out) .answer .sound)
+    → FedVoice snd v → FedVoice snd ((processed snd v dt b g out) .answer .voice)
 
 abbrev pub MixesFeed : Type 0
 MixesFeed =
     (snd : List Float) (v : StaticSound) (dt : Float) (b : Lanes) (g : Signals) (mix : List Float) (from : ℕ)
-    → FedVoice snd v → FedVoice snd ((processedInto snd v dt b g mix from) .answer .sound)
+    → FedVoice snd v → FedVoice snd ((processedInto snd v dt b g mix from) .answer .voice)
 
 -- ---- what its blocks report
 
@@ -80,7 +80,7 @@ newest v = getD (v .moving .resampler .frames) 3 blank
 
 -- the newest entry is the frame of the sound with its index
 abbrev pub Sounding : List Float → StaticSound → Type 0
-Sounding snd v = newest v .frame ≡ frameOf snd (offset (v .setup) + newest v .«frame_index»)
+Sounding snd v = newest v .frame ≡ frameOf snd (sliceStart (v .setup) + newest v .«frame_index»)
 
 -- a read with count t: 4 minus the pushes without a frame
 pub record Tail (snd : List Float) (dt : Float) (ls : List Lane) (u : StaticSound) (t : ℕ) : Type 0 where

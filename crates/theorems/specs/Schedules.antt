@@ -2,7 +2,7 @@
 -- the others only the same tick, if the start is due at one. Any two ways to cut it whose blocks are all accepted
 -- write the same samples and end in states that agree in everything but the fraction and the window's frame indices.
 -- Unless the voice has stopped by a cut, state, steps and lowest count are the same. The same holds for blocks into a
--- mix. Every way to cut a lawful stream into blocks of at most 4,096 frames is accepted.
+-- mix. Every way to cut an acceptable stream into blocks of at most 4,096 frames is accepted.
 use Prim.Native.Nat.{ℕ, _+_, _*_}
 use mathlib.Core.Path.{_≡_}
 use mathlib.Core.Bool.{Bool, _&&_}
@@ -13,7 +13,7 @@ use lib.Ieee.{Float}
 use Rattle.numbers.specs.Lists.{all}
 use Rattle.sound_lanes.specs.Lanes.{Lanes, rows, timeStep, laned, near, firstLanes, restLanes}
 use Rattle.sound_state.specs.declared.StaticSound.{StaticSound}
-use Rattle.sound_state.specs.WellFormed.{ours}
+use Rattle.sound_state.specs.WellFormed.{wellFormedFor}
 use Rattle.sound_block.specs.declared.Signals.{Signals}
 use Rattle.sound_block.specs.Blocks.{quiet}
 use Rattle.sound_slow_path.specs.Plays.{lower, Outcome}
@@ -25,7 +25,7 @@ use Rattle.theorems.specs.Alike.{bare, awake}
 -- count, and the state at each cut
 pub record Run : Type 0 where
   pub accepted : Bool
-  pub sound : StaticSound
+  pub voice : StaticSound
   pub samples : List Float
   pub steps : ℕ
   pub «lowest_count» : ℕ
@@ -36,7 +36,7 @@ abbrev pub alone : Outcome → Run
 alone o =
     record {
       accepted = eqb (o .answer .refusal) 0;
-      sound = o .answer .sound;
+      voice = o .answer .voice;
       samples = o .samples;
       steps = o .answer .steps;
       «lowest_count» = o .answer .«lowest_count»;
@@ -48,11 +48,11 @@ abbrev pub followed : Outcome → Run → Run
 followed o r =
     record {
       accepted = eqb (o .answer .refusal) 0 && r .accepted;
-      sound = r .sound;
+      voice = r .voice;
       samples = o .samples ++ r .samples;
       steps = o .answer .steps + r .steps;
       «lowest_count» = lower (o .answer .«lowest_count») (r .«lowest_count»);
-      cuts = o .answer .sound ∷ r .cuts;
+      cuts = o .answer .voice ∷ r .cuts;
     }
 
 -- blocks of k frames and then of the following sizes, from a stream of lanes, into an output of that length
@@ -60,7 +60,7 @@ unfoldable pub playedBy : List Float → Float → ℕ → List ℕ → Lanes �
 playedBy snd dt k [] b g v out = alone (processed snd v dt (firstLanes k b) g (take (2 * k) out))
 playedBy snd dt k (j ∷ ks) b g v out =
     let o = processed snd v dt (firstLanes k b) g (take (2 * k) out) in
-    followed o (playedBy snd dt j ks (restLanes k b) (quiet g) (o .answer .sound) (drop (2 * k) out))
+    followed o (playedBy snd dt j ks (restLanes k b) (quiet g) (o .answer .voice) (drop (2 * k) out))
 
 -- in two sequences no voice is Stopped at a cut
 abbrev pub BothAwake : Run → Run → Type 0
@@ -68,9 +68,9 @@ BothAwake r s = T (all awake (r .cuts)) × T (all awake (s .cuts))
 
 pub record Agree (r s : Run) : Type 0 where
   pub samples : r .samples ≡ s .samples
-  pub same : BothAwake r s → (r .sound ≡ s .sound) × (r .steps ≡ s .steps)
+  pub same : BothAwake r s → (r .voice ≡ s .voice) × (r .steps ≡ s .steps)
   pub lowest : BothAwake r s → r .«lowest_count» ≡ s .«lowest_count»
-  pub alike : bare (r .sound) ≡ bare (s .sound)
+  pub alike : bare (r .voice) ≡ bare (s .voice)
 
 -- a way to cut a stream, all of whose blocks are accepted
 pub record Way (snd : List Float) (dt : Float) (b : Lanes) (g : Signals) (v : StaticSound) (k : ℕ) (ks : List ℕ)
@@ -96,18 +96,18 @@ abbrev pub onto : Outcome → Run → Run
 onto o r =
     record {
       accepted = eqb (o .answer .refusal) 0 && r .accepted;
-      sound = r .sound;
+      voice = r .voice;
       samples = r .samples;
       steps = o .answer .steps + r .steps;
       «lowest_count» = lower (o .answer .«lowest_count») (r .«lowest_count»);
-      cuts = o .answer .sound ∷ r .cuts;
+      cuts = o .answer .voice ∷ r .cuts;
     }
 
 unfoldable pub mixedBy : List Float → Float → ℕ → List ℕ → Lanes → Signals → StaticSound → List Float → ℕ → Run
 mixedBy snd dt k [] b g v mix from = alone (processedInto snd v dt (firstLanes k b) g mix from)
 mixedBy snd dt k (j ∷ ks) b g v mix from =
     let o = processedInto snd v dt (firstLanes k b) g mix from in
-    onto o (mixedBy snd dt j ks (restLanes k b) (quiet g) (o .answer .sound) (o .samples) (from + k))
+    onto o (mixedBy snd dt j ks (restLanes k b) (quiet g) (o .answer .voice) (o .samples) (from + k))
 
 pub record WayMix (snd : List Float) (dt : Float) (b : Lanes) (g : Signals) (v : StaticSound) (k : ℕ) (ks : List ℕ)
     (mix : List Float) (from : ℕ) : Type 0 where
@@ -127,10 +127,10 @@ AnySizesMix =
 
 -- ---- a sequence of blocks is accepted
 
--- a lawful stream: the state is well formed over the sound, all lanes have the same length, and 10 to 12 refuse
+-- an acceptable stream: the state is well formed over the sound, all lanes have the same length, and 10 to 12 refuse
 -- nothing
 pub record Stream (snd : List Float) (dt : Float) (b : Lanes) (v : StaticSound) : Type 0 where
-  pub ours : T (ours (length snd) v)
+  pub wellFormedFor : T (wellFormedFor (length snd) v)
   pub fade : length (b .fade) ≡ length (b .rate)
   pub volume : length (b .volume) ≡ length (b .rate)
   pub left : length (b .left) ≡ length (b .rate)
@@ -143,15 +143,15 @@ pub record Stream (snd : List Float) (dt : Float) (b : Lanes) (v : StaticSound) 
 abbrev pub short : List ℕ → Bool
 short ks = all (λ (n : ℕ). leb n 4096) ks
 
--- hypothesis: a lawful stream, an output of that length or a mix with enough space, and sizes that add up to it
-pub record LawfulCut (snd : List Float) (dt : Float) (b : Lanes) (v : StaticSound) (k : ℕ) (ks : List ℕ)
+-- hypothesis: an acceptable stream, an output of that length or a mix with enough space, and sizes that add up to it
+pub record AllowedCut (snd : List Float) (dt : Float) (b : Lanes) (v : StaticSound) (k : ℕ) (ks : List ℕ)
     (out : List Float) : Type 0 where
   pub stream : Stream snd dt b v
   pub holds : length out ≡ 2 * length (b .rate)
   pub all-of-it : k + sum ks ≡ length (b .rate)
   pub few : T (short (k ∷ ks))
 
-pub record LawfulCutMix (snd : List Float) (dt : Float) (b : Lanes) (v : StaticSound) (k : ℕ) (ks : List ℕ)
+pub record AllowedCutMix (snd : List Float) (dt : Float) (b : Lanes) (v : StaticSound) (k : ℕ) (ks : List ℕ)
     (mix : List Float) (from : ℕ) : Type 0 where
   pub stream : Stream snd dt b v
   pub holds : T (room from (length (b .rate)) mix)
@@ -162,10 +162,10 @@ abbrev pub AllAccepted : Type 0
 AllAccepted =
     (snd : List Float) (dt : Float) (b : Lanes) (g : Signals) (v : StaticSound) (k : ℕ) (ks : List ℕ)
     (out : List Float)
-    → LawfulCut snd dt b v k ks out → T ((playedBy snd dt k ks b g v out) .accepted)
+    → AllowedCut snd dt b v k ks out → T ((playedBy snd dt k ks b g v out) .accepted)
 
 abbrev pub AllAcceptedMix : Type 0
 AllAcceptedMix =
     (snd : List Float) (dt : Float) (b : Lanes) (g : Signals) (v : StaticSound) (k : ℕ) (ks : List ℕ)
     (mix : List Float) (from : ℕ)
-    → LawfulCutMix snd dt b v k ks mix from → T ((mixedBy snd dt k ks b g v mix from) .accepted)
+    → AllowedCutMix snd dt b v k ks mix from → T ((mixedBy snd dt k ks b g v mix from) .accepted)

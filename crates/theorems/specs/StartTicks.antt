@@ -10,7 +10,7 @@ use lib.Ieee.{Float}
 use Rattle.sound_lanes.specs.Lanes.{Lanes}
 use Rattle.sound_state.specs.declared.StaticSound.{StaticSound}
 use Rattle.start_time.specs.declared.StartSignal.the-variants.{Tick}
-use Rattle.start_time.specs.Ticks.{turn, half, reached}
+use Rattle.start_time.specs.Ticks.{tickRange, half, reached}
 use Rattle.sound_block.specs.declared.Signals.{Signals}
 use Rattle.static_sound.specs.Entries.{processed, processedInto}
 use Rattle.sound_slow_path.specs.declared.Processed.{Processed}
@@ -22,16 +22,17 @@ howMany p zero = 0
 howMany p (suc n) = cond (p n) 1 0 + howMany p n
 
 abbrev pub IsTick : ℕ → Type 0
-IsTick due = due < turn
+IsTick due = due < tickRange
 
 abbrev pub AreTicks : ℕ → ℕ → Type 0
 AreTicks due now = IsTick due × IsTick now
 
 abbrev pub HalfReached : Type 0
-HalfReached = (due : ℕ) → IsTick due → howMany (λ (now : ℕ). reached due now) turn ≡ half
+HalfReached = (due : ℕ) → IsTick due → howMany (λ (now : ℕ). reached due now) tickRange ≡ half
 
 abbrev pub MovedTogether : Type 0
-MovedTogether = (due now k : ℕ) → AreTicks due now → reached ((due + k) % turn) ((now + k) % turn) ≡ reached due now
+MovedTogether = (due now k : ℕ) → AreTicks due now →
+    reached ((due + k) % tickRange) ((now + k) % tickRange) ≡ reached due now
 
 -- hypothesis: an accepted block with a due tick
 pub record Due (snd : List Float) (v : StaticSound) (dt : Float) (b : Lanes) (g : Signals) (out : List Float)
@@ -46,7 +47,7 @@ pub record DueMix (snd : List Float) (v : StaticSound) (dt : Float) (b : Lanes) 
 
 -- whether the returned voice has started
 abbrev pub StartsBy : StaticSound → ℕ → ℕ → Processed → Type 0
-StartsBy v due now a = a .sound .started ≡ (v .started || reached due now)
+StartsBy v due now a = a .voice .started ≡ (v .started || reached due now)
 
 abbrev pub TickStarts : Type 0
 TickStarts =

@@ -10,10 +10,10 @@ use lib.Ieee.{Float}
 use Rattle.numbers.specs.Words.{whole}
 use Rattle.sound_lanes.specs.Lanes.{Lane, Lanes, rows}
 use Rattle.sound_state.specs.declared.StaticSound.{StaticSound}
-use Rattle.sound_state.specs.Voices.{courseOf}
+use Rattle.sound_state.specs.Voices.{sliceOf}
 use Rattle.sound_update.specs.Updates.{updates}
 use Rattle.sound_block.specs.declared.Signals.{Signals}
-use Rattle.sound_slow_path.specs.Plays.{total, turned, Outcome}
+use Rattle.sound_slow_path.specs.Plays.{total, afterFrame, Outcome}
 use Rattle.sound_block.specs.Blocks.{begun, live}
 use Rattle.static_sound.specs.Entries.{processed, processedInto}
 use Rattle.theorems.specs.Sums.{sum}
@@ -22,14 +22,14 @@ use Rattle.theorems.specs.Accepted.{AcceptedBlock, AcceptedMix}
 -- the steps of each frame
 unfoldable pub stepsOf : List Float → Float → List Lane → StaticSound → List ℕ
 stepsOf snd dt [] v = []
-stepsOf snd dt (l ∷ ls) v = whole (total dt v l) ∷ stepsOf snd dt ls (turned snd dt v l)
+stepsOf snd dt (l ∷ ls) v = whole (total dt v l) ∷ stepsOf snd dt ls (afterFrame snd dt v l)
 
 -- for an accepted block's outcome
 pub record Stepped (snd : List Float) (v : StaticSound) (dt : Float) (b : Lanes) (g : Signals)
     (o : Outcome) : Type 0 where
   pub reported : o .answer .steps ≡ cond (live (begun g v)) (sum (stepsOf snd dt (rows b) (begun g v))) 0
   pub few : o .answer .steps ≤ 257 * length (b .rate)
-  pub made : o .answer .sound .moving ≡ updates (o .answer .steps) snd (courseOf v) ((begun g v) .moving)
+  pub made : o .answer .voice .moving ≡ updates (o .answer .steps) snd (sliceOf v) ((begun g v) .moving)
 
 abbrev pub StepsMade : Type 0
 StepsMade =

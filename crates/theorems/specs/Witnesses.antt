@@ -13,7 +13,7 @@ use Rattle.playback_state_manager.specs.declared.StartAnswer.the-variants.{Wait
 use Rattle.start_time.specs.declared.StartSignal.the-variants.{Answer, Tick}
 use Rattle.sound_lanes.specs.Lanes.{Lanes, five, rows, firstLanes}
 use Rattle.sound_state.specs.declared.StaticSound.{StaticSound}
-use Rattle.sound_state.specs.Voices.{courseOf}
+use Rattle.sound_state.specs.Voices.{sliceOf}
 use Rattle.playback_position.specs.declared.PlaybackPosition.the-variants.{Samples}
 use Rattle.sound_update.specs.Updates.{updates}
 use Rattle.sound_creation.specs.declared.OptionalRegion.the-variants as optional
@@ -31,18 +31,18 @@ use Rattle.c_inputs.specs.declared.CableowlPlace.{CableowlPlace}
 use Rattle.c_inputs.specs.declared.CableowlCommands.{CableowlCommands}
 use Rattle.c_inputs.specs.declared.CableowlSignals.{CableowlSignals}
 use Rattle.sound_held.specs.declared.Held.{Held}
-use Rattle.sound_held.specs.Held.{once}
+use Rattle.sound_held.specs.Held.{heldLanes}
 use Rattle.theorems.specs.Accepted.{AcceptedBlock, AcceptedMix, Silent}
 use Rattle.theorems.specs.Alike.{Awake}
 use Rattle.theorems.specs.Cut.{MayCut}
 use Rattle.theorems.specs.Mix.{MayCutMix}
-use Rattle.theorems.specs.Schedules.{playedBy, mixedBy, BothAwake, TwoWays, TwoWaysMix, LawfulCut, LawfulCutMix}
-use Rattle.theorems.specs.LawfulEnd.{Sounds, SoundsMix}
+use Rattle.theorems.specs.Schedules.{playedBy, mixedBy, BothAwake, TwoWays, TwoWaysMix, AllowedCut, AllowedCutMix}
+use Rattle.theorems.specs.AllowedEnd.{Sounds, SoundsMix}
 use Rattle.theorems.specs.Reports.{FedVoice, AcceptedNew, Full, Short, Reporting, ReportingMix}
 use Rattle.theorems.specs.Stays.{PlaysAfter}
 use Rattle.theorems.specs.AnyOrder.{Forward, Backward, InLoop, Rearranged}
 use Rattle.theorems.specs.InTheLoop.{Call, Block, Command, EndsStopped, Entered}
-use Rattle.theorems.specs.Rounds.{Onward, Back, CountsOnward, CountsBack, MovesInLoop, BlockInLoop, MixInLoop}
+use Rattle.theorems.specs.LoopWraps.{Onward, Back, CountsOnward, CountsBack, MovesInLoop, BlockInLoop, MixInLoop}
 use Rattle.theorems.specs.Budget.{SlowBlock, SlowMix, SlowStream}
 use Rattle.theorems.specs.StartTicks.{IsTick, AreTicks, Due, DueMix}
 use Rattle.theorems.specs.AtZero.{SmallFrames}
@@ -50,14 +50,14 @@ use Rattle.theorems.specs.Wraps.{NotEmpty}
 use Rattle.theorems.specs.Examples.{looped, ten, from}
 use Rattle.theorems.specs.Archive.{MayCutC, MayCutMixC}
 use Rattle.theorems.specs.ArchiveSchedules.{playedByC, mixedByC, BothAwakeC, TwoWaysC, TwoWaysMixC}
-use Rattle.theorems.specs.ArchiveKept.{Lawful, Unlawful, Unknown}
+use Rattle.theorems.specs.ArchiveKept.{WellFormedState, IllFormedState, Unknown}
 use Rattle.theorems.specs.ArchiveInTheLoop as archive
 use Rattle.theorems.specs.ArchiveInTheLoop.{CallC, EndsStoppedC, EnteredC}
 
 -- ---- the input
 
 abbrev pub voice : StaticSound
-voice = created ten (from 0 false) .sound
+voice = created ten (from 0 false) .voice
 
 -- the same voice before it has started
 abbrev pub unstarted : StaticSound
@@ -72,7 +72,7 @@ unstarted =
 
 -- the same sound played in reverse, and a sound of one frame, without a loop, that ends at once
 abbrev pub reversed : StaticSound
-reversed = created ten (from 2 true) .sound
+reversed = created ten (from 2 true) .voice
 
 abbrev pub single : List Float
 single = replicate 2 positiveZero
@@ -89,7 +89,7 @@ ending =
       «playback_rate» = one;
       «start_waits» = false;
     })
-    .sound
+    .voice
 
 -- two frames at full volume
 abbrev pub lanes : Lanes
@@ -164,8 +164,8 @@ stateOf7 =
 abbrev pub dueC : CableowlSignals
 dueC = record { finished = 0; start = 3; resume = 0; due = 4294967295; now = 0 }
 
-abbrev pub noPlace : CableowlPlace
-noPlace = record { seconds = positiveZero; samples = 0; kind = 0 }
+abbrev pub noPosition : CableowlPlace
+noPosition = record { seconds = positiveZero; samples = 0; kind = 0 }
 
 -- the same stop, and the same block
 abbrev pub stopC : CableowlCommands
@@ -181,7 +181,7 @@ stopC =
       rate = one;
       «seek_by» = positiveZero;
       «seek_to» = positiveZero;
-      «loop_region» = record { start = noPlace; end = noPlace };
+      «loop_region» = record { start = noPosition; end = noPosition };
     }
 
 abbrev pub fadedC : CableowlSignals
@@ -197,15 +197,15 @@ full = record { left = one; right = one }
 
 pub record Witnesses : Type 0 where
   pub cut-blocks : MayCut ten voice one lanes due output 1
-      × Awake ((processed ten voice one (firstLanes 1 lanes) due (take 2 output)) .answer .sound)
+      × Awake ((processed ten voice one (firstLanes 1 lanes) due (take 2 output)) .answer .voice)
   pub cut-mixes : MayCutMix ten voice one lanes due mix 1 1
-      × Awake ((processedInto ten voice one (firstLanes 1 lanes) due mix 1) .answer .sound)
+      × Awake ((processedInto ten voice one (firstLanes 1 lanes) due mix 1) .answer .voice)
   pub any-sizes : TwoWays ten one lanes due voice 1 (1 ∷ []) output 2 [] output
       × BothAwake (playedBy ten one 1 (1 ∷ []) lanes due voice output) (playedBy ten one 2 [] lanes due voice output)
   pub any-sizes-mix : TwoWaysMix ten one lanes due voice 1 (1 ∷ []) 2 [] mix 1
       × BothAwake (mixedBy ten one 1 (1 ∷ []) lanes due voice mix 1) (mixedBy ten one 2 [] lanes due voice mix 1)
-  pub all-accepted : LawfulCut ten one lanes voice 1 (1 ∷ []) output
-  pub all-accepted-mix : LawfulCutMix ten one lanes voice 1 (1 ∷ []) mix 1
+  pub all-accepted : AllowedCut ten one lanes voice 1 (1 ∷ []) output
+  pub all-accepted-mix : AllowedCutMix ten one lanes voice 1 (1 ∷ []) mix 1
   pub archive-cut-blocks : MayCutC ten state one lanes dueC output 1
       × Awake (decoded ((processedC ten state one (firstLanes 1 lanes) dueC (take 2 output)) .answer .state))
   pub archive-cut-mixes : MayCutMixC ten state one lanes dueC mix 1 1
@@ -215,18 +215,19 @@ pub record Witnesses : Type 0 where
       (playedByC ten one 2 [] lanes dueC state output)
   pub archive-any-sizes-mix : TwoWaysMixC ten one lanes dueC state 1 (1 ∷ []) 2 [] mix 1
       × BothAwakeC (mixedByC ten one 1 (1 ∷ []) lanes dueC state mix 1) (mixedByC ten one 2 [] lanes dueC state mix 1)
-  pub archive-all-accepted : LawfulCut ten one lanes (decoded state) 1 (1 ∷ []) output
-  pub archive-all-accepted-mix : LawfulCutMix ten one lanes (decoded state) 1 (1 ∷ []) mix 1
-  pub archive-read-back : Lawful state
-  pub archive-unlawful-refused : Unlawful stateOf7
+  pub archive-all-accepted : AllowedCut ten one lanes (decoded state) 1 (1 ∷ []) output
+  pub archive-all-accepted-mix : AllowedCutMix ten one lanes (decoded state) 1 (1 ∷ []) mix 1
+  pub archive-read-back : WellFormedState state
+  pub archive-unlawful-refused : IllFormedState stateOf7
   pub archive-tags-refused : Unknown 1 2 × Unknown 2 3
   pub block-ends : Sounds ten voice one lanes due output 1
   pub mix-ends : SoundsMix ten voice one lanes due mix 1 1
-  pub held-blocks : MayCut ten voice one (once ones 2) due output 1
-      × Awake ((processed ten voice one (firstLanes 1 (once ones 2)) due (take 2 output)) .answer .sound)
-      × MayCutMix ten voice one (once ones 2) due mix 1 1 × AcceptedBlock ten voice one (once ones 2) due output
-      × AcceptedMix ten voice one (once ones 2) due mix 1 × SlowBlock 1 ten voice one (once ones 2) due output
-      × SlowMix 1 ten voice one (once ones 2) due mix 1 × Silent waiting unstarted
+  pub held-blocks : MayCut ten voice one (heldLanes ones 2) due output 1
+      × Awake ((processed ten voice one (firstLanes 1 (heldLanes ones 2)) due (take 2 output)) .answer .voice)
+      × MayCutMix ten voice one (heldLanes ones 2) due mix 1 1 × AcceptedBlock ten voice one
+      (heldLanes ones 2) due output
+      × AcceptedMix ten voice one (heldLanes ones 2) due mix 1 × SlowBlock 1 ten voice one (heldLanes ones 2) due output
+      × SlowMix 1 ten voice one (heldLanes ones 2) due mix 1 × Silent waiting unstarted
   pub steps-made : AcceptedBlock ten voice one lanes due output
   pub mix-steps-made : AcceptedMix ten voice one lanes due mix 1
   pub block-budget : SlowBlock 1 ten voice one lanes due output × Silent waiting unstarted
@@ -249,21 +250,21 @@ pub record Witnesses : Type 0 where
   pub permutations : Rearranged 10 3 6 (Forward ∷ Backward ∷ []) (Backward ∷ Forward ∷ []) (looped 4)
   pub in-the-loop : Entered 3 6 stopping voice × EndsStopped stopping voice
   pub archive-in-the-loop : EnteredC 3 6 stoppingC state × EndsStoppedC stoppingC state
-  pub updates-fit : MovesInLoop (courseOf voice) 3 6 (voice .moving)
-      × CountsOnward (courseOf voice .backwards) (updates 4 ten (courseOf voice) (voice .moving))
-      × CountsBack (courseOf reversed .backwards) (updates 4 ten (courseOf reversed) (reversed .moving))
-      × Onward (courseOf voice .backwards) × Back (courseOf reversed .backwards)
+  pub updates-fit : MovesInLoop (sliceOf voice) 3 6 (voice .moving)
+      × CountsOnward (sliceOf voice .backwards) (updates 4 ten (sliceOf voice) (voice .moving))
+      × CountsBack (sliceOf reversed .backwards) (updates 4 ten (sliceOf reversed) (reversed .moving))
+      × Onward (sliceOf voice .backwards) × Back (sliceOf reversed .backwards)
   pub blocks-fit : BlockInLoop ten voice one lanes due output 3 6
-      × CountsOnward (courseOf voice .backwards) ((processed ten voice one lanes due output) .answer .sound .moving)
-      × CountsBack (courseOf reversed .backwards)
-      ((processed ten reversed one lanes due output) .answer .sound .moving) × Onward (courseOf voice .backwards)
-      × Back (courseOf reversed .backwards)
+      × CountsOnward (sliceOf voice .backwards) ((processed ten voice one lanes due output) .answer .voice .moving)
+      × CountsBack (sliceOf reversed .backwards)
+      ((processed ten reversed one lanes due output) .answer .voice .moving) × Onward (sliceOf voice .backwards)
+      × Back (sliceOf reversed .backwards)
   pub mixes-fit : MixInLoop ten voice one lanes due mix 1 3 6
-      × CountsOnward (courseOf voice .backwards)
-      ((processedInto ten voice one lanes due mix 1) .answer .sound .moving)
-      × CountsBack (courseOf reversed .backwards)
-      ((processedInto ten reversed one lanes due mix 1) .answer .sound .moving) × Onward (courseOf voice .backwards)
-      × Back (courseOf reversed .backwards)
+      × CountsOnward (sliceOf voice .backwards)
+      ((processedInto ten voice one lanes due mix 1) .answer .voice .moving)
+      × CountsBack (sliceOf reversed .backwards)
+      ((processedInto ten reversed one lanes due mix 1) .answer .voice .moving) × Onward (sliceOf voice .backwards)
+      × Back (sliceOf reversed .backwards)
   pub half-reached : IsTick 4294967295
   pub moved-together : AreTicks 4294967295 0
   pub tick-starts : Due ten unstarted one lanes due output 4294967295 0

@@ -12,8 +12,8 @@ use Rattle.sound_state.specs.declared.StaticSound.{StaticSound}
 use Rattle.loop_table.specs.declared.Hall.{Hall}
 use Rattle.loop_table.specs.declared.LoopSlot.{LoopSlot}
 use Rattle.loop_table.specs.declared.LoopTable.{LoopTable}
-use Rattle.loop_table.specs.Tables.{slotOf, empty, lawfulTable, half, same, changed, refusedWrite, refusedClear, written, cleared}
-use Rattle.theorems_loop_table.specs.Calls.{Call, Write, Clear, Read, Event, World, told, next, after, answers, only, tableAfter}
+use Rattle.loop_table.specs.Tables.{slotOf, empty, wellFormedTable, half, same, changed, refusedWrite, refusedClear, written, cleared}
+use Rattle.theorems_loop_table.specs.Calls.{Call, Write, Clear, Read, Event, World, answerTo, next, after, answers, only, tableAfter}
 use Rattle.theorems_loop_table.specs.Apart.{concerns, takesFrom}
 use Rattle.theorems_loop_table.proofs.Apart.{Alike, AlikeFor, same-is, skipped, moved}
 use Rattle.loop_copies.specs.declared.LoopCopy.{LoopCopy}
@@ -54,7 +54,7 @@ merged-alike n w r h j t a =
     let g = good-merged n (r .bound) (r .hist) c d (r .here h) (sent-good n (copies w) (w .sent) r h j) in
     let o = own-merged n (r .bound) (r .hist) h c d (r .here h) (sent-good n (copies w) (w .sent) r h j) (r .own h) in
     record {
-      lawful = ap (λ (x : LoopCopy). lawfulTable (x .table)) e ∙ g .lawful ∙ sym (r .here h .lawful) ∙ a .lawful;
+      wellFormed = ap (λ (x : LoopCopy). wellFormedTable (x .table)) e ∙ g .wellFormed ∙ sym (r .here h .wellFormed) ∙ a .wellFormed;
       frames = ap (λ (x : LoopCopy). x .table .«num_frames») e ∙ g .frames ∙ sym (r .here h .frames) ∙ a .frames;
       slots = ap (λ (x : LoopCopy). half h (x .table)) e ∙ ap (λ (v : View). v .slots) o ∙ a .slots;
     }
@@ -66,7 +66,7 @@ module _ (snd : List Float) (n : ℕ) (h : Hall) (i : ℕ) where
   R = AlikeFor snd h i
 
   turned : (w u : World) → R w u → R u w
-  turned w u r = record { table = record { lawful = sym (r .table .lawful); frames = sym (r .table .frames); slots = sym (r .table .slots) }; voice = sym (r .voice) }
+  turned w u r = record { table = record { wellFormed = sym (r .table .wellFormed); frames = sym (r .table .frames); slots = sym (r .table .slots) }; voice = sym (r .voice) }
 
   abbrev concerning : Event → Bool
   concerning = concerns h i
@@ -79,7 +79,7 @@ module _ (snd : List Float) (n : ℕ) (h : Hall) (i : ℕ) where
   -- a call at box q, as one at h
   abbrev Own : Asked → List Step → Boxes → World → Hall → Type 0
   Own a ss w u q =
-      (cond (concerning (eventOf q a)) (told snd (worldOf (w .box q)) (eventOf q a) ∷ answersAt snd h concerning (stepped snd w (At q a)) ss) (answersAt snd h concerning (stepped snd w (At q a)) ss)
+      (cond (concerning (eventOf q a)) (answerTo snd (worldOf (w .box q)) (eventOf q a) ∷ answersAt snd h concerning (stepped snd w (At q a)) ss) (answersAt snd h concerning (stepped snd w (At q a)) ss)
       ≡ answers snd concerning u (eventOf q a ∷ aloneRow h ss))
       × R (worldOf ((afterSteps snd (stepped snd w (At q a)) ss) .box h)) (after snd u (eventOf q a ∷ aloneRow h ss))
 
@@ -92,8 +92,8 @@ module _ (snd : List Float) (n : ℕ) (h : Hall) (i : ℕ) where
           subst (λ (b : Box). R (worldOf b) x) (sym (put-own h (asked snd h (w .box h) a) (w .box))) (subst (λ (z : World). R z x) (sym (asked-world snd h (w .box h) a)) y)
 
       go : (b : Bool) → concerning (eventOf h a) ≡ b → T (all (takesFrom h) (cond b (eventOf h a ∷ only concerning (aloneRow h ss)) (only concerning (aloneRow h ss))))
-          → (cond b (told snd (worldOf (w .box h)) (eventOf h a) ∷ answersAt snd h concerning (stepped snd w (At h a)) ss) (answersAt snd h concerning (stepped snd w (At h a)) ss)
-          ≡ cond b (told snd u (eventOf h a) ∷ answers snd concerning (next snd u (eventOf h a)) (aloneRow h ss)) (answers snd concerning (next snd u (eventOf h a)) (aloneRow h ss)))
+          → (cond b (answerTo snd (worldOf (w .box h)) (eventOf h a) ∷ answersAt snd h concerning (stepped snd w (At h a)) ss) (answersAt snd h concerning (stepped snd w (At h a)) ss)
+          ≡ cond b (answerTo snd u (eventOf h a) ∷ answers snd concerning (next snd u (eventOf h a)) (aloneRow h ss)) (answers snd concerning (next snd u (eventOf h a)) (aloneRow h ss)))
           × R (worldOf ((afterSteps snd (stepped snd w (At h a)) ss) .box h)) (after snd (next snd u (eventOf h a)) (aloneRow h ss))
       go true d t =
           let m = moved snd h i (eventOf h a) (worldOf (w .box h)) u d (and-l (takesFrom h (eventOf h a)) (all (takesFrom h) (only concerning (aloneRow h ss))) t) r in
@@ -110,7 +110,7 @@ module _ (snd : List Float) (n : ℕ) (h : Hall) (i : ℕ) where
   alone-row (At q a ∷ ss) w u g r t = at-step (alone-row ss) (same h q) refl t
     where
       at-step : Claim ss → (b : Bool) → same h q ≡ b → T (all (takesFrom h) (only concerning (cond b (eventOf q a ∷ aloneRow h ss) (aloneRow h ss))))
-          → (cond (b && concerning (eventOf q a)) (told snd (worldOf (w .box q)) (eventOf q a) ∷ answersAt snd h concerning (stepped snd w (At q a)) ss) (answersAt snd h concerning (stepped snd w (At q a)) ss)
+          → (cond (b && concerning (eventOf q a)) (answerTo snd (worldOf (w .box q)) (eventOf q a) ∷ answersAt snd h concerning (stepped snd w (At q a)) ss) (answersAt snd h concerning (stepped snd w (At q a)) ss)
           ≡ answers snd concerning u (cond b (eventOf q a ∷ aloneRow h ss) (aloneRow h ss)))
           × R (worldOf ((afterSteps snd (stepped snd w (At q a)) ss) .box h)) (after snd u (cond b (eventOf q a ∷ aloneRow h ss) (aloneRow h ss)))
       at-step rest true d t =
@@ -135,5 +135,5 @@ module _ (snd : List Float) (n : ℕ) (h : Hall) (i : ℕ) where
 
 pub as-alone : AsAlone
 as-alone snd n vs h i ss q =
-    let p = alone-row snd n h i ss (begun n vs) (oneTable n (vs h)) (going-begun snd n vs ss (q .few)) (record { table = record { lawful = refl; frames = refl; slots = refl }; voice = refl }) (q .own) in
+    let p = alone-row snd n h i ss (begun n vs) (oneTable n (vs h)) (going-begun snd n vs ss (q .few)) (record { table = record { wellFormed = refl; frames = refl; slots = refl }; voice = refl }) (q .own) in
     record { answered = p .0; slots = p .1 .table .slots; voice = p .1 .voice }

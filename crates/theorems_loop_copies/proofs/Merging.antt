@@ -8,7 +8,7 @@ use Rattle.loop_copies.specs.declared.LoopCopy.{LoopCopy}
 use Rattle.loop_copies.specs.declared.CopyChanged.{CopyChanged}
 use Rattle.loop_copies.specs.Copies.{changesOf, merged, mergedCopy}
 use Rattle.theorems_loop_copies.specs.Merging.{Sixteen, NeverBack, AnyOrder, AnyTimes, AnyGrouping}
-use Rattle.theorems_loop_copies.proofs.Views.{View, view, pick, picked, pick-order, pick-older, pick-grouping, OneView, copy-ext, view-merged, sixteen-merged, lawful-merged, Fit, fit-of, accepted-of, merged-of, merged-either}
+use Rattle.theorems_loop_copies.proofs.Views.{View, view, pick, picked, pick-order, pick-older, pick-grouping, OneView, copy-ext, view-merged, sixteen-merged, well-formed-merged, Fit, fit-of, accepted-of, merged-of, merged-either}
 
 -- a view that is not older, and the same where its number is
 abbrev On : View → View → Type 0
@@ -43,7 +43,7 @@ any-order c d q =
 pub any-times : AnyTimes
 any-times c q =
     let s = q .sixteen in
-    let l = q .lawful in
+    let l = q .wellFormed in
     merged-of c c (accepted-of c c (record { ours = l; theirs = l; frames = refl; halves = λ h e. refl }))
     ∙ ap accepted (copy-ext (merged c c) c refl (λ h. view-merged h c c s s ∙ pick-older (view h c) (view h c) (omega arith)))
 
@@ -62,8 +62,8 @@ any-grouping c d e q =
     let f = fit-of c d s t y in
     let g = fit-of d e t r z in
     let k = fit-of c e s r w in
-    let left : Fit (merged c d) e = record { ours = lawful-merged c d (f .ours) (f .theirs) (f .frames); theirs = g .theirs; frames = k .frames; halves = λ h. subst (λ (x : View). OneView x (view h e)) (sym (view-merged h c d s t)) (fit-left c d e h (k .halves h) (g .halves h)) } in
-    let right : Fit c (merged d e) = record { ours = f .ours; theirs = lawful-merged d e (g .ours) (g .theirs) (g .frames); frames = f .frames; halves = λ h. subst (λ (x : View). OneView (view h c) x) (sym (view-merged h d e t r)) (λ q. sym (fit-left d e c h (λ i. sym (f .halves h (sym i))) (λ i. sym (k .halves h (sym i))) (sym q))) } in
+    let left : Fit (merged c d) e = record { ours = well-formed-merged c d (f .ours) (f .theirs) (f .frames); theirs = g .theirs; frames = k .frames; halves = λ h. subst (λ (x : View). OneView x (view h e)) (sym (view-merged h c d s t)) (fit-left c d e h (k .halves h) (g .halves h)) } in
+    let right : Fit c (merged d e) = record { ours = f .ours; theirs = well-formed-merged d e (g .ours) (g .theirs) (g .frames); frames = f .frames; halves = λ h. subst (λ (x : View). OneView (view h c) x) (sym (view-merged h d e t r)) (λ q. sym (fit-left d e c h (λ i. sym (f .halves h (sym i))) (λ i. sym (k .halves h (sym i))) (sym q))) } in
     ap (λ (x : CopyChanged). mergedCopy (x .copy) e) (merged-of c d y)
     ∙ merged-of (merged c d) e (accepted-of (merged c d) e left)
     ∙ ap accepted (copy-ext (merged (merged c d) e) (merged c (merged d e)) refl (λ h. views s t r h))

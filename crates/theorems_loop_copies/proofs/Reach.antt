@@ -14,18 +14,18 @@ use Rattle.loop_table.specs.declared.Hall.the-variants as hall
 use Rattle.loop_table.specs.declared.LoopSlot.{LoopSlot}
 use Rattle.loop_table.specs.declared.LoopTable.{LoopTable}
 use Rattle.loop_table.specs.declared.LoopChanged.{LoopChanged}
-use Rattle.loop_table.specs.Tables.{slotOf, empty, lawfulTable, half, same, changed, refusedWrite, refusedClear, written, cleared}
+use Rattle.loop_table.specs.Tables.{slotOf, empty, wellFormedTable, half, same, changed, refusedWrite, refusedClear, written, cleared}
 use Rattle.theorems_loop_table.specs.Calls.{Call, Write, Clear, Read, tableAfter}
-use Rattle.theorems_loop_table.proofs.Stores.{Passed, write-passed, clear-passed, changed-number, changed-either, changed-frames, changed-lawful, changed-other}
+use Rattle.theorems_loop_table.proofs.Stores.{Passed, write-passed, clear-passed, changed-number, changed-either, changed-frames, changed-well-formed, changed-other}
 use Rattle.loop_copies.specs.declared.LoopCopy.{LoopCopy}
 use Rattle.loop_copies.specs.Copies.{changesOf, raised, countedBy, counted, copyWritten, copyCleared, refusedMerge, merged, mergedCopy}
 use Rattle.theorems_loop_copies.specs.Boxes.{Asked, OfTable, OfVoice, copyAfter}
 use Rattle.theorems_loop_copies.specs.Merging.{Sixteen}
-use Rattle.theorems_loop_copies.proofs.Views.{View, view, pick, picked, pick-older, view-merged, sixteen-merged, lawful-merged, Fit, accepted-of, merged-of, merged-either}
+use Rattle.theorems_loop_copies.proofs.Views.{View, view, pick, picked, pick-older, view-merged, sixteen-merged, well-formed-merged, Fit, accepted-of, merged-of, merged-either}
 
 -- a copy over n frames whose halves come from each hall's history, with numbers that the halls have reached
 pub record Good (n : ℕ) (bound : Hall → ℕ) (hist : Hall → ℕ → List LoopSlot) (c : LoopCopy) : Type 0 where
-  pub lawful : lawfulTable (c .table) ≡ true
+  pub wellFormed : wellFormedTable (c .table) ≡ true
   pub frames : c .table .«num_frames» ≡ n
   pub sixteen : Sixteen c
   pub below : (h : Hall) → changesOf h c ≤ bound h
@@ -35,8 +35,8 @@ module _ (n : ℕ) (bound : Hall → ℕ) (hist : Hall → ℕ → List LoopSlot
   pub fits : (c d : LoopCopy) → Good n bound hist c → Good n bound hist d → Fit c d
   fits c d g k =
       record {
-        ours = g .lawful;
-        theirs = k .lawful;
+        ours = g .wellFormed;
+        theirs = k .wellFormed;
         frames = g .frames ∙ sym (k .frames);
         halves = λ h e. g .from h ∙ ap (hist h) e ∙ sym (k .from h);
       }
@@ -48,7 +48,7 @@ module _ (n : ℕ) (bound : Hall → ℕ) (hist : Hall → ℕ → List LoopSlot
   pub good-merged : (c d : LoopCopy) → Good n bound hist c → Good n bound hist d → Good n bound hist (merged c d)
   good-merged c d g k =
       record {
-        lawful = lawful-merged c d (g .lawful) (k .lawful) (g .frames ∙ sym (k .frames));
+        wellFormed = well-formed-merged c d (g .wellFormed) (k .wellFormed) (g .frames ∙ sym (k .frames));
         frames = g .frames;
         sixteen = sixteen-merged c d (g .sixteen) (k .sixteen);
         below = λ h. old h .0;
@@ -206,7 +206,7 @@ module _ (n : ℕ) (f : Hall → LoopCopy) (l : List LoopCopy) (r : Reached n f 
   good-up : (x : List LoopSlot) (c : LoopCopy) → Good n (r .bound) (r .hist) c → Good n bound′ (hist′ x) c
   good-up x c g =
       record {
-        lawful = g .lawful;
+        wellFormed = g .wellFormed;
         frames = g .frames;
         sixteen = g .sixteen;
         below = λ k. omega (arith, g .below k, bound-up k);
@@ -240,7 +240,7 @@ module _ (n : ℕ) (f : Hall → LoopCopy) (l : List LoopCopy) (r : Reached n f 
       good : m ≡ 0 → Good n bound′ (hist′ (half h t)) c
       good z =
           record {
-            lawful = ap lawfulTable (counted-table h (f h) t) ∙ changed-lawful m k s h (f h .table) p ∙ r .here h .lawful;
+            wellFormed = ap wellFormedTable (counted-table h (f h) t) ∙ changed-well-formed m k s h (f h .table) p ∙ r .here h .wellFormed;
             frames = ap (λ (q : LoopTable). q .«num_frames») (counted-table h (f h) t) ∙ changed-frames m k s (f h .table) ∙ r .here h .frames;
             sixteen = ap (λ (q : LoopTable). length (q .slots)) (counted-table h (f h) t) ∙ changed-either m k s (λ (q : LoopTable). length (q .slots) ≡ 16) (f h .table) (λ e. length-set (f h .table .slots) k s ∙ r .here h .sixteen) (r .here h .sixteen);
             below = by-hall (λ (g : Hall). changesOf g c ≤ bound′ g) h (subst (λ (q : ℕ). changesOf h c ≤ q) (sym bound-own) (omega (arith, number))) (λ g d. subst (λ (q : ℕ). q ≤ bound′ g) (sym (counted-other h g (f h) t d)) (omega (arith, r .here h .below g, bound-up g)));

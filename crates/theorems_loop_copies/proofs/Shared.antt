@@ -27,7 +27,7 @@ use Rattle.theorems_loop_copies.proofs.Alone.{table-after, merged-alike
 -- ---- one call of both halls' table
 
 alike-turned : (h : Hall) (t u : LoopTable) → Alike h t u → Alike h u t
-alike-turned h t u a = record { lawful = sym (a .lawful); frames = sym (a .frames); slots = sym (a .slots) }
+alike-turned h t u a = record { wellFormed = sym (a .wellFormed); frames = sym (a .frames); slots = sym (a .slots) }
 
 own-call : (h : Hall) (q : Call) (t u : LoopTable) → Alike h t u → Alike h (tableAfter t h q) (tableAfter u h q)
 unfolding written cleared
@@ -92,7 +92,7 @@ together snd n vs g ss q = table-ext (w .box g .copy .table) shared (al g .frame
     r = (going-all snd n ss (begun n vs) (going-begun snd n vs ss (q .few))) .reached
 
     al : (h : Hall) → Alike h (tables w h) shared
-    al = shared-row snd n ss (begun n vs) (oneTable n (vs g)) (going-begun snd n vs ss (q .few)) (λ h. record { lawful = refl; frames = refl; slots = refl })
+    al = shared-row snd n ss (begun n vs) (oneTable n (vs g)) (going-begun snd n vs ss (q .few)) (λ h. record { wellFormed = refl; frames = refl; slots = refl })
 
     to : (h : Hall) → changesOf h (w .box g .copy) ≡ changesOf h (w .box h .copy) → half h (tables w g) ≡ half h shared
     to h e = r .here g .from h ∙ ap (r .hist h) e ∙ sym (r .here h .from h) ∙ al h .slots

@@ -14,7 +14,7 @@ use Rattle.loop_table.specs.declared.Hall.the-variants as hall
 use Rattle.loop_table.specs.declared.LoopSlot.{LoopSlot}
 use Rattle.loop_table.specs.declared.LoopTable.{LoopTable}
 use Rattle.loop_table.specs.declared.LoopChanged.{LoopChanged}
-use Rattle.loop_table.specs.Tables.{slotOf, empty, emptyTable, lawfulTable, half, same, changed, refusedWrite, refusedClear, written, cleared}
+use Rattle.loop_table.specs.Tables.{slotOf, empty, emptyTable, wellFormedTable, half, same, changed, refusedWrite, refusedClear, written, cleared}
 use Rattle.theorems_loop_table.specs.Calls.{Call, Write, Clear, Read, Play, World, next, tableAfter}
 use Rattle.theorems_loop_table.proofs.Stores.{write-passed, clear-passed}
 use Rattle.loop_copies.specs.declared.LoopCopy.{LoopCopy}
@@ -91,9 +91,9 @@ module _ (snd : List Float) (n : ℕ) where
       }
 
   empty-good : Good n (λ h. 0) (λ h j. half h (emptyTable n)) (emptyCopy n)
-  unfolding lawfulTable
+  unfolding wellFormedTable
   empty-good =
-      record { lawful = refl; frames = refl; sixteen = refl; below = by-hall (λ (h : Hall). changesOf h (emptyCopy n) ≤ 0) hall.A (omega arith) none; from = λ h. refl }
+      record { wellFormed = refl; frames = refl; sixteen = refl; below = by-hall (λ (h : Hall). changesOf h (emptyCopy n) ≤ 0) hall.A (omega arith) none; from = λ h. refl }
     where
       none : (h : Hall) → same hall.A h ≡ false → changesOf h (emptyCopy n) ≤ 0
       none hall.A d = omega arith

@@ -14,7 +14,7 @@ use Rattle.loop_table.specs.declared.Hall.{Hall}
 use Rattle.loop_table.specs.declared.Hall.the-variants as hall
 use Rattle.loop_table.specs.declared.LoopSlot.{LoopSlot}
 use Rattle.loop_table.specs.declared.LoopTable.{LoopTable}
-use Rattle.loop_table.specs.Tables.{slotOf, empty, lawfulSlot, lawfulTable, half, owns, heldIn}
+use Rattle.loop_table.specs.Tables.{slotOf, empty, wellFormedSlot, wellFormedTable, half, owns, heldIn}
 use Rattle.loop_table.proofs.Accepted.{passed}
 use Rattle.theorems_loop_table.proofs.Stores.{so, held-half}
 use Rattle.loop_copies.specs.declared.LoopCopy.{LoopCopy}
@@ -141,7 +141,7 @@ sixteen-merged c d s t =
     b : List LoopSlot
     b = (newer hall.B c d) .table .slots
 
--- ---- lawful halves make a lawful table
+-- ---- well formed halves make a well formed table
 
 all-both : (p : LoopSlot → Bool) (l r : List LoopSlot) → T (all p l) → T (all p r) → T (all p (l ++ r))
 all-both p [] r h g = g
@@ -157,12 +157,12 @@ all-drop p zero l h = h
 all-drop p (suc n) [] h = tt
 all-drop p (suc n) (x ∷ l) h = all-drop p n l (and-r (p x) (all p l) h)
 
-pub lawful-merged : (c d : LoopCopy) → lawfulTable (c .table) ≡ true → lawfulTable (d .table) ≡ true → c .table .«num_frames» ≡ d .table .«num_frames» → lawfulTable ((merged c d) .table) ≡ true
-unfolding lawfulTable
-lawful-merged c d l m e = so (all p (take 8 (side hall.A) ++ drop 8 (side hall.B))) (all-both p (take 8 (side hall.A)) (drop 8 (side hall.B)) (all-take p 8 (side hall.A) (each hall.A)) (all-drop p 8 (side hall.B) (each hall.B)))
+pub well-formed-merged : (c d : LoopCopy) → wellFormedTable (c .table) ≡ true → wellFormedTable (d .table) ≡ true → c .table .«num_frames» ≡ d .table .«num_frames» → wellFormedTable ((merged c d) .table) ≡ true
+unfolding wellFormedTable
+well-formed-merged c d l m e = so (all p (take 8 (side hall.A) ++ drop 8 (side hall.B))) (all-both p (take 8 (side hall.A)) (drop 8 (side hall.B)) (all-take p 8 (side hall.A) (each hall.A)) (all-drop p 8 (side hall.B) (each hall.B)))
   where
     p : LoopSlot → Bool
-    p = lawfulSlot (c .table .«num_frames»)
+    p = wellFormedSlot (c .table .«num_frames»)
 
     side : Hall → List LoopSlot
     side h = (newer h c d) .table .slots
@@ -171,7 +171,7 @@ lawful-merged c d l m e = so (all p (take 8 (side hall.A) ++ drop 8 (side hall.B
     each h = go (ltb (changesOf h c) (changesOf h d))
       where
         go : (b : Bool) → T (all p ((cond b d c) .table .slots))
-        go true = subst (λ (n : ℕ). T (all (lawfulSlot n) (d .table .slots))) (sym e) (subst T (sym m) tt)
+        go true = subst (λ (n : ℕ). T (all (wellFormedSlot n) (d .table .slots))) (sym e) (subst T (sym m) tt)
         go false = subst T (sym l) tt
 
 -- ---- 28: the slots compared
@@ -246,8 +246,8 @@ same-half h t u (suc m) l e =
 -- ---- when a merge is accepted
 
 pub record Fit (c d : LoopCopy) : Type 0 where
-  pub ours : lawfulTable (c .table) ≡ true
-  pub theirs : lawfulTable (d .table) ≡ true
+  pub ours : wellFormedTable (c .table) ≡ true
+  pub theirs : wellFormedTable (d .table) ≡ true
   pub frames : c .table .«num_frames» ≡ d .table .«num_frames»
   pub halves : (h : Hall) → OneView (view h c) (view h d)
 
@@ -265,12 +265,12 @@ halves-agree h c d o = go (eqb (changesOf h c) (changesOf h d)) refl
 pub fit-of : (c d : LoopCopy) → Sixteen c → Sixteen d → refusedMerge c d ≡ 0 → Fit c d
 unfolding refusedMerge
 fit-of c d s t z =
-    let p = passed (lawfulTable (c .table) && lawfulTable (d .table)) 0 _ z in
+    let p = passed (wellFormedTable (c .table) && wellFormedTable (d .table)) 0 _ z in
     let q = passed (eqb (c .table .«num_frames») (d .table .«num_frames»)) 26 _ (p .1) in
     let r = passed (agrees hall.A c d && agrees hall.B c d) 27 0 (q .1) in
     record {
-      ours = so (lawfulTable (c .table)) (and-l (lawfulTable (c .table)) (lawfulTable (d .table)) (p .0));
-      theirs = so (lawfulTable (d .table)) (and-r (lawfulTable (c .table)) (lawfulTable (d .table)) (p .0));
+      ours = so (wellFormedTable (c .table)) (and-l (wellFormedTable (c .table)) (wellFormedTable (d .table)) (p .0));
+      theirs = so (wellFormedTable (d .table)) (and-r (wellFormedTable (c .table)) (wellFormedTable (d .table)) (p .0));
       frames = eqb-true _ _ (so (eqb (c .table .«num_frames») (d .table .«num_frames»)) (q .0));
       halves = each (r .0);
     }

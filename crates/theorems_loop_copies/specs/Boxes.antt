@@ -24,7 +24,7 @@ use Rattle.theorems_loop_table.specs.Calls.{
   ByVoice,
   Answer,
   World,
-  told,
+  answerTo,
   next,
   after,
 }
@@ -95,7 +95,7 @@ answersAt snd h p w [] = []
 answersAt snd h p w (At g a ∷ ss) =
     cond
     (same h g && p (eventOf g a))
-    (told snd (worldOf (w .box g)) (eventOf g a) ∷ answersAt snd h p (stepped snd w (At g a)) ss)
+    (answerTo snd (worldOf (w .box g)) (eventOf g a) ∷ answersAt snd h p (stepped snd w (At g a)) ss)
     (answersAt snd h p (stepped snd w (At g a)) ss)
 answersAt snd h p w (Sends g ∷ ss) = answersAt snd h p (stepped snd w (Sends g)) ss
 answersAt snd h p w (Merges g n ∷ ss) = answersAt snd h p (stepped snd w (Merges g n)) ss

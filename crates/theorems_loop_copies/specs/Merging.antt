@@ -5,7 +5,7 @@ use mathlib.Core.Bool.{true}
 use Prim.Native.Nat.{_≤_}
 use lib.ListN.{length}
 use Rattle.loop_table.specs.declared.Hall.{Hall}
-use Rattle.loop_table.specs.Tables.{lawfulTable, half}
+use Rattle.loop_table.specs.Tables.{wellFormedTable, half}
 use Rattle.loop_copies.specs.declared.LoopCopy.{LoopCopy}
 use Rattle.loop_copies.specs.declared.CopyChanged.{CopyChanged}
 use Rattle.loop_copies.specs.Copies.{changesOf, refusedMerge, mergedCopy}
@@ -26,9 +26,9 @@ pub record MayMerge (c d : LoopCopy) : Type 0 where
   pub theirs : Sixteen d
   pub accepted : refusedMerge c d ≡ 0
 
-pub record LawfulCopy (c : LoopCopy) : Type 0 where
+pub record WellFormedCopy (c : LoopCopy) : Type 0 where
   pub sixteen : Sixteen c
-  pub lawful : lawfulTable (c .table) ≡ true
+  pub wellFormed : wellFormedTable (c .table) ≡ true
 
 -- three copies of which any two may be merged
 pub record MayMergeAll (c d e : LoopCopy) : Type 0 where
@@ -54,7 +54,7 @@ abbrev pub AnyOrder : Type 0
 AnyOrder = (c d : LoopCopy) → MayMerge c d → mergedCopy d c ≡ mergedCopy c d
 
 abbrev pub AnyTimes : Type 0
-AnyTimes = (c : LoopCopy) → LawfulCopy c → mergedCopy c c ≡ record { copy = c; refusal = 0 }
+AnyTimes = (c : LoopCopy) → WellFormedCopy c → mergedCopy c c ≡ record { copy = c; refusal = 0 }
 
 abbrev pub AnyGrouping : Type 0
 AnyGrouping =

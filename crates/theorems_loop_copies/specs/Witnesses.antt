@@ -8,7 +8,7 @@ use Rattle.loop_table.specs.declared.Hall.the-variants as hall
 use Rattle.loop_copies.specs.declared.LoopCopy.{LoopCopy}
 use Rattle.loop_copies.specs.Copies.{emptyCopy}
 use Rattle.theorems_loop_copies.specs.Boxes.{Step, Sends, Few}
-use Rattle.theorems_loop_copies.specs.Merging.{TwoCopies, MayMerge, LawfulCopy, MayMergeAll, SameNumber}
+use Rattle.theorems_loop_copies.specs.Merging.{TwoCopies, MayMerge, WellFormedCopy, MayMergeAll, SameNumber}
 use Rattle.theorems_loop_copies.specs.AsAlone.{OwnLoops}
 use Rattle.theorems_loop_copies.specs.Together.{AllCaught, LastCopy}
 
@@ -24,7 +24,7 @@ oneSent = Sends hall.B ∷ []
 pub record Witnesses : Type 0 where
   pub never-back : TwoCopies ten ten × SameNumber ten ten hall.A
   pub any-order : MayMerge ten ten
-  pub any-times : LawfulCopy ten
+  pub any-times : WellFormedCopy ten
   pub any-grouping : MayMergeAll ten ten ten
   pub as-alone : OwnLoops hall.A 0 oneSent
   pub together : AllCaught [] 10 blanks hall.A oneSent

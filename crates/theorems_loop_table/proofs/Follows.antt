@@ -16,15 +16,15 @@ use Rattle.loop_table.specs.declared.Hall.{Hall}
 use Rattle.loop_table.specs.declared.Hall.the-variants as hall
 use Rattle.loop_table.specs.declared.LoopSlot.{LoopSlot}
 use Rattle.loop_table.specs.declared.LoopTable.{LoopTable}
-use Rattle.loop_table.specs.Tables.{slotOf, empty, isEmpty, lawfulTable, same, owns, heldIn, changed, refusedWrite, written, refusedClear, cleared, refusedRead, found}
+use Rattle.loop_table.specs.Tables.{slotOf, empty, isEmpty, wellFormedTable, same, owns, heldIn, changed, refusedWrite, written, refusedClear, cleared, refusedRead, found}
 use Rattle.loop_table.proofs.Accepted.{write-accepted, clear-accepted}
 use Rattle.theorems_loop_table.specs.Calls.{Write, Clear, Read, Event, ByHall, ByVoice, World, next, after}
 use Rattle.theorems_loop_table.specs.Apart.{spares, ReadsFollow}
-use Rattle.theorems_loop_table.proofs.Stores.{so, Passed, write-passed, clear-passed, changed-number, changed-lawful, changed-held}
+use Rattle.theorems_loop_table.proofs.Stores.{so, Passed, write-passed, clear-passed, changed-number, changed-well-formed, changed-held}
 
--- the table is lawful, and slot k holds x
+-- the table is well formed, and slot k holds x
 pub record Holds (k : ℕ) (x : LoopSlot) (t : LoopTable) : Type 0 where
-  pub lawful : lawfulTable t ≡ true
+  pub wellFormed : wellFormedTable t ≡ true
   pub held : heldIn t k ≡ x
 
 -- no slot is both halls'
@@ -38,7 +38,7 @@ module _ (snd : List Float) (h : Hall) (k : ℕ) (o : T (owns h k)) (x : LoopSlo
   change-holds : (g : Hall) (n j : ℕ) (s : LoopSlot) (t : LoopTable) → T (not (same h g && eqb j k)) → (n ≡ 0 → Passed g t j s) → Holds k x t → Holds k x ((changed n t j s) .table)
   change-holds g n j s t d p a =
       record {
-        lawful = changed-lawful n j s g t p ∙ a .lawful;
+        wellFormed = changed-well-formed n j s g t p ∙ a .wellFormed;
         held = changed-held n j s k t (λ z. apart h g j k o (p z .2 .own) d) ∙ a .held;
       }
 
@@ -58,14 +58,14 @@ module _ (snd : List Float) (h : Hall) (k : ℕ) (o : T (owns h k)) (x : LoopSlo
 accepted-holds : (h : Hall) (n k : ℕ) (s : LoopSlot) (t : LoopTable) → n ≡ 0 → length (t .slots) ≡ 16 → Passed h t k s → Holds k s ((changed n t k s) .table)
 accepted-holds h n k s t z l p =
     record {
-      lawful = changed-lawful n k s h t (λ e. p) ∙ so (lawfulTable t) (p .0);
+      wellFormed = changed-well-formed n k s h t (λ e. p) ∙ so (wellFormedTable t) (p .0);
       held = ap (λ (m : ℕ). heldIn ((changed m t k s) .table) k) z ∙ getD-set-same (t .slots) k s empty (omega (arith, p .2 .among));
     }
 
 -- what a read finds
 found-loop : (t : LoopTable) (k s e : ℕ) → k ≤ 15 → s < e → Holds k (slotOf s e) t → found t k ≡ record { slot = slotOf s e; refusal = 0 }
 unfolding found refusedRead
-found-loop t k s e l m a = rw (a .lawful, le-leb k 15 l, a .held, full s e m)
+found-loop t k s e l m a = rw (a .wellFormed, le-leb k 15 l, a .held, full s e m)
   where
     full : (s e : ℕ) → s < e → isEmpty (slotOf s e) ≡ false
     full s e m = go (eqb s 0) (ne-eqb e 0 (λ z. omega arith))
@@ -76,7 +76,7 @@ found-loop t k s e l m a = rw (a .lawful, le-leb k 15 l, a .held, full s e m)
 
 found-none : (t : LoopTable) (k : ℕ) → k ≤ 15 → Holds k empty t → found t k ≡ record { slot = empty; refusal = 22 }
 unfolding found refusedRead
-found-none t k l a = rw (a .lawful, le-leb k 15 l, a .held)
+found-none t k l a = rw (a .wellFormed, le-leb k 15 l, a .held)
 
 below : (k : ℕ) → k < 16 → k ≤ 15
 below k h = omega arith

@@ -1,6 +1,6 @@
 -- All theorems of two halls at one table, in one record. Assumes nothing.
 use mathlib.Core.Path.{_≡_, refl}
-use Rattle.loop_table.specs.Tables.{lawfulTable, refusedWrite, refusedClear, written, cleared}
+use Rattle.loop_table.specs.Tables.{wellFormedTable, refusedWrite, refusedClear, written, cleared}
 use Rattle.loop_table.specs.declared.Hall.the-variants.{A}
 use Rattle.theorems_loop_table.specs.Apart.{AcceptedWrite, AcceptedClear}
 use Rattle.theorems_loop_table.specs.Witnesses.{evening, Witnesses}
@@ -9,11 +9,11 @@ use Rattle.theorems_loop_table.proofs.Apart.{halls-apart, taken-stays}
 use Rattle.theorems_loop_table.proofs.Follows.{reads-follow}
 
 writes : AcceptedWrite (evening .table) A 0 3 6
-unfolding written refusedWrite lawfulTable
+unfolding written refusedWrite wellFormedTable
 writes = refl
 
 clears : AcceptedClear (evening .table) A 0
-unfolding cleared refusedClear lawfulTable
+unfolding cleared refusedClear wellFormedTable
 clears = refl
 
 witnesses : Witnesses

@@ -7,11 +7,11 @@ use lib.Dec.{T}
 use lib.Ieee.{Float}
 use lib.Ieee.Fits.{and-l, and-r}
 use Rattle.numbers.specs.Lists.{all}
-use Rattle.theorems_loop_table.specs.Calls.{Event, World, told, next, after, answers, only}
+use Rattle.theorems_loop_table.specs.Calls.{Event, World, answerTo, next, after, answers, only}
 
 module _ (snd : List Float) (p q : Event → Bool) (R : World → World → Type 0)
     (skip : (e : Event) (w u : World) → p e ≡ false → R w u → R (next snd w e) u)
-    (move : (e : Event) (w u : World) → p e ≡ true → T (q e) → R w u → (told snd w e ≡ told snd u e) × R (next snd w e) (next snd u e)) where
+    (move : (e : Event) (w u : World) → p e ≡ true → T (q e) → R w u → (answerTo snd w e ≡ answerTo snd u e) × R (next snd w e) (next snd u e)) where
   abbrev Only : List Event → Type 0
   Only es =
       (w u : World) → R w u → T (all q (only p es))
@@ -22,7 +22,7 @@ module _ (snd : List Float) (p q : Event → Bool) (R : World → World → Type
   row-only (e ∷ es) w u r t = go (row-only es) (p e) refl t
     where
       go : Only es → (b : Bool) → p e ≡ b → T (all q (cond b (e ∷ only p es) (only p es)))
-          → (cond b (told snd w e ∷ answers snd p (next snd w e) es) (answers snd p (next snd w e) es) ≡ answers snd p u (cond b (e ∷ only p es) (only p es)))
+          → (cond b (answerTo snd w e ∷ answers snd p (next snd w e) es) (answers snd p (next snd w e) es) ≡ answers snd p u (cond b (e ∷ only p es) (only p es)))
           × R (after snd (next snd w e) es) (after snd u (cond b (e ∷ only p es) (only p es)))
       go rest true d t =
           let m = move e w u d (and-l (q e) (all q (only p es)) t) r in

@@ -1,4 +1,4 @@
--- One change of the table, accepted or refused: it keeps the table lawful, the frames, and the other hall's slots; and it makes of h's slots what h's slots say alone.
+-- One change of the table, accepted or refused: it keeps the table well formed, the frames, and the other hall's slots; and it makes of h's slots what h's slots say alone.
 -- By the laws of one store into a list. Assumes nothing.
 use mathlib.Core.Path.{_≡_, refl, sym, ap, _∙_}
 use Prim.Native.Nat.{ℕ, zero, suc, _+_, _-_, _≤_}
@@ -16,7 +16,7 @@ use Rattle.loop_table.specs.declared.Hall.the-variants as hall
 use Rattle.loop_table.specs.declared.LoopSlot.{LoopSlot}
 use Rattle.loop_table.specs.declared.LoopTable.{LoopTable}
 use Rattle.loop_table.specs.declared.LoopChanged.{LoopChanged}
-use Rattle.loop_table.specs.Tables.{slotOf, empty, isEmpty, looping, lawfulSlot, lawfulTable, same, half, owns, heldIn, stored, changed, refusedWrite, refusedClear}
+use Rattle.loop_table.specs.Tables.{slotOf, empty, isEmpty, looping, wellFormedSlot, wellFormedTable, same, half, owns, heldIn, stored, changed, refusedWrite, refusedClear}
 use Rattle.loop_table.proofs.Accepted.{Own, write-accepted, clear-accepted}
 
 pub never : true ≡ false → ⊥
@@ -40,7 +40,7 @@ all-set p (x ∷ xs) (suc k) a h g = and-i (p x) (all p (set xs k a)) (and-l (p 
 
 -- what an accepted change of slot k by hall h has passed
 abbrev pub Passed : Hall → LoopTable → ℕ → LoopSlot → Type 0
-Passed h t k s = T (lawfulTable t) × T (lawfulSlot (t .«num_frames») s) × Own h k
+Passed h t k s = T (wellFormedTable t) × T (wellFormedSlot (t .«num_frames») s) × Own h k
 
 pub write-passed : (t : LoopTable) (h : Hall) (k s e : ℕ) → refusedWrite t h k s e ≡ 0 → Passed h t k (slotOf s e)
 write-passed t h k s e z =
@@ -52,10 +52,10 @@ clear-passed t h k z = let p = clear-accepted t h k z in (p .0, tt, p .1)
 
 -- ---- one store
 
-stored-lawful : (g : Hall) (t : LoopTable) (k : ℕ) (s : LoopSlot) → Passed g t k s → lawfulTable (stored t k s) ≡ lawfulTable t
-unfolding lawfulTable
-stored-lawful g t k s p =
-    so (lawfulTable (stored t k s)) (all-set (lawfulSlot (t .«num_frames»)) (t .slots) k s (p .0) (p .1)) ∙ sym (so (lawfulTable t) (p .0))
+stored-well-formed : (g : Hall) (t : LoopTable) (k : ℕ) (s : LoopSlot) → Passed g t k s → wellFormedTable (stored t k s) ≡ wellFormedTable t
+unfolding wellFormedTable
+stored-well-formed g t k s p =
+    so (wellFormedTable (stored t k s)) (all-set (wellFormedSlot (t .«num_frames»)) (t .slots) k s (p .0) (p .1)) ∙ sym (so (wellFormedTable t) (p .0))
 
 stored-other : (h g : Hall) (t : LoopTable) (k : ℕ) (s : LoopSlot) → same h g ≡ false → T (owns g k) → half h (stored t k s) ≡ half h t
 stored-other hall.A hall.A t k s n o = absurd (never n)
@@ -103,8 +103,8 @@ module _ (n : ℕ) (k : ℕ) (s : LoopSlot) where
   pub changed-frames : (t : LoopTable) → (changed n t k s) .table .«num_frames» ≡ t .«num_frames»
   changed-frames t = changed-either (λ (x : LoopTable). x .«num_frames» ≡ t .«num_frames») t (λ e. refl) refl
 
-  pub changed-lawful : (g : Hall) (t : LoopTable) → (n ≡ 0 → Passed g t k s) → lawfulTable ((changed n t k s) .table) ≡ lawfulTable t
-  changed-lawful g t p = changed-either (λ (x : LoopTable). lawfulTable x ≡ lawfulTable t) t (λ e. stored-lawful g t k s (p e)) refl
+  pub changed-well-formed : (g : Hall) (t : LoopTable) → (n ≡ 0 → Passed g t k s) → wellFormedTable ((changed n t k s) .table) ≡ wellFormedTable t
+  changed-well-formed g t p = changed-either (λ (x : LoopTable). wellFormedTable x ≡ wellFormedTable t) t (λ e. stored-well-formed g t k s (p e)) refl
 
   pub changed-other : (h g : Hall) (t : LoopTable) → same h g ≡ false → (n ≡ 0 → Passed g t k s) → half h ((changed n t k s) .table) ≡ half h t
   changed-other h g t d p = changed-either (λ (x : LoopTable). half h x ≡ half h t) t (λ e. stored-other h g t k s d (p e .2 .own)) refl

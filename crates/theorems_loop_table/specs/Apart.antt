@@ -52,7 +52,7 @@ takesFrom h (ByVoice j (Block dt b g out)) = true
 takesFrom h (ByVoice j (Mix dt b g mix from)) = true
 
 pub record Undisturbed (snd : List Float) (h : Hall) (i : ℕ) (w : World) (es fs : List Event) : Type 0 where
-  pub told : answers snd (concerns h i) w es ≡ answers snd (concerns h i) w fs
+  pub sameAnswers : answers snd (concerns h i) w es ≡ answers snd (concerns h i) w fs
   pub slots : half h ((after snd w es) .table) ≡ half h ((after snd w fs) .table)
   pub voice : (after snd w es) .voices i ≡ (after snd w fs) .voices i
 

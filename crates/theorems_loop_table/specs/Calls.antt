@@ -49,7 +49,7 @@ pub data Answer : Type 0 where
   Numbered : ℕ → Answer
   Looked : LoopFound → Answer
   Made : Created → Answer
-  Told : Commanded → Answer
+  Obeyed : Commanded → Answer
   Played : Outcome → Answer
 
 pub record World : Type 0 where
@@ -58,41 +58,41 @@ pub record World : Type 0 where
 
 -- ---- one call
 
-abbrev pub hallTold : LoopTable → Hall → Call → Answer
-hallTold t h (Write k s e) = Numbered ((written t h k s e) .refusal)
-hallTold t h (Clear k) = Numbered ((cleared t h k) .refusal)
-hallTold t h (Read k) = Looked (found t k)
+abbrev pub hallAnswer : LoopTable → Hall → Call → Answer
+hallAnswer t h (Write k s e) = Numbered ((written t h k s e) .refusal)
+hallAnswer t h (Clear k) = Numbered ((cleared t h k) .refusal)
+hallAnswer t h (Read k) = Looked (found t k)
 
 abbrev pub tableAfter : LoopTable → Hall → Call → LoopTable
 tableAfter t h (Write k s e) = (written t h k s e) .table
 tableAfter t h (Clear k) = (cleared t h k) .table
 tableAfter t h (Read k) = t
 
-abbrev pub voiceTold : List Float → LoopTable → StaticSound → Play → Answer
-voiceTold snd t v (New s) = Made (created snd s)
-voiceTold snd t v (Take k) = Told (taken snd t k v)
-voiceTold snd t v (Command c) = Told (commanded snd v c)
-voiceTold snd t v (Block dt b g out) = Played (processed snd v dt b g out)
-voiceTold snd t v (Mix dt b g mix from) = Played (processedInto snd v dt b g mix from)
+abbrev pub voiceAnswer : List Float → LoopTable → StaticSound → Play → Answer
+voiceAnswer snd t v (New s) = Made (created snd s)
+voiceAnswer snd t v (Take k) = Obeyed (taken snd t k v)
+voiceAnswer snd t v (Command c) = Obeyed (commanded snd v c)
+voiceAnswer snd t v (Block dt b g out) = Played (processed snd v dt b g out)
+voiceAnswer snd t v (Mix dt b g mix from) = Played (processedInto snd v dt b g mix from)
 
 -- the voice after a result
 abbrev pub voiceAfter : StaticSound → Answer → StaticSound
 voiceAfter v (Numbered n) = v
 voiceAfter v (Looked f) = v
-voiceAfter v (Made a) = a .sound
-voiceAfter v (Told a) = a .sound
-voiceAfter v (Played o) = o .answer .sound
+voiceAfter v (Made a) = a .voice
+voiceAfter v (Obeyed a) = a .voice
+voiceAfter v (Played o) = o .answer .voice
 
-abbrev pub told : List Float → World → Event → Answer
-told snd w (ByHall h c) = hallTold (w .table) h c
-told snd w (ByVoice i p) = voiceTold snd (w .table) (w .voices i) p
+abbrev pub answerTo : List Float → World → Event → Answer
+answerTo snd w (ByHall h c) = hallAnswer (w .table) h c
+answerTo snd w (ByVoice i p) = voiceAnswer snd (w .table) (w .voices i) p
 
 abbrev pub next : List Float → World → Event → World
 next snd w (ByHall h c) = record { table = tableAfter (w .table) h c; voices = w .voices }
 next snd w (ByVoice i p) =
     record {
       table = w .table;
-      voices = λ j. cond (eqb j i) (voiceAfter (w .voices j) (voiceTold snd (w .table) (w .voices j) p))
+      voices = λ j. cond (eqb j i) (voiceAfter (w .voices j) (voiceAnswer snd (w .table) (w .voices j) p))
           (w .voices j);
     }
 
@@ -105,7 +105,7 @@ after snd w (e ∷ es) = after snd (next snd w e) es
 -- the results of the calls that pass a test, in their order
 abbrev pub answers : List Float → (Event → Bool) → World → List Event → List Answer
 answers snd p w [] = []
-answers snd p w (e ∷ es) = cond (p e) (told snd w e ∷ answers snd p (next snd w e) es)
+answers snd p w (e ∷ es) = cond (p e) (answerTo snd w e ∷ answers snd p (next snd w e) es)
     (answers snd p (next snd w e) es)
 
 -- those calls themselves

@@ -14,7 +14,7 @@ use Rattle.sound_lanes.specs.Lanes.{Lanes, rows, sized, timeStep, laned, near}
 use Rattle.sound_lanes.proofs.Rows.{beside-length}
 use Rattle.sound_state.specs.declared.StaticSound.{StaticSound}
 use Rattle.sound_state.specs.Refusals.{unless}
-use Rattle.sound_state.specs.WellFormed.{ours}
+use Rattle.sound_state.specs.WellFormed.{wellFormedFor}
 use Rattle.sound_creation.specs.declared.Created.{Created}
 use Rattle.sound_creation.specs.Creation.{created}
 use Rattle.sound_commands.specs.declared.Commanded.{Commanded}
@@ -49,7 +49,7 @@ use Rattle.cableowl.specs.Replays.{
   blockStep,
   judged,
   begun,
-  turned,
+  playedRecord,
 }
 use Rattle.cableowl.specs.ReplaysV2.{
   blankReplayV2,
@@ -63,7 +63,7 @@ use Rattle.cableowl.specs.ReplaysV2.{
   ofKind,
   lanedStep,
   obeyed,
-  turnedV2,
+  playedRecordV2,
   lacking,
   judgedV2,
   begunV2,
@@ -89,7 +89,7 @@ taken n xs ys e = length-take n xs ∙ ap (min n) e ∙ sym (length-take n ys)
 -- an output keeps its length
 placed : (len : ℕ) (v : StaticSound) (dt : Float) (b : Lanes) (p : Bool) → refusedBlock len v dt b p ≡ 0 → p ≡ true
 unfolding refusedBlock
-placed len v dt b p = go (ours len v) (sized b) p (unless (timeStep dt) 10 (unless (all laned (rows b)) 11 (unless (all (near (v .setup .«sample_rate») dt) (rows b)) 12 0)))
+placed len v dt b p = go (wellFormedFor len v) (sized b) p (unless (timeStep dt) 10 (unless (all laned (rows b)) 11 (unless (all (near (v .setup .«sample_rate») dt) (rows b)) 12 0)))
   where
     go : (o s q : Bool) (rest : ℕ) → unless o 1 (unless (s && q) 9 rest) ≡ 0 → q ≡ true
     go true true true rest e = refl
@@ -154,8 +154,8 @@ obeyed-long r d bs snd out = go (eqb (d .kind) 2) (eqb (d .kind) 5)
     go false true = laned-long r (d .next) (d .values) bs snd out
     go false false = block-long r (d .next) (d .values) snd out
 
-turned-long : (r : CableowlReplay) (d : Record) (bs : List ℕ) (snd given : List Float) (sounds : ℕ) (out : List Float) → Long (turnedV2 r d bs snd given sounds out) snd out
-unfolding turnedV2
+turned-long : (r : CableowlReplay) (d : Record) (bs : List ℕ) (snd given : List Float) (sounds : ℕ) (out : List Float) → Long (playedRecordV2 r d bs snd given sounds out) snd out
+unfolding playedRecordV2
 turned-long r d bs snd given sounds out = go (eqb (d .kind) 1) (eqb (d .kind) 4)
   where
     o : StepC
@@ -179,8 +179,8 @@ judged-long r ended d l snd given sounds out = by (eqb (d .refusal) 0) (eqb k 0)
 
     by : (z e : Bool)
         → Long
-        (cond z (cond e (turnedV2 r d l snd given sounds out) (only (unplayed r 4 k) snd out))
-        (cond z (turned r d snd out)
+        (cond z (cond e (playedRecordV2 r d l snd given sounds out) (only (unplayed r 4 k) snd out))
+        (cond z (playedRecord r d snd out)
         (only (cond (eqb (d .refusal) 18 && eqb ended 0) (unplayed r 1 0) (unplayed r 3 (d .refusal))) snd out)))
         snd out
     by true true = turned-long r d l snd given sounds out
@@ -225,9 +225,9 @@ module _ (r : CableowlReplay) (w : CableowlState) (f : mutedState (r .voice) ≡
       ∙ ap (λ (m : ℕ). mutedReplayed (cond (otherSound sounds m vs) (refusedGiven q n) (made (created (take (givenSamples vs) other) (settingsOf vs))))) l
     where
       made : Created → CableowlReplayed
-      made c = playedAs (behind (playing 1 r) n (encoded (c .sound)) (givenSamples vs) (r .blocks)) n 4 (c .refusal) 0 0 4
+      made c = playedAs (behind (playing 1 r) n (encoded (c .voice)) (givenSamples vs) (r .blocks)) n 4 (c .refusal) 0 0 4
 
-      told : CableowlState → ℕ → CableowlReplayed
+      sameAnswers : CableowlState → ℕ → CableowlReplayed
       told v k = playedAs (behind (playing 1 r) n v (givenSamples vs) (r .blocks)) n 4 k 0 0 4
 
       mine : Created
@@ -239,10 +239,10 @@ module _ (r : CableowlReplay) (w : CableowlState) (f : mutedState (r .voice) ≡
       go : (b : Bool) → mutedReplayed (cond b (refusedGiven r n) (made mine)) ≡ mutedReplayed (cond b (refusedGiven q n) (made theirs))
       go true = refl
       go false =
-          ap (λ (v : CableowlState). told v (mine .refusal)) (encoded-muted (mine .sound))
-          ∙ ap (λ (c : Created). told (encoded (c .sound)) (c .refusal))
+          ap (λ (v : CableowlState). told v (mine .refusal)) (encoded-muted (mine .voice))
+          ∙ ap (λ (c : Created). told (encoded (c .voice)) (c .refusal))
           (creation-alike (take (givenSamples vs) given) (take (givenSamples vs) other) (settingsOf vs) (taken (givenSamples vs) given other l))
-          ∙ ap (λ (v : CableowlState). told v (theirs .refusal)) (sym (encoded-muted (theirs .sound)))
+          ∙ ap (λ (v : CableowlState). told v (theirs .refusal)) (sym (encoded-muted (theirs .voice)))
 
   module _ (snd tnd : List Float) (l : SameLength snd tnd) where
     alike : (n : ℕ) → OtherSound (take n snd) (take n tnd) (decoded (r .voice)) (decoded w)
@@ -251,12 +251,12 @@ module _ (r : CableowlReplay) (w : CableowlState) (f : mutedState (r .voice) ≡
     commands-same : (n : ℕ) (vs : List ℕ) → mutedReplayed (commandsC (take (r .samples) snd) r n vs) ≡ mutedReplayed (commandsC (take (r .samples) tnd) q n vs)
     unfolding commandsC
     commands-same n vs =
-        ap (λ (v : CableowlState). told v (mine .refusal)) (after-muted (mine .refusal) (mine .sound) (r .voice))
-        ∙ ap₂ (λ (a : Commanded) (v : CableowlState). told (after (a .refusal) (a .sound) v) (a .refusal))
+        ap (λ (v : CableowlState). told v (mine .refusal)) (after-muted (mine .refusal) (mine .voice) (r .voice))
+        ∙ ap₂ (λ (a : Commanded) (v : CableowlState). told (after (a .refusal) (a .voice) v) (a .refusal))
         (commands-alike (take (r .samples) snd) (take (r .samples) tnd) (decoded (r .voice)) (decoded w) (commandsOf vs) (alike (r .samples))) f
-        ∙ ap (λ (v : CableowlState). told v (theirs .refusal)) (sym (after-muted (theirs .refusal) (theirs .sound) w))
+        ∙ ap (λ (v : CableowlState). told v (theirs .refusal)) (sym (after-muted (theirs .refusal) (theirs .voice) w))
       where
-        told : CableowlState → ℕ → CableowlReplayed
+        sameAnswers : CableowlState → ℕ → CableowlReplayed
         told v k = playedAs (behind r n v (r .samples) (r .blocks)) n 2 k 0 0 4
 
         mine : Commanded
@@ -270,11 +270,11 @@ module _ (r : CableowlReplay) (w : CableowlState) (f : mutedState (r .voice) ≡
         → mutedReplayed (ofKind k (blockC r n frames mine)) ≡ mutedReplayed (ofKind k (blockC q n frames theirs))
     unfolding blockC
     counted-same k n frames mine theirs e =
-        ap (λ (v : CableowlState). told v mine) (after-muted (mine .refusal) (mine .sound) (r .voice))
-        ∙ ap₂ (λ (a : Processed) (v : CableowlState). told (after (a .refusal) (a .sound) v) a) e f
-        ∙ ap (λ (v : CableowlState). told v theirs) (sym (after-muted (theirs .refusal) (theirs .sound) w))
+        ap (λ (v : CableowlState). told v mine) (after-muted (mine .refusal) (mine .voice) (r .voice))
+        ∙ ap₂ (λ (a : Processed) (v : CableowlState). told (after (a .refusal) (a .voice) v) a) e f
+        ∙ ap (λ (v : CableowlState). told v theirs) (sym (after-muted (theirs .refusal) (theirs .voice) w))
       where
-        told : CableowlState → Processed → CableowlReplayed
+        sameAnswers : CableowlState → Processed → CableowlReplayed
         told v p = playedAs (behind r n v (r .samples) (more (r .blocks))) n k (p .refusal) frames (p .steps) (p .«lowest_count»)
 
     module _ (out into : List Float) (m : SameLength out into) where
@@ -321,8 +321,8 @@ module _ (r : CableowlReplay) (w : CableowlState) (f : mutedState (r .voice) ≡
         go true = l
         go false = g
 
-    turned-same : (d : Record) (bs : List ℕ) → mutedReplayed (turnedV2 r d bs snd given sounds out .answer) ≡ mutedReplayed (turnedV2 q d bs tnd other sounds into .answer)
-    unfolding turnedV2 creationC
+    turned-same : (d : Record) (bs : List ℕ) → mutedReplayed (playedRecordV2 r d bs snd given sounds out .answer) ≡ mutedReplayed (playedRecordV2 q d bs tnd other sounds into .answer)
+    unfolding playedRecordV2 creationC
     turned-same d bs = go (eqb (d .kind) 1) (eqb (d .kind) 4)
       where
         o : StepC
@@ -345,7 +345,7 @@ module _ (r : CableowlReplay) (w : CableowlState) (f : mutedState (r .voice) ≡
     unfolding judgedV2 judged lacking
     judged-same ended d bs =
         go (eqb (d .refusal) 0) (eqb (short (length given)) 0) (eqb (d .refusal) 18 && eqb ended 0)
-        ∙ ap (λ (i : ℕ). mutedReplayed (by q tnd into (turnedV2 q d bs tnd other sounds into) (turned q d tnd into) (eqb (d .refusal) 0) (eqb (short i) 0) (short i) (eqb (d .refusal) 18 && eqb ended 0))) g
+        ∙ ap (λ (i : ℕ). mutedReplayed (by q tnd into (playedRecordV2 q d bs tnd other sounds into) (playedRecord q d tnd into) (eqb (d .refusal) 0) (eqb (short i) 0) (short i) (eqb (d .refusal) 18 && eqb ended 0))) g
       where
         short : ℕ → ℕ
         short i = lacking r d sounds i
@@ -355,8 +355,8 @@ module _ (r : CableowlReplay) (w : CableowlState) (f : mutedState (r .voice) ≡
             cond z (cond e s (only (unplayed t 4 k) i o)) (cond z u (only (cond x (unplayed t 1 0) (unplayed t 3 (d .refusal))) i o)) .answer
 
         go : (z e x : Bool)
-            → mutedReplayed (by r snd out (turnedV2 r d bs snd given sounds out) (turned r d snd out) z e (short (length given)) x)
-            ≡ mutedReplayed (by q tnd into (turnedV2 q d bs tnd other sounds into) (turned q d tnd into) z e (short (length given)) x)
+            → mutedReplayed (by r snd out (playedRecordV2 r d bs snd given sounds out) (playedRecord r d snd out) z e (short (length given)) x)
+            ≡ mutedReplayed (by q tnd into (playedRecordV2 q d bs tnd other sounds into) (playedRecord q d tnd into) z e (short (length given)) x)
         go true true x = turned-same d bs
         go true false x = unplayed-alike 4 (short (length given))
         go false e true = unplayed-alike 1 0

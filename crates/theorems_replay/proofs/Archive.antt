@@ -38,7 +38,7 @@ use Rattle.trace_records.specs.declared.Record.{Record}
 use Rattle.trace_records.specs.Tables.{headTable, headRows}
 use Rattle.trace_records.specs.Records.{bodied, readRecord, valued, recordAt}
 use Rattle.trace_replay.specs.Runs as below
-use Rattle.trace_replay.specs.Runs.{Course, Turn, answered, lineOf, stepOf, printed}
+use Rattle.trace_replay.specs.Runs.{Replay, AfterRecord, answered, lineOf, stepOf, printed}
 use Rattle.c_state.specs.declared.CableowlState.{CableowlState}
 use Rattle.c_state.specs.Records.{decoded, encoded}
 use Rattle.c_state.proofs.Inverse.{decoded-encoded}
@@ -57,7 +57,7 @@ use Rattle.cableowl.specs.Replays.{
   commandsC,
   blockC,
   blockStep,
-  turned,
+  playedRecord,
   judged,
   begun,
   refusedStep,
@@ -110,18 +110,18 @@ stays k v c h = go (eqb k 0) refl
     go true e = decoded-encoded v
     go false e = h e
 
-commands-mean : (x : List Float) (c : CableowlState) (u : Commands) → let q = commanded x (decoded c) u in decoded (after (q .refusal) (q .sound) c) ≡ q .sound
+commands-mean : (x : List Float) (c : CableowlState) (u : Commands) → let q = commanded x (decoded c) u in decoded (after (q .refusal) (q .voice) c) ≡ q .voice
 commands-mean x c u =
     let q = commanded x (decoded c) u in
-    stays (q .refusal) (q .sound) c
-    (λ e. sym (ap (λ (a : Commanded). a .sound) (commanded-refused x (decoded c) u (eqb-false (q .refusal) 0 e))))
+    stays (q .refusal) (q .voice) c
+    (λ e. sym (ap (λ (a : Commanded). a .voice) (commanded-refused x (decoded c) u (eqb-false (q .refusal) 0 e))))
 
 block-means : (x : List Float) (c : CableowlState) (b : Block) (out : List Float)
-    → let q = blockOutcome x c b out .answer in decoded (after (q .refusal) (q .sound) c) ≡ q .sound
+    → let q = blockOutcome x c b out .answer in decoded (after (q .refusal) (q .voice) c) ≡ q .voice
 block-means x c b out =
     let q = blockOutcome x c b out .answer in
-    stays (q .refusal) (q .sound) c
-    (λ e. sym (ap (λ (o : Outcome). o .answer .sound) (processed-refused x (decoded c) (b .«time_step») (lanesOf b) (b .signals) out (eqb-false (q .refusal) 0 e))))
+    stays (q .refusal) (q .voice) c
+    (λ e. sym (ap (λ (o : Outcome). o .answer .voice) (processed-refused x (decoded c) (b .«time_step») (lanesOf b) (b .signals) out (eqb-false (q .refusal) 0 e))))
 
 -- an answer does not depend on what the output held before
 any-output : (x : List Float) (v : StaticSound) (dt : Float) (b : Lanes) (g : Signals) (p q : List Float) → length p ≡ length q
@@ -146,27 +146,27 @@ any-output x v dt b g p q e = ap (λ (n : ℕ). ofLength n p .answer) e ∙ go (
 -- ---- one record
 
 -- the run that the numbers of a replay mean, over the lent sound
-abbrev courseC : CableowlReplay → List Float → Course
-courseC r snd = record { voice = decoded (r .voice); sound = take (r .samples) snd; blocks = r .blocks }
+abbrev replayC : CableowlReplay → List Float → Replay
+replayC r snd = record { voice = decoded (r .voice); sound = take (r .samples) snd; blocks = r .blocks }
 
 -- a record of n bytes was played, and did what it does below
-record Goes (o : StepC) (r : CableowlReplay) (n : ℕ) (t : Turn) : Type 0 where
+record Goes (o : StepC) (r : CableowlReplay) (n : ℕ) (t : AfterRecord) : Type 0 where
   done : o .answer .what ≡ 0
   size : o .answer .size ≡ n
   line : lineC (o .answer) ≡ t .line
-  course : courseC (o .answer .replay) (o .sound) ≡ t .course
+  replay : replayC (o .answer .replay) (o .sound) ≡ t .replay
   offset : o .answer .replay .offset ≡ onward (r .offset) n
   fit : Fit (o .answer .replay) (o .sound) (o .samples)
 
-abbrev run : ℕ → StaticSound → List Float → Course
+abbrev run : ℕ → StaticSound → List Float → Replay
 run n v x = record { voice = v; sound = x; blocks = n }
 
 module _ (r : CableowlReplay) (snd out : List Float) (f : Fit r snd out) (n : ℕ) (vs : List ℕ) where
-  creation-goes : Goes (record { answer = creationC r n vs; sound = sets snd 0 (samplesOf vs); samples = out }) r n (below.afterCreation (courseC r snd) vs)
+  creation-goes : Goes (record { answer = creationC r n vs; sound = sets snd 0 (samplesOf vs); samples = out }) r n (below.afterCreation (replayC r snd) vs)
   unfolding creationC lineC
   creation-goes =
       let s = samplesOf vs in
-      let v = created s (settingsOf vs) .sound in
+      let v = created s (settingsOf vs) .voice in
       let h = few vs in
       let g = f .room in
       let l : length (sets snd 0 s) ≡ length snd = simp length-sets in
@@ -174,20 +174,20 @@ module _ (r : CableowlReplay) (snd out : List Float) (f : Fit r snd out) (n : �
         done = refl;
         size = refl;
         line = refl;
-        course = ap (λ (z : StaticSound). run (r .blocks) z (take (length s) (sets snd 0 s))) (decoded-encoded v)
+        replay = ap (λ (z : StaticSound). run (r .blocks) z (take (length s) (sets snd 0 s))) (decoded-encoded v)
             ∙ ap (run (r .blocks) v) (prefix snd (sets snd 0 s) s (length s) refl refl (omega arith));
         offset = refl;
         fit = record { reads = f .reads; alone = f .alone; inside = omega arith; room = omega arith; output = f .output };
       }
 
-  commands-goes : Goes (record { answer = commandsC (take (r .samples) snd) r n vs; sound = snd; samples = out }) r n (below.afterCommands (courseC r snd) vs)
+  commands-goes : Goes (record { answer = commandsC (take (r .samples) snd) r n vs; sound = snd; samples = out }) r n (below.afterCommands (replayC r snd) vs)
   unfolding commandsC lineC
   commands-goes =
       record {
         done = refl;
         size = refl;
         line = refl;
-        course = ap (λ (z : StaticSound). run (r .blocks) z (take (r .samples) snd)) (commands-mean (take (r .samples) snd) (r .voice) (commandsOf vs));
+        replay = ap (λ (z : StaticSound). run (r .blocks) z (take (r .samples) snd)) (commands-mean (take (r .samples) snd) (r .voice) (commandsOf vs));
         offset = refl;
         fit = record { reads = f .reads; alone = f .alone; inside = f .inside; room = f .room; output = f .output };
       }
@@ -205,8 +205,8 @@ line-is r n frames q = go (eqb (q .refusal) 0)
     k = more (r .blocks)
 
     go : (t : Bool)
-        → cond t (blockLine k frames (q .steps) (cond t (encoded (q .sound)) (r .voice) .state) (cond t (encoded (q .sound)) (r .voice) .position)) (refusedBlockLine k (q .refusal))
-        ≡ cond t (blockLine k frames (q .steps) (encoded (q .sound) .state) (encoded (q .sound) .position)) (refusedBlockLine k (q .refusal))
+        → cond t (blockLine k frames (q .steps) (cond t (encoded (q .voice)) (r .voice) .state) (cond t (encoded (q .voice)) (r .voice) .position)) (refusedBlockLine k (q .refusal))
+        ≡ cond t (blockLine k frames (q .steps) (encoded (q .voice) .state) (encoded (q .voice) .position)) (refusedBlockLine k (q .refusal))
     go true = refl
     go false = refl
 
@@ -248,7 +248,7 @@ module _ (r : CableowlReplay) (snd out : List Float) (f : Fit r snd out) (n : �
       let g = f .output in
       omega (arith, length-append l (drop (2 * b .frames) out), length-drop (2 * b .frames) out, part-long)
 
-  block-goes : Goes (blockStep r n vs snd out) r n (below.afterBlock (courseC r snd) vs)
+  block-goes : Goes (blockStep r n vs snd out) r n (below.afterBlock (replayC r snd) vs)
   unfolding blockStep blockC
   block-goes =
       let o = blockOutcome x (r .voice) b (take (2 * b .frames) out) in
@@ -256,18 +256,18 @@ module _ (r : CableowlReplay) (snd out : List Float) (f : Fit r snd out) (n : �
         done = refl;
         size = refl;
         line = line-is r n (b .frames) (o .answer) ∙ ap (lineOf (more (r .blocks)) (b .frames)) same;
-        course = ap (λ (z : StaticSound). run (more (r .blocks)) z x) (block-means x (r .voice) b (take (2 * b .frames) out) ∙ ap (λ (p : Processed). p .sound) same);
+        replay = ap (λ (z : StaticSound). run (more (r .blocks)) z x) (block-means x (r .voice) b (take (2 * b .frames) out) ∙ ap (λ (p : Processed). p .voice) same);
         offset = refl;
         fit = record { reads = f .reads; alone = f .alone; inside = f .inside; room = f .room; output = longer };
       }
 
 turn-goes : (r : CableowlReplay) (snd out : List Float) → Fit r snd out → (d : Record)
-    → Goes (turned r d snd out) r (d .next) (below.after (courseC r snd) (d .kind) (d .values))
-unfolding turned below.after
+    → Goes (playedRecord r d snd out) r (d .next) (below.after (replayC r snd) (d .kind) (d .values))
+unfolding playedRecord below.after
 turn-goes r snd out f d = go (eqb (d .kind) 1) (eqb (d .kind) 2)
   where
-    c : Course
-    c = courseC r snd
+    c : Replay
+    c = replayC r snd
 
     vs : List ℕ
     vs = d .values
@@ -302,19 +302,19 @@ onwardC bs o =
     lineC a ++ cond (eqb (a .what) 0) (printedC (a .replay) (o .sound) (o .samples) (a .size - 1) bs) []
 
 abbrev onwardBelow : ℕ → List ℕ → below.Step → List ℕ
-onwardBelow at bs s = s .line ++ cond (s .over) [] (printed (s .course) (suc at) (s .size - 1) bs)
+onwardBelow at bs s = s .line ++ cond (s .over) [] (printed (s .replay) (suc at) (s .size - 1) bs)
 
 -- the same is printed of bytes, wherever a step stands that is not refused
 abbrev Replays : List ℕ → Type 0
 Replays bs =
     (k at : ℕ) (r : CableowlReplay) (snd out : List Float) → Fit r snd out → r .offset ≡ at + k
     → at + length bs ≤ 18446744073709551615
-    → printedC r snd out k bs ≡ printed (courseC r snd) at k bs
+    → printedC r snd out k bs ≡ printed (replayC r snd) at k bs
 
 -- a record that was played: its line, and the same behind it
-record-replays : (at : ℕ) (bs : List ℕ) (r : CableowlReplay) (o : StepC) (n : ℕ) (t : Turn) → Goes o r n t → Replays bs
+record-replays : (at : ℕ) (bs : List ℕ) (r : CableowlReplay) (o : StepC) (n : ℕ) (t : AfterRecord) → Goes o r n t → Replays bs
     → r .offset ≡ at → at + suc (length bs) ≤ 18446744073709551615 → 1 ≤ n → n ≤ suc (length bs)
-    → onwardC bs o ≡ t .line ++ printed (t .course) (suc at) (n - 1) bs
+    → onwardC bs o ≡ t .line ++ printed (t .replay) (suc at) (n - 1) bs
 record-replays at bs r o n t g rest e l p q =
     let a = o .answer in
     let x : List ℕ = printedC (a .replay) (o .sound) (o .samples) (a .size - 1) bs in
@@ -325,25 +325,25 @@ record-replays at bs r o n t g rest e l p q =
     ∙ ap (λ (y : ℕ). t .line ++ cond (eqb y 0) x []) (g .done)
     ∙ ap (λ (y : ℕ). t .line ++ printedC (a .replay) (o .sound) (o .samples) (y - 1) bs) (g .size)
     ∙ ap (λ (y : List ℕ). t .line ++ y) (rest (n - 1) (suc at) (a .replay) (o .sound) (o .samples) (g .fit) z (omega arith))
-    ∙ ap (λ (y : Course). t .line ++ printed y (suc at) (n - 1) bs) (g .course)
+    ∙ ap (λ (y : Replay). t .line ++ printed y (suc at) (n - 1) bs) (g .replay)
 
 module _ (r : CableowlReplay) (snd out : List Float) (f : Fit r snd out) (at : ℕ) (bs : List ℕ) (d : Record) where
-  abbrev turnBelow : Turn
-  turnBelow = below.after (courseC r snd) (d .kind) (d .values)
+  abbrev turnBelow : AfterRecord
+  turnBelow = below.after (replayC r snd) (d .kind) (d .values)
 
   abbrev stepC : Bool → Bool → StepC
   stepC z w =
-      cond z (turned r d snd out)
+      cond z (playedRecord r d snd out)
       (record { answer = cond (w && false) (unplayed r 1 0) (unplayed r 3 (d .refusal)); sound = snd; samples = out })
 
   abbrev stepBelow : Bool → below.Step
   stepBelow z =
-      cond z (record { course = turnBelow .course; line = turnBelow .line; size = d .next; over = false })
-      (record { course = courseC r snd; line = refusedLine (d .refusal) at; size = 0; over = true })
+      cond z (record { replay = turnBelow .replay; line = turnBelow .line; size = d .next; over = false })
+      (record { replay = replayC r snd; line = refusedLine (d .refusal) at; size = 0; over = true })
 
   judged-replays : Replays bs → r .offset ≡ at → at + suc (length bs) ≤ 18446744073709551615
-      → (below.judged (courseC r snd) at d .over ≡ false → Sized (below.judged (courseC r snd) at d) (suc (length bs)))
-      → onwardC bs (judged r 1 d snd out) ≡ onwardBelow at bs (below.judged (courseC r snd) at d)
+      → (below.judged (replayC r snd) at d .over ≡ false → Sized (below.judged (replayC r snd) at d) (suc (length bs)))
+      → onwardC bs (judged r 1 d snd out) ≡ onwardBelow at bs (below.judged (replayC r snd) at d)
   unfolding judged below.judged lineC
   judged-replays rest e l h = go (eqb (d .refusal) 0) (eqb (d .refusal) 18) h
     where
@@ -354,7 +354,7 @@ module _ (r : CableowlReplay) (snd out : List Float) (f : Fit r snd out) (at : �
           → onwardC bs (stepC z w) ≡ onwardBelow at bs (stepBelow z)
       go true w i =
           let s = i refl in
-          record-replays at bs r (turned r d snd out) (d .next) turnBelow (turn-goes r snd out f d) rest e l (s .some) (s .few)
+          record-replays at bs r (playedRecord r d snd out) (d .next) turnBelow (turn-goes r snd out f d) rest e l (s .some) (s .few)
       go false true i = refused-line
       go false false i = refused-line
 
@@ -369,19 +369,19 @@ replays (b ∷ bs) s (suc k) at r snd out f o l =
 replays (b ∷ bs) s zero at r snd out f o l =
     ap (onwardC bs) (goes-on r snd out 1 b bs f)
     ∙ judged-replays r snd out f at bs (recordAt (b ∷ bs) 0) (replays bs (small-rest b bs s)) (omega (arith, o)) (omega (arith, l))
-    (sized (courseC r snd) at (b ∷ bs) s)
+    (sized (replayC r snd) at (b ∷ bs) s)
 
 -- before any record
 pub blank-fit : (snd out : List Float) → 128 ≤ length snd → 2048 ≤ length out → Fit blankReplay snd out
 blank-fit snd out h k = record { reads = refl; alone = refl; inside = omega arith; room = h; output = k }
 
-blank-means : (snd : List Float) → courseC blankReplay snd ≡ below.blank
+blank-means : (snd : List Float) → replayC blankReplay snd ≡ below.blank
 blank-means snd = ap (λ (v : StaticSound). run 0 v []) (decoded-encoded blankSound)
 
 pub archive-replays : ArchiveReplays
 archive-replays snd out bs h =
     replays bs (h .bytes) 0 0 blankReplay snd out (blank-fit snd out (h .sound) (h .output)) refl (omega (arith, h .short))
-    ∙ ap (λ (c : Course). printed c 0 0 bs) (blank-means snd)
+    ∙ ap (λ (c : Replay). printed c 0 0 bs) (blank-means snd)
 
 pub archive-three-frames : ThreeFramesC
 archive-three-frames snd out h = archive-replays snd out _ h ∙ three-frames
@@ -402,8 +402,8 @@ run-on r snd out zero bs = refl
 run-on r snd out (suc k) [] = refl
 run-on r snd out (suc k) (b ∷ bs) = run-on r snd out k bs
 
-pub turned-size : (r : CableowlReplay) (d : Record) (snd out : List Float) → turned r d snd out .answer .size ≡ d .next
-unfolding turned creationC commandsC blockStep blockC
+pub turned-size : (r : CableowlReplay) (d : Record) (snd out : List Float) → playedRecord r d snd out .answer .size ≡ d .next
+unfolding playedRecord creationC commandsC blockStep blockC
 turned-size r d snd out = go (eqb (d .kind) 1) (eqb (d .kind) 2)
   where
     go : (p q : Bool)
@@ -444,7 +444,7 @@ any-end r ended d snd out = go (eqb (d .refusal) 0) (eqb (d .refusal) 18) (eqb e
   where
     by : Bool → Bool → Bool → StepC
     by z w e =
-        cond z (turned r d snd out)
+        cond z (playedRecord r d snd out)
         (record { answer = cond (w && e) (unplayed r 1 0) (unplayed r 3 (d .refusal)); sound = snd; samples = out })
 
     go : (z w e : Bool) → (by z w e .answer .what ≡ 1 → ⊥) → by z w e ≡ by z w false
@@ -474,12 +474,12 @@ first-line r true k snd out b bs s = go (eqb (d .refusal) 0) refl (eqb (d .refus
 
     by : Bool → Bool → StepC
     by z w =
-        cond z (turned r d snd out)
+        cond z (playedRecord r d snd out)
         (record { answer = cond (w && false) (unplayed r 1 0) (unplayed r 3 (d .refusal)); sound = snd; samples = out })
 
     go : (z : Bool) → eqb (d .refusal) 0 ≡ z → (w : Bool) → onwardC bs (by z w) ≡ firstlyC (b ∷ bs) (by z w)
     go true e w =
-        passed b bs (turned r d snd out)
+        passed b bs (playedRecord r d snd out)
         (omega (arith, turned-size r d snd out, some-bytes (b ∷ bs) s (eqb-true (d .refusal) 0 e)))
     go false e true = refl
     go false e false = refl
@@ -571,17 +571,17 @@ abbrev blockRecord : List ℕ → Record
 blockRecord vs = record { refusal = 0; kind = 3; next = 42; values = vs }
 
 module _ (r : CableowlReplay) (snd out : List Float) (f : Fit r snd out) (ended : ℕ) where
-  step-is : (bs vs : List ℕ) → BlockAt bs vs → steppedC r bs ended snd out ≡ turned r (blockRecord vs) snd out
+  step-is : (bs vs : List ℕ) → BlockAt bs vs → steppedC r bs ended snd out ≡ playedRecord r (blockRecord vs) snd out
   unfolding judged
   step-is [] vs e = none (no-bytes vs e)
   step-is (b ∷ bs) vs e = goes-on r snd out ended b bs f ∙ ap (λ (d : Record). judged r ended d snd out) e
 
-  step-goes : (bs vs : List ℕ) → BlockAt bs vs → Goes (steppedC r bs ended snd out) r 42 (below.after (courseC r snd) 3 vs)
+  step-goes : (bs vs : List ℕ) → BlockAt bs vs → Goes (steppedC r bs ended snd out) r 42 (below.after (replayC r snd) 3 vs)
   step-goes bs vs e = rw (step-is bs vs e) (turn-goes r snd out f (blockRecord vs))
 
   pub step-refusal : (bs vs : List ℕ) → BlockAt bs vs
       → steppedC r bs ended snd out .answer .refusal ≡ answered (take (r .samples) snd) (decoded (r .voice)) (blockOf vs) .refusal
-  unfolding turned blockStep blockC
+  unfolding playedRecord blockStep blockC
   step-refusal bs vs e =
       ap (λ (o : StepC). o .answer .refusal) (step-is bs vs e) ∙ ap (λ (p : Processed). p .refusal) (same r snd out f 42 vs)
 
@@ -590,7 +590,7 @@ lines-as i k m a b c x y z e f g h = rw (e, f, g) h
 
 pub archive-cut-records : CutRecordsC
 archive-cut-records q snd out ended xs ys zs k m a v l r p t f s u i =
-    let c = courseC q snd in
+    let c = replayC q snd in
     let one = blockNumbers k a v l r p t f s u in
     let two = blockNumbers m a v l r p t 0 0 0 in
     let o = steppedC q ys ended snd out in
@@ -598,7 +598,7 @@ archive-cut-records q snd out ended xs ys zs k m a v l r p t f s u i =
     let g1 = step-goes q snd out (i .fit) ended ys one (i .first) in
     let g2 = step-goes (o .answer .replay) (o .sound) (o .samples) (g1 .fit) ended zs two (i .rest) in
     lines-as (q .blocks) k m _ _ _ _ _ _ (ga .line) (g1 .line)
-    (g2 .line ∙ ap (λ (d : Course). below.after d 3 two .line) (g1 .course))
+    (g2 .line ∙ ap (λ (d : Replay). below.after d 3 two .line) (g1 .replay))
     (cut-records c k m a v l r p t f s u (record {
       few = i .few;
       accepted = sym (step-refusal q snd out (i .fit) ended xs _ (i .uncut)) ∙ i .accepted;

@@ -20,8 +20,8 @@ use Rattle.trace_records.proofs.Windows.{refusal-numbered}
 use Rattle.trace_sealed.specs.Records.{isSealed, sealedAt, anyAt}
 use Rattle.cableowl.specs.declared.replays.CableowlReplay.{CableowlReplay}
 use Rattle.cableowl.specs.declared.replays.CableowlReplayed.{CableowlReplayed}
-use Rattle.cableowl.specs.Replays.{StepC, blankReplay, unplayed, creationC, commandsC, blockC, blockStep, turned, judged, begun, refusedStep, steppedC}
-use Rattle.cableowl.specs.ReplaysV2.{playing, obeyed, turnedV2, lacking, judgedV2, begunV2, refusedStepV2, steppedV2}
+use Rattle.cableowl.specs.Replays.{StepC, blankReplay, unplayed, creationC, commandsC, blockC, blockStep, playedRecord, judged, begun, refusedStep, steppedC}
+use Rattle.cableowl.specs.ReplaysV2.{playing, obeyed, playedRecordV2, lacking, judgedV2, begunV2, refusedStepV2, steppedV2}
 use Rattle.theorems_replay.specs.Archive.{blockLineC, lineC, printedC}
 use Rattle.theorems_replay.specs.ArchiveV2.{ofReader, answerOfReader, stepOfReader, Unsealed, AsVersion1, Offer, lineV2, printedV2, isVersion1, ArchiveReplaysV2}
 use Rattle.theorems_replay.proofs.Archive.{turned-size, archive-replays}
@@ -60,10 +60,10 @@ module _ (r : CableowlReplay) (ended : ℕ) (snd given : List Float) (sounds : �
   only a = record { answer = a; sound = snd; samples = out }
 
   turned-same : (d : Record) (bs : List ℕ) → d .kind ≤ 3
-      → cond (eqb (lacking two d sounds (length given)) 0) (turnedV2 two d bs snd given sounds out)
+      → cond (eqb (lacking two d sounds (length given)) 0) (playedRecordV2 two d bs snd given sounds out)
       (only (unplayed two 4 (lacking two d sounds (length given))))
-      ≡ stepOfReader 2 (turned one d snd out)
-  unfolding lacking turnedV2 obeyed turned creationC commandsC blockStep blockC
+      ≡ stepOfReader 2 (playedRecord one d snd out)
+  unfolding lacking playedRecordV2 obeyed playedRecord creationC commandsC blockStep blockC
   turned-same d bs h =
       rw (
         ne-eqb (d .kind) 4 (λ (e : d .kind ≡ 4). omega (arith, h, e)),
@@ -104,10 +104,10 @@ module _ (r : CableowlReplay) (ended : ℕ) (snd given : List Float) (sounds : �
 
       go : (z w : Bool) → eqb (d .refusal) 0 ≡ z
           → cond z
-          (cond (eqb (lacking two d sounds (length given)) 0) (turnedV2 two d bs snd given sounds out)
+          (cond (eqb (lacking two d sounds (length given)) 0) (playedRecordV2 two d bs snd given sounds out)
           (only (unplayed two 4 (lacking two d sounds (length given)))))
-          (cond z (turned two d snd out) (broken two w))
-          ≡ stepOfReader 2 (cond z (turned one d snd out) (broken one w))
+          (cond z (playedRecord two d snd out) (broken two w))
+          ≡ stepOfReader 2 (cond z (playedRecord one d snd out) (broken one w))
       go true w e = turned-same d bs (h (eqb-true (d .refusal) 0 e))
       go false true e = refl
       go false false e = refl
@@ -151,8 +151,8 @@ module _ (r : CableowlReplay) (snd out : List Float) where
   abbrev plain : CableowlReplayed → StepC
   plain a = record { answer = a; sound = snd; samples = out }
 
-  turned-stays : (d : Record) → Stays (turned (ofReader 1 r) d snd out)
-  unfolding turned creationC commandsC blockStep blockC lineV2 lineC blockLineC
+  turned-stays : (d : Record) → Stays (playedRecord (ofReader 1 r) d snd out)
+  unfolding playedRecord creationC commandsC blockStep blockC lineV2 lineC blockLineC
   turned-stays d = go (eqb (d .kind) 1) (eqb (d .kind) 2)
     where
       n : ℕ
@@ -188,7 +188,7 @@ module _ (r : CableowlReplay) (snd out : List Float) where
       go : (t z w : Bool) → cond z (isVersion1 (d .next - 1) bs) true ≡ true
           → Reads bs
           (cond t
-          (cond z (turned (ofReader 1 r) d snd out)
+          (cond z (playedRecord (ofReader 1 r) d snd out)
           (plain (cond (w && false) (unplayed (ofReader 1 r) 1 0) (unplayed (ofReader 1 r) 3 (d .refusal)))))
           (plain (unplayed (ofReader 1 r) 4 (refusedStep (ofReader 1 r) (length snd) (length out)))))
       go true true w e =

@@ -95,8 +95,8 @@ module _ (k m : ℕ) (xs : List ℕ) where
       (rest-part 8 (λ x. double x) k m 16 xs zs (omega arith) e)
 
 cut-as : (snd : List Float) (v : StaticSound) (dt : Float) (g : Signals) (whole : Outcome) (b1 b2 c1 c2 : Lanes) (o1 o2 : List Float) → c1 ≡ b1 → c2 ≡ b2
-    → CutInTwo whole (processed snd v dt b1 g o1) (processed snd (processed snd v dt b1 g o1 .answer .sound) dt b2 (quiet g) o2)
-    → CutInTwo whole (processed snd v dt c1 g o1) (processed snd (processed snd v dt c1 g o1 .answer .sound) dt c2 (quiet g) o2)
+    → CutInTwo whole (processed snd v dt b1 g o1) (processed snd (processed snd v dt b1 g o1 .answer .voice) dt b2 (quiet g) o2)
+    → CutInTwo whole (processed snd v dt c1 g o1) (processed snd (processed snd v dt c1 g o1 .answer .voice) dt c2 (quiet g) o2)
 cut-as snd v dt g whole b1 b2 c1 c2 o1 o2 e f h = rw (e, f) h
 
 pub archive-cut-lanes : CutLanes

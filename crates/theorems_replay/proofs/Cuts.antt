@@ -19,7 +19,7 @@ use Rattle.static_sound.specs.Entries.{processed}
 use Rattle.trace_inputs.specs.declared.Block.{Block}
 use Rattle.trace_inputs.specs.Inputs.{single, double, signalsOf, blockOf}
 use Rattle.trace_lines.specs.Lines.{blockLine}
-use Rattle.trace_replay.specs.Runs.{Course, Turn, more, answered, lineOf, after}
+use Rattle.trace_replay.specs.Runs.{Replay, AfterRecord, more, answered, lineOf, after}
 use Rattle.trace_replay.proofs.Parts.{lane}
 use Rattle.trace_replay.proofs.Answers.{line-played}
 use Rattle.theorems.specs.Alike.{Parts, bare}
@@ -58,8 +58,8 @@ rest-out k m = let e : 2 * (k + m) - 2 * k ≡ 2 * m = omega arith in drops (2 *
 
 -- the parts of the answers, whatever the parts' lanes and outputs are called
 parts-of : (snd : List Float) (v : StaticSound) (dt : Float) (g : Signals) (x : Processed) (b1 b2 c1 c2 : Lanes) (o1 o2 p1 p2 : List Float) → b1 ≡ c1 → o1 ≡ p1 → b2 ≡ c2 → o2 ≡ p2
-    → Parts x (processed snd v dt b1 g o1 .answer) (processed snd (processed snd v dt b1 g o1 .answer .sound) dt b2 (quiet g) o2 .answer)
-    → Parts x (processed snd v dt c1 g p1 .answer) (processed snd (processed snd v dt c1 g p1 .answer .sound) dt c2 (quiet g) p2 .answer)
+    → Parts x (processed snd v dt b1 g o1 .answer) (processed snd (processed snd v dt b1 g o1 .answer .voice) dt b2 (quiet g) o2 .answer)
+    → Parts x (processed snd v dt c1 g p1 .answer) (processed snd (processed snd v dt c1 g p1 .answer .voice) dt c2 (quiet g) p2 .answer)
 parts-of snd v dt g x b1 b2 c1 c2 o1 o2 p1 p2 e1 e2 e3 e4 h = rw (← e1, ← e2, ← e3, ← e4) h
 
 -- a block of constant lanes
@@ -67,7 +67,7 @@ abbrev traced : ℕ → ℕ → ℕ → ℕ → ℕ → ℕ → ℕ → Signals 
 traced n a v l r p t g = record { frames = n; fade = single a; volume = single v; left = single l; right = single r; rate = double p; «time_step» = double t; signals = g }
 
 cut-answered : (snd : List Float) (w : StaticSound) (k m a v l r p t : ℕ) (g : Signals) → answered snd w (traced (k + m) a v l r p t g) .refusal ≡ 0
-    → Parts (answered snd w (traced (k + m) a v l r p t g)) (answered snd w (traced k a v l r p t g)) (answered snd (answered snd w (traced k a v l r p t g) .sound) (traced m a v l r p t (quiet g)))
+    → Parts (answered snd w (traced (k + m) a v l r p t g)) (answered snd w (traced k a v l r p t g)) (answered snd (answered snd w (traced k a v l r p t g) .voice) (traced m a v l r p t (quiet g)))
 unfolding answered
 cut-answered snd w k m a v l r p t g h =
     let n = k + m in
@@ -81,23 +81,23 @@ block-is : (n a v l r p t f s u : ℕ) → n ≤ 1024 → blockOf (blockNumbers 
 unfolding blockOf
 block-is n a v l r p t f s u h = rw (le-leb n 1024 h) refl
 
-accepted-line : (i n : ℕ) (x : Processed) → x .refusal ≡ 0 → lineOf i n x ≡ blockLine i n (x .steps) (number (x .sound .moving .state)) (x .sound .moving .transport .position)
-accepted-line i n x e = sym (line-played i n x (number (x .sound .moving .state)) (blockLine i n (x .steps) (number (x .sound .moving .state)) (x .sound .moving .transport .position)) e refl refl)
+accepted-line : (i n : ℕ) (x : Processed) → x .refusal ≡ 0 → lineOf i n x ≡ blockLine i n (x .steps) (number (x .voice .moving .state)) (x .voice .moving .transport .position)
+accepted-line i n x e = sym (line-played i n x (number (x .voice .moving .state)) (blockLine i n (x .steps) (number (x .voice .moving .state)) (x .voice .moving .transport .position)) e refl refl)
 
 -- the line of a block record whose block is known
-line-of : (c : Course) (vs : List ℕ) (b : Block) → blockOf vs ≡ b → answered (c .sound) (c .voice) b .refusal ≡ 0
-    → after c 3 vs .line ≡ blockLine (more (c .blocks)) (b .frames) (answered (c .sound) (c .voice) b .steps) (number (answered (c .sound) (c .voice) b .sound .moving .state)) (answered (c .sound) (c .voice) b .sound .moving .transport .position)
+line-of : (c : Replay) (vs : List ℕ) (b : Block) → blockOf vs ≡ b → answered (c .sound) (c .voice) b .refusal ≡ 0
+    → after c 3 vs .line ≡ blockLine (more (c .blocks)) (b .frames) (answered (c .sound) (c .voice) b .steps) (number (answered (c .sound) (c .voice) b .voice .moving .state)) (answered (c .sound) (c .voice) b .voice .moving .transport .position)
 unfolding after
 line-of c vs b q e =
     ap (λ (z : Block). lineOf (more (c .blocks)) (z .frames) (answered (c .sound) (c .voice) z)) q
     ∙ accepted-line (more (c .blocks)) (b .frames) (answered (c .sound) (c .voice) b) e
 
-abbrev course : StaticSound → List Float → ℕ → Course
-course v snd n = record { voice = v; sound = snd; blocks = n }
+abbrev replay : StaticSound → List Float → ℕ → Replay
+replay v snd n = record { voice = v; sound = snd; blocks = n }
 
-course-of : (c : Course) (vs : List ℕ) (b : Block) → blockOf vs ≡ b → after c 3 vs .course ≡ course (answered (c .sound) (c .voice) b .sound) (c .sound) (more (c .blocks))
+replay-of : (c : Replay) (vs : List ℕ) (b : Block) → blockOf vs ≡ b → after c 3 vs .replay ≡ replay (answered (c .sound) (c .voice) b .voice) (c .sound) (more (c .blocks))
 unfolding after
-course-of c vs b q = ap (λ (z : Block). course (answered (c .sound) (c .voice) z .sound) (c .sound) (more (c .blocks))) q
+replay-of c vs b q = ap (λ (z : Block). replay (answered (c .sound) (c .voice) z .voice) (c .sound) (more (c .blocks))) q
 
 pub cut-records : CutRecords
 cut-records c k m a v l r p t f s u i =
@@ -113,22 +113,22 @@ cut-records c k m a v l r p t f s u i =
     let q2 : blockOf (blockNumbers m a v l r p t 0 0 0) ≡ b2 = block-is m a v l r p t 0 0 0 (omega arith) in
     let x = answered snd w b in
     let x1 = answered snd w b1 in
-    let x2 = answered snd (x1 .sound) b2 in
+    let x2 = answered snd (x1 .voice) b2 in
     let z : x .refusal ≡ 0 = sym (ap (λ (y : Block). answered snd w y .refusal) qa) ∙ i .accepted in
     let y = cut-answered snd w k m a v l r p t g z in
-    let d = course (x1 .sound) snd (more (c .blocks)) in
+    let d = replay (x1 .voice) snd (more (c .blocks)) in
     let n2 = blockNumbers m a v l r p t 0 0 0 in
     record {
       all = x .steps;
       early = x1 .steps;
       late = x2 .steps;
-      state = number (x2 .sound .moving .state);
-      position = x2 .sound .moving .transport .position;
-      state-between = number (x1 .sound .moving .state);
-      position-between = x1 .sound .moving .transport .position;
+      state = number (x2 .voice .moving .state);
+      position = x2 .voice .moving .transport .position;
+      state-between = number (x1 .voice .moving .state);
+      position-between = x1 .voice .moving .transport .position;
       of-all = line-of c (blockNumbers (k + m) a v l r p t f s u) b qa z
           ∙ ap (λ (o : StaticSound). blockLine (more (c .blocks)) (k + m) (x .steps) (number (o .moving .state)) (o .moving .transport .position)) (y .alike);
       of-first = line-of c (blockNumbers k a v l r p t f s u) b1 q1 (y .accepted .0);
-      of-rest = ap (λ (o : Course). after o 3 n2 .line) (course-of c (blockNumbers k a v l r p t f s u) b1 q1) ∙ line-of d n2 b2 q2 (y .accepted .1);
+      of-rest = ap (λ (o : Replay). after o 3 n2 .line) (replay-of c (blockNumbers k a v l r p t f s u) b1 q1) ∙ line-of d n2 b2 q2 (y .accepted .1);
       sum = λ o. y .same o .1;
     }

@@ -14,7 +14,7 @@ use Rattle.trace_records.specs.Records.{possible, ended, bodied, readRecord, va
 use Rattle.trace_inputs.specs.Inputs.{settingsOf, samplesOf, blockOf}
 use Rattle.sound_creation.specs.Creation.{created}
 use Rattle.sound_slow_path.specs.declared.Processed.{Processed}
-use Rattle.trace_replay.specs.Runs.{Course, Step, blank, more, answered, lineOf, after, judged, stepOf, printed}
+use Rattle.trace_replay.specs.Runs.{Replay, Step, blank, more, answered, lineOf, after, judged, stepOf, printed}
 use Rattle.theorems_replay.specs.Example.{threeFrames, ThreeFrames}
 use Rattle.theorems_replay.proofs.Streams.{run-on}
 use Rattle.theorems_replay.proofs.Played.{creationNumbers, sixNumbers, played}
@@ -33,37 +33,37 @@ six-read = refl
 
 -- a step's line, and what is printed behind it
 abbrev onward : ℕ → List ℕ → Step → List ℕ
-onward at rest s = s .line ++ cond (s .over) [] (printed (s .course) at (s .size - 1) rest)
+onward at rest s = s .line ++ cond (s .over) [] (printed (s .replay) at (s .size - 1) rest)
 
-from-record : (c : Course) (at b : ℕ) (bs : List ℕ) (r : Record) → recordAt (b ∷ bs) 0 ≡ r → printed c at 0 (b ∷ bs) ≡ onward (suc at) bs (judged c at r)
+from-record : (c : Replay) (at b : ℕ) (bs : List ℕ) (r : Record) → recordAt (b ∷ bs) 0 ≡ r → printed c at 0 (b ∷ bs) ≡ onward (suc at) bs (judged c at r)
 unfolding printed stepOf
 from-record c at b bs r e = ap (λ (x : Record). onward (suc at) bs (judged c at x)) e
 
-abbrev passing : Course → List ℕ → ℕ → Step
-passing c l n = record { course = c; line = l; size = n; over = false }
+abbrev passing : Replay → List ℕ → ℕ → Step
+passing c l n = record { replay = c; line = l; size = n; over = false }
 
-abbrev made : List ℕ → Course
-made vs = record { voice = created (samplesOf vs) (settingsOf vs) .sound; sound = samplesOf vs; blocks = 0 }
+abbrev made : List ℕ → Replay
+made vs = record { voice = created (samplesOf vs) (settingsOf vs) .voice; sound = samplesOf vs; blocks = 0 }
 
 creation-made : (vs : List ℕ) (n : ℕ) → judged blank 0 (read 1 n vs) ≡ passing (made vs) [] n
 unfolding judged after
 creation-made vs n = refl
 
-abbrev answer : Course → List ℕ → Processed
+abbrev answer : Replay → List ℕ → Processed
 answer c vs = answered (c .sound) (c .voice) (blockOf vs)
 
-abbrev heard : Course → List ℕ → Course
-heard c vs = record { voice = answer c vs .sound; sound = c .sound; blocks = more (c .blocks) }
+abbrev heard : Replay → List ℕ → Replay
+heard c vs = record { voice = answer c vs .voice; sound = c .sound; blocks = more (c .blocks) }
 
-block-heard : (c : Course) (at : ℕ) (vs : List ℕ) (n : ℕ) → judged c at (read 3 n vs) ≡ passing (heard c vs) (lineOf (more (c .blocks)) (blockOf vs .frames) (answer c vs)) n
+block-heard : (c : Replay) (at : ℕ) (vs : List ℕ) (n : ℕ) → judged c at (read 3 n vs) ≡ passing (heard c vs) (lineOf (more (c .blocks)) (blockOf vs .frames) (answer c vs)) n
 unfolding judged after
 block-heard c at vs n = refl
 
 -- the bytes of a record are passed
-to-the-block : (c : Course) → printed c 1 54 (drop 1 threeFrames) ≡ printed c 55 0 (165 ∷ drop 56 threeFrames)
+to-the-block : (c : Replay) → printed c 1 54 (drop 1 threeFrames) ≡ printed c 55 0 (165 ∷ drop 56 threeFrames)
 to-the-block c = let l : length (drop 1 threeFrames) ≡ 96 = refl in run-on c 1 (drop 1 threeFrames) 54 (omega (arith, l))
 
-to-the-end : (c : Course) → printed c 56 41 (drop 56 threeFrames) ≡ []
+to-the-end : (c : Replay) → printed c 56 41 (drop 56 threeFrames) ≡ []
 unfolding printed
 to-the-end c = refl
 
@@ -72,7 +72,7 @@ unfolding blockOf
 six-frames = refl
 
 -- of any course whose first block it is
-of-block : (c : Course) → c .blocks ≡ 0 → printed c 55 0 (165 ∷ drop 56 threeFrames) ≡ lineOf 1 6 (answer c sixNumbers)
+of-block : (c : Replay) → c .blocks ≡ 0 → printed c 55 0 (165 ∷ drop 56 threeFrames) ≡ lineOf 1 6 (answer c sixNumbers)
 of-block c e =
     from-record c 55 165 (drop 56 threeFrames) (read 3 42 sixNumbers) six-read
     ∙ ap (onward 56 (drop 56 threeFrames)) (block-heard c 55 sixNumbers 42)

@@ -17,7 +17,7 @@ use Rattle.trace_inputs.specs.Inputs.{atMost, settingsOf, stereo, samplesOf, co
 use Rattle.trace_lines.specs.Lines.{refusedLine}
 use Rattle.trace_records.specs.declared.Record.{Record}
 use Rattle.trace_records.specs.Records.{recordAt}
-use Rattle.trace_replay.specs.Runs.{Course, blank, more, lanesOf, answered, lineOf, Turn, afterCreation, afterCommands, afterBlock, after, Step, judged, stepOf, printed}
+use Rattle.trace_replay.specs.Runs.{Replay, blank, more, lanesOf, answered, lineOf, AfterRecord, afterCreation, afterCommands, afterBlock, after, Step, judged, stepOf, printed}
 use Rattle.theorems_sound_length.specs.Muted.{muted, mutedCreated}
 use Rattle.theorems_sound_length.specs.Lengths.{OtherSound}
 use Rattle.theorems_sound_length.proofs.Calls.{creation-alike, commands-alike, blocks-alike}
@@ -62,44 +62,44 @@ samples-long vs =
 
 -- ---- runs that differ in nothing but samples
 
-record Alike (c d : Course) : Type 0 where
+record Alike (c d : Replay) : Type 0 where
   voices : muted (c .voice) ≡ muted (d .voice)
   sounds : length (c .sound) ≡ length (d .sound)
   blocks : c .blocks ≡ d .blocks
 
-record TurnAlike (t u : Turn) : Type 0 where
-  course : Alike (t .course) (u .course)
+record TurnAlike (t u : AfterRecord) : Type 0 where
+  replay : Alike (t .replay) (u .replay)
   line : t .line ≡ u .line
 
-other-sound : (c d : Course) → Alike c d → OtherSound (c .sound) (d .sound) (c .voice) (d .voice)
+other-sound : (c d : Replay) → Alike c d → OtherSound (c .sound) (d .sound) (c .voice) (d .voice)
 other-sound c d h = record { samples = h .sounds; voices = h .voices }
 
-creation-turn : (c d : Course) (vs : List ℕ) → Alike c d → TurnAlike (afterCreation c vs) (afterCreation d (zeroAfter 13 vs))
+creation-turn : (c d : Replay) (vs : List ℕ) → Alike c d → TurnAlike (afterCreation c vs) (afterCreation d (zeroAfter 13 vs))
 creation-turn c d vs h =
     let ws = zeroAfter 13 vs in
     let made : mutedCreated (created (samplesOf vs) (settingsOf vs)) ≡ mutedCreated (created (samplesOf ws) (settingsOf ws)) =
     creation-alike (samplesOf vs) (samplesOf ws) (settingsOf vs) (samples-long vs)
     ∙ ap (λ (s : Settings). mutedCreated (created (samplesOf ws) s)) (sym (settings-kept vs))
     in
-    record { course = record { voices = ap (λ (a : Created). a .sound) made; sounds = samples-long vs; blocks = h .blocks }; line = refl }
+    record { replay = record { voices = ap (λ (a : Created). a .voice) made; sounds = samples-long vs; blocks = h .blocks }; line = refl }
 
-commands-turn : (c d : Course) (vs : List ℕ) → Alike c d → TurnAlike (afterCommands c vs) (afterCommands d vs)
+commands-turn : (c d : Replay) (vs : List ℕ) → Alike c d → TurnAlike (afterCommands c vs) (afterCommands d vs)
 commands-turn c d vs h =
     let e = commands-alike (c .sound) (d .sound) (c .voice) (d .voice) (commandsOf vs) (other-sound c d h) in
-    record { course = record { voices = ap (λ (a : Commanded). a .sound) e; sounds = h .sounds; blocks = h .blocks }; line = refl }
+    record { replay = record { voices = ap (λ (a : Commanded). a .voice) e; sounds = h .sounds; blocks = h .blocks }; line = refl }
 
-block-turn : (c d : Course) (vs : List ℕ) → Alike c d → TurnAlike (afterBlock c vs) (afterBlock d vs)
+block-turn : (c d : Replay) (vs : List ℕ) → Alike c d → TurnAlike (afterBlock c vs) (afterBlock d vs)
 unfolding answered lineOf
 block-turn c d vs h =
     let b = blockOf vs in
     let out = replicate (2 * b .frames) positiveZero in
     let e = blocks-alike (c .sound) (d .sound) (c .voice) (d .voice) (b .«time_step») (lanesOf b) (b .signals) out out (record { sound = other-sound c d h; output = refl }) in
     record {
-      course = record { voices = ap (λ (a : Processed). a .sound) e; sounds = h .sounds; blocks = ap more (h .blocks) };
+      replay = record { voices = ap (λ (a : Processed). a .voice) e; sounds = h .sounds; blocks = ap more (h .blocks) };
       line = ap₂ (λ (n : ℕ) (a : Processed). lineOf (more n) (b .frames) a) (h .blocks) e;
     }
 
-turn-alike : (c d : Course) (k : ℕ) (vs : List ℕ) → Alike c d → TurnAlike (after c k vs) (after d k (cond (eqb k 1) (zeroAfter 13 vs) vs))
+turn-alike : (c d : Replay) (k : ℕ) (vs : List ℕ) → Alike c d → TurnAlike (after c k vs) (after d k (cond (eqb k 1) (zeroAfter 13 vs) vs))
 unfolding after
 turn-alike c d k vs h = go (eqb k 1)
   where
@@ -113,41 +113,41 @@ turn-alike c d k vs h = go (eqb k 1)
     go false = other (eqb k 2)
 
 record StepAlike (s t : Step) : Type 0 where
-  course : Alike (s .course) (t .course)
+  replay : Alike (s .replay) (t .replay)
   line : s .line ≡ t .line
   size : s .size ≡ t .size
   over : s .over ≡ t .over
 
-step-alike : (c d : Course) (at : ℕ) (r : Record) → Alike c d → StepAlike (judged c at r) (judged d at (mutedRecord r))
+step-alike : (c d : Replay) (at : ℕ) (r : Record) → Alike c d → StepAlike (judged c at r) (judged d at (mutedRecord r))
 unfolding judged
 step-alike c d at r h = go (eqb (r .refusal) 0)
   where
     go : (b : Bool) → StepAlike
-        (cond b (record { course = after c (r .kind) (r .values) .course; line = after c (r .kind) (r .values) .line; size = r .next; over = false }) (record { course = c; line = refusedLine (r .refusal) at; size = 0; over = true }))
-        (cond b (record { course = after d (r .kind) (mutedRecord r .values) .course; line = after d (r .kind) (mutedRecord r .values) .line; size = r .next; over = false }) (record { course = d; line = refusedLine (r .refusal) at; size = 0; over = true }))
-    go true = let t = turn-alike c d (r .kind) (r .values) h in record { course = t .course; line = t .line; size = refl; over = refl }
-    go false = record { course = h; line = refl; size = refl; over = refl }
+        (cond b (record { replay = after c (r .kind) (r .values) .replay; line = after c (r .kind) (r .values) .line; size = r .next; over = false }) (record { replay = c; line = refusedLine (r .refusal) at; size = 0; over = true }))
+        (cond b (record { replay = after d (r .kind) (mutedRecord r .values) .replay; line = after d (r .kind) (mutedRecord r .values) .line; size = r .next; over = false }) (record { replay = d; line = refusedLine (r .refusal) at; size = 0; over = true }))
+    go true = let t = turn-alike c d (r .kind) (r .values) h in record { replay = t .replay; line = t .line; size = refl; over = refl }
+    go false = record { replay = h; line = refl; size = refl; over = refl }
 
 -- ---- what is printed, from the records
 
-linesOf : Course → ℕ → List Record → List ℕ
+linesOf : Replay → ℕ → List Record → List ℕ
 linesOf c at [] = []
 linesOf c at (r ∷ rs) =
     let s = judged c at r in
-    s .line ++ cond (s .over) [] (linesOf (s .course) (suc at + (s .size - 1)) rs)
+    s .line ++ cond (s .over) [] (linesOf (s .replay) (suc at + (s .size - 1)) rs)
 
-lines-alike-of : (rs : List Record) (c d : Course) (at : ℕ) → Alike c d → linesOf c at rs ≡ linesOf d at (map mutedRecord rs)
+lines-alike-of : (rs : List Record) (c d : Replay) (at : ℕ) → Alike c d → linesOf c at rs ≡ linesOf d at (map mutedRecord rs)
 unfolding linesOf
 lines-alike-of [] c d at h = refl
 lines-alike-of (r ∷ rs) c d at h =
     let s = judged c at r in
     let t = judged d at (mutedRecord r) in
     let a = step-alike c d at r h in
-    ap (λ (l : List ℕ). s .line ++ cond (s .over) [] l) (lines-alike-of rs (s .course) (t .course) (suc at + (s .size - 1)) (a .course))
-    ∙ ap (λ (n : ℕ). s .line ++ cond (s .over) [] (linesOf (t .course) (suc at + (n - 1)) (map mutedRecord rs))) (a .size)
-    ∙ ap₂ (λ (l : List ℕ) (b : Bool). l ++ cond b [] (linesOf (t .course) (suc at + (t .size - 1)) (map mutedRecord rs))) (a .line) (a .over)
+    ap (λ (l : List ℕ). s .line ++ cond (s .over) [] l) (lines-alike-of rs (s .replay) (t .replay) (suc at + (s .size - 1)) (a .replay))
+    ∙ ap (λ (n : ℕ). s .line ++ cond (s .over) [] (linesOf (t .replay) (suc at + (n - 1)) (map mutedRecord rs))) (a .size)
+    ∙ ap₂ (λ (l : List ℕ) (b : Bool). l ++ cond b [] (linesOf (t .replay) (suc at + (t .size - 1)) (map mutedRecord rs))) (a .line) (a .over)
 
-printed-lines : (bs : List ℕ) (c : Course) (at k : ℕ) → printed c at k bs ≡ linesOf c (at + k) (records k bs)
+printed-lines : (bs : List ℕ) (c : Replay) (at k : ℕ) → printed c at k bs ≡ linesOf c (at + k) (records k bs)
 unfolding printed stepOf judged linesOf records
 printed-lines [] c at k = refl
 printed-lines (b ∷ bs) c at (suc k) =
@@ -162,13 +162,13 @@ printed-lines (b ∷ bs) c at zero =
     stepBy : Bool → Record → Step
     stepBy o r =
         cond o
-        (record { course = after c (r .kind) (r .values) .course; line = after c (r .kind) (r .values) .line; size = r .next; over = false })
-        (record { course = c; line = refusedLine (r .refusal) at; size = 0; over = true })
+        (record { replay = after c (r .kind) (r .values) .replay; line = after c (r .kind) (r .values) .line; size = r .next; over = false })
+        (record { replay = c; line = refusedLine (r .refusal) at; size = 0; over = true })
 
-    go : ((d : Course) (x y : ℕ) → printed d x y bs ≡ linesOf d (x + y) (records y bs)) → (r : Record) (o : Bool)
-        → stepBy o r .line ++ cond (stepBy o r .over) [] (printed (stepBy o r .course) (suc at) (stepBy o r .size - 1) bs)
-        ≡ stepBy o r .line ++ cond (stepBy o r .over) [] (linesOf (stepBy o r .course) (suc at + (stepBy o r .size - 1)) (cond o (records (r .next - 1) bs) []))
-    go rest r true = ap (λ (l : List ℕ). after c (r .kind) (r .values) .line ++ l) (rest (after c (r .kind) (r .values) .course) (suc at) (r .next - 1))
+    go : ((d : Replay) (x y : ℕ) → printed d x y bs ≡ linesOf d (x + y) (records y bs)) → (r : Record) (o : Bool)
+        → stepBy o r .line ++ cond (stepBy o r .over) [] (printed (stepBy o r .replay) (suc at) (stepBy o r .size - 1) bs)
+        ≡ stepBy o r .line ++ cond (stepBy o r .over) [] (linesOf (stepBy o r .replay) (suc at + (stepBy o r .size - 1)) (cond o (records (r .next - 1) bs) []))
+    go rest r true = ap (λ (l : List ℕ). after c (r .kind) (r .values) .line ++ l) (rest (after c (r .kind) (r .values) .replay) (suc at) (r .next - 1))
     go rest r false = refl
 
 pub lines-alike : LinesAlike

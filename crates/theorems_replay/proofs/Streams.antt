@@ -16,14 +16,14 @@ use Rattle.trace_records.specs.Promises.{Kept}
 use Rattle.trace_records.proofs.Rounds.{written-record}
 use Rattle.trace_records.proofs.Traces.{record-some}
 use Rattle.trace_records.proofs.Windows.{window, refusal-numbered}
-use Rattle.trace_replay.specs.Runs.{Course, Turn, after, Step, judged, stepOf, printed}
+use Rattle.trace_replay.specs.Runs.{Replay, AfterRecord, after, Step, judged, stepOf, printed}
 use Rattle.theorems_replay.specs.Streams.{Streams}
 
 none : {A : Type 0} → ⊥ → A
 none e = elim e [ ]
 
 -- the bytes of the record in hand are passed
-pub run-on : (c : Course) (at : ℕ) (bs : List ℕ) (k : ℕ) → k ≤ length bs → printed c at k bs ≡ printed c (at + k) 0 (drop k bs)
+pub run-on : (c : Replay) (at : ℕ) (bs : List ℕ) (k : ℕ) → k ≤ length bs → printed c at k bs ≡ printed c (at + k) 0 (drop k bs)
 unfolding printed
 run-on c at bs zero h = let e : at ≡ at + 0 = omega arith in ap (λ (z : ℕ). printed c z 0 bs) e
 run-on c at [] (suc k) h = none (omega arith)
@@ -34,7 +34,7 @@ pub record Sized (s : Step) (n : ℕ) : Type 0 where
   pub some : 1 ≤ s .size
   pub few : s .size ≤ n
 
-pub sized : (c : Course) (at : ℕ) (bs : List ℕ) → Small bs → judged c at (recordAt bs 0) .over ≡ false → Sized (judged c at (recordAt bs 0)) (length bs)
+pub sized : (c : Replay) (at : ℕ) (bs : List ℕ) → Small bs → judged c at (recordAt bs 0) .over ≡ false → Sized (judged c at (recordAt bs 0)) (length bs)
 unfolding judged recordAt valued
 sized c at bs s o = go (readRecord bs) refl o
   where
@@ -47,21 +47,21 @@ sized c at bs s o = go (readRecord bs) refl o
 
 -- the first line, then the rest
 abbrev firstly : ℕ → List ℕ → Step → List ℕ
-firstly at bs s = s .line ++ cond (s .over) [] (printed (s .course) (at + s .size) 0 (drop (s .size) bs))
+firstly at bs s = s .line ++ cond (s .over) [] (printed (s .replay) (at + s .size) 0 (drop (s .size) bs))
 
-first-line : (at b : ℕ) (bs : List ℕ) (s : Step) → (s .over ≡ false → Sized s (suc (length bs))) → s .line ++ cond (s .over) [] (printed (s .course) (suc at) (s .size - 1) bs) ≡ firstly at (b ∷ bs) s
+first-line : (at b : ℕ) (bs : List ℕ) (s : Step) → (s .over ≡ false → Sized s (suc (length bs))) → s .line ++ cond (s .over) [] (printed (s .replay) (suc at) (s .size - 1) bs) ≡ firstly at (b ∷ bs) s
 first-line at b bs s h = ap (λ (l : List ℕ). s .line ++ l) (go (s .over) refl)
   where
-    go : (t : Bool) → s .over ≡ t → cond t [] (printed (s .course) (suc at) (s .size - 1) bs) ≡ cond t [] (printed (s .course) (at + s .size) 0 (drop (s .size) (b ∷ bs)))
+    go : (t : Bool) → s .over ≡ t → cond t [] (printed (s .replay) (suc at) (s .size - 1) bs) ≡ cond t [] (printed (s .replay) (at + s .size) 0 (drop (s .size) (b ∷ bs)))
     go true e = refl
     go false e =
         let z = h e in
         let n = s .size - 1 in
         let q : suc n ≡ s .size = omega (arith, z .some) in
         let p : suc at + n ≡ at + s .size = omega (arith, z .some) in
-        run-on (s .course) (suc at) bs n (omega (arith, z .few))
-        ∙ ap (λ (x : ℕ). printed (s .course) x 0 (drop n bs)) p
-        ∙ ap (λ (x : ℕ). printed (s .course) (at + s .size) 0 (drop x (b ∷ bs))) q
+        run-on (s .replay) (suc at) bs n (omega (arith, z .few))
+        ∙ ap (λ (x : ℕ). printed (s .replay) x 0 (drop n bs)) p
+        ∙ ap (λ (x : ℕ). printed (s .replay) (at + s .size) 0 (drop x (b ∷ bs))) q
 
 pub streams : Streams
 unfolding printed stepOf

@@ -19,7 +19,7 @@ use Rattle.c_state.specs.Records.{decoded}
 use Rattle.cableowl.specs.declared.replays.CableowlReplay.{CableowlReplay}
 use Rattle.cableowl.specs.declared.replays.CableowlReplayed.{CableowlReplayed}
 use Rattle.cableowl.specs.Replays.{StepC, unplayed, creationC, commandsC, blockC, blockStep, judged, begun}
-use Rattle.cableowl.specs.ReplaysV2.{playing, bufferOf, givenC, lanesIn, ofKind, lanedStep, obeyed, turnedV2, lacking, judgedV2, begunV2, refusedStepV2, steppedV2}
+use Rattle.cableowl.specs.ReplaysV2.{playing, bufferOf, givenC, lanesIn, ofKind, lanedStep, obeyed, playedRecordV2, lacking, judgedV2, begunV2, refusedStepV2, steppedV2}
 use Rattle.cableowl.proofs.ReplayStepsV2.{few-laned}
 use Rattle.theorems_replay.specs.ArchiveV2.{StreamsV2}
 
@@ -85,8 +85,8 @@ module _ (w : ℕ) (h : 24598 ≤ w) (r : CableowlReplay) (snd given : List Floa
       (cond (eqb (d .kind) 5) s (blockStep r (d .next) (d .values) x out)))
       (laned-window (d .next) (d .values) bs x)
 
-  turned-window : (d : Record) (bs : List ℕ) → turnedV2 r d (take w bs) snd given sounds out ≡ turnedV2 r d bs snd given sounds out
-  unfolding turnedV2
+  turned-window : (d : Record) (bs : List ℕ) → playedRecordV2 r d (take w bs) snd given sounds out ≡ playedRecordV2 r d bs snd given sounds out
+  unfolding playedRecordV2
   turned-window d bs =
       ap
       (λ (o : StepC).

@@ -19,16 +19,16 @@ use Rattle.trace_records.specs.Records as records
 use Rattle.trace_inputs.specs.Inputs.{laneOf, blockOf}
 use Rattle.numbers.specs.Frames.{rounded}
 use Rattle.numbers.specs.Words.{magnitude, positiveZero, advance}
-use Rattle.playback_position.specs.Positions.{placed, ended, stretched, lawfulRegion}
+use Rattle.playback_position.specs.Positions.{positionInFrames, endInFrames, regionInFrames, wellFormedRegion}
 use Rattle.sound_state.specs.declared.StaticSound.{StaticSound}
-use Rattle.sound_state.specs.WellFormed.{ours, wellFormed}
+use Rattle.sound_state.specs.WellFormed.{wellFormedFor, wellFormed}
 use Rattle.sound_creation.specs.Creation.{refusedNew, made, created}
 use Rattle.static_sound.specs.Entries.{refusedBlock, processed}
 use Rattle.trace_replay.specs.Runs.{answered}
 use Rattle.theorems.specs.Examples.{ten}
 use Rattle.theorems.specs.Witnesses.{voice}
 use Rattle.c_state.proofs.Inverse.{decoded-encoded}
-use Rattle.cableowl.specs.Replays.{StepC, blankReplay, creationC, turned, judged, steppedC}
+use Rattle.cableowl.specs.Replays.{StepC, blankReplay, creationC, playedRecord, judged, steppedC}
 use Rattle.theorems_replay.specs.Cuts.{MayCutRecord, blockNumbers}
 use Rattle.theorems_replay.specs.Example.{threeFrames}
 use Rattle.theorems_replay.specs.Witnesses.{threeNans, evening, lentSound, lentOutput, going, plainBlock, given, falling, fallingBytes, Witnesses}
@@ -53,7 +53,7 @@ space : 2048 ≤ length lentOutput
 space = omega (arith, length-replicate 2048 positiveZero)
 
 accepted : answered (evening .sound) (evening .voice) (blockOf (blockNumbers 2 1065353216 1065353216 1065353216 1065353216 4607182418800017408 4607182418800017408 0 0 0)) .refusal ≡ 0
-unfolding answered processed refusedBlock ours wellFormed created made refusedNew placed ended stretched lawfulRegion rounded magnitude advance blockOf floatOf mul lt le eq ofInt ofBits nanBits
+unfolding answered processed refusedBlock wellFormedFor wellFormed created made refusedNew positionInFrames endInFrames regionInFrames wellFormedRegion rounded magnitude advance blockOf floatOf mul lt le eq ofInt ofBits nanBits
 accepted = refl
 
 -- ---- of the archive's step
@@ -62,7 +62,7 @@ lent : (bs : List ℕ) → T (areSmall bs) → length bs ≡ 97 → Lent lentSou
 lent bs s l = record { sound = room; output = space; bytes = small-of bs s; short = omega (arith, l) }
 
 creation-shown : steppedC blankReplay threeFrames 0 lentSound lentOutput .answer .what ≡ 0
-unfolding judged turned creationC
+unfolding judged playedRecord creationC
 creation-shown =
     ap (λ (o : StepC). o .answer .what)
     (goes-on blankReplay lentSound lentOutput 0 165 (drop 1 threeFrames) (blank-fit lentSound lentOutput room space)
@@ -113,7 +113,7 @@ three-frames-old =
     ∙ old-end
 
 falling-accepted : lanedOutcome ten voice (partOf falling 2 (falling .signals)) fallingBytes (replicate 4 positiveZero) .answer .refusal ≡ 0
-unfolding laneOf num processed refusedBlock ours wellFormed created made refusedNew placed ended stretched lawfulRegion rounded magnitude advance floatOf mul lt le eq ofInt ofBits nanBits
+unfolding laneOf num processed refusedBlock wellFormedFor wellFormed created made refusedNew positionInFrames endInFrames regionInFrames wellFormedRegion rounded magnitude advance floatOf mul lt le eq ofInt ofBits nanBits
 falling-accepted = refl
 
 pub witnesses : Witnesses

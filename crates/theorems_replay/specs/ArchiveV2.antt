@@ -9,7 +9,7 @@ use lib.Dec.{eqb}
 use lib.ListN.{length, take, drop}
 use lib.Ieee.{Float}
 use Rattle.byte_layout.specs.Numbers.{Bytes}
-use Rattle.trace_lines.specs.Lines.{told, at·is, refusedLine}
+use Rattle.trace_lines.specs.Lines.{labelled, at·is, refusedLine}
 use Rattle.trace_records.specs.declared.Record.{Record}
 use Rattle.trace_records.specs.Records.{recordAt}
 use Rattle.trace_sealed.specs.Records.{isSealed}
@@ -80,7 +80,7 @@ pub record Offer : Type 0 where
 -- `creation=26 at=70`
 unfoldable pub creationLine : ℕ → ℕ → List ℕ
 creationLine refusal at =
-    told (99 ∷ 114 ∷ 101 ∷ 97 ∷ 116 ∷ 105 ∷ 111 ∷ 110 ∷ 61 ∷ []) refusal ++ (told at·is at ++ (10 ∷ []))
+    labelled (99 ∷ 114 ∷ 101 ∷ 97 ∷ 116 ∷ 105 ∷ 111 ∷ 110 ∷ 61 ∷ []) refusal ++ (labelled at·is at ++ (10 ∷ []))
 
 -- the line of an answer: of a refused record, of a block of either kind, of a creation whose sound is not given; the
 -- offset is that of the record's first byte
@@ -207,4 +207,4 @@ CutLanes =
     → let first = lanedOutcome snd v (partOf b k (b .signals)) ys (take (2 * k) out) in
     let part = partOf b m (quiet (b .signals)) in
     CutInTwo (lanedOutcome snd v (partOf b (k + m) (b .signals)) xs out) first
-    (lanedOutcome snd (first .answer .sound) part zs (drop (2 * k) out))
+    (lanedOutcome snd (first .answer .voice) part zs (drop (2 * k) out))

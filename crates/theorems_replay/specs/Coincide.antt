@@ -37,11 +37,11 @@ pub record Coincide : Type 0 where
   pub trace-lines-put-refused : DecidesWith (λ k r s. s .0 .now) trace_lines.put_refused.Reads.Post
   -- trace_replay
   pub trace-replay-begin : Decides trace_replay.begin.Reads.Post
-  pub trace-replay-turn : DecidesWith {B = InUse}
+  pub trace-replay-play-record : DecidesWith {B = InUse}
       (λ k r s. (
         take (r .run .samples) (s .1 .1 .1 .0 .now),
         take (r .written) (s .1 .1 .1 .1 .0 .now),
-      )) trace_replay.turn.Reads.Post
+      )) trace_replay.play_record.Reads.Post
   pub trace-replay-advance : DecidesWith {B = InUse}
       (λ k r s. (
         take (r .run .samples) (s .1 .1 .1 .1 .0 .now),

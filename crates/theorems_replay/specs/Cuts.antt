@@ -9,7 +9,7 @@ use lib.Dec.{T, eqb}
 use lib.ListN.{replicate}
 use Rattle.trace_inputs.specs.Inputs.{blockOf}
 use Rattle.trace_lines.specs.Lines.{blockLine}
-use Rattle.trace_replay.specs.Runs.{Course, Turn, more, answered, after}
+use Rattle.trace_replay.specs.Runs.{Replay, AfterRecord, more, answered, after}
 
 -- the numbers of a block: frames; fade, volume, left, right; rate; time step; finished, start, resume
 abbrev pub blockNumbers : ℕ → ℕ → ℕ → ℕ → ℕ → ℕ → ℕ → ℕ → ℕ → ℕ → List ℕ
@@ -34,14 +34,14 @@ pub record Lines (i k m : ℕ) (uncut first rest : List ℕ) : Type 0 where
   pub sum : Going state-between → all ≡ early + late
 
 -- hypothesis: an accepted block, with at most as many frames as a record can have
-pub record MayCutRecord (c : Course) (k m a v l r p t f s u : ℕ) : Type 0 where
+pub record MayCutRecord (c : Replay) (k m a v l r p t f s u : ℕ) : Type 0 where
   pub few : k + m ≤ 1024
   pub accepted : answered (c .sound) (c .voice) (blockOf (blockNumbers (k + m) a v l r p t f s u)) .refusal ≡ 0
 
 abbrev pub CutRecords : Type 0
 CutRecords =
-    (c : Course) (k m a v l r p t f s u : ℕ) → MayCutRecord c k m a v l r p t f s u
+    (c : Replay) (k m a v l r p t f s u : ℕ) → MayCutRecord c k m a v l r p t f s u
     → let uncut = after c 3 (blockNumbers (k + m) a v l r p t f s u) in
     let first = after c 3 (blockNumbers k a v l r p t f s u) in
-    let rest = after (first .course) 3 (blockNumbers m a v l r p t 0 0 0) in
+    let rest = after (first .replay) 3 (blockNumbers m a v l r p t 0 0 0) in
     Lines (c .blocks) k m (uncut .line) (first .line) (rest .line)

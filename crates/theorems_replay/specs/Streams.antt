@@ -6,7 +6,7 @@ use mathlib.Core.Bool.{cond}
 use mathlib.Core.List.{List, [], _++_}
 use lib.ListN.{take, drop}
 use Rattle.byte_layout.specs.Numbers.{Bytes}
-use Rattle.trace_replay.specs.Runs.{Course, Step, stepOf, printed}
+use Rattle.trace_replay.specs.Runs.{Replay, Step, stepOf, printed}
 
 -- hypothesis: bytes, and a window as wide as the longest record
 pub record Window (w : ℕ) (bs : List ℕ) : Type 0 where
@@ -15,6 +15,6 @@ pub record Window (w : ℕ) (bs : List ℕ) : Type 0 where
 
 abbrev pub Streams : Type 0
 Streams =
-    (c : Course) (at w : ℕ) (bs : List ℕ) → Window w bs
+    (c : Replay) (at w : ℕ) (bs : List ℕ) → Window w bs
     → let s = stepOf c at (take w bs) in printed c at 0 bs
-    ≡ s .line ++ cond (s .over) [] (printed (s .course) (at + s .size) 0 (drop (s .size) bs))
+    ≡ s .line ++ cond (s .over) [] (printed (s .replay) (at + s .size) 0 (drop (s .size) bs))

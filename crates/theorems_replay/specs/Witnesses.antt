@@ -10,7 +10,7 @@ use Rattle.c_state.specs.declared.CableowlState.{CableowlState}
 use Rattle.theorems_sound_length.specs.Witnesses.{nans, voiceOfNans}
 use Rattle.trace_inputs.specs.declared.LanedBlock.{LanedBlock}
 use Rattle.trace_inputs.specs.Inputs.{double, signalsOf}
-use Rattle.trace_replay.specs.Runs.{Course}
+use Rattle.trace_replay.specs.Runs.{Replay}
 use Rattle.cableowl.specs.declared.replays.CableowlReplay.{CableowlReplay}
 use Rattle.cableowl.specs.Replays.{blankReplay}
 use Rattle.c_state.specs.Records.{encoded}
@@ -26,7 +26,7 @@ use Rattle.theorems_replay.specs.ArchiveV2.{MayCutLanes}
 abbrev pub threeNans : List ℕ
 threeNans = take 31 threeFrames ++ (replicate 24 255 ++ drop 55 threeFrames)
 
-abbrev pub evening : Course
+abbrev pub evening : Replay
 evening = record { voice = voice; sound = ten; blocks = 0 }
 
 -- buffers as large as a step asks

@@ -17,7 +17,7 @@ use Rattle.static_sound.specs.Entries.{processed, processedInto}
 use Rattle.take_loop.specs.Taking.{taken}
 use Rattle.c_state.specs.declared.CableowlEntry.{CableowlEntry}
 use Rattle.c_state.specs.declared.CableowlState.{CableowlState}
-use Rattle.c_state.specs.Records.{recentOf, entryOf, lawful, stated, decoded, encoded}
+use Rattle.c_state.specs.Records.{recentOf, entryOf, wellFormedState, stated, decoded, encoded}
 use Rattle.c_inputs.specs.Inputs.{settingsOf, commandsOf, signalsOf}
 use Rattle.cableowl.specs.declared.CableowlCommanded.{CableowlCommanded}
 use Rattle.cableowl.specs.declared.CableowlProcessed.{CableowlProcessed}
@@ -38,8 +38,8 @@ map-first h f g e (suc t) [] = refl
 map-first h f g e (suc t) (x ∷ xs) = ap₂ _∷_ (e x) (map-first h f g e t xs)
 
 decoded-muted : (c : CableowlState) → decoded (mutedState c) ≡ muted (decoded c)
-unfolding decoded lawful
-decoded-muted c = go (lawful c)
+unfolding decoded wellFormedState
+decoded-muted c = go (wellFormedState c)
   where
     go : (b : Bool) → cond b (stated (mutedState c)) blankSound ≡ muted (cond b (stated c) blankSound)
     go true = ap (λ (rs : List RecentFrame). moved (stated c) (c .fraction) (entered (stated c .moving) rs)) (map-first recentOf mutedEntryC mutedEntry (λ (x : CableowlEntry). refl) (c .count) (c .window))
@@ -65,30 +65,30 @@ means-alike c d e = sym (decoded-muted c) ∙ ap decoded e ∙ decoded-muted d
 -- ---- answers
 
 abbrev ordered : Commanded → CableowlState → CableowlCommanded
-ordered r c = record { state = after (r .refusal) (r .sound) c; position = r .position; refusal = r .refusal }
+ordered r c = record { state = after (r .refusal) (r .voice) c; position = r .position; refusal = r .refusal }
 
 answered-alike : (p q : Processed) (c d : CableowlState) → mutedProcessed p ≡ mutedProcessed q → mutedState c ≡ mutedState d
     → mutedProcessedC (answered p c) ≡ mutedProcessedC (answered q d)
 answered-alike p q c d e f =
-    ap (λ (s : CableowlState). record { state = s; steps = p .steps; refusal = p .refusal; «lowest_count» = p .«lowest_count» }) (after-muted (p .refusal) (p .sound) c)
+    ap (λ (s : CableowlState). record { state = s; steps = p .steps; refusal = p .refusal; «lowest_count» = p .«lowest_count» }) (after-muted (p .refusal) (p .voice) c)
     ∙ ap₂ answered e f
-    ∙ ap (λ (s : CableowlState). record { state = s; steps = q .steps; refusal = q .refusal; «lowest_count» = q .«lowest_count» }) (sym (after-muted (q .refusal) (q .sound) d))
+    ∙ ap (λ (s : CableowlState). record { state = s; steps = q .steps; refusal = q .refusal; «lowest_count» = q .«lowest_count» }) (sym (after-muted (q .refusal) (q .voice) d))
 
 ordered-alike : (p q : Commanded) (c d : CableowlState) → mutedCommanded p ≡ mutedCommanded q → mutedState c ≡ mutedState d
     → mutedCommandedC (ordered p c) ≡ mutedCommandedC (ordered q d)
 ordered-alike p q c d e f =
-    ap (λ (s : CableowlState). record { state = s; position = p .position; refusal = p .refusal }) (after-muted (p .refusal) (p .sound) c)
+    ap (λ (s : CableowlState). record { state = s; position = p .position; refusal = p .refusal }) (after-muted (p .refusal) (p .voice) c)
     ∙ ap₂ ordered e f
-    ∙ ap (λ (s : CableowlState). record { state = s; position = q .position; refusal = q .refusal }) (sym (after-muted (q .refusal) (q .sound) d))
+    ∙ ap (λ (s : CableowlState). record { state = s; position = q .position; refusal = q .refusal }) (sym (after-muted (q .refusal) (q .voice) d))
 
 pub archive-creation-alike : CreationAlikeC
 unfolding createdC
 archive-creation-alike snd other s e =
     let a = created snd (settingsOf s) in
     let b = created other (settingsOf s) in
-    ap (λ (c : CableowlState). record { state = c; refusal = a .refusal }) (encoded-muted (a .sound))
-    ∙ ap (λ (r : Created). record { state = encoded (r .sound); refusal = r .refusal }) (creation-alike snd other (settingsOf s) e)
-    ∙ ap (λ (c : CableowlState). record { state = c; refusal = b .refusal }) (sym (encoded-muted (b .sound)))
+    ap (λ (c : CableowlState). record { state = c; refusal = a .refusal }) (encoded-muted (a .voice))
+    ∙ ap (λ (r : Created). record { state = encoded (r .voice); refusal = r .refusal }) (creation-alike snd other (settingsOf s) e)
+    ∙ ap (λ (c : CableowlState). record { state = c; refusal = b .refusal }) (sym (encoded-muted (b .voice)))
 
 -- ---- rows
 
@@ -138,6 +138,6 @@ archive-rows-alike ds es c e h =
     let a = row-alike ds c c refl in
     let b = row-alike es e c (sym (h .states)) in
     record {
-      told = a .0 ∙ ap (λ (l : List CallC). answersC l c) (h .calls) ∙ sym (b .0);
+      sameAnswers = a .0 ∙ ap (λ (l : List CallC). answersC l c) (h .calls) ∙ sym (b .0);
       states = a .1 ∙ ap (λ (l : List CallC). mutedState (afterAllC l c)) (h .calls) ∙ sym (b .1);
     }

@@ -17,7 +17,7 @@ use Rattle.transport.specs.Moves.{seek}
 use Rattle.resampler.specs.declared.Resampler.{Resampler}
 use Rattle.sound_lanes.specs.Lanes.{Lane, Lanes, rows, sized, timeStep, laned, near}
 use Rattle.sound_state.specs.declared.StaticSound.{StaticSound}
-use Rattle.sound_state.specs.Voices.{span, courseOf, moved}
+use Rattle.sound_state.specs.Voices.{sliceLength, sliceOf, moved}
 use Rattle.sound_state.specs.Refusals.{unless}
 use Rattle.sound_creation.specs.declared.Settings.{Settings}
 use Rattle.sound_creation.specs.declared.Created.{Created}
@@ -28,8 +28,8 @@ use Rattle.sound_commands.specs.declared.Commands.{Commands}
 use Rattle.sound_commands.specs.declared.Commanded.{Commanded}
 use Rattle.sound_commands.specs.declared.LoopCommand.{LoopCommand}
 use Rattle.sound_commands.specs.declared.LoopCommand.the-variants as loop
-use Rattle.sound_commands.specs.Commands.{orElse, ordered, looped, loopable, rateable, targetBy, targetTo, seekable, refusedSet, told, jumped, refilled, sought, soughtBy, soughtTo, obeyed, reported, commanded}
-use Rattle.sound_held.specs.Held.{once}
+use Rattle.sound_commands.specs.Commands.{orElse, ordered, looped, loopable, rateable, targetBy, targetTo, seekable, refusedSet, beforeSeeks, jumped, refilled, sought, soughtBy, soughtTo, obeyed, reported, commanded}
+use Rattle.sound_held.specs.Held.{heldLanes}
 use Rattle.sound_block.specs.declared.Signals.{Signals}
 use Rattle.sound_block.specs.Blocks.{block}
 use Rattle.sound_slow_path.specs.declared.Processed.{Processed}
@@ -40,7 +40,7 @@ use Rattle.loop_table.specs.Tables.{found}
 use Rattle.take_loop.specs.Taking.{loopCommand, taken}
 use Rattle.theorems_sound_length.specs.Muted.{mutedWindow, muted, mutedCommanded, mutedProcessed}
 use Rattle.theorems_sound_length.specs.Lengths.{CreationAlike, CommandsAlike, TakesAlike, BlocksAlike, MixesAlike, HeldAlike, HeldMixesAlike}
-use Rattle.theorems_sound_length.proofs.Windows.{muted-ours, muted-heard, muted-twice, pushed-muted, updates-muted}
+use Rattle.theorems_sound_length.proofs.Windows.{muted-well-formed-for, muted-heard, muted-twice, pushed-muted, updates-muted}
 use Rattle.theorems_sound_length.proofs.Plays.{Rest, restOf, block-muted}
 
 -- ---- blocks
@@ -56,7 +56,7 @@ refused-muted len v dt b placed =
     ap
     (λ (o : Bool).
     unless o 1 (unless (sized b && placed) 9 (unless (timeStep dt) 10 (unless (all laned (rows b)) 11 (unless (all (near (v .setup .«sample_rate») dt) (rows b)) 12 0)))))
-    (muted-ours len v)
+    (muted-well-formed-for len v)
 
 refused-alike : (len more : ℕ) (v w : StaticSound) (dt : Float) (b : Lanes) (placed put : Bool)
     → len ≡ more → muted v ≡ muted w → placed ≡ put → refusedBlock len v dt b placed ≡ refusedBlock more w dt b put
@@ -70,15 +70,15 @@ refused-alike len more v w dt b placed put l e p =
 abbrev answerOf : ℕ → Rest → StaticSound → Processed
 answerOf k r u =
     cond (eqb k 0)
-    (record { refusal = 0; sound = r .voice; steps = r .steps; «lowest_count» = r .«lowest_count» })
-    (record { refusal = k; sound = u; steps = 0; «lowest_count» = 4 })
+    (record { refusal = 0; voice = r .voice; steps = r .steps; «lowest_count» = r .«lowest_count» })
+    (record { refusal = k; voice = u; steps = 0; «lowest_count» = 4 })
 
 block-answer : (k : ℕ) (p : Played) (v : StaticSound) (out given : List Float)
     → mutedProcessed ((cond (eqb k 0) (acceptedWith p out) (refusedWith k v given)) .answer) ≡ answerOf k (restOf p) (muted v)
 block-answer k p v out given = go (eqb k 0)
   where
     go : (b : Bool) → mutedProcessed ((cond b (acceptedWith p out) (refusedWith k v given)) .answer)
-        ≡ cond b (record { refusal = 0; sound = muted (p .voice); steps = p .steps; «lowest_count» = p .«lowest_count» }) (record { refusal = k; sound = muted v; steps = 0; «lowest_count» = 4 })
+        ≡ cond b (record { refusal = 0; voice = muted (p .voice); steps = p .steps; «lowest_count» = p .«lowest_count» }) (record { refusal = k; voice = muted v; steps = 0; «lowest_count» = 4 })
     go true = refl
     go false = refl
 
@@ -119,11 +119,11 @@ mixes-alike snd other v w dt b g mix into from h =
 
 pub held-alike : HeldAlike
 held-alike snd other v w dt x g out into h =
-    blocks-alike snd other v w dt (once x (length out / 2)) g out into h
-    ∙ ap (λ (n : ℕ). mutedProcessed (processed other w dt (once x (n / 2)) g into .answer)) (h .output)
+    blocks-alike snd other v w dt (heldLanes x (length out / 2)) g out into h
+    ∙ ap (λ (n : ℕ). mutedProcessed (processed other w dt (heldLanes x (n / 2)) g into .answer)) (h .output)
 
 pub held-mixes-alike : HeldMixesAlike
-held-mixes-alike snd other v w dt x g mix into from n h = mixes-alike snd other v w dt (once x n) g mix into from h
+held-mixes-alike snd other v w dt x g mix into from n h = mixes-alike snd other v w dt (heldLanes x n) g mix into from h
 
 -- ---- command sets
 
@@ -146,7 +146,7 @@ set-muted len v c =
     (unless l 6
     (unless (rateable (c .«playback_rate»)) 7
     (unless (seekable (targetBy v) (c .«seek_by») && seekable (targetTo v) (c .«seek_to»)) 8 0))))
-    (muted-ours len v)
+    (muted-well-formed-for len v)
     (loopable-muted v (c .«loop_region»))
 
 reported-muted : (v : StaticSound) → reported (muted v) ≡ reported v
@@ -160,13 +160,13 @@ sought-muted snd other v q = go (advancing (v .moving .state))
     f : Float
     f = v .«fractional_position»
 
-    go : (b : Bool) → muted (moved v f (cond b (refilled snd (courseOf v) (jumped v q)) (jumped v q)))
-        ≡ muted (moved (muted v) f (cond b (refilled other (courseOf v) (jumped (muted v) q)) (jumped (muted v) q)))
+    go : (b : Bool) → muted (moved v f (cond b (refilled snd (sliceOf v) (jumped v q)) (jumped v q)))
+        ≡ muted (moved (muted v) f (cond b (refilled other (sliceOf v) (jumped (muted v) q)) (jumped (muted v) q)))
     go true =
         ap
         (λ (r : Resampler).
-        moved v f (record { state = v .moving .state; transport = seek (span (v .setup)) (v .moving .transport) q; resampler = r; wraps = v .moving .wraps }))
-        (pushed-muted snd other (courseOf v) (jumped v q))
+        moved v f (record { state = v .moving .state; transport = seek (sliceLength (v .setup)) (v .moving .transport) q; resampler = r; wraps = v .moving .wraps }))
+        (pushed-muted snd other (sliceOf v) (jumped v q))
     go false = sym (muted-twice (moved v f (jumped v q)))
 
 by-muted : (snd other : List Float) (v : StaticSound) (a : Amount) → muted (soughtBy snd v a) ≡ muted (soughtBy other (muted v) a)
@@ -179,8 +179,8 @@ unfolding targetTo
 to-muted snd other v amount.Absent = sym (muted-twice v)
 to-muted snd other v (amount.Given x) = sought-muted snd other v (cutOff (targetTo v x))
 
-told-muted : (c : Commands) (v : StaticSound) → muted (told c v) ≡ told c (muted v)
-unfolding told
+told-muted : (c : Commands) (v : StaticSound) → muted (beforeSeeks c v) ≡ beforeSeeks c (muted v)
+unfolding beforeSeeks
 told-muted c v =
     ap
     (λ (r : FrameRange).
@@ -201,8 +201,8 @@ told-muted c v =
 obeyed-muted : (snd other : List Float) (c : Commands) (v : StaticSound) → muted (obeyed snd c v) ≡ muted (obeyed other c (muted v))
 unfolding obeyed
 obeyed-muted snd other c v =
-    let u = told c v in
-    let w = told c (muted v) in
+    let u = beforeSeeks c v in
+    let w = beforeSeeks c (muted v) in
     let by = c .«seek_by» in
     let to = c .«seek_to» in
     to-muted snd other (soughtBy snd u by) to
@@ -211,7 +211,7 @@ obeyed-muted snd other c v =
 
 -- the answer of a command set with the refusal k
 abbrev setAnswer : ℕ → StaticSound → Float → StaticSound → Commanded
-setAnswer k done x u = cond (eqb k 0) (record { refusal = 0; sound = done; position = x }) (record { refusal = k; sound = u; position = positiveZero })
+setAnswer k done x u = cond (eqb k 0) (record { refusal = 0; voice = done; position = x }) (record { refusal = k; voice = u; position = positiveZero })
 
 set-answer : (snd : List Float) (v : StaticSound) (c : Commands)
     → mutedCommanded (commanded snd v c) ≡ setAnswer (refusedSet (length snd) v c) (muted (obeyed snd c v)) (reported v) (muted v)
@@ -222,8 +222,8 @@ set-answer snd v c = go (eqb k 0)
     k = refusedSet (length snd) v c
 
     go : (b : Bool)
-        → mutedCommanded (cond b (record { refusal = 0; sound = obeyed snd c v; position = reported v }) (record { refusal = k; sound = v; position = positiveZero }))
-        ≡ cond b (record { refusal = 0; sound = muted (obeyed snd c v); position = reported v }) (record { refusal = k; sound = muted v; position = positiveZero })
+        → mutedCommanded (cond b (record { refusal = 0; voice = obeyed snd c v; position = reported v }) (record { refusal = k; voice = v; position = positiveZero }))
+        ≡ cond b (record { refusal = 0; voice = muted (obeyed snd c v); position = reported v }) (record { refusal = k; voice = muted v; position = positiveZero })
     go true = refl
     go false = refl
 
@@ -249,10 +249,10 @@ takes-alike snd other v w t k h = go (eqb (f .refusal) 0)
     f = found t k
 
     go : (b : Bool)
-        → mutedCommanded (cond b (commanded snd v (loopCommand (f .slot))) (record { refusal = f .refusal; sound = v; position = positiveZero }))
-        ≡ mutedCommanded (cond b (commanded other w (loopCommand (f .slot))) (record { refusal = f .refusal; sound = w; position = positiveZero }))
+        → mutedCommanded (cond b (commanded snd v (loopCommand (f .slot))) (record { refusal = f .refusal; voice = v; position = positiveZero }))
+        ≡ mutedCommanded (cond b (commanded other w (loopCommand (f .slot))) (record { refusal = f .refusal; voice = w; position = positiveZero }))
     go true = commands-alike snd other v w (loopCommand (f .slot)) h
-    go false = ap (λ (u : StaticSound). record { refusal = f .refusal; sound = u; position = positiveZero }) (h .voices)
+    go false = ap (λ (u : StaticSound). record { refusal = f .refusal; voice = u; position = positiveZero }) (h .voices)
 
 -- ---- creation
 
@@ -264,7 +264,7 @@ made-alike : (snd other : List Float) (s : Settings) → length snd ≡ length o
 unfolding made
 made-alike snd other s e =
     let v = openedFor s (length snd) in
-    ap (moved v positiveZero) (updates-muted 3 snd other (courseOf v) (v .moving))
+    ap (moved v positiveZero) (updates-muted 3 snd other (sliceOf v) (v .moving))
     ∙ ap (λ (n : ℕ). muted (filled other (openedFor s n))) e
 
 muted-either : (b : Bool) (v w : StaticSound) → muted (cond b v w) ≡ cond b (muted v) (muted w)
@@ -274,7 +274,7 @@ muted-either false v w = refl
 pub creation-alike : CreationAlike
 unfolding created
 creation-alike snd other s e =
-    let answer : ℕ → StaticSound → Created = λ k u. record { refusal = k; sound = u } in
+    let answer : ℕ → StaticSound → Created = λ k u. record { refusal = k; voice = u } in
     let k = refusedNew (length snd) s in
     let l = refusedNew (length other) s in
     ap (answer k) (muted-either (eqb k 0) (made snd s) blankSound)

@@ -15,7 +15,7 @@ use Rattle.theorems_sound_length.proofs.Rows.{rows-alike}
 use Rattle.theorems_sound_length.proofs.Archive.{encoded-muted, archive-creation-alike, archive-rows-alike}
 
 alike : AlikeButForSamples voice voiceOfNans
-alike = ap (λ (a : Created). a .sound) (creation-alike ten nans (from 0 false) refl)
+alike = ap (λ (a : Created). a .voice) (creation-alike ten nans (from 0 false) refl)
 
 alikeC : AlikeButForSamplesC state (encoded voiceOfNans)
 alikeC = encoded-muted voice ∙ ap encoded alike ∙ sym (encoded-muted voiceOfNans)

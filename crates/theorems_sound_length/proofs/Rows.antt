@@ -9,8 +9,8 @@ use Rattle.numbers.specs.Words.{positiveZero}
 use Rattle.playback_position.specs.declared.FrameRange.{FrameRange}
 use Rattle.playback_position.specs.declared.FrameRange.the-variants as range
 use Rattle.sound_state.specs.declared.StaticSound.{StaticSound}
-use Rattle.sound_state.specs.Voices.{offset}
-use Rattle.sound_state.specs.WellFormed.{ours}
+use Rattle.sound_state.specs.Voices.{sliceStart}
+use Rattle.sound_state.specs.WellFormed.{wellFormedFor}
 use Rattle.sound_commands.specs.declared.Commanded.{Commanded}
 use Rattle.sound_slow_path.specs.declared.Processed.{Processed}
 use Rattle.static_sound.specs.Entries.{sliced, stretchOf, stretchAt}
@@ -18,7 +18,7 @@ use Rattle.theorems.specs.InTheLoop.{Call, Block, Mix, Command, Take, Stretch, 
 use Rattle.theorems_sound_length.specs.Muted.{muted, silence}
 use Rattle.theorems_sound_length.specs.Lengths.{SameLength, OtherSound, OtherBlock}
 use Rattle.theorems_sound_length.specs.Rows.{OfBlock, OfCommands, OfStretch, answer, answers, mutedCall, RowsAlike}
-use Rattle.theorems_sound_length.proofs.Windows.{muted-ours}
+use Rattle.theorems_sound_length.proofs.Windows.{muted-well-formed-for}
 use Rattle.theorems_sound_length.proofs.Calls.{commands-alike, takes-alike, blocks-alike, mixes-alike}
 
 -- ---- silence is as long
@@ -49,14 +49,14 @@ silent-sliced range.Absent xs = sym (as-long xs)
 silent-sliced (range.Frames s e) xs =
     ap (λ (l : List Float). length (take (2 * e - 2 * s) l)) (silent-drop (2 * s) xs) ∙ silent-take (2 * e - 2 * s) (drop (2 * s) xs)
 
-ours-alike : (snd : List Float) (v w : StaticSound) → muted v ≡ muted w → ours (length snd) v ≡ ours (length (silence snd)) w
-ours-alike snd v w e =
-    sym (muted-ours (length snd) v) ∙ ap₂ ours (as-long snd) e ∙ muted-ours (length (silence snd)) w
+well-formed-for-alike : (snd : List Float) (v w : StaticSound) → muted v ≡ muted w → wellFormedFor (length snd) v ≡ wellFormedFor (length (silence snd)) w
+well-formed-for-alike snd v w e =
+    sym (muted-well-formed-for (length snd) v) ∙ ap₂ wellFormedFor (as-long snd) e ∙ muted-well-formed-for (length (silence snd)) w
 
 pub stretch-begins : (snd : List Float) (v w : StaticSound) → muted v ≡ muted w → stretchAt (length snd) v ≡ stretchAt (length (silence snd)) w
 unfolding stretchAt
 stretch-begins snd v w e =
-    ap₂ (λ (o : Bool) (u : StaticSound). cond o (2 * offset (u .setup)) 0) (ours-alike snd v w e) e
+    ap₂ (λ (o : Bool) (u : StaticSound). cond o (2 * sliceStart (u .setup)) 0) (well-formed-for-alike snd v w e) e
 
 -- the length of a slice, where there is one
 abbrev longOf : Bool → FrameRange → List Float → ℕ
@@ -69,24 +69,24 @@ silent-long false r xs = refl
 pub stretch-long : (snd : List Float) (v w : StaticSound) → muted v ≡ muted w → length (stretchOf snd v) ≡ length (stretchOf (silence snd) w)
 unfolding stretchOf
 stretch-long snd v w e =
-    ap₂ (λ (o : Bool) (u : StaticSound). longOf o (u .setup .slice) snd) (ours-alike snd v w e) e
-    ∙ sym (silent-long (ours (length (silence snd)) w) (w .setup .slice) snd)
+    ap₂ (λ (o : Bool) (u : StaticSound). longOf o (u .setup .slice) snd) (well-formed-for-alike snd v w e) e
+    ∙ sym (silent-long (wellFormedFor (length (silence snd)) w) (w .setup .slice) snd)
 
 -- ---- calls
 
 call-alike : (c : Call) (v w : StaticSound) → muted v ≡ muted w → (answer c v ≡ answer (mutedCall c) w) × (muted (after c v) ≡ muted (after (mutedCall c) w))
 call-alike (Block snd dt b g out) v w e =
     let a = blocks-alike snd (silence snd) v w dt b g out (silence out) (block-over-silence snd v w out e) in
-    (ap OfBlock a, ap (λ (p : Processed). p .sound) a)
+    (ap OfBlock a, ap (λ (p : Processed). p .voice) a)
 call-alike (Mix snd dt b g mix from) v w e =
     let a = mixes-alike snd (silence snd) v w dt b g mix (silence mix) from (block-over-silence snd v w mix e) in
-    (ap OfBlock a, ap (λ (p : Processed). p .sound) a)
+    (ap OfBlock a, ap (λ (p : Processed). p .voice) a)
 call-alike (Command snd c) v w e =
     let a = commands-alike snd (silence snd) v w c (over-silence snd v w e) in
-    (ap OfCommands a, ap (λ (p : Commanded). p .sound) a)
+    (ap OfCommands a, ap (λ (p : Commanded). p .voice) a)
 call-alike (Take snd t k) v w e =
     let a = takes-alike snd (silence snd) v w t k (over-silence snd v w e) in
-    (ap OfCommands a, ap (λ (p : Commanded). p .sound) a)
+    (ap OfCommands a, ap (λ (p : Commanded). p .voice) a)
 call-alike (Stretch snd) v w e = (ap₂ OfStretch (stretch-begins snd v w e) (stretch-long snd v w e), e)
 
 row-alike : (cs : List Call) (v w : StaticSound) → muted v ≡ muted w
@@ -103,6 +103,6 @@ rows-alike cs ds v w h =
     let a = row-alike cs v v refl in
     let b = row-alike ds w v (sym (h .voices)) in
     record {
-      told = a .0 ∙ ap (λ (l : List Call). answers l v) (h .calls) ∙ sym (b .0);
+      sameAnswers = a .0 ∙ ap (λ (l : List Call). answers l v) (h .calls) ∙ sym (b .0);
       voices = a .1 ∙ ap (λ (l : List Call). muted (afterAll l v)) (h .calls) ∙ sym (b .1);
     }

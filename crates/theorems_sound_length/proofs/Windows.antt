@@ -12,16 +12,16 @@ use Rattle.numbers.specs.Lists.{all}
 use Rattle.resampler.specs.declared.RecentFrame.{RecentFrame}
 use Rattle.resampler.specs.declared.Resampler.{Resampler}
 use Rattle.resampler.specs.declared.MaybeFrame.the-variants.{Absent, Present}
-use Rattle.resampler.specs.Windows.{blank, given-entry, push, zeroFrame, numbered, windowed, heardNumber}
+use Rattle.resampler.specs.Windows.{blank, given-entry, push, zeroFrame, numbered, windowed, currentFrameIndex}
 use Rattle.frame.specs.declared.Frame.{Frame}
 use Rattle.frame.specs.Frames.{frameOf}
 use Rattle.playback_state_manager.specs.declared.PlaybackState.the-variants as state
 use Rattle.sound_update.specs.declared.Moving.{Moving}
-use Rattle.sound_update.specs.declared.Course.{Course}
+use Rattle.sound_update.specs.declared.Slice.{Slice}
 use Rattle.sound_update.specs.Updates.{sounding, pushed, stepped, counted, updated, updates}
 use Rattle.sound_state.specs.declared.StaticSound.{StaticSound}
 use Rattle.sound_state.specs.Voices.{moved}
-use Rattle.sound_state.specs.WellFormed.{wellFormed, ours}
+use Rattle.sound_state.specs.WellFormed.{wellFormed, wellFormedFor}
 use Rattle.theorems_sound_length.specs.Muted.{mutedEntry, onFirst, mutedWindow, mutedMoving, muted}
 
 -- the first t entries muted
@@ -64,11 +64,11 @@ muted-windowed w =
     ap (λ (n : ℕ). eqb n 4 && leb t 4 && all zeroFrame (drop t (mutedFirst t (w .frames))) && all numbered (mutedFirst t (w .frames))) (muted-length t (w .frames))
     ∙ ap₂ (λ (l : List RecentFrame) (b : Bool). eqb (length (w .frames)) 4 && leb t 4 && all zeroFrame l && b) (muted-rest t (w .frames)) (muted-numbered t (w .frames))
 
-pub muted-ours : (len : ℕ) (v : StaticSound) → ours len (muted v) ≡ ours len v
-unfolding ours wellFormed
-muted-ours len v = rw (muted-windowed (v .moving .resampler)) refl
+pub muted-well-formed-for : (len : ℕ) (v : StaticSound) → wellFormedFor len (muted v) ≡ wellFormedFor len v
+unfolding wellFormedFor wellFormed
+muted-well-formed-for len v = rw (muted-windowed (v .moving .resampler)) refl
 
-pub muted-heard : (w : Resampler) → heardNumber (mutedWindow w) ≡ heardNumber w
+pub muted-heard : (w : Resampler) → currentFrameIndex (mutedWindow w) ≡ currentFrameIndex w
 muted-heard w = ap (λ (r : RecentFrame). r .«frame_index») (muted-index (w .«time_until_empty») (w .frames) 1)
 
 -- what moves, with other entries in its window
@@ -130,7 +130,7 @@ push-some w f g n = ap (λ (l : List RecentFrame). record { frames = l; «time_u
 
 -- ---- updates: over any sound as over any other
 
-pub pushed-muted : (snd other : List Float) (c : Course) (m : Moving) → mutedWindow (pushed snd c m) ≡ mutedWindow (pushed other c (mutedMoving m))
+pub pushed-muted : (snd other : List Float) (c : Slice) (m : Moving) → mutedWindow (pushed snd c m) ≡ mutedWindow (pushed other c (mutedMoving m))
 unfolding pushed
 pushed-muted snd other c m = go (m .transport .playing)
   where
@@ -141,14 +141,14 @@ pushed-muted snd other c m = go (m .transport .playing)
     go true = push-some (m .resampler) (frameOf snd i) (frameOf other i) (m .transport .position)
     go false = push-none (m .resampler) (m .transport .position)
 
-pub updated-muted : (snd other : List Float) (c : Course) (m : Moving) → mutedMoving (updated snd c m) ≡ mutedMoving (updated other c (mutedMoving m))
+pub updated-muted : (snd other : List Float) (c : Slice) (m : Moving) → mutedMoving (updated snd c m) ≡ mutedMoving (updated other c (mutedMoving m))
 unfolding updated
 updated-muted snd other c m =
     let t = stepped c (m .transport) in
     ap (λ (w : Resampler). record { state = cond (not (t .playing) && eqb (w .«time_until_empty») 0) state.Stopped (m .state); transport = t; resampler = w; wraps = counted c (m .transport) (m .wraps) })
     (pushed-muted snd other c m)
 
-pub updates-muted : (n : ℕ) (snd other : List Float) (c : Course) (m : Moving) → mutedMoving (updates n snd c m) ≡ mutedMoving (updates n other c (mutedMoving m))
+pub updates-muted : (n : ℕ) (snd other : List Float) (c : Slice) (m : Moving) → mutedMoving (updates n snd c m) ≡ mutedMoving (updates n other c (mutedMoving m))
 unfolding updates
 updates-muted zero snd other c m = sym (moving-twice m)
 updates-muted (suc n) snd other c m =

@@ -107,7 +107,7 @@ pub record OtherRowC (ds es : List CallC) (c e : CableowlState) : Type 0 where
   pub states : AlikeButForSamplesC c e
 
 pub record RowAlikeC (ds es : List CallC) (c e : CableowlState) : Type 0 where
-  pub told : answersC ds c ≡ answersC es e
+  pub sameAnswers : answersC ds c ≡ answersC es e
   pub states : AlikeButForSamplesC (afterAllC ds c) (afterAllC es e)
 
 abbrev pub RowsAlikeC : Type 0

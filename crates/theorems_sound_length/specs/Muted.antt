@@ -60,16 +60,16 @@ AlikeButForSamples v w = muted v ≡ muted w
 -- ---- answers
 
 abbrev pub mutedCreated : Created → Created
-mutedCreated a = record { refusal = a .refusal; sound = muted (a .sound) }
+mutedCreated a = record { refusal = a .refusal; voice = muted (a .voice) }
 
 abbrev pub mutedCommanded : Commanded → Commanded
-mutedCommanded a = record { refusal = a .refusal; sound = muted (a .sound); position = a .position }
+mutedCommanded a = record { refusal = a .refusal; voice = muted (a .voice); position = a .position }
 
 abbrev pub mutedProcessed : Processed → Processed
 mutedProcessed a =
     record {
       refusal = a .refusal;
-      sound = muted (a .sound);
+      voice = muted (a .voice);
       steps = a .steps;
       «lowest_count» = a .«lowest_count»;
     }

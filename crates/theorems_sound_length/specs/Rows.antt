@@ -46,7 +46,7 @@ pub record OtherRow (cs ds : List Call) (v w : StaticSound) : Type 0 where
   pub voices : AlikeButForSamples v w
 
 pub record RowAlike (cs ds : List Call) (v w : StaticSound) : Type 0 where
-  pub told : answers cs v ≡ answers ds w
+  pub sameAnswers : answers cs v ≡ answers ds w
   pub voices : AlikeButForSamples (afterAll cs v) (afterAll ds w)
 
 abbrev pub RowsAlike : Type 0

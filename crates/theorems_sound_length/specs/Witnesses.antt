@@ -21,7 +21,7 @@ abbrev pub nans : List Float
 nans = replicate 20 nan
 
 abbrev pub voiceOfNans : StaticSound
-voiceOfNans = created nans (from 0 false) .sound
+voiceOfNans = created nans (from 0 false) .voice
 
 -- a stop, a block, and the same block into a mix that holds something else
 abbrev pub calls : List Float → List Float → List Call

@@ -51,16 +51,16 @@ atMost m n = cond (leb n m) n m
 -- ---- positions and regions
 
 -- 0 frames, 1 seconds
-abbrev pub placeOf : ℕ → ℕ → PlaybackPosition
-placeOf unit n = cond (eqb unit 0) (Samples n) (Seconds (double n))
+abbrev pub positionOf : ℕ → ℕ → PlaybackPosition
+positionOf unit n = cond (eqb unit 0) (Samples n) (Seconds (double n))
 
 -- region tags 1 and 2 end at the end of audio, 3 and 4 at a frame, 5 and 6 at seconds
 abbrev pub endOf : ℕ → ℕ → EndPosition
-endOf tag n = cond (ltb tag 3) EndOfAudio (Custom (placeOf (cond (ltb tag 5) 0 1) n))
+endOf tag n = cond (ltb tag 3) EndOfAudio (Custom (positionOf (cond (ltb tag 5) 0 1) n))
 
 -- odd region tags begin at a frame, even ones at seconds
 abbrev pub regionOf : ℕ → ℕ → ℕ → Region
-regionOf tag start end = record { start = placeOf (1 - tag % 2) start; end = endOf tag end }
+regionOf tag start end = record { start = positionOf (1 - tag % 2) start; end = endOf tag end }
 
 -- ---- creation
 
@@ -72,7 +72,7 @@ settingsOf vs =
     record {
       «sample_rate» = half (getD vs 0 0);
       slice = optionalOf (getD vs 1 0) (getD vs 2 0) (getD vs 3 0);
-      «start_position» = placeOf (getD vs 4 0) (getD vs 5 0);
+      «start_position» = positionOf (getD vs 4 0) (getD vs 5 0);
       «loop_region» = optionalOf (getD vs 6 0) (getD vs 7 0) (getD vs 8 0);
       reverse = yes (getD vs 9 0);
       «playback_rate» = double (getD vs 10 0);

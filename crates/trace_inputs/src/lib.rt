@@ -11,7 +11,7 @@ ghost use Rattle.trace_inputs.specs.Inputs.{
   double,
   yes,
   atMost,
-  placeOf,
+  positionOf,
   endOf,
   regionOf,
   optionalOf,
@@ -92,8 +92,8 @@ fn at_most(most: u64, n: u64) -> usize
 
 // ---- positions and regions
 
-fn place_of(unit: u64, n: u64) -> PlaybackPosition
-    ensures { λ r. ⌜ r ≡ placeOf unit n ⌝ }
+fn position_of(unit: u64, n: u64) -> PlaybackPosition
+    ensures { λ r. ⌜ r ≡ positionOf unit n ⌝ }
 {
     if unit == 0 {
         return PlaybackPosition::Samples(n as usize);
@@ -108,9 +108,9 @@ fn end_of(tag: u64, n: u64) -> EndPosition
         return EndPosition::EndOfAudio;
     }
     if tag < 5 {
-        return EndPosition::Custom(place_of(0, n));
+        return EndPosition::Custom(position_of(0, n));
     }
-    EndPosition::Custom(place_of(1, n))
+    EndPosition::Custom(position_of(1, n))
 }
 
 fn region_of(tag: u64, start: u64, end: u64) -> Region
@@ -118,7 +118,7 @@ fn region_of(tag: u64, start: u64, end: u64) -> Region
 {
     let unit = 1 - tag % 2;
     Region {
-        start: place_of(unit, start),
+        start: position_of(unit, start),
         end: end_of(tag, end),
     }
 }
@@ -140,7 +140,7 @@ pub fn settings_of(values: [u64; 80]) -> Settings
     Settings {
         sample_rate: half_of(values[0]),
         slice: optional_of(values[1], values[2], values[3]),
-        start_position: place_of(values[4], values[5]),
+        start_position: position_of(values[4], values[5]),
         loop_region: optional_of(values[6], values[7], values[8]),
         reverse: yes_of(values[9]),
         playback_rate: float_bits::f64_of(values[10]),

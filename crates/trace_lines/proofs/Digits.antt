@@ -9,7 +9,7 @@ use lib.ListN.{length, getD, take, drop, set, length-set, length-drop, length-ap
 use lib.Seq.{drop-cons, drop-set-lt, getD-set-same, take-all, sets}
 use borrow.Author.Tests.{lt-ltb, le-ltb}
 use Rattle.byte_layout.proofs.Puts.{sets-append}
-use Rattle.trace_lines.specs.Lines.{spelt, decimal, told}
+use Rattle.trace_lines.specs.Lines.{spelt, decimal, labelled}
 
 none : {A : Type 0} → ⊥ → A
 none e = elim e [ ]

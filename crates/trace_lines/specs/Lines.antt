@@ -36,20 +36,20 @@ abbrev pub at·is : List ℕ
 at·is = 32 ∷ 97 ∷ 116 ∷ 61 ∷ []
 
 -- a word and a number
-abbrev pub told : List ℕ → ℕ → List ℕ
-told word n = word ++ decimal n
+abbrev pub labelled : List ℕ → ℕ → List ℕ
+labelled word n = word ++ decimal n
 
 -- `block=1 frames=6 steps=6 state=6 position=3`
 unfoldable pub blockLine : ℕ → ℕ → ℕ → ℕ → ℕ → List ℕ
 blockLine number frames steps state position =
-    told block·is number
-    ++ (told frames·are frames
-    ++ (told steps·are steps ++ (told state·is state ++ (told position·is position ++ (10 ∷ [])))))
+    labelled block·is number
+    ++ (labelled frames·are frames
+    ++ (labelled steps·are steps ++ (labelled state·is state ++ (labelled position·is position ++ (10 ∷ [])))))
 
 -- `block=1 refused=12`
 unfoldable pub refusedBlockLine : ℕ → ℕ → List ℕ
-refusedBlockLine number refusal = told block·is number ++ (told (32 ∷ refused·by) refusal ++ (10 ∷ []))
+refusedBlockLine number refusal = labelled block·is number ++ (labelled (32 ∷ refused·by) refusal ++ (10 ∷ []))
 
 -- `refused=15 at=0`
 unfoldable pub refusedLine : ℕ → ℕ → List ℕ
-refusedLine refusal at = told refused·by refusal ++ (told at·is at ++ (10 ∷ []))
+refusedLine refusal at = labelled refused·by refusal ++ (labelled at·is at ++ (10 ∷ []))

@@ -3,7 +3,7 @@ ghost use mathlib.Core.Path.{_≡_};
 ghost use Prim.Native.Nat.{_+_, _≤_};
 ghost use lib.ListN.{length};
 ghost use lib.Seq.{sets};
-ghost use Rattle.trace_lines.specs.Lines.{decimal, told, blockLine, refusedBlockLine, refusedLine};
+ghost use Rattle.trace_lines.specs.Lines.{decimal, labelled, blockLine, refusedBlockLine, refusedLine};
 
 // Writes the bytes of a text at `at`, and returns the offset after them.
 fn put(line: &mut [u8], at: usize, text: &[u8]) -> usize
@@ -34,10 +34,10 @@ fn put_decimal(line: &mut [u8], at: usize, n: u64) -> usize
 }
 
 // Writes a word and a number.
-fn tell(line: &mut [u8], at: usize, word: &[u8], n: u64) -> usize
+fn put_labelled(line: &mut [u8], at: usize, word: &[u8], n: u64) -> usize
     requires { ⌜ at + length (now word) + 20 ≤ length (now line) ⌝ }
-    ensures { λ a. ⌜ (now (line .exit) ≡ sets (now (line .entry)) at (told (now (word .entry)) n))
-        × (a ≡ at + length (told (now (word .entry)) n)) × (a ≤ at + length (now (word .entry)) + 20) ⌝ }
+    ensures { λ a. ⌜ (now (line .exit) ≡ sets (now (line .entry)) at (labelled (now (word .entry)) n))
+        × (a ≡ at + length (labelled (now (word .entry)) n)) × (a ≤ at + length (now (word .entry)) + 20) ⌝ }
 {
     let a = put(line, at, word);
     put_decimal(line, a, n)
@@ -56,11 +56,11 @@ pub fn put_block(
     ensures { λ a. ⌜ (now (line .exit) ≡ sets (now (line .entry)) 0 (blockLine number frames steps state position))
         × (a ≡ length (blockLine number frames steps state position)) × (a ≤ 139) ⌝ }
 {
-    let a = tell(line, 0, b"block=", number);
-    let b = tell(line, a, b" frames=", frames);
-    let c = tell(line, b, b" steps=", steps);
-    let d = tell(line, c, b" state=", state);
-    let e = tell(line, d, b" position=", position);
+    let a = put_labelled(line, 0, b"block=", number);
+    let b = put_labelled(line, a, b" frames=", frames);
+    let c = put_labelled(line, b, b" steps=", steps);
+    let d = put_labelled(line, c, b" state=", state);
+    let e = put_labelled(line, d, b" position=", position);
     put(line, e, b"\n")
 }
 
@@ -70,8 +70,8 @@ pub fn put_refused_block(line: &mut [u8], number: u64, refusal: u64) -> usize
     ensures { λ a. ⌜ (now (line .exit) ≡ sets (now (line .entry)) 0 (refusedBlockLine number refusal))
         × (a ≡ length (refusedBlockLine number refusal)) × (a ≤ 139) ⌝ }
 {
-    let a = tell(line, 0, b"block=", number);
-    let b = tell(line, a, b" refused=", refusal);
+    let a = put_labelled(line, 0, b"block=", number);
+    let b = put_labelled(line, a, b" refused=", refusal);
     put(line, b, b"\n")
 }
 
@@ -81,7 +81,7 @@ pub fn put_refused(line: &mut [u8], refusal: u64, at: u64) -> usize
     ensures { λ a. ⌜ (now (line .exit) ≡ sets (now (line .entry)) 0 (refusedLine refusal at))
         × (a ≡ length (refusedLine refusal at)) × (a ≤ 139) ⌝ }
 {
-    let a = tell(line, 0, b"refused=", refusal);
-    let b = tell(line, a, b" at=", at);
+    let a = put_labelled(line, 0, b"refused=", refusal);
+    let b = put_labelled(line, a, b" at=", at);
     put(line, b, b"\n")
 }

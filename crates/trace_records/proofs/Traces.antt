@@ -14,7 +14,7 @@ use Rattle.byte_layout.proofs.Codec.{never, ands}
 use Rattle.trace_records.specs.Tables.{headRows, body}
 use Rattle.trace_records.specs.Records.{Found, refused, found, readRecord}
 use Rattle.trace_records.specs.Writes.{headOf, recordOf, known, Written, writeRecord}
-use Rattle.trace_records.specs.Traces.{Entry, traceOf, takes, takesAll, writeAll, Story, over, broken, told, onward, readAllBy, readAll, entries, isWhole}
+use Rattle.trace_records.specs.Traces.{Entry, traceOf, takes, takesAll, writeAll, Story, over, broken, andThen, onward, readAllBy, readAll, entries, isWhole}
 use Rattle.trace_records.specs.Promises.{Kept, Reads, Appended}
 use Rattle.trace_records.proofs.Rounds.{head-length, read-record, written-record, small-after}
 
@@ -45,12 +45,12 @@ module _ (read : List ℕ → Found) where
   passed (b ∷ r) t = passed r t
 
   -- one record, then the rest
-  pub one-first : (k : ℕ) (ws r rest : List ℕ) → read (r ++ rest) ≡ found k ws rest → 0 < length r → readAllBy read 0 (r ++ rest) ≡ told (entry k ws) (readAllBy read 0 rest)
+  pub one-first : (k : ℕ) (ws r rest : List ℕ) → read (r ++ rest) ≡ found k ws rest → 0 < length r → readAllBy read 0 (r ++ rest) ≡ andThen (entry k ws) (readAllBy read 0 rest)
   unfolding readAllBy onward
   one-first k ws [] rest f h = none (omega arith)
   one-first k ws (b ∷ r) rest f h =
       let n : length (r ++ rest) - length rest ≡ length r = omega (arith, length-append r rest) in
-      rw (f, n) (ap (told (entry k ws)) (passed r rest))
+      rw (f, n) (ap (andThen (entry k ws)) (passed r rest))
 
   pub by-refused : (b : ℕ) (bs : List ℕ) (n : ℕ) → read (b ∷ bs) ≡ refused n → readAllBy read 0 (b ∷ bs) ≡ broken n
   unfolding readAllBy onward
@@ -58,11 +58,11 @@ module _ (read : List ℕ → Found) where
 
 -- ---- by reader 1
 
-pub read-one : (k : ℕ) (ws rest : List ℕ) → known k ≡ true → fine (body k) [] ws ≡ true → readAll 0 (recordOf k ws ++ rest) ≡ told (entry k ws) (readAll 0 rest)
+pub read-one : (k : ℕ) (ws rest : List ℕ) → known k ≡ true → fine (body k) [] ws ≡ true → readAll 0 (recordOf k ws ++ rest) ≡ andThen (entry k ws) (readAll 0 rest)
 read-one k ws rest y e = one-first readRecord k ws (recordOf k ws) rest (read-record k ws rest y e) (omega (arith, record-some k ws))
 
 -- what stands at the beginning of bytes
-pub read-found : (bs : List ℕ) (k : ℕ) (ws rest : List ℕ) → Small bs → readRecord bs ≡ found k ws rest → readAll 0 bs ≡ told (entry k ws) (readAll 0 rest)
+pub read-found : (bs : List ℕ) (k : ℕ) (ws rest : List ℕ) → Small bs → readRecord bs ≡ found k ws rest → readAll 0 bs ≡ andThen (entry k ws) (readAll 0 rest)
 read-found bs k ws rest s e = let w = written-record bs k ws rest s e in ap (readAll 0) (w .same) ∙ read-one k ws rest (w .kind) (w .takes)
 
 pub read-refused : (b : ℕ) (bs : List ℕ) (n : ℕ) → readRecord (b ∷ bs) ≡ refused n → readAll 0 (b ∷ bs) ≡ broken n

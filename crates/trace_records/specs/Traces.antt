@@ -38,12 +38,12 @@ writeAll buf at (e ∷ es) =
 pub data Story : Type 0 where
   over : Story
   broken : ℕ → Story
-  told : Entry → Story → Story
+  andThen : Entry → Story → Story
 
 -- after one record of at most suc n bytes: `more` reads on behind it
 unfoldable pub onward : ℕ → (ℕ → Story) → Found → Story
 onward n more (refused k) = broken k
-onward n more (found k ws rest) = told (record { kind = k; numbers = ws }) (more (n - length rest))
+onward n more (found k ws rest) = andThen (record { kind = k; numbers = ws }) (more (n - length rest))
 
 -- a trace read record by record; k bytes of the current record are left. `read` finds the record at the beginning of
 -- bytes
@@ -60,9 +60,9 @@ readAll = readAllBy readRecord
 unfoldable pub entries : Story → List Entry
 entries over = []
 entries (broken k) = []
-entries (told e s) = e ∷ entries s
+entries (andThen e s) = e ∷ entries s
 
 unfoldable pub isWhole : Story → Bool
 isWhole over = true
 isWhole (broken k) = false
-isWhole (told e s) = isWhole s
+isWhole (andThen e s) = isWhole s

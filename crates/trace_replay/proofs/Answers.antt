@@ -32,13 +32,13 @@ answer-is snd v b fa vo le ri ra out o e1 e2 e3 e4 e5 e6 q =
     ∙ ap (λ (z : List Float). processed snd v (b .«time_step») (five (replicate (b .frames) (b .fade)) (replicate (b .frames) (b .volume)) (replicate (b .frames) (b .left)) (replicate (b .frames) (b .right)) (replicate (b .frames) (b .rate))) (b .signals) z .answer) e6
 
 module _ (k n : ℕ) (p : Processed) where
-  pub line-played : (s : ℕ) (t : List ℕ) → p .refusal ≡ 0 → s ≡ number (p .sound .moving .state) → t ≡ blockLine k n (p .steps) s (p .sound .moving .transport .position) → t ≡ lineOf k n p
+  pub line-played : (s : ℕ) (t : List ℕ) → p .refusal ≡ 0 → s ≡ number (p .voice .moving .state) → t ≡ blockLine k n (p .steps) s (p .voice .moving .transport .position) → t ≡ lineOf k n p
   unfolding lineOf
   line-played s t e q h =
-      h ∙ ap (λ (z : ℕ). blockLine k n (p .steps) z (p .sound .moving .transport .position)) q
-      ∙ sym (ap (λ (z : ℕ). cond (eqb z 0) (blockLine k n (p .steps) (number (p .sound .moving .state)) (p .sound .moving .transport .position)) (refusedBlockLine k (p .refusal))) e)
+      h ∙ ap (λ (z : ℕ). blockLine k n (p .steps) z (p .voice .moving .transport .position)) q
+      ∙ sym (ap (λ (z : ℕ). cond (eqb z 0) (blockLine k n (p .steps) (number (p .voice .moving .state)) (p .voice .moving .transport .position)) (refusedBlockLine k (p .refusal))) e)
 
   pub line-refused : (t : List ℕ) → (p .refusal ≡ 0 → ⊥) → t ≡ refusedBlockLine k (p .refusal) → t ≡ lineOf k n p
   unfolding lineOf
   line-refused t e h =
-      h ∙ sym (ap (λ (b : Bool). cond b (blockLine k n (p .steps) (number (p .sound .moving .state)) (p .sound .moving .transport .position)) (refusedBlockLine k (p .refusal))) (ne-eqb (p .refusal) 0 e))
+      h ∙ sym (ap (λ (b : Bool). cond b (blockLine k n (p .steps) (number (p .voice .moving .state)) (p .voice .moving .transport .position)) (refusedBlockLine k (p .refusal))) (ne-eqb (p .refusal) 0 e))

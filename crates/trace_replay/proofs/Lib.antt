@@ -1,5 +1,5 @@
 -- Laws of a replay.
 pub mod Parts
 pub mod Answers
-pub mod Courses
+pub mod Replays
 pub mod Steps

@@ -11,13 +11,13 @@ use Rattle.trace_records.specs.declared.Record.{Record}
 use Rattle.trace_records.specs.Records.{Found, refused, found, readRecord, valued, recordAt}
 use Rattle.trace_records.proofs.Windows.{unread, unread-few}
 use Rattle.trace_lines.specs.Lines.{refusedLine}
-use Rattle.trace_replay.specs.Runs.{Course, Turn, after, Step, judged, stepOf}
+use Rattle.trace_replay.specs.Runs.{Replay, AfterRecord, after, Step, judged, stepOf}
 
 none : {A : Type 0} → ⊥ → A
 none e = elim e [ ]
 
-abbrev pub step : Course → List ℕ → ℕ → Bool → Step
-step c l n b = record { course = c; line = l; size = n; over = b }
+abbrev pub step : Replay → List ℕ → ℕ → Bool → Step
+step c l n b = record { replay = c; line = l; size = n; over = b }
 
 -- a record, with its next place counted from its own
 abbrev near : Record → ℕ → Record
@@ -35,7 +35,7 @@ read-here s at b bs r q e =
     near-valued (length s) at (length (b ∷ bs)) (readRecord (b ∷ bs)) n
     ∙ sym (ap (λ (x : Record). near x at) (e ∙ ap (λ (l : List ℕ). valued (length s) at (readRecord l)) q))
 
-pub at-end : (c : Course) (place at : ℕ) (s : List ℕ) → at ≡ length s → step c [] (at - at) true ≡ stepOf c place (drop at s)
+pub at-end : (c : Replay) (place at : ℕ) (s : List ℕ) → at ≡ length s → step c [] (at - at) true ≡ stepOf c place (drop at s)
 unfolding stepOf
 at-end c place at s e =
     let h : length s ≤ at = omega arith in
@@ -43,7 +43,7 @@ at-end c place at s e =
     let q : at - at ≡ 0 = omega arith in
     ap (λ (n : ℕ). step c [] n true) q ∙ sym (ap (stepOf c place) d)
 
-module _ (c : Course) (place at : ℕ) (s : List ℕ) (r : Record) (e : r ≡ recordAt s at) (h : at ≤ length s) (g : at ≡ length s → ⊥) where
+module _ (c : Replay) (place at : ℕ) (s : List ℕ) (r : Record) (e : r ≡ recordAt s at) (h : at ≤ length s) (g : at ≡ length s → ⊥) where
   -- what is made of the record there is what is made of the bytes
   here : (x : Step) → x ≡ judged c place (near r at) → x ≡ stepOf c place (drop at s)
   unfolding stepOf
@@ -59,11 +59,11 @@ module _ (c : Course) (place at : ℕ) (s : List ℕ) (r : Record) (e : r ≡ re
       let q : at - at ≡ 0 = omega arith in
       here (step c l (at - at) true) (rw (ne-eqb (r .refusal) 0 z) (ap (λ (n : ℕ). step c l n true) q ∙ ap (λ (x : List ℕ). step c x 0 true) f))
 
-  pub played : (d : Course) (l : List ℕ) → r .refusal ≡ 0 → d ≡ after c (r .kind) (r .values) .course → l ≡ after c (r .kind) (r .values) .line → step d l (r .next - at) false ≡ stepOf c place (drop at s)
+  pub played : (d : Replay) (l : List ℕ) → r .refusal ≡ 0 → d ≡ after c (r .kind) (r .values) .replay → l ≡ after c (r .kind) (r .values) .line → step d l (r .next - at) false ≡ stepOf c place (drop at s)
   unfolding judged
   played d l z f k =
       here (step d l (r .next - at) false)
-      (rw (eq-eqb (r .refusal) 0 z) (ap (λ (x : Course). step x l (r .next - at) false) f ∙ ap (λ (x : List ℕ). step (after c (r .kind) (r .values) .course) x (r .next - at) false) k))
+      (rw (eq-eqb (r .refusal) 0 z) (ap (λ (x : Replay). step x l (r .next - at) false) f ∙ ap (λ (x : List ℕ). step (after c (r .kind) (r .values) .replay) x (r .next - at) false) k))
 
 -- a record lies within the bytes it was read from
 in-bytes : (len at : ℕ) (d : Found) → at ≤ len → valued len at d .next ≤ len

@@ -22,18 +22,18 @@ use Rattle.trace_replay.specs.declared.Run.{Run}
 use Rattle.trace_replay.specs.declared.Advanced.{Advanced}
 
 -- the run so far: the voice, its sound, the blocks counted
-pub record Course : Type 0 where
+pub record Replay : Type 0 where
   pub voice : StaticSound
   pub sound : List Float
   pub blocks : ℕ
 
 -- before any record
-abbrev pub blank : Course
+abbrev pub blank : Replay
 blank = record { voice = blankSound; sound = []; blocks = 0 }
 
 -- what the code holds, and the sound's samples
-abbrev pub courseOf : Run → List Float → Course
-courseOf r snd = record { voice = r .voice; sound = take (r .samples) snd; blocks = r .blocks }
+abbrev pub replayOf : Run → List Float → Replay
+replayOf r snd = record { voice = r .voice; sound = take (r .samples) snd; blocks = r .blocks }
 
 -- one block more, up to the largest 64-bit number
 abbrev pub more : ℕ → ℕ
@@ -52,26 +52,26 @@ answered snd v b = processed snd v (b .«time_step») (lanesOf b) (b .signals)
 -- the line of a block, from its number, its frames and the player's result
 unfoldable pub lineOf : ℕ → ℕ → Processed → List ℕ
 lineOf k n p = cond (eqb (p .refusal) 0)
-    (blockLine k n (p .steps) (number (p .sound .moving .state))
-    (p .sound .moving .transport .position)) (refusedBlockLine k (p .refusal))
+    (blockLine k n (p .steps) (number (p .voice .moving .state))
+    (p .voice .moving .transport .position)) (refusedBlockLine k (p .refusal))
 
 -- a record's end: the run after it, and its line
-pub record Turn : Type 0 where
-  pub course : Course
+pub record AfterRecord : Type 0 where
+  pub replay : Replay
   pub line : List ℕ
 
 -- a creation, accepted or refused; a refused one leads to the blank voice
-abbrev pub afterCreation : Course → List ℕ → Turn
+abbrev pub afterCreation : Replay → List ℕ → AfterRecord
 afterCreation c vs = record {
-  course = record { voice = created (samplesOf vs) (settingsOf vs) .sound; sound = samplesOf vs; blocks = c .blocks };
+  replay = record { voice = created (samplesOf vs) (settingsOf vs) .voice; sound = samplesOf vs; blocks = c .blocks };
   line = [];
 }
 
 -- a command set, accepted or refused
-abbrev pub afterCommands : Course → List ℕ → Turn
+abbrev pub afterCommands : Replay → List ℕ → AfterRecord
 afterCommands c vs = record {
-  course = record {
-    voice = commanded (c .sound) (c .voice) (commandsOf vs) .sound;
+  replay = record {
+    voice = commanded (c .sound) (c .voice) (commandsOf vs) .voice;
     sound = c .sound;
     blocks = c .blocks;
   };
@@ -79,43 +79,43 @@ afterCommands c vs = record {
 }
 
 -- a block, accepted or refused, is counted
-abbrev pub afterBlock : Course → List ℕ → Turn
+abbrev pub afterBlock : Replay → List ℕ → AfterRecord
 afterBlock c vs =
     let p = answered (c .sound) (c .voice) (blockOf vs) in
     record {
-      course = record { voice = p .sound; sound = c .sound; blocks = more (c .blocks) };
+      replay = record { voice = p .voice; sound = c .sound; blocks = more (c .blocks) };
       line = lineOf (more (c .blocks)) (blockOf vs .frames) p;
     }
 
 -- one record, by its kind
-unfoldable pub after : Course → ℕ → List ℕ → Turn
+unfoldable pub after : Replay → ℕ → List ℕ → AfterRecord
 after c k vs = cond (eqb k 1) (afterCreation c vs) (cond (eqb k 2) (afterCommands c vs) (afterBlock c vs))
 
 -- the record at the beginning of the bytes, at the offset `at`: the run after it, its line, its bytes, and whether
 -- the run is over
 pub record Step : Type 0 where
-  pub course : Course
+  pub replay : Replay
   pub line : List ℕ
   pub size : ℕ
   pub over : Bool
 
--- a record that was read there: its own turn; a refused one ends the run
-unfoldable pub judged : Course → ℕ → Record → Step
+-- a record that was read there: it is played; a refused one ends the run
+unfoldable pub judged : Replay → ℕ → Record → Step
 judged c at r =
     let t = after c (r .kind) (r .values) in
     cond (eqb (r .refusal) 0)
-    (record { course = t .course; line = t .line; size = r .next; over = false })
-    (record { course = c; line = refusedLine (r .refusal) at; size = 0; over = true })
+    (record { replay = t .replay; line = t .line; size = r .next; over = false })
+    (record { replay = c; line = refusedLine (r .refusal) at; size = 0; over = true })
 
 -- at the end the run is over, and nothing is printed
-unfoldable pub stepOf : Course → ℕ → List ℕ → Step
-stepOf c at [] = record { course = c; line = []; size = 0; over = true }
+unfoldable pub stepOf : Replay → ℕ → List ℕ → Step
+stepOf c at [] = record { replay = c; line = []; size = 0; over = true }
 stepOf c at (b ∷ bs) = judged c at (recordAt (b ∷ bs) 0)
 
 -- the code's result for a record that it read at `at`, with the sound and the line
 abbrev pub advancedOf : Advanced → ℕ → List Float → List ℕ → Step
 advancedOf r at snd line = record {
-  course = courseOf (r .run) snd;
+  replay = replayOf (r .run) snd;
   line = take (r .written) line;
   size = r .next - at;
   over = r .over;
@@ -123,12 +123,12 @@ advancedOf r at snd line = record {
 
 -- all that is printed from the offset `at` on, with k bytes of the current record left: each record's line, until the
 -- run is over
-unfoldable pub printed : Course → ℕ → ℕ → List ℕ → List ℕ
+unfoldable pub printed : Replay → ℕ → ℕ → List ℕ → List ℕ
 printed c at k [] = []
 printed c at (suc k) (b ∷ bs) = printed c (suc at) k bs
 printed c at zero (b ∷ bs) =
     let s = stepOf c at (b ∷ bs) in
-    s .line ++ cond (s .over) [] (printed (s .course) (suc at) (s .size - 1) bs)
+    s .line ++ cond (s .over) [] (printed (s .replay) (suc at) (s .size - 1) bs)
 
 -- the whole run
 abbrev pub replayed : List ℕ → List ℕ

@@ -6,7 +6,7 @@ ghost use lib.ListN.{length, take, drop, replicate};
 ghost use Rattle.numbers.specs.Words.{positiveZero};
 ghost use Rattle.trace_replay.specs.Runs.{
   blank,
-  courseOf,
+  replayOf,
   more,
   answered,
   lineOf,
@@ -29,7 +29,7 @@ pub struct Run {
 }
 
 // A run after a record, and the length of its line.
-pub struct Turned {
+pub struct PlayedRecord {
     pub run: Run,
     pub written: usize,
 }
@@ -106,7 +106,7 @@ fn put_line(line: &mut [u8], number: u64, frames: usize, processed: Processed) -
         × (r ≤ length (now (line .exit))) ⌝ }
 {
     if processed.refusal == 0 {
-        let voice = processed.sound;
+        let voice = processed.voice;
         let moving = voice.moving;
         let state = moving.state;
         let transport = moving.transport;
@@ -124,13 +124,13 @@ fn put_line(line: &mut [u8], number: u64, frames: usize, processed: Processed) -
 
 fn create(run: Run, values: [u64; 80], sound: &mut [f32]) -> Run
     requires { ⌜ 128 ≤ length (now sound) ⌝ }
-    ensures { λ r. ⌜ (courseOf r (now (sound .exit))
-        ≡ afterCreation (courseOf run (now (sound .entry))) values .course)
+    ensures { λ r. ⌜ (replayOf r (now (sound .exit))
+        ≡ afterCreation (replayOf run (now (sound .entry))) values .replay)
         × (r .samples ≤ length (now (sound .exit))) ⌝ }
 {
     let samples = trace_inputs::put_samples(values, sound);
     let created = sound_creation::new(trace_inputs::settings_of(values), &sound[..samples]);
-    let voice = created.sound;
+    let voice = created.voice;
     Run {
         voice,
         samples,
@@ -140,8 +140,8 @@ fn create(run: Run, values: [u64; 80], sound: &mut [f32]) -> Run
 
 fn command(run: Run, values: [u64; 80], sound: &[f32]) -> Run
     requires { ⌜ run .samples ≤ length (now sound) ⌝ }
-    ensures { λ r. ⌜ (courseOf r (now (sound .entry))
-        ≡ afterCommands (courseOf run (now (sound .entry))) values .course)
+    ensures { λ r. ⌜ (replayOf r (now (sound .entry))
+        ≡ afterCommands (replayOf run (now (sound .entry))) values .replay)
         × (r .samples ≤ length (now (sound .entry))) ⌝ }
 {
     let before = run.voice;
@@ -151,15 +151,15 @@ fn command(run: Run, values: [u64; 80], sound: &[f32]) -> Run
         &sound[..samples],
         trace_inputs::commands_of(values),
     );
-    let voice = made.sound;
+    let voice = made.voice;
     Run { voice, ..run }
 }
 
-fn play(run: Run, values: [u64; 80], sound: &[f32], line: &mut [u8]) -> Turned
+fn play(run: Run, values: [u64; 80], sound: &[f32], line: &mut [u8]) -> PlayedRecord
     requires { ⌜ (run .samples ≤ length (now sound)) × (139 ≤ length (now line)) ⌝ }
-    ensures { λ r. ⌜ (courseOf (r .run) (now (sound .entry))
-        ≡ afterBlock (courseOf run (now (sound .entry))) values .course)
-        × (take (r .written) (now (line .exit)) ≡ afterBlock (courseOf run (now (sound .entry))) values .line)
+    ensures { λ r. ⌜ (replayOf (r .run) (now (sound .entry))
+        ≡ afterBlock (replayOf run (now (sound .entry))) values .replay)
+        × (take (r .written) (now (line .exit)) ≡ afterBlock (replayOf run (now (sound .entry))) values .line)
         × (r .run .samples ≤ length (now (sound .entry))) × (r .written ≤ length (now (line .exit))) ⌝ }
 {
     let before = run.voice;
@@ -168,8 +168,8 @@ fn play(run: Run, values: [u64; 80], sound: &[f32], line: &mut [u8]) -> Turned
     let processed = answer(before, &sound[..samples], block);
     let blocks = more_of(run.blocks);
     let written = put_line(line, blocks, block.frames, processed);
-    let voice = processed.sound;
-    Turned {
+    let voice = processed.voice;
+    PlayedRecord {
         run: Run {
             voice,
             samples,
@@ -180,21 +180,27 @@ fn play(run: Run, values: [u64; 80], sound: &[f32], line: &mut [u8]) -> Turned
 }
 
 // One record: the run after it, and its line.
-pub fn turn(run: Run, kind: u64, values: [u64; 80], sound: &mut [f32], line: &mut [u8]) -> Turned
+pub fn play_record(
+    run: Run,
+    kind: u64,
+    values: [u64; 80],
+    sound: &mut [f32],
+    line: &mut [u8],
+) -> PlayedRecord
     requires { ⌜ (128 ≤ length (now sound)) × (run .samples ≤ length (now sound)) × (139 ≤ length (now line)) ⌝ }
-    ensures { λ r. ⌜ (courseOf (r .run) (now (sound .exit))
-        ≡ after (courseOf run (now (sound .entry))) kind values .course)
-        × (take (r .written) (now (line .exit)) ≡ after (courseOf run (now (sound .entry))) kind values .line)
+    ensures { λ r. ⌜ (replayOf (r .run) (now (sound .exit))
+        ≡ after (replayOf run (now (sound .entry))) kind values .replay)
+        × (take (r .written) (now (line .exit)) ≡ after (replayOf run (now (sound .entry))) kind values .line)
         × (r .run .samples ≤ length (now (sound .exit))) × (r .written ≤ length (now (line .exit))) ⌝ }
 {
     if kind == 1 {
-        return Turned {
+        return PlayedRecord {
             run: create(run, values, sound),
             written: 0,
         };
     }
     if kind == 2 {
-        return Turned {
+        return PlayedRecord {
             run: command(run, values, sound),
             written: 0,
         };
@@ -214,7 +220,7 @@ pub fn advance(
     requires { ⌜ (at ≤ length (now bytes)) × (128 ≤ length (now sound)) × (run .samples ≤ length (now sound))
         × (139 ≤ length (now line)) ⌝ }
     ensures { λ r. ⌜ (advancedOf r at (now (sound .exit)) (now (line .exit))
-        ≡ stepOf (courseOf run (now (sound .entry))) place (drop at (now (bytes .entry))))
+        ≡ stepOf (replayOf run (now (sound .entry))) place (drop at (now (bytes .entry))))
         × (r .next ≤ length (now (bytes .entry))) × (r .run .samples ≤ length (now (sound .exit)))
         × (r .written ≤ length (now (line .exit))) × (at ≤ r .next) ⌝ }
 {
@@ -237,19 +243,19 @@ pub fn advance(
         };
     }
     let values = record.values;
-    let turned = turn(run, record.kind, values, sound, line);
-    let run = turned.run;
+    let played = play_record(run, record.kind, values, sound, line);
+    let run = played.run;
     Advanced {
         run,
         next: record.next,
-        written: turned.written,
+        written: played.written,
         over: false,
     }
 }
 
 // Before any record.
 pub fn begin() -> Run
-    ensures { λ r. ⌜ (courseOf r [] ≡ blank) × (r .samples ≡ 0) ⌝ }
+    ensures { λ r. ⌜ (replayOf r [] ≡ blank) × (r .samples ≡ 0) ⌝ }
 {
     Run {
         voice: sound_creation::blank(),

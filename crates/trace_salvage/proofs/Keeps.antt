@@ -9,14 +9,14 @@ use lib.ListN.{length, getD, take, drop, set, length-append, length-drop, drop-o
 use native.Mathlib.Numerals.{add-one}
 use lib.Seq.{take-at, drop-at, drop-cons, drop-drop, sets, length-sets, length-take-le}
 use Rattle.byte_layout.proofs.Puts.{sets-append}
-use Rattle.trace_salvage.specs.declared.Turn.{Turn}
+use Rattle.trace_salvage.specs.declared.Salvaging.{Salvaging}
 use borrow.Author.Tests.{eqb-true, eqb-false, ne-eqb, eq-eqb, lt-ltb, le-ltb, ltb-true, ltb-false, leb-true, le-leb, lt-leb}
 use Rattle.trace_records.specs.declared.Record.{Record}
 use Rattle.trace_records.specs.Records.{Found, refused, found, readRecord, valued, recordAt}
 use Rattle.trace_sealed.specs.Records as sealed
 use Rattle.trace_sealed.specs.Records.{isSealed, readSealed, readAny, readBy, sealedAt, anyAt}
 use Rattle.trace_sealed.proofs.Readers.{by-1, by-2, unmarked-by}
-use Rattle.trace_salvage.specs.Salvage.{kept, skipped, records, first, sizeIn, sizeBy, placed, Turned, Salvaged, salvageBy}
+use Rattle.trace_salvage.specs.Salvage.{kept, skipped, records, first, sizeIn, sizeBy, placed, Salvages, Salvaged, salvageBy}
 
 none : {A : Type 0} → ⊥ → A
 none e = elim e [ ]
@@ -153,9 +153,9 @@ pub size-unmarked : (v : ℕ) (s : List ℕ) (at : ℕ) → at < length s → (g
 unfolding sizeBy sizeIn
 size-unmarked v s at l h = rw (drop-cons s at 0 l, unmarked-by v (getD s at 0) (drop (suc at) s) h) refl
 
-module _ (v : ℕ) (s out : List ℕ) (t : Turn) (a : t .at < length s) (b : t .w ≤ t .at) (c : t .skip ≤ t .at) (g : t .records ≤ t .at) where
+module _ (v : ℕ) (s out : List ℕ) (t : Salvaging) (a : t .at < length s) (b : t .w ≤ t .at) (c : t .skip ≤ t .at) (g : t .records ≤ t .at) where
   pub keeps : (new : List ℕ) (n : ℕ) → n ≡ sizeBy v (drop (t .at) s) → 0 < n → new ≡ sets out (t .w) (take (t .at + n - t .at) (drop (t .at) s))
-      → Turned v s out new t (record { at = t .at + n; w = t .w + n; skip = t .skip; records = t .records + 1; first = t .first })
+      → Salvages v s out new t (record { at = t .at + n; w = t .w + n; skip = t .skip; records = t .records + 1; first = t .first })
   keeps new n e p q =
       let bs = drop (t .at) s in
       let l : length bs ≡ length s - t .at = length-drop (t .at) s in
@@ -181,7 +181,7 @@ module _ (v : ℕ) (s out : List ℕ) (t : Turn) (a : t .at < length s) (b : t .
         place = ap (λ (u : ℕ). cond (eqb (t .skip) 0) u (t .first)) (sym f);
       }
 
-  pub skips : (n f : ℕ) → n ≡ sizeBy v (drop (t .at) s) → n ≤ 0 → f ≡ cond (eqb (t .skip) 0) (t .at) (t .first) → Turned v s out out t (record { at = t .at + 1; w = t .w; skip = t .skip + 1; records = t .records; first = f })
+  pub skips : (n f : ℕ) → n ≡ sizeBy v (drop (t .at) s) → n ≤ 0 → f ≡ cond (eqb (t .skip) 0) (t .at) (t .first) → Salvages v s out out t (record { at = t .at + 1; w = t .w; skip = t .skip + 1; records = t .records; first = f })
   skips n f e p y =
       let bs = drop (t .at) s in
       let k = turn-skip (sizeBy v) (t .at) bs (omega (arith, length-drop (t .at) s)) (omega (arith, e)) in
@@ -209,7 +209,7 @@ pub refused-short : (v : ℕ) (s out : List ℕ) → length out < length s → d
 unfolding salvageBy
 refused-short v s out h = rw (lt-ltb (length out) (length s) h) refl
 
-pub saved : (v : ℕ) (s out new : List ℕ) (t : Turn) (f : ℕ) → length s ≤ length out → length s ≤ t .at → sets new (t .w) (kept (sizeBy v) (drop (t .at) s) 0) ≡ sets out 0 (kept (sizeBy v) s 0)
+pub saved : (v : ℕ) (s out new : List ℕ) (t : Salvaging) (f : ℕ) → length s ≤ length out → length s ≤ t .at → sets new (t .w) (kept (sizeBy v) (drop (t .at) s) 0) ≡ sets out 0 (kept (sizeBy v) s 0)
     → t .skip + skipped (sizeBy v) (drop (t .at) s) 0 ≡ skipped (sizeBy v) s 0 → t .records + records (sizeBy v) (drop (t .at) s) 0 ≡ records (sizeBy v) s 0 → placed v t s ≡ first (sizeBy v) 0 s 0
     → f ≡ cond (eqb (t .skip) 0) (t .at) (t .first) → done 0 (t .records) (t .skip) f new ≡ salvageBy v s out
 unfolding salvageBy kept skipped records first

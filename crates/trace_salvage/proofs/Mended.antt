@@ -10,7 +10,7 @@ use lib.Seq.{take-at, drop-at}
 use Rattle.byte_layout.proofs.Numbers.{Small, small-drop}
 use Rattle.byte_layout.proofs.Codec.{never}
 use Rattle.trace_records.specs.Records.{Found, refused, found}
-use Rattle.trace_records.specs.Traces.{Entry, Story, over, broken, told, readAllBy, entries, isWhole}
+use Rattle.trace_records.specs.Traces.{Entry, Story, over, broken, andThen, readAllBy, entries, isWhole}
 use Rattle.trace_records.proofs.Rounds.{small-after}
 use Rattle.trace_records.proofs.Traces.{Opens, one-first, by-refused}
 use Rattle.trace_sealed.specs.Records.{readBy}
@@ -69,7 +69,7 @@ took v at k ws r rest o =
       place = t .place ∙ ap (λ (z : ℕ). first size (at + z) (drop (size bs) bs) 0) n ∙ ap (λ (z : List ℕ). first size (at + length r) z 0) d;
     }
 
-read-one : (v k : ℕ) (ws r rest : List ℕ) → One v k ws r → story v (r ++ rest) ≡ told (entry k ws) (story v rest)
+read-one : (v k : ℕ) (ws r rest : List ℕ) → One v k ws r → story v (r ++ rest) ≡ andThen (entry k ws) (story v rest)
 read-one v k ws r rest o = one-first (readBy v) k ws r rest (o .reads rest) (o .some)
 
 -- ---- by induction on the bytes
@@ -132,7 +132,7 @@ mended-turns v =
       empty = record { to-the-end = refl; count = refl };
       skip = λ b bs n e k i. record { to-the-end = ap (λ (l : List ℕ). isWhole (story v l)) (k .bytes) ∙ i .to-the-end; count = ap (λ (l : List ℕ). length (entries (story v l))) (k .bytes) ∙ i .count ∙ sym (k .count) };
       keep = λ k ws r rest o t i.
-          let q : story v (kept (sizeBy v) (r ++ rest) 0) ≡ told (entry k ws) (story v (kept (sizeBy v) rest 0)) = ap (story v) (t .bytes) ∙ read-one v k ws r (kept (sizeBy v) rest 0) o in
+          let q : story v (kept (sizeBy v) (r ++ rest) 0) ≡ andThen (entry k ws) (story v (kept (sizeBy v) rest 0)) = ap (story v) (t .bytes) ∙ read-one v k ws r (kept (sizeBy v) rest 0) o in
           record { to-the-end = ap isWhole q ∙ i .to-the-end; count = ap (λ (z : Story). length (entries z)) q ∙ ap suc (i .count) ∙ sym (t .count) };
     }
 
@@ -194,7 +194,7 @@ before-turns v =
       keep = λ k ws r rest o t i.
           let size = sizeBy v in
           let p = first size 0 rest 0 in
-          let q : story v (r ++ take p rest) ≡ told (entry k ws) (story v (take p rest)) = read-one v k ws r (take p rest) o in
+          let q : story v (r ++ take p rest) ≡ andThen (entry k ws) (story v (take p rest)) = read-one v k ws r (take p rest) o in
           let z : first size 0 (r ++ rest) 0 ≡ length r + p = moved v r rest (t .place) in
           let x : take (first size 0 (r ++ rest) 0) (r ++ rest) ≡ r ++ take p rest = ap (λ (u : ℕ). take u (r ++ rest)) z ∙ take-over r rest p in
           let d : drop (first size 0 (r ++ rest) 0) (r ++ rest) ≡ drop p rest = ap (λ (u : ℕ). drop u (r ++ rest)) z ∙ drop-over r rest p in

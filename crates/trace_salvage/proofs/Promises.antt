@@ -8,7 +8,7 @@ use Rattle.byte_layout.specs.Numbers.{Bytes}
 use Rattle.byte_layout.proofs.Numbers.{small-of}
 use Rattle.trace_records.specs.Promises.{pauseNumbers, pauseRecord}
 use Rattle.trace_records.specs.Records.{found}
-use Rattle.trace_records.specs.Traces.{told, readAllBy, isWhole}
+use Rattle.trace_records.specs.Traces.{andThen, readAllBy, isWhole}
 use Rattle.trace_records.proofs.Traces.{one-first}
 use Rattle.trace_records.proofs.Witnesses as trace_records
 use Rattle.trace_sealed.specs.Records.{readBy}
@@ -28,7 +28,7 @@ unfolding readBy
 first-version = record { bytes = trace_records.witnesses .trace-written-again .bytes; to-the-end = trace_records.witnesses .trace-written-again .to-the-end }
 
 -- a record that is all of the bytes, and more behind it
-one-record : (k : ℕ) (ws bs more : List ℕ) → Bytes bs → readBy 2 bs ≡ found k ws [] → story 2 (bs ++ more) ≡ told (record { kind = k; numbers = ws }) (story 2 more)
+one-record : (k : ℕ) (ws bs more : List ℕ) → Bytes bs → readBy 2 bs ≡ found k ws [] → story 2 (bs ++ more) ≡ andThen (record { kind = k; numbers = ws }) (story 2 more)
 one-record k ws bs more s e =
     let o = opens-by 2 bs k ws [] s e in
     ap (λ (z : List ℕ). story 2 (z ++ more)) (o .same ∙ append-nil (o .front)) ∙ one-first (readBy 2) k ws (o .front) more (o .reads more) (o .some)

@@ -10,7 +10,7 @@ use lib.Seq.{sets}
 use Rattle.trace_records.specs.Records.{Found, refused, found}
 use Rattle.trace_sealed.specs.Records.{readBy}
 use Rattle.trace_salvage.specs.declared.Saved.{Saved}
-use Rattle.trace_salvage.specs.declared.Turn.{Turn}
+use Rattle.trace_salvage.specs.declared.Salvaging.{Salvaging}
 
 -- the bytes kept
 unfoldable pub kept : (List ℕ → ℕ) → List ℕ → ℕ → List ℕ
@@ -76,11 +76,11 @@ abbrev pub salvageOf : List ℕ → List ℕ → Salvaged
 salvageOf = salvageBy 1
 
 -- the first offset, once something was skipped
-abbrev pub placed : ℕ → Turn → List ℕ → ℕ
+abbrev pub placed : ℕ → Salvaging → List ℕ → ℕ
 placed v t s = cond (eqb (t .skip) 0) (first (sizeBy v) (t .at) (drop (t .at) s) 0) (t .first)
 
 -- one iteration: what is left to do decreases, and the final outcome does not change
-pub record Turned (v : ℕ) (s out new : List ℕ) (t r : Turn) : Type 0 where
+pub record Salvages (v : ℕ) (s out new : List ℕ) (t r : Salvaging) : Type 0 where
   pub inside : r .at ≤ length s
   pub on : t .at < r .at
   pub room : r .w ≤ r .at

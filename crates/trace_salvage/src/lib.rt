@@ -5,12 +5,12 @@ ghost use mathlib.Core.Bool.{cond};
 ghost use lib.Dec.{eqb};
 ghost use lib.ListN.{length, drop};
 ghost use Rattle.trace_salvage.specs.Promises.{Promises};
-ghost use Rattle.trace_salvage.specs.Salvage.{sizeBy, savedOf, salvageBy, salvageOf, Turned};
+ghost use Rattle.trace_salvage.specs.Salvage.{sizeBy, savedOf, salvageBy, salvageOf, Salvages};
 use trace_records::Record;
 
 // A salvage in progress: the offsets in the input and in the output, the bytes skipped, the records kept, and the
 // offset of the first skipped byte.
-pub struct Turn {
+pub struct Salvaging {
     pub at: usize,
     pub w: usize,
     pub skip: usize,
@@ -59,7 +59,7 @@ fn record_size(reader: u64, s: &[u8], at: usize) -> usize
 }
 
 // The offset of the first skipped byte, when one is skipped at an offset.
-fn first_of(t: Turn) -> usize
+fn first_of(t: Salvaging) -> usize
     ensures { λ n. ⌜ n ≡ cond (eqb (t .skip) 0) (t .at) (t .first) ⌝ }
 {
     if t.skip == 0 {
@@ -69,10 +69,10 @@ fn first_of(t: Turn) -> usize
 }
 
 // Copies the record at the offset, or skips a byte.
-fn step(reader: u64, s: &[u8], out: &mut [u8], t: Turn) -> Turn
+fn step(reader: u64, s: &[u8], out: &mut [u8], t: Salvaging) -> Salvaging
     requires { ⌜ (t .at < length (now s)) × (t .w ≤ t .at) × (t .skip ≤ t .at) × (t .records ≤ t .at)
         × (length (now s) ≤ length (now out)) ⌝ }
-    ensures { λ r. ⌜ Turned reader (now (s .entry)) (now (out .entry)) (now (out .exit)) t r ⌝ }
+    ensures { λ r. ⌜ Salvages reader (now (s .entry)) (now (out .entry)) (now (out .exit)) t r ⌝ }
 {
     let at = t.at;
     let w = t.w;
@@ -80,7 +80,7 @@ fn step(reader: u64, s: &[u8], out: &mut [u8], t: Turn) -> Turn
     if 0 < n {
         let to = at + n;
         byte_layout::copy(s, at, to, out, w);
-        return Turn {
+        return Salvaging {
             at: to,
             w: w + n,
             skip: t.skip,
@@ -88,7 +88,7 @@ fn step(reader: u64, s: &[u8], out: &mut [u8], t: Turn) -> Turn
             first: t.first,
         };
     }
-    Turn {
+    Salvaging {
         at: at + 1,
         w,
         skip: t.skip + 1,
@@ -110,7 +110,7 @@ pub fn salvage_by(reader: u64, s: &[u8], out: &mut [u8]) -> Saved
             first: 0,
         };
     }
-    let mut t = Turn {
+    let mut t = Salvaging {
         at: 0,
         w: 0,
         skip: 0,

@@ -15,7 +15,7 @@ use Rattle.playback_position.specs.Positions.{within}
 use Rattle.playback_position.proofs.Ranges.{ranged-parts}
 use Rattle.transport.specs.declared.Transport.{Transport}
 use Rattle.transport.specs.Moves.{cycled, under, over, back, first, landed, forward, backward, seek, reloop, opening, begun}
-use Rattle.transport.specs.WellFormed.{formedTransport, FormedTransport, Inside}
+use Rattle.transport.specs.WellFormed.{wellFormedTransport, WellFormedTransport, Inside}
 use Rattle.transport.proofs.Wraps.{picked, wrapped-lt}
 use Rattle.transport.proofs.Steps.{moved, forward-still, forward-going, backward-still, backward-going, backward-looped, landed-inside}
 
@@ -29,8 +29,8 @@ here-or : (b c : Bool) → (b ≡ true → T c) → T (not b || c)
 here-or true c h = h refl
 here-or false c h = tt
 
-pub formed-transport-parts : (n : ℕ) (t : Transport) → T (formedTransport n t) → FormedTransport n t
-formed-transport-parts n t h =
+pub well-formed-transport-parts : (n : ℕ) (t : Transport) → T (wellFormedTransport n t) → WellFormedTransport n t
+well-formed-transport-parts n t h =
     let a = within n (t .«loop_region») in
     let b = not (t .playing) || ltb (t .position) n in
     let c = leb (t .position) most in
@@ -40,8 +40,8 @@ formed-transport-parts n t h =
       low = leb→le (t .position) most (and-r (a && b) c h);
     }
 
-pub formed-transport-of : (n : ℕ) (t : Transport) → FormedTransport n t → T (formedTransport n t)
-formed-transport-of n t h =
+pub well-formed-transport-of : (n : ℕ) (t : Transport) → WellFormedTransport n t → T (wellFormedTransport n t)
+well-formed-transport-of n t h =
     let a = within n (t .«loop_region») in
     let b = not (t .playing) || ltb (t .position) n in
     let c = leb (t .position) most in
@@ -82,47 +82,47 @@ both-right : (a b : Bool) → (a && b) ≡ true → b ≡ true
 both-right true b e = e
 both-right false b e = absurd (false≢true e)
 
-landed-formed-transport : (n : ℕ) (t : Transport) (q : ℕ) → T (within n (t .«loop_region»)) → q ≤ most → FormedTransport n (landed n t q)
-landed-formed-transport n t q h l = record { loop = h; here = λ e. ltb-true q n (both-right (t .playing) (ltb q n) e); low = l }
+landed-well-formed-transport : (n : ℕ) (t : Transport) (q : ℕ) → T (within n (t .«loop_region»)) → q ≤ most → WellFormedTransport n (landed n t q)
+landed-well-formed-transport n t q h l = record { loop = h; here = λ e. ltb-true q n (both-right (t .playing) (ltb q n) e); low = l }
 
-pub forward-formed-transport : (n : ℕ) (t : Transport) → n ≤ most → FormedTransport n t → FormedTransport n (forward n t)
-forward-formed-transport n t k h = go (t .playing) refl
+pub forward-well-formed-transport : (n : ℕ) (t : Transport) → n ≤ most → WellFormedTransport n t → WellFormedTransport n (forward n t)
+forward-well-formed-transport n t k h = go (t .playing) refl
   where
-    go : (b : Bool) → t .playing ≡ b → FormedTransport n (forward n t)
+    go : (b : Bool) → t .playing ≡ b → WellFormedTransport n (forward n t)
     go true e =
         let l = h .here e in
-        subst (FormedTransport n) (sym (forward-going n t e))
-        (landed-formed-transport n t _ (h .loop) (under-le n most (t .«loop_region») (t .position + 1) k (h .loop) (omega arith)))
-    go false e = subst (FormedTransport n) (sym (forward-still n t e)) h
+        subst (WellFormedTransport n) (sym (forward-going n t e))
+        (landed-well-formed-transport n t _ (h .loop) (under-le n most (t .«loop_region») (t .position + 1) k (h .loop) (omega arith)))
+    go false e = subst (WellFormedTransport n) (sym (forward-still n t e)) h
 
-pub backward-formed-transport : (n : ℕ) (t : Transport) → n ≤ most → FormedTransport n t → FormedTransport n (backward t)
-backward-formed-transport n t k h = go (t .playing) refl
+pub backward-well-formed-transport : (n : ℕ) (t : Transport) → n ≤ most → WellFormedTransport n t → WellFormedTransport n (backward t)
+backward-well-formed-transport n t k h = go (t .playing) refl
   where
-    go : (b : Bool) → t .playing ≡ b → FormedTransport n (backward t)
+    go : (b : Bool) → t .playing ≡ b → WellFormedTransport n (backward t)
     go true e =
         let l = back-lt n (t .«loop_region») (t .position) (h .loop) (h .here e) in
-        let s : FormedTransport n (moved t (back (t .«loop_region») (t .position)) (not (first (t .«loop_region») (t .position)))) =
+        let s : WellFormedTransport n (moved t (back (t .«loop_region») (t .position)) (not (first (t .«loop_region») (t .position)))) =
         record { loop = h .loop; here = λ p. l; low = le-trans (le-of-lt l) k }
         in
-        subst (FormedTransport n) (sym (backward-going t e)) s
-    go false e = subst (FormedTransport n) (sym (backward-still t e)) h
+        subst (WellFormedTransport n) (sym (backward-going t e)) s
+    go false e = subst (WellFormedTransport n) (sym (backward-still t e)) h
 
-pub seek-formed-transport : (n : ℕ) (t : Transport) (q : ℕ) → n ≤ most → FormedTransport n t → q ≤ most → FormedTransport n (seek n t q)
+pub seek-well-formed-transport : (n : ℕ) (t : Transport) (q : ℕ) → n ≤ most → WellFormedTransport n t → q ≤ most → WellFormedTransport n (seek n t q)
 unfolding seek
-seek-formed-transport n t q k h l =
-    landed-formed-transport n t _ (h .loop)
+seek-well-formed-transport n t q k h l =
+    landed-well-formed-transport n t _ (h .loop)
     (picked (λ x. x ≤ most) (ltb (t .position) q) _ _
     (λ e. under-le n most (t .«loop_region») q k (h .loop) l)
     (λ e. over-le n most (t .«loop_region») q k (h .loop) l))
 
-pub reloop-formed-transport : (n : ℕ) (t : Transport) (r : FrameRange) → T (within n r) → FormedTransport n t → FormedTransport n (reloop t r)
-reloop-formed-transport n t r l h = record { loop = l; here = h .here; low = h .low }
+pub reloop-well-formed-transport : (n : ℕ) (t : Transport) (r : FrameRange) → T (within n r) → WellFormedTransport n t → WellFormedTransport n (reloop t r)
+reloop-well-formed-transport n t r l h = record { loop = l; here = h .here; low = h .low }
 
 pub opening-lt : (n : ℕ) (reverse : Bool) (start : ℕ) → start < n → opening n reverse start < n
 opening-lt n reverse start h = picked (λ x. x < n) reverse (n - 1 - start) start (λ e. omega arith) (λ e. h)
 
-pub begun-formed-transport : (n : ℕ) (reverse : Bool) (r : FrameRange) (start : ℕ) → n ≤ most → T (within n r) → start < n → FormedTransport n (begun n reverse r start)
-begun-formed-transport n reverse r start k l h =
+pub begun-well-formed-transport : (n : ℕ) (reverse : Bool) (r : FrameRange) (start : ℕ) → n ≤ most → T (within n r) → start < n → WellFormedTransport n (begun n reverse r start)
+begun-well-formed-transport n reverse r start k l h =
     let p = opening-lt n reverse start h in
     record { loop = l; here = λ e. p; low = le-trans (le-of-lt p) k }
 

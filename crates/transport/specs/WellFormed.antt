@@ -10,12 +10,12 @@ use Rattle.playback_position.specs.Positions.{within}
 use Rattle.transport.specs.declared.Transport.{Transport}
 
 -- its loop is inside the n frames; playing implies position < n; position at most 4,294,967,296
-abbrev pub formedTransport : ℕ → Transport → Bool
-formedTransport n t = within n (t .«loop_region») && (not (t .playing) || ltb (t .position) n)
+abbrev pub wellFormedTransport : ℕ → Transport → Bool
+wellFormedTransport n t = within n (t .«loop_region») && (not (t .playing) || ltb (t .position) n)
     && leb (t .position) most
 
 -- the same, fact by fact
-pub record FormedTransport (n : ℕ) (t : Transport) : Type 0 where
+pub record WellFormedTransport (n : ℕ) (t : Transport) : Type 0 where
   pub loop : T (within n (t .«loop_region»))
   pub here : t .playing ≡ true → t .position < n
   pub low : t .position ≤ most

@@ -18,7 +18,7 @@ ghost use Rattle.transport.specs.Moves.{
   reloop,
   begun,
 };
-ghost use Rattle.transport.specs.WellFormed.{FormedTransport};
+ghost use Rattle.transport.specs.WellFormed.{WellFormedTransport};
 use playback_position::FrameRange;
 
 pub struct Transport {
@@ -127,7 +127,7 @@ impl Transport {
     }
 
     pub fn increment_position(mut self, num_frames: usize) -> Transport
-        requires { ⌜ FormedTransport «num_frames» self ⌝ }
+        requires { ⌜ WellFormedTransport «num_frames» self ⌝ }
         ensures { λ r. ⌜ r ≡ forward «num_frames» self ⌝ }
     {
         if self.playing {

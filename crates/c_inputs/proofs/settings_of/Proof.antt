@@ -6,8 +6,8 @@ use Rattle.c_inputs.proofs.settings_of.Tie as tie
 optional-of-requires : tie.Need-optional-of-requires
 optional-of-requires c κs = search needs
 
-place-of-requires : tie.Need-place-of-requires
-place-of-requires c κs = search needs
+position-of-requires : tie.Need-position-of-requires
+position-of-requires c κs = search needs
 
 optional-of-requires-2 : tie.Need-optional-of-requires-2
 optional-of-requires-2 c κs = search needs
@@ -16,7 +16,7 @@ returns : tie.Need-returns
 returns c =
     rw (
       c .before .before .before .before .optional-of .ensures,
-      c .before .before .before .place-of .ensures,
+      c .before .before .before .position-of .ensures,
       c .before .before .optional-of2 .ensures,
     )
 
@@ -25,6 +25,6 @@ settings-of-spec =
     tie.close
     (tie.spec
     optional-of-requires
-    place-of-requires
+    position-of-requires
     optional-of-requires-2
     returns)

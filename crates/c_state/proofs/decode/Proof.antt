@@ -6,15 +6,15 @@ use borrow.Author.Tests.{not-true, not-false}
 use Rattle.c_state.proofs.decode.Statement.{statement}
 use Rattle.c_state.proofs.decode.Tie as tie
 
-is-lawful-requires : tie.Need-is-lawful-requires
-is-lawful-requires c κs = search needs
+is-well-formed-requires : tie.Need-is-well-formed-requires
+is-well-formed-requires c κs = search needs
 
 blank-requires : tie.Need-blank-requires
 blank-requires c κs = search needs
 
 returns : tie.Need-returns
 unfolding decoded
-returns c = rw (sym (c .before .before .is-lawful .ensures) ∙ not-true _ (c .before .if1 .taken), c .blank .ensures)
+returns c = rw (sym (c .before .before .is-well-formed .ensures) ∙ not-true _ (c .before .if1 .taken), c .blank .ensures)
 
 range-of-requires : tie.Need-range-of-requires
 range-of-requires c κs = search needs
@@ -41,7 +41,7 @@ returns-2 : tie.Need-returns-2
 unfolding decoded
 returns-2 c =
     rw (
-      sym (c .before .before .before .before .before .before .before .before .before .is-lawful .ensures) ∙ not-false _ (c .before .before .before .before .before .before .before .before .if1 .left),
+      sym (c .before .before .before .before .before .before .before .before .before .is-well-formed .ensures) ∙ not-false _ (c .before .before .before .before .before .before .before .before .if1 .left),
       c .before .before .before .before .before .before .range-of .ensures,
       c .before .before .before .before .before .yes-of .ensures,
       c .before .before .before .before .range-of2 .ensures,
@@ -55,7 +55,7 @@ pub decode-spec : {M : Type 1} → statement M
 decode-spec =
     tie.close
     (tie.spec
-    is-lawful-requires
+    is-well-formed-requires
     blank-requires
     returns
     range-of-requires

@@ -36,7 +36,7 @@ returns : tie.Need-returns Inv-loop μ-loop
 unfolding ofBits
 returns c =
     let s = spun-out _ _ _ (c .before .loop .inv) (c .loop-test .left) in
-    λ i. record { steps = s .1 i; rest = s .0 i }
+    λ i. record { steps = s .1 i; fraction = s .0 i }
 
 pub advance-by-spec : {M : Type 1} → statement M
 advance-by-spec = tie.close (tie.spec Inv-loop μ-loop loop-holds add-steps loop-less loop-again returns)

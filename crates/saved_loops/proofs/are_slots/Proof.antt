@@ -3,7 +3,7 @@ use mathlib.Core.Path.{_≡_, refl}
 use Prim.Native.Nat.{ℕ, _-_, _≤_}
 use native.Mathlib.Omega.{arith}
 use lib.ListN.{length}
-use Rattle.saved_loops.specs.Records.{lawfulSlots}
+use Rattle.saved_loops.specs.Records.{wellFormedSlots}
 use Rattle.saved_loops.proofs.Slots.{slots-more, slots-end}
 use borrow.Author.Needs.{needs}
 use Rattle.saved_loops.proofs.are_slots.Statement.{statement}
@@ -13,7 +13,7 @@ use Rattle.saved_loops.proofs.are_slots.Lts as lts
 use Rattle.saved_loops.proofs.is_slot.Reads as is-slot-reads
 
 abbrev Inv-loop : tie.InvT-loop
-Inv-loop words num-frames ok₀ i₀ ok i = (i ≤ 8) × (length words ≡ 19) × (ok ≡ lawfulSlots i words)
+Inv-loop words num-frames ok₀ i₀ ok i = (i ≤ 8) × (length words ≡ 19) × (ok ≡ wellFormedSlots i words)
 
 abbrev μ-loop : tie.MeasureT-loop
 μ-loop words num-frames ok₀ i₀ ok i = 8 - i
@@ -22,7 +22,7 @@ array-read-num-frames : tie.Need-array-read-num-frames Inv-loop μ-loop
 array-read-num-frames c = search needs
 
 loop-holds : tie.Need-loop-holds Inv-loop μ-loop
-unfolding lawfulSlots
+unfolding wellFormedSlots
 loop-holds c = (omega arith, search needs, refl)
 
 mul-is-slot : tie.Need-mul-is-slot Inv-loop μ-loop

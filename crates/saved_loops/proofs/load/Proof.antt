@@ -34,8 +34,8 @@ returns-2 c =
 words-of-requires : tie.Need-words-of-requires
 words-of-requires c κs = search needs
 
-is-lawful-requires : tie.Need-is-lawful-requires
-is-lawful-requires c κs = search needs
+is-well-formed-requires : tie.Need-is-well-formed-requires
+is-well-formed-requires c κs = search needs
 
 is-crc-requires : tie.Need-is-crc-requires
 is-crc-requires c κs = search needs
@@ -46,7 +46,7 @@ show-requires c κs = search needs
 returns-3 : tie.Need-returns-3
 returns-3 c =
     let a = c .before .before .before .before .before .before .before .before in
-    long _ (a .read-half .result) (a .read-half .ensures) _ _ _ _ (c .before .before .before .before .before .before .if1 .left) (c .before .before .before .before .before .if2 .left) (c .before .before .before .words-of .ensures) (c .before .before .is-lawful .ensures) (c .before .is-crc .ensures) (c .show .ensures)
+    long _ (a .read-half .result) (a .read-half .ensures) _ _ _ _ (c .before .before .before .before .before .before .if1 .left) (c .before .before .before .before .before .if2 .left) (c .before .before .before .words-of .ensures) (c .before .before .is-well-formed .ensures) (c .before .is-crc .ensures) (c .show .ensures)
 
 pub load-spec : {M : Type 1} → statement M
 load-spec =
@@ -59,7 +59,7 @@ load-spec =
     refused-requires-2
     returns-2
     words-of-requires
-    is-lawful-requires
+    is-well-formed-requires
     is-crc-requires
     show-requires
     returns-3)

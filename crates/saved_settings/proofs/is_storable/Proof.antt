@@ -6,19 +6,19 @@ use Rattle.saved_settings.proofs.is_storable.Statement.{statement}
 use Rattle.saved_settings.proofs.is_storable.Tie as tie
 use Rattle.saved_settings.proofs.is_storable.Reads as reads
 use Rattle.saved_settings.proofs.is_storable.Lts as lts
-use Rattle.saved_settings.proofs.is_lawful.Reads as is-lawful-reads
+use Rattle.saved_settings.proofs.is_well_formed.Reads as is-well-formed-reads
 
-is-lawful-requires : tie.Need-is-lawful-requires
-is-lawful-requires c κs = search needs
+is-well-formed-requires : tie.Need-is-well-formed-requires
+is-well-formed-requires c κs = search needs
 
 returns : tie.Need-returns
-returns c = rw (c .before .«is-lawful» .ensures, eq-eqb _ _ (c .before .before .if1 .taken)) refl
+returns c = rw (c .before .«is-well-formed» .ensures, eq-eqb _ _ (c .before .before .if1 .taken)) refl
 
-is-lawful-requires-2 : tie.Need-is-lawful-requires-2
-is-lawful-requires-2 c κs = search needs
+is-well-formed-requires-2 : tie.Need-is-well-formed-requires-2
+is-well-formed-requires-2 c κs = search needs
 
 returns-2 : tie.Need-returns-2
-returns-2 c = rw (c .«is-lawful2» .ensures, ne-eqb _ _ (c .before .if1 .left)) refl
+returns-2 c = rw (c .«is-well-formed2» .ensures, ne-eqb _ _ (c .before .if1 .left)) refl
 
 pub is-storable-spec : {M : Type 1} → statement M
-is-storable-spec = tie.close (tie.spec is-lawful-requires returns is-lawful-requires-2 returns-2)
+is-storable-spec = tie.close (tie.spec is-well-formed-requires returns is-well-formed-requires-2 returns-2)

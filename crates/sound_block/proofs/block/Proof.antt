@@ -31,7 +31,7 @@ play-requires c κs =
     let b = c .before .before .before in
     let s = start b in
     let a = s .args in
-    playable (now (a .sound)) (a .told .dt) (lent b) (a .told .signals) (a .told .voice) (b .begin .result) (b .begin .ensures) (length (now (a .out))) (s .pre)
+    playable (now (a .sound)) (a .signalled .dt) (lent b) (a .signalled .signals) (a .signalled .voice) (b .begin .result) (b .begin .ensures) (length (now (a .out))) (s .pre)
 
 same-length : tie.Need-same-length
 same-length c = search needs
@@ -41,7 +41,7 @@ returns c =
     let l = c .before .before .before .before in
     let b = l .before .before in
     let a = start b .args in
-    sounds (now (a .sound)) (a .told .dt) (lent b) (a .told .signals) (a .told .voice) _ (b .begin .ensures) (sym (l .before .is-live .ensures) ∙ l .if1 .taken) _ (c .before .before .play .ensures)
+    sounds (now (a .sound)) (a .signalled .dt) (lent b) (a .signalled .signals) (a .signalled .voice) _ (b .begin .ensures) (sym (l .before .is-live .ensures) ∙ l .if1 .taken) _ (c .before .before .play .ensures)
 
 silence-requires : tie.Need-silence-requires
 silence-requires c κs = search needs
@@ -55,7 +55,7 @@ returns-2 c =
     let b = l .before .before in
     let s = start b in
     let a = s .args in
-    rests (now (a .sound)) (a .told .dt) (lent b) (a .told .signals) (a .told .voice) _ (b .begin .ensures) (sym (l .before .is-live .ensures) ∙ l .if1 .left) _ (length (now (a .out))) (c .before .before .silence .ensures) (s .pre .long)
+    rests (now (a .sound)) (a .signalled .dt) (lent b) (a .signalled .signals) (a .signalled .voice) _ (b .begin .ensures) (sym (l .before .is-live .ensures) ∙ l .if1 .left) _ (length (now (a .out))) (c .before .before .silence .ensures) (s .pre .long)
 
 pub block-spec : {M : Type 1} → statement M
 block-spec =

@@ -15,8 +15,8 @@ enum-known-command c = search needs
 num-frames-requires : tie.Need-num-frames-requires
 num-frames-requires c κs = search needs
 
-is-lawful-requires : tie.Need-is-lawful-requires
-is-lawful-requires c κs = search needs
+is-well-formed-requires : tie.Need-is-well-formed-requires
+is-well-formed-requires c κs = search needs
 
 returns : tie.Need-returns
 returns c = rw (c .enum-told .given .1)
@@ -25,7 +25,7 @@ returns-2 : tie.Need-returns-2
 returns-2 c = rw (c .enum-told2 .given .1)
 
 returns-3 : tie.Need-returns-3
-returns-3 c = rw (c .before .before .before .command .given .1, ← c .before .num-frames .ensures) (c .is-lawful .ensures)
+returns-3 c = rw (c .before .before .before .command .given .1, ← c .before .num-frames .ensures) (c .is-well-formed .ensures)
 
 pub is-loop-spec : {M : Type 1} → statement M
 is-loop-spec =
@@ -35,7 +35,7 @@ is-loop-spec =
     enum-told-2
     enum-known-command
     num-frames-requires
-    is-lawful-requires
+    is-well-formed-requires
     returns
     returns-2
     returns-3)

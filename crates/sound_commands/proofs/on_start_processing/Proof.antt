@@ -9,7 +9,7 @@ use borrow.Author.Tests.{ne-eqb}
 use Rattle.numbers.specs.Words.{positiveZero}
 use Rattle.resampler.proofs.Windows.{heard-low}
 use Rattle.sound_state.specs.declared.StaticSound.{StaticSound}
-use Rattle.sound_state.proofs.Formed.{ours-parts}
+use Rattle.sound_state.proofs.WellFormed.{well-formed-for-parts}
 use Rattle.sound_commands.specs.declared.Commands.{Commands}
 use Rattle.sound_commands.specs.declared.Commanded.{Commanded}
 use Rattle.sound_commands.specs.Commands.{refusedSet, obeyed, reported, commanded}
@@ -18,12 +18,12 @@ use Rattle.sound_commands.proofs.on_start_processing.Statement.{stateme
 use Rattle.sound_commands.proofs.on_start_processing.Tie as tie
 
 refused : (snd : List Float) (v : StaticSound) (c : Commands) (k : ℕ) → k ≡ refusedSet (length snd) v c → (k ≡ 0 → ⊥)
-    → _≡_ {A = Commanded} (record { refusal = k; sound = v; position = positiveZero }) (commanded snd v c)
+    → _≡_ {A = Commanded} (record { refusal = k; voice = v; position = positiveZero }) (commanded snd v c)
 unfolding commanded
 refused snd v c k e n = rw (← e, ne-eqb k 0 n)
 
 accepted : (snd : List Float) (v : StaticSound) (c : Commands) (u : StaticSound) (x : Float) → 0 ≡ refusedSet (length snd) v c → u ≡ obeyed snd c v → x ≡ reported v
-    → _≡_ {A = Commanded} (record { refusal = 0; sound = u; position = x }) (commanded snd v c)
+    → _≡_ {A = Commanded} (record { refusal = 0; voice = u; position = x }) (commanded snd v c)
 unfolding commanded
 accepted snd v c u x e o p = rw (← e, o, p)
 
@@ -40,7 +40,7 @@ returns c = refused _ _ _ _ (c .before .refusal-of .ensures) (c .if1 .taken)
 
 last-played-position-requires : tie.Need-last-played-position-requires
 last-played-position-requires c κs =
-    heard-low _ (ours-parts _ _ (obeyable-parts _ _ _ (sym (clear c ∙ c .before .refusal-of .ensures)) .ours) .0 .window)
+    heard-low _ (well-formed-for-parts _ _ (obeyable-parts _ _ _ (sym (clear c ∙ c .before .refusal-of .ensures)) .wellFormedFor) .0 .window)
 
 read-commands-requires : tie.Need-read-commands-requires
 read-commands-requires c κs = let e = c .before in sym (clear e ∙ e .before .refusal-of .ensures)

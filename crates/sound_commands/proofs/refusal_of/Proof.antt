@@ -5,15 +5,15 @@ use mathlib.Core.Bool.{Bool, _&&_}
 use lib.Dec.{T}
 use borrow.Author.Needs.{needs}
 use borrow.Author.Tests.{not-false}
-use Rattle.sound_state.specs.WellFormed.{ours}
-use Rattle.sound_state.proofs.Formed.{ours-parts}
+use Rattle.sound_state.specs.WellFormed.{wellFormedFor}
+use Rattle.sound_state.proofs.WellFormed.{well-formed-for-parts}
 use Rattle.sound_state.specs.Refusals.{unless}
 use Rattle.sound_commands.specs.Commands.{targetBy, targetTo, seekable, refusedSet}
 use Rattle.sound_state.proofs.Refusals.{refused-here, passed-here}
 use Rattle.sound_commands.proofs.refusal_of.Statement.{statement}
 use Rattle.sound_commands.proofs.refusal_of.Tie as tie
 
-well-formed : (c : tie.Else1) → T (ours (c .before .before .args .samples) (c .before .before .args .voice))
+well-formed : (c : tie.Else1) → T (wellFormedFor (c .before .before .args .samples) (c .before .before .args .voice))
 well-formed c = subst T (sym (sym (c .before .is-well-formed .ensures) ∙ not-false _ (c .if1 .left))) tt
 
 is-well-formed-requires : tie.Need-is-well-formed-requires
@@ -46,7 +46,7 @@ returns-3 c =
     (refused-here _ _ _ _ (c .before .is-rate .ensures) (c .if3 .taken)))
 
 is-seek-by-requires : tie.Need-is-seek-by-requires
-is-seek-by-requires c κs = ours-parts _ _ (well-formed (c .before .before .before .before)) .0 .transportFormed .low
+is-seek-by-requires c κs = well-formed-for-parts _ _ (well-formed (c .before .before .before .before)) .0 .transportWellFormed .low
 
 is-seek-to-requires : tie.Need-is-seek-to-requires
 is-seek-to-requires c κs = search needs

@@ -4,7 +4,7 @@ use Prim.Native.Nat.{ℕ, _≤_}
 use borrow.Author.Needs.{needs}
 use Rattle.numbers.specs.Frames.{most, cutOff}
 use Rattle.numbers.proofs.Frames.{cut-le}
-use Rattle.sound_state.proofs.Formed.{ours-parts}
+use Rattle.sound_state.proofs.WellFormed.{well-formed-for-parts}
 use Rattle.sound_commands.specs.Commands.{sought}
 use Rattle.sound_commands.proofs.seek_by.Statement.{statement}
 use Rattle.sound_commands.proofs.seek_by.Tie as tie
@@ -16,7 +16,7 @@ enum-known-command : tie.Need-enum-known-command
 enum-known-command c = search needs
 
 frames-by-requires : tie.Need-frames-by-requires
-frames-by-requires c κs = ours-parts _ _ (c .before .before .before .before .pre) .0 .transportFormed .low
+frames-by-requires c κs = well-formed-for-parts _ _ (c .before .before .before .before .pre) .0 .transportWellFormed .low
 
 cut-requires : tie.Need-cut-requires
 cut-requires c κs = search needs

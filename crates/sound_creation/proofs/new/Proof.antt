@@ -14,12 +14,12 @@ use Rattle.sound_creation.proofs.new.Statement.{statement}
 use Rattle.sound_creation.proofs.new.Tie as tie
 
 refused : (snd : List Float) (s : Settings) (k : ℕ) (v : StaticSound) → k ≡ refusedNew (length snd) s → (k ≡ 0 → ⊥) → v ≡ blankSound
-    → _≡_ {A = Created} (record { refusal = k; sound = v }) (created snd s)
+    → _≡_ {A = Created} (record { refusal = k; voice = v }) (created snd s)
 unfolding created
 refused snd s k v e n b = rw (← e, ne-eqb k 0 n, b)
 
 accepted : (snd : List Float) (s : Settings) (v : StaticSound) → 0 ≡ refusedNew (length snd) s → v ≡ made snd s
-    → _≡_ {A = Created} (record { refusal = 0; sound = v }) (created snd s)
+    → _≡_ {A = Created} (record { refusal = 0; voice = v }) (created snd s)
 unfolding created
 accepted snd s v e m = rw (← e, m)
 

@@ -6,7 +6,7 @@ use lib.Ieee.{Float, ofBits}
 use borrow.Author.Needs.{needs}
 use Rattle.numbers.specs.Words.{positiveZero}
 use Rattle.playback_position.specs.declared.FrameRange.{FrameRange}
-use Rattle.playback_position.specs.Positions.{placed}
+use Rattle.playback_position.specs.Positions.{positionInFrames}
 use Rattle.playback_state_manager.specs.declared.PlaybackState.the-variants as state
 use Rattle.transport.specs.declared.Transport.{Transport}
 use Rattle.transport.specs.Moves.{begun}
@@ -15,7 +15,7 @@ use Rattle.resampler.specs.Windows.{fresh}
 use Rattle.sound_update.specs.Updates.{uncounted}
 use Rattle.sound_state.specs.declared.Setup.{Setup}
 use Rattle.sound_state.specs.declared.StaticSound.{StaticSound}
-use Rattle.sound_state.specs.Voices.{span}
+use Rattle.sound_state.specs.Voices.{sliceLength}
 use Rattle.sound_creation.specs.declared.Settings.{Settings}
 use Rattle.sound_creation.specs.Creation.{ranged, setupOf, opened, transportOf}
 use Rattle.sound_creation.proofs.Refusals.{creatable-parts}
@@ -23,11 +23,11 @@ use Rattle.sound_creation.proofs.open.Statement.{statement}
 use Rattle.sound_creation.proofs.open.Tie as tie
 
 -- N is the slice's length, or all frames
-counted : (c : tie.After-num-frames) → let a = c .before .before .args in c .num-frames .result ≡ span (setupOf (a .samples) (a .settings))
-counted c = c .num-frames .ensures ∙ ap span (c .before .setup-of .ensures)
+counted : (c : tie.After-num-frames) → let a = c .before .before .args in c .num-frames .result ≡ sliceLength (setupOf (a .samples) (a .settings))
+counted c = c .num-frames .ensures ∙ ap sliceLength (c .before .setup-of .ensures)
 
 begun-with : (len : ℕ) (s : Settings) (n start : ℕ) (r : FrameRange)
-    → n ≡ span (setupOf len s) → start ≡ placed (s .«sample_rate») (s .«start_position») → r ≡ ranged (s .«sample_rate») n (s .«loop_region»)
+    → n ≡ sliceLength (setupOf len s) → start ≡ positionInFrames (s .«sample_rate») (s .«start_position») → r ≡ ranged (s .«sample_rate») n (s .«loop_region»)
     → begun n (s .reverse) r start ≡ transportOf (setupOf len s) s
 begun-with len s n start r e f g = rw (g, f, e)
 

@@ -3,7 +3,7 @@ use mathlib.Core.Path.{_≡_, refl, ap, _∙_}
 use Prim.Native.Nat.{ℕ}
 use borrow.Author.Needs.{needs}
 use Rattle.numbers.specs.Words.{finite}
-use Rattle.sound_state.specs.Voices.{span}
+use Rattle.sound_state.specs.Voices.{sliceLength}
 use Rattle.sound_state.specs.Refusals.{unless}
 use Rattle.sound_creation.specs.Creation.{allowed, setupOf, startable, refusedNew}
 use Rattle.sound_state.proofs.Refusals.{refused-here, passed-here}
@@ -12,20 +12,20 @@ use Rattle.sound_creation.proofs.refusal_of.Tie as tie
 
 -- N is the slice's length, or all frames
 counted : (c : tie.After-num-frames) → let a = c .before .before .before .before .before .before .before .before .args in
-    c .num-frames .result ≡ span (setupOf (a .samples) (a .settings))
-counted c = c .num-frames .ensures ∙ ap span (c .before .setup-of .ensures)
+    c .num-frames .result ≡ sliceLength (setupOf (a .samples) (a .settings))
+counted c = c .num-frames .ensures ∙ ap sliceLength (c .before .setup-of .ensures)
 
 start-told : (c : tie.After-is-start) → let a = c .before .before .before .before .before .before .before .before .before .args in
-    c .is-start .result ≡ startable (span (setupOf (a .samples) (a .settings))) (a .settings)
+    c .is-start .result ≡ startable (sliceLength (setupOf (a .samples) (a .settings))) (a .settings)
 start-told c =
     let a = c .before .before .before .before .before .before .before .before .before .args in
     c .is-start .ensures ∙ ap (λ (n : ℕ). startable n (a .settings)) (counted (c .before))
 
-loop-told : (c : tie.After-is-lawful2) → let a = c .before .before .before .before .before .before .before .before .before .before .before .args in
-    c .is-lawful2 .result ≡ allowed (a .settings .«sample_rate») (span (setupOf (a .samples) (a .settings))) (a .settings .«loop_region»)
+loop-told : (c : tie.After-is-well-formed2) → let a = c .before .before .before .before .before .before .before .before .before .before .before .args in
+    c .is-well-formed2 .result ≡ allowed (a .settings .«sample_rate») (sliceLength (setupOf (a .samples) (a .settings))) (a .settings .«loop_region»)
 loop-told c =
     let a = c .before .before .before .before .before .before .before .before .before .before .before .args in
-    c .is-lawful2 .ensures ∙ ap (λ (n : ℕ). allowed (a .settings .«sample_rate») n (a .settings .«loop_region»)) (counted (c .before .before .before))
+    c .is-well-formed2 .ensures ∙ ap (λ (n : ℕ). allowed (a .settings .«sample_rate») n (a .settings .«loop_region»)) (counted (c .before .before .before))
 
 is-sample-rate-requires : tie.Need-is-sample-rate-requires
 is-sample-rate-requires c κs = search needs
@@ -44,8 +44,8 @@ returns-2 c =
     passed-here _ _ _ _ _ (one .before .is-sample-rate .ensures) (one .if1 .left)
     (refused-here _ _ _ _ (c .before .is-sound .ensures) (c .if2 .taken))
 
-is-lawful-requires : tie.Need-is-lawful-requires
-is-lawful-requires c κs = search needs
+is-well-formed-requires : tie.Need-is-well-formed-requires
+is-well-formed-requires c κs = search needs
 
 returns-3 : tie.Need-returns-3
 unfolding refusedNew
@@ -54,7 +54,7 @@ returns-3 c =
     let one = two .before .before in
     passed-here _ _ _ _ _ (one .before .is-sample-rate .ensures) (one .if1 .left)
     (passed-here _ _ _ _ _ (two .before .is-sound .ensures) (two .if2 .left)
-    (refused-here _ _ _ _ (c .before .is-lawful .ensures) (c .if3 .taken)))
+    (refused-here _ _ _ _ (c .before .is-well-formed .ensures) (c .if3 .taken)))
 
 setup-of-requires : tie.Need-setup-of-requires
 setup-of-requires c κs = search needs
@@ -73,11 +73,11 @@ returns-4 c =
     let one = two .before .before in
     passed-here _ _ _ _ _ (one .before .is-sample-rate .ensures) (one .if1 .left)
     (passed-here _ _ _ _ _ (two .before .is-sound .ensures) (two .if2 .left)
-    (passed-here _ _ _ _ _ (three .before .is-lawful .ensures) (three .if3 .left)
+    (passed-here _ _ _ _ _ (three .before .is-well-formed .ensures) (three .if3 .left)
     (refused-here _ _ _ _ (start-told (c .before)) (c .if4 .taken))))
 
-is-lawful-requires-2 : tie.Need-is-lawful-requires-2
-is-lawful-requires-2 c κs = search needs
+is-well-formed-requires-2 : tie.Need-is-well-formed-requires-2
+is-well-formed-requires-2 c κs = search needs
 
 returns-5 : tie.Need-returns-5
 unfolding refusedNew
@@ -88,7 +88,7 @@ returns-5 c =
     let one = two .before .before in
     passed-here _ _ _ _ _ (one .before .is-sample-rate .ensures) (one .if1 .left)
     (passed-here _ _ _ _ _ (two .before .is-sound .ensures) (two .if2 .left)
-    (passed-here _ _ _ _ _ (three .before .is-lawful .ensures) (three .if3 .left)
+    (passed-here _ _ _ _ _ (three .before .is-well-formed .ensures) (three .if3 .left)
     (passed-here _ _ _ _ _ (start-told (four .before)) (four .if4 .left)
     (refused-here _ _ _ _ (loop-told (c .before)) (c .if5 .taken)))))
 
@@ -107,7 +107,7 @@ last-test c n h =
     let one = two .before .before in
     passed-here _ _ _ _ _ (one .before .is-sample-rate .ensures) (one .if1 .left)
     (passed-here _ _ _ _ _ (two .before .is-sound .ensures) (two .if2 .left)
-    (passed-here _ _ _ _ _ (three .before .is-lawful .ensures) (three .if3 .left)
+    (passed-here _ _ _ _ _ (three .before .is-well-formed .ensures) (three .if3 .left)
     (passed-here _ _ _ _ _ (start-told (four .before)) (four .if4 .left)
     (passed-here _ _ _ _ _ (loop-told (five .before)) (five .if5 .left) h))))
 
@@ -125,13 +125,13 @@ refusal-of-spec =
     returns
     is-sound-requires
     returns-2
-    is-lawful-requires
+    is-well-formed-requires
     returns-3
     setup-of-requires
     num-frames-requires
     is-start-requires
     returns-4
-    is-lawful-requires-2
+    is-well-formed-requires-2
     returns-5
     is-finite-requires
     returns-6

@@ -8,8 +8,8 @@ use lib.Seq.{length-take-le}
 use lib.Ieee.{Float}
 use denote.Ref.{now}
 use borrow.Author.Needs.{needs}
-use Rattle.sound_fast_reading.specs.Rides.{begun, Rideable, Rode}
-use Rattle.sound_fast_held.proofs.Parts.{take-replicate, within, long, most, wayOn, part, able-on, begins-on, rode-on}
+use Rattle.sound_fast_reading.specs.Scans.{begun, Scannable, Scanned}
+use Rattle.sound_fast_held.proofs.Parts.{take-replicate, within, long, most, wayOn, part, updatable-on, begins-on, scanned-on}
 use Rattle.sound_fast_held.proofs.few.Statement.{statement}
 use Rattle.sound_fast_held.proofs.few.Tie as tie
 
@@ -85,8 +85,8 @@ around-requires c κs =
     let a = st .args in
     let m = t .part-of .result in
     let e = sym (one-rate t) in (
-      subst (λ (l : List Float). Rideable (now (a .sound)) (wayOn (a .way) (a .from)) l) e (able-on (now (a .sound)) (a .way) (a .rate) (a .frames) (st .pre .0) (a .from) (now (a .out)) (st .pre .1) m (fits t)),
-      subst (λ (l : List Float). Rode (now (a .sound)) (wayOn (a .way) (a .from)) l (begun (wayOn (a .way) (a .from))) (part (now (a .sound)) (a .way) (a .rate) (a .frames) (st .pre .0) (a .from) (now (a .out)) (st .pre .1) m (fits t))) e (begins-on (now (a .sound)) (a .way) (a .rate) (a .frames) (st .pre .0) (a .from) (now (a .out)) (st .pre .1) m (fits t)),
+      subst (λ (l : List Float). Scannable (now (a .sound)) (wayOn (a .way) (a .from)) l) e (updatable-on (now (a .sound)) (a .way) (a .rate) (a .frames) (st .pre .0) (a .from) (now (a .out)) (st .pre .1) m (fits t)),
+      subst (λ (l : List Float). Scanned (now (a .sound)) (wayOn (a .way) (a .from)) l (begun (wayOn (a .way) (a .from))) (part (now (a .sound)) (a .way) (a .rate) (a .frames) (st .pre .0) (a .from) (now (a .out)) (st .pre .1) m (fits t))) e (begins-on (now (a .sound)) (a .way) (a .rate) (a .frames) (st .pre .0) (a .from) (now (a .out)) (st .pre .1) m (fits t)),
     )
 
 add-t14 : tie.Need-add-t14
@@ -104,8 +104,8 @@ returns c =
     let t = c .before .before .before .before .before .before .before .before .before .before .before in
     let st = start t in
     let a = st .args in
-    rode-on (now (a .sound)) (a .way) (a .rate) (a .frames) (st .pre .0) (a .from) (now (a .out)) (st .pre .1) (t .part-of .result) (fits t) (r .result) (r .last .1 .1 .1 .0)
-    (subst (λ (l : List Float). Rode (now (a .sound)) (wayOn (a .way) (a .from)) l (r .result) (r .last .1 .1 .1 .0)) (one-rate t) (r .ensures))
+    scanned-on (now (a .sound)) (a .way) (a .rate) (a .frames) (st .pre .0) (a .from) (now (a .out)) (st .pre .1) (t .part-of .result) (fits t) (r .result) (r .last .1 .1 .1 .0)
+    (subst (λ (l : List Float). Scanned (now (a .sound)) (wayOn (a .way) (a .from)) l (r .result) (r .last .1 .1 .1 .0)) (one-rate t) (r .ensures))
 
 pub few-spec : {M : Type 1} → statement M
 few-spec =

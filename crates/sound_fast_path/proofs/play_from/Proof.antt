@@ -89,7 +89,7 @@ play-requires : tie.Need-play-requires
 play-requires c κs =
     let st = c .before .before .before .before .before .before .before .before .before .before .before .before .before .before in
     let a = st .args in
-    playable-from (now (a .sound)) (a .rest .voice) (a .rest .dt) (five (now (a .fade)) (now (a .volume)) (now (a .left)) (now (a .right)) (now (a .rate))) (now (a .out)) (st .pre .0) (a .rest .next) (st .pre .1)
+    playable-from (now (a .sound)) (a .remaining .voice) (a .remaining .dt) (five (now (a .fade)) (now (a .volume)) (now (a .left)) (now (a .right)) (now (a .rate))) (now (a .out)) (st .pre .0) (a .remaining .next) (st .pre .1)
 
 same-length : tie.Need-same-length
 same-length c = search needs
@@ -99,7 +99,7 @@ returns c =
     let st = c .before .before .before .before .before .before .before .before .before .before .before .before .before .before .before .before .before in
     let a = st .args in
     let p = c .before .before .play in
-    played-from (now (a .sound)) (a .rest .voice) (a .rest .dt) (five (now (a .fade)) (now (a .volume)) (now (a .left)) (now (a .right)) (now (a .rate))) (now (a .out)) (st .pre .0) (a .rest .next) (p .result) _ (p .ensures)
+    played-from (now (a .sound)) (a .remaining .voice) (a .remaining .dt) (five (now (a .fade)) (now (a .volume)) (now (a .left)) (now (a .right)) (now (a .rate))) (now (a .out)) (st .pre .0) (a .remaining .next) (p .result) _ (p .ensures)
 
 pub play-from-spec : {M : Type 1} → statement M
 play-from-spec =

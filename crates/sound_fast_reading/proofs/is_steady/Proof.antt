@@ -9,7 +9,7 @@ use denote.Ref.{now}
 use borrow.Author.Needs.{needs}
 use Rattle.sound_fast_reading.specs.Moves.{number}
 use Rattle.sound_fast_reading.proofs.Moves.{same-more, same-list}
-use Rattle.sound_fast_reading.proofs.Rides.{all-at}
+use Rattle.sound_fast_reading.proofs.Scans.{all-at}
 use Rattle.sound_fast_reading.proofs.is_steady.Statement.{statement}
 use Rattle.sound_fast_reading.proofs.is_steady.Tie as tie
 

@@ -4,7 +4,7 @@ use native.Mathlib.Omega.{arith}
 use denote.Ref.{now}
 use borrow.Author.Needs.{needs}
 use Rattle.sound_lanes.specs.Lanes.{slow}
-use Rattle.sound_fast_reading.proofs.Rides.{all-at}
+use Rattle.sound_fast_reading.proofs.Scans.{all-at}
 use Rattle.sound_fast_straight.proofs.four_moves.Statement.{statement}
 use Rattle.sound_fast_straight.proofs.four_moves.Tie as tie
 

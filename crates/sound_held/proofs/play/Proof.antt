@@ -1,7 +1,7 @@
 -- `play`: lanes of one frame, which apply to every frame, are the numbers given once.
 use mathlib.Core.Path.{refl}
 use borrow.Author.Needs.{needs}
-use Rattle.sound_slow_path.specs.Turns.{spread}
+use Rattle.sound_slow_path.specs.FrameSteps.{spread}
 use Rattle.sound_held.proofs.play.Statement.{statement}
 use Rattle.sound_held.proofs.play.Tie as tie
 use Rattle.sound_held.proofs.play.Reads as reads

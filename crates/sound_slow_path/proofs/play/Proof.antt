@@ -6,7 +6,7 @@ use denote.Ref.{now}
 use borrow.Author.Needs.{needs}
 use Rattle.sound_lanes.specs.Lanes.{Lanes, five, rows}
 use Rattle.sound_slow_path.specs.Plays.{plays, acceptedAs}
-use Rattle.sound_slow_path.specs.Turns.{spread, Playable}
+use Rattle.sound_slow_path.specs.FrameSteps.{spread, Playable}
 use Rattle.sound_slow_path.proofs.Spread.{spread-same, alike, half-of}
 use Rattle.sound_slow_path.proofs.play.Statement.{statement}
 use Rattle.sound_slow_path.proofs.play.Tie as tie

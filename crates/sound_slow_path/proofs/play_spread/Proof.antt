@@ -10,16 +10,16 @@ use denote.Ref.{now}
 use borrow.Author.Needs.{needs}
 use Rattle.sound_lanes.specs.Lanes.{Lane, Lanes, five, rows, slow}
 use Rattle.sound_lanes.proofs.Rows.{sized-parts}
-use Rattle.sound_update.specs.declared.Course.{Course}
+use Rattle.sound_update.specs.declared.Slice.{Slice}
 use Rattle.sound_update.specs.declared.Moving.{Moving}
 use Rattle.sound_state.specs.declared.StaticSound.{StaticSound}
-use Rattle.sound_state.specs.Voices.{courseOf, moved}
-use Rattle.sound_state.specs.WellFormed.{Formed}
-use Rattle.sound_state.proofs.Formed.{able-of}
+use Rattle.sound_state.specs.Voices.{sliceOf, moved}
+use Rattle.sound_state.specs.WellFormed.{WellFormed}
+use Rattle.sound_state.proofs.WellFormed.{updatable-of}
 use Rattle.resampler.specs.declared.Reading.{Reading}
 use Rattle.resampler.specs.Windows.{reading}
 use Rattle.sound_slow_path.specs.Plays.{plays, lower}
-use Rattle.sound_slow_path.specs.Turns.{spread, turnOf, Turning}
+use Rattle.sound_slow_path.specs.FrameSteps.{spread, frameSteps, Steppable}
 use Rattle.sound_slow_path.proofs.Loops.{laneAt, framed, played, played-none, played-more, played-all, slow-at, turned-few, turned-on}
 use Rattle.sound_slow_path.proofs.Spread.{spread-at, spread-below}
 use Rattle.sound_slow_path.proofs.play_spread.Statement.{statement}
@@ -29,15 +29,15 @@ record Sofar (snd : List Float) (dt : Float) (b : Lanes) (v : StaticSound) (i : 
   within : i ≤ length (b .rate)
   few : steps ≤ 257 * i
   as-long : length out ≡ length out₀
-  formed : Formed (moved v f m)
+  wellFormed : WellFormed (moved v f m)
   so-far : plays snd dt (take i (rows b)) v ≡ played (moved v f m) (take (2 * i) out) steps low
 
 abbrev Inv-loop : tie.InvT-loop
-Inv-loop timed sound fade volume left right rate out₀ voice course frames moving₀ fractional-position₀ steps₀ lowest-count₀ i₀ out moving fractional-position steps lowest-count i =
+Inv-loop timed sound fade volume left right rate out₀ voice slice frames moving₀ fractional-position₀ steps₀ lowest-count₀ i₀ out moving fractional-position steps lowest-count i =
     Sofar sound (timed .dt) (spread (length out₀ / 2) (five fade volume left right rate)) (timed .voice) i out₀ out moving fractional-position steps lowest-count
 
 abbrev μ-loop : tie.MeasureT-loop
-μ-loop timed sound fade volume left right rate out₀ voice course frames moving₀ fractional-position₀ steps₀ lowest-count₀ i₀ out moving fractional-position steps lowest-count i =
+μ-loop timed sound fade volume left right rate out₀ voice slice frames moving₀ fractional-position₀ steps₀ lowest-count₀ i₀ out moving fractional-position steps lowest-count i =
     length out₀ / 2 - i
 
 -- ---- the places
@@ -56,10 +56,10 @@ abbrev lent : tie.At-loop Inv-loop μ-loop → Lanes
 lent c = spread (length (now (start c .args .out)) / 2) (given c)
 
 -- the turn of the loop that a frame's steps belong to
-abbrev after-turn : tie.After-turn Inv-loop μ-loop → tie.In-loop Inv-loop μ-loop
-after-turn c = c .before .before .before .before .before .before
+abbrev after-frame-steps : tie.After-frame-steps Inv-loop μ-loop → tie.In-loop Inv-loop μ-loop
+after-frame-steps c = c .before .before .before .before .before .before
 
-abbrev after-lane : tie.After-turn Inv-loop μ-loop → tie.After-lane-frame Inv-loop μ-loop
+abbrev after-lane : tie.After-frame-steps Inv-loop μ-loop → tie.After-lane-frame Inv-loop μ-loop
 after-lane c = c .before .before .before .before
 
 -- what a turn knows of its numbers
@@ -93,15 +93,15 @@ lane-there c = let l = c .before .before in spread-below (given (l .before)) _ (
 turning : (c : tie.After-lane-frame Inv-loop μ-loop)
     → let at = c .before .before .before in
     let a = start at .args in
-    Turning (now (a .sound)) (courseOf (voice at)) (voice at .setup .«sample_rate») (getD (now (a .rate)) (c .lane-frame .result) nan) (a .timed .dt) (at .loop .moving) (at .loop .fractional-position)
+    Steppable (now (a .sound)) (sliceOf (voice at)) (voice at .setup .«sample_rate») (getD (now (a .rate)) (c .lane-frame .result) nan) (a .timed .dt) (at .loop .moving) (at .loop .fractional-position)
 turning c =
     let at = c .before .before .before in
     let st = start at in
     let p = st .pre .1 in
     let v = voice at in
     record {
-      able = able-of (now (st .args .sound)) (moved v (at .loop .fractional-position) (at .loop .moving)) (at .loop .inv .formed) (p .lent);
-      below = at .loop .inv .formed .fraction;
+      updatable = updatable-of (now (st .args .sound)) (moved v (at .loop .fractional-position) (at .loop .moving)) (at .loop .inv .wellFormed) (p .lent);
+      below = at .loop .inv .wellFormed .fraction;
       timeStep = p .timeStep;
       slow =
           subst (λ (l : Lane). T (slow (v .setup .«sample_rate») (st .args .timed .dt) (l .rate))) (lane-is c)
@@ -109,37 +109,37 @@ turning c =
     }
 
 -- the steps are the definition's, at the rate that is read
-turn-here : (c : tie.After-turn Inv-loop μ-loop)
-    → let at = after-turn c .before in
+turn-here : (c : tie.After-frame-steps Inv-loop μ-loop)
+    → let at = after-frame-steps c .before in
     let a = start at .args in
-    c .turn .result
-    ≡ turnOf (now (a .sound)) (courseOf (voice at)) (voice at .setup .«sample_rate») (getD (now (a .rate)) (after-lane c .lane-frame .result) nan) (a .timed .dt) (at .loop .moving) (at .loop .fractional-position)
+    c .frame-steps .result
+    ≡ frameSteps (now (a .sound)) (sliceOf (voice at)) (voice at .setup .«sample_rate») (getD (now (a .rate)) (after-lane c .lane-frame .result) nan) (a .timed .dt) (at .loop .moving) (at .loop .fractional-position)
 turn-here c =
-    let at = after-turn c .before in
+    let at = after-frame-steps c .before in
     let a = start at .args in
-    c .turn .ensures
-    ∙ ap (λ (k : Course). turnOf (now (a .sound)) k (voice at .setup .«sample_rate») (getD (now (a .rate)) (after-lane c .lane-frame .result) nan) (a .timed .dt) (at .loop .moving) (at .loop .fractional-position))
-    (at .before .before .course .ensures)
+    c .frame-steps .ensures
+    ∙ ap (λ (k : Slice). frameSteps (now (a .sound)) k (voice at .setup .«sample_rate») (getD (now (a .rate)) (after-lane c .lane-frame .result) nan) (a .timed .dt) (at .loop .moving) (at .loop .fractional-position))
+    (at .before .before .slice .ensures)
 
 -- and at the frame's own rate
-turn-is : (c : tie.After-turn Inv-loop μ-loop)
-    → let at = after-turn c .before in
+turn-is : (c : tie.After-frame-steps Inv-loop μ-loop)
+    → let at = after-frame-steps c .before in
     let a = start at .args in
-    c .turn .result
-    ≡ turnOf (now (a .sound)) (courseOf (voice at)) (voice at .setup .«sample_rate») (laneAt (lent at) (at .loop .i) .rate) (a .timed .dt) (at .loop .moving) (at .loop .fractional-position)
+    c .frame-steps .result
+    ≡ frameSteps (now (a .sound)) (sliceOf (voice at)) (voice at .setup .«sample_rate») (laneAt (lent at) (at .loop .i) .rate) (a .timed .dt) (at .loop .moving) (at .loop .fractional-position)
 turn-is c =
-    let at = after-turn c .before in
+    let at = after-frame-steps c .before in
     let a = start at .args in
     turn-here c
-    ∙ ap (λ (l : Lane). turnOf (now (a .sound)) (courseOf (voice at)) (voice at .setup .«sample_rate») (l .rate) (a .timed .dt) (at .loop .moving) (at .loop .fractional-position)) (sym (lane-is (after-lane c)))
+    ∙ ap (λ (l : Lane). frameSteps (now (a .sound)) (sliceOf (voice at)) (voice at .setup .«sample_rate») (l .rate) (a .timed .dt) (at .loop .moving) (at .loop .fractional-position)) (sym (lane-is (after-lane c)))
 
-few : (c : tie.After-turn Inv-loop μ-loop) → c .turn .result .steps ≤ 257
-few c = turned-few _ _ _ _ _ _ _ (c .turn .result) (turning (after-lane c)) (turn-here c)
+few : (c : tie.After-frame-steps Inv-loop μ-loop) → c .frame-steps .result .steps ≤ 257
+few c = turned-few _ _ _ _ _ _ _ (c .frame-steps .result) (turning (after-lane c)) (turn-here c)
 
 -- ---- the needs
 
-course-requires : tie.Need-course-requires Inv-loop μ-loop
-course-requires c κs = search needs
+slice-requires : tie.Need-slice-requires Inv-loop μ-loop
+slice-requires c κs = search needs
 
 loop-holds : tie.Need-loop-holds Inv-loop μ-loop
 loop-holds c =
@@ -149,7 +149,7 @@ loop-holds c =
       within = omega arith;
       few = omega arith;
       as-long = refl;
-      formed = st .pre .1 .formed;
+      wellFormed = st .pre .1 .wellFormed;
       so-far =
           played-none (now (a .sound)) (a .timed .dt) (spread (length (now (a .out)) / 2) (five (now (a .fade)) (now (a .volume)) (now (a .left)) (now (a .right)) (now (a .rate)))) (a .timed .voice) (now (a .out));
     }
@@ -157,12 +157,12 @@ loop-holds c =
 lane-frame-requires : tie.Need-lane-frame-requires Inv-loop μ-loop
 lane-frame-requires c κs = search needs
 
-frame-heard-requires : tie.Need-frame-heard-requires Inv-loop μ-loop
-frame-heard-requires c κs =
+frame-with-gains-requires : tie.Need-frame-with-gains-requires Inv-loop μ-loop
+frame-with-gains-requires c κs =
     let l = c .before .before in
     let k = start (l .before) .pre .0 in
     let h = lane-there c in
-    (l .before .loop .inv .formed .fraction, (omega (arith, h, k .fade), (omega (arith, h, k .volume), (omega (arith, h, k .left), omega (arith, h, k .right)))))
+    (l .before .loop .inv .wellFormed .fraction, (omega (arith, h, k .fade), (omega (arith, h, k .volume), (omega (arith, h, k .left), omega (arith, h, k .right)))))
 
 mul-out : tie.Need-mul-out Inv-loop μ-loop
 mul-out c = omega (arith, numbers (c .before .before .before))
@@ -188,44 +188,44 @@ slice-write-out-2 c = simp length-set (omega (arith, numbers (c .before .before 
 lower-requires : tie.Need-lower-requires Inv-loop μ-loop
 lower-requires c κs = search needs
 
-mul-turn : tie.Need-mul-turn Inv-loop μ-loop
-mul-turn c = omega (arith, lane-there (c .before .before), start (c .before .before .before .before .before) .good)
+mul-frame-steps : tie.Need-mul-frame-steps Inv-loop μ-loop
+mul-frame-steps c = omega (arith, lane-there (c .before .before), start (c .before .before .before .before .before) .good)
 
-shared-slice-read-turn : tie.Need-shared-slice-read-turn Inv-loop μ-loop
-shared-slice-read-turn c = lane-there (c .before .before .before)
+shared-slice-read-frame-steps : tie.Need-shared-slice-read-frame-steps Inv-loop μ-loop
+shared-slice-read-frame-steps c = lane-there (c .before .before .before)
 
-turn-requires : tie.Need-turn-requires Inv-loop μ-loop
-turn-requires c κs =
+frame-steps-requires : tie.Need-frame-steps-requires Inv-loop μ-loop
+frame-steps-requires c κs =
     let l = c .before .before .before in
-    rw (l .before .before .before .before .before .course .ensures) (turning l)
+    rw (l .before .before .before .before .before .slice .ensures) (turning l)
 
 add-steps : tie.Need-add-steps Inv-loop μ-loop
-add-steps c = let t = c .before .before in omega (arith, numbers (after-turn t), few t)
+add-steps c = let t = c .before .before in omega (arith, numbers (after-frame-steps t), few t)
 
 add-i : tie.Need-add-i Inv-loop μ-loop
-add-i c = omega (arith, numbers (after-turn (c .before .before)))
+add-i c = omega (arith, numbers (after-frame-steps (c .before .before)))
 
 loop-less : tie.Need-loop-less Inv-loop μ-loop
-loop-less c = omega (arith, numbers (after-turn (c .before .before)))
+loop-less c = omega (arith, numbers (after-frame-steps (c .before .before)))
 
 loop-again : tie.Need-loop-again Inv-loop μ-loop
 unfolding reading
 loop-again c =
     let a = c .before .before in
-    let t = after-turn a in
+    let t = after-frame-steps a in
     let at = t .before in
     let st = start at in
     let n = numbers t in
     let w = few a in
-    let read = a .before .before .before .frame-heard in
+    let read = a .before .before .before .frame-with-gains in
     record {
       within = omega (arith, n);
       few = omega (arith, n, w);
       as-long = simp length-set (at .loop .inv .as-long);
-      formed = turned-on (now (st .args .sound)) (st .args .timed .dt) (voice at) _ (at .loop .moving) (at .loop .fractional-position) (a .turn .result) (at .loop .inv .formed) (turning (after-lane a)) (turn-here a);
+      wellFormed = turned-on (now (st .args .sound)) (st .args .timed .dt) (voice at) _ (at .loop .moving) (at .loop .fractional-position) (a .frame-steps .result) (at .loop .inv .wellFormed) (turning (after-lane a)) (turn-here a);
       so-far =
           played-more (now (st .args .sound)) (st .args .timed .dt) (lent at) (voice at) (at .loop .i) (at .loop .steps) (at .loop .lowest-count) (at .loop .out) (at .loop .moving) (at .loop .fractional-position)
-          (read .result .frame) (a .before .before .lower .result) (a .turn .result) (inside t) (omega (arith, n)) (at .loop .inv .so-far)
+          (read .result .frame) (a .before .before .lower .result) (a .frame-steps .result) (inside t) (omega (arith, n)) (at .loop .inv .so-far)
           (ap (λ (r : Reading). r .frame) (read .ensures) ∙ ap (λ (l : Lane). framed (at .loop .moving) (at .loop .fractional-position) l) (sym (lane-is (after-lane a)))) (a .before .before .lower .ensures ∙ ap (λ (r : Reading). lower (at .loop .lowest-count) (r .count)) (read .ensures)) (turn-is a);
     }
 
@@ -249,10 +249,10 @@ play-spread-spec =
     (tie.spec
     Inv-loop
     μ-loop
-    course-requires
+    slice-requires
     loop-holds
     lane-frame-requires
-    frame-heard-requires
+    frame-with-gains-requires
     mul-out
     mul-out-2
     slice-write-out
@@ -261,9 +261,9 @@ play-spread-spec =
     mul-out-4
     slice-write-out-2
     lower-requires
-    mul-turn
-    shared-slice-read-turn
-    turn-requires
+    mul-frame-steps
+    shared-slice-read-frame-steps
+    frame-steps-requires
     add-steps
     add-i
     loop-less

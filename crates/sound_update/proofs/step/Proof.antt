@@ -5,17 +5,17 @@ use borrow.Author.Needs.{needs}
 use Rattle.playback_position.proofs.Ranges.{within-ordered}
 use Rattle.transport.specs.declared.Transport.{Transport}
 use Rattle.transport.specs.Moves.{forward, backward}
-use Rattle.sound_update.specs.declared.Course.{Course}
+use Rattle.sound_update.specs.declared.Slice.{Slice}
 use Rattle.sound_update.specs.Updates.{stepped}
 use Rattle.sound_update.proofs.step.Statement.{statement}
 use Rattle.sound_update.proofs.step.Tie as tie
 
-stepped-by : (c : Course) (t : Transport) (b : Bool) → c .backwards ≡ b → cond b (backward t) (forward (c .«num_frames») t) ≡ stepped c t
+stepped-by : (c : Slice) (t : Transport) (b : Bool) → c .backwards ≡ b → cond b (backward t) (forward (c .«num_frames») t) ≡ stepped c t
 unfolding stepped
 stepped-by c t b e = ap (λ (b : Bool). cond b (backward t) (forward (c .«num_frames») t)) (sym e)
 
 decrement-position-requires : tie.Need-decrement-position-requires
-decrement-position-requires c κs = within-ordered (c .before .args .course .«num_frames») (c .before .args .transport .«loop_region») (c .before .pre .loop)
+decrement-position-requires c κs = within-ordered (c .before .args .slice .«num_frames») (c .before .args .transport .«loop_region») (c .before .pre .loop)
 
 increment-position-requires : tie.Need-increment-position-requires
 increment-position-requires c κs = search needs

@@ -4,7 +4,7 @@ use lib.Dec.{T}
 use mathlib.Core.Bool.{true}
 use denote.Ref.{now}
 use Rattle.sound_lanes.specs.Lanes.{five, sized, timeStep}
-use Rattle.sound_state.specs.WellFormed.{ours}
+use Rattle.sound_state.specs.WellFormed.{wellFormedFor}
 use Rattle.static_sound.proofs.Calls.{number-1, number-9, number-9-place, number-10, number-judged, fails, passes}
 use borrow.Author.Tests.{not-true, not-false}
 use borrow.Author.Needs.{needs}
@@ -22,8 +22,8 @@ use Rattle.sound_state.proofs.StaticSound.is_well_formed.Reads as is-well-forme
 abbrev start : tie.Else1 → tie.Start
 start c = c .before .before .before .before .before .before .before .before
 
-formed : (c : tie.Else1) → ours (start c .args .samples) (start c .args .timed .voice) ≡ true
-formed c = passes (c .before .is-well-formed .ensures) (c .if1 .left)
+wellFormed : (c : tie.Else1) → wellFormedFor (start c .args .samples) (start c .args .timed .voice) ≡ true
+wellFormed c = passes (c .before .is-well-formed .ensures) (c .if1 .left)
 
 lanes-sized : (c : tie.Else2) → (let a = start (c .before .before) .args in sized (five (now (a .fade)) (now (a .volume)) (now (a .left)) (now (a .right)) (now (a .rate))) ≡ true)
 lanes-sized c = passes (c .before .are-sized .ensures) (c .if2 .left)
@@ -41,16 +41,16 @@ are-sized-requires : tie.Need-are-sized-requires
 are-sized-requires c κs = search needs
 
 returns-2 : tie.Need-returns-2
-returns-2 c = number-9 _ _ _ _ _ (formed (c .before .before)) (fails (c .before .are-sized .ensures) (c .if2 .taken))
+returns-2 c = number-9 _ _ _ _ _ (wellFormed (c .before .before)) (fails (c .before .are-sized .ensures) (c .if2 .taken))
 
 returns-3 : tie.Need-returns-3
-returns-3 c = number-9-place _ _ _ _ _ (formed (c .before .before .before)) (lanes-sized (c .before)) (not-true _ (c .if3 .taken))
+returns-3 c = number-9-place _ _ _ _ _ (wellFormed (c .before .before .before)) (lanes-sized (c .before)) (not-true _ (c .if3 .taken))
 
 is-time-step-requires : tie.Need-is-time-step-requires
 is-time-step-requires c κs = search needs
 
 returns-4 : tie.Need-returns-4
-returns-4 c = let p = c .before .before in number-10 _ _ _ _ _ (formed (p .before .before .before)) (lanes-sized (p .before)) (not-false _ (p .if3 .left)) (fails (c .before .is-time-step .ensures) (c .if4 .taken))
+returns-4 c = let p = c .before .before in number-10 _ _ _ _ _ (wellFormed (p .before .before .before)) (lanes-sized (p .before)) (not-false _ (p .if3 .left)) (fails (c .before .is-time-step .ensures) (c .if4 .taken))
 
 judge-requires : tie.Need-judge-requires
 judge-requires c κs = let q = c in (subst T (sym (lanes-sized (q .before .before .before))) tt, subst T (sym (time-step-one q)) tt)
@@ -59,7 +59,7 @@ returns-5 : tie.Need-returns-5
 returns-5 c =
     let q = c .before in
     let p = q .before .before in
-    c .judge .ensures ∙ number-judged _ _ _ _ _ (formed (p .before .before .before)) (lanes-sized (p .before)) (not-false _ (p .if3 .left)) (time-step-one q)
+    c .judge .ensures ∙ number-judged _ _ _ _ _ (wellFormed (p .before .before .before)) (lanes-sized (p .before)) (not-false _ (p .if3 .left)) (time-step-one q)
 
 pub refusal-of-spec : {M : Type 1} → statement M
 refusal-of-spec =

@@ -22,7 +22,7 @@ module _ (snd : List Float) (t : LoopTable) (k : ℕ) (v : StaticSound) (f : Loo
   unfolding taken
   from = ap (takenFrom snd v) e
 
-  refused : (f .refusal ≡ 0 → ⊥) → _≡_ {A = Commanded} (record { refusal = f .refusal; sound = v; position = positiveZero }) (taken snd t k v)
+  refused : (f .refusal ≡ 0 → ⊥) → _≡_ {A = Commanded} (record { refusal = f .refusal; voice = v; position = positiveZero }) (taken snd t k v)
   refused n = (rw (ne-eqb (f .refusal) 0 n)) ∙ from
 
   set : (c : Commands) (r : Commanded) → f .refusal ≡ 0 → c ≡ loopCommand (f .slot) → r ≡ commanded snd v c → r ≡ taken snd t k v

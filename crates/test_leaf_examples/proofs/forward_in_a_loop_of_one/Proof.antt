@@ -1,20 +1,20 @@
 -- `test_leaf_examples::forward_in_a_loop_of_one` is safe and ends: 4 lies below 10 and the loop (4, 5) in 10 frames, which is what a step forward asks. Assumes nothing.
 use mathlib.Core.Path.{sym, subst}
 use lib.Dec.{lit<, lit≤}
-use Rattle.transport.specs.WellFormed.{FormedTransport}
+use Rattle.transport.specs.WellFormed.{WellFormedTransport}
 use Rattle.test_leaf_examples.specs.Places.{at}
 use borrow.Author.Needs.{needs}
 use Rattle.test_leaf_examples.proofs.forward_in_a_loop_of_one.Statement.{statement}
 use Rattle.test_leaf_examples.proofs.forward_in_a_loop_of_one.Tie as tie
 
-transportFormed : FormedTransport 10 (at 4 4 5)
-transportFormed = record { loop = tt; here = λ e. lit< tt; low = lit≤ tt }
+transportWellFormed : WellFormedTransport 10 (at 4 4 5)
+transportWellFormed = record { loop = tt; here = λ e. lit< tt; low = lit≤ tt }
 
 playing-at-requires : tie.Need-playing-at-requires
 playing-at-requires c κs = search needs
 
 increment-position-requires : tie.Need-increment-position-requires
-increment-position-requires c κs = subst (FormedTransport 10) (sym (c .playing-at .ensures)) transportFormed
+increment-position-requires c κs = subst (WellFormedTransport 10) (sym (c .playing-at .ensures)) transportWellFormed
 
 returns : tie.Need-returns
 returns c = search needs

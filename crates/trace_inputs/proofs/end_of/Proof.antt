@@ -5,23 +5,23 @@ use Rattle.trace_inputs.proofs.end_of.Statement.{statement}
 use Rattle.trace_inputs.proofs.end_of.Tie as tie
 use Rattle.trace_inputs.proofs.end_of.Reads as reads
 use Rattle.trace_inputs.proofs.end_of.Lts as lts
-use Rattle.trace_inputs.proofs.place_of.Reads as place-of-reads
+use Rattle.trace_inputs.proofs.position_of.Reads as position-of-reads
 
 returns : tie.Need-returns
 returns c = simp (lt-ltb _ _ (c .if1 .taken))
 
-place-of-requires : tie.Need-place-of-requires
-place-of-requires c κs = search needs
+position-of-requires : tie.Need-position-of-requires
+position-of-requires c κs = search needs
 
 returns-2 : tie.Need-returns-2
-returns-2 c = simp (le-ltb _ _ (c .before .before .if1 .left), lt-ltb _ _ (c .before .if2 .taken), c .place-of .ensures)
+returns-2 c = simp (le-ltb _ _ (c .before .before .if1 .left), lt-ltb _ _ (c .before .if2 .taken), c .position-of .ensures)
 
-place-of-requires-2 : tie.Need-place-of-requires-2
-place-of-requires-2 c κs = search needs
+position-of-requires-2 : tie.Need-position-of-requires-2
+position-of-requires-2 c κs = search needs
 
 returns-3 : tie.Need-returns-3
-returns-3 c = simp (le-ltb _ _ (c .before .before .if1 .left), le-ltb _ _ (c .before .if2 .left), c .place-of2 .ensures)
+returns-3 c = simp (le-ltb _ _ (c .before .before .if1 .left), le-ltb _ _ (c .before .if2 .left), c .position-of2 .ensures)
 
 pub end-of-spec : {M : Type 1} → statement M
 end-of-spec =
-    tie.close (tie.spec returns place-of-requires returns-2 place-of-requires-2 returns-3)
+    tie.close (tie.spec returns position-of-requires returns-2 position-of-requires-2 returns-3)

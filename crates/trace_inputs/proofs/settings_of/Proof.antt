@@ -7,7 +7,7 @@ use Rattle.trace_inputs.proofs.settings_of.Reads as reads
 use Rattle.trace_inputs.proofs.settings_of.Lts as lts
 use Rattle.trace_inputs.proofs.half_of.Reads as half-of-reads
 use Rattle.trace_inputs.proofs.optional_of.Reads as optional-of-reads
-use Rattle.trace_inputs.proofs.place_of.Reads as place-of-reads
+use Rattle.trace_inputs.proofs.position_of.Reads as position-of-reads
 use Rattle.trace_inputs.proofs.yes_of.Reads as yes-of-reads
 use Rattle.float_bits.proofs.f64_of.Reads as f64-of-reads
 
@@ -29,14 +29,14 @@ array-read-optional-of-3 c = search needs
 optional-of-requires : tie.Need-optional-of-requires
 optional-of-requires c κs = search needs
 
-array-read-place-of : tie.Need-array-read-place-of
-array-read-place-of c = search needs
+array-read-position-of : tie.Need-array-read-position-of
+array-read-position-of c = search needs
 
-array-read-place-of-2 : tie.Need-array-read-place-of-2
-array-read-place-of-2 c = search needs
+array-read-position-of-2 : tie.Need-array-read-position-of-2
+array-read-position-of-2 c = search needs
 
-place-of-requires : tie.Need-place-of-requires
-place-of-requires c κs = search needs
+position-of-requires : tie.Need-position-of-requires
+position-of-requires c κs = search needs
 
 array-read-optional-of-4 : tie.Need-array-read-optional-of-4
 array-read-optional-of-4 c = search needs
@@ -70,7 +70,7 @@ yes-of-requires-2 c κs = search needs
 
 returns : tie.Need-returns
 unfolding settingsOf
-returns c = rw (c .before .before .before .before .before .before .half-of .ensures, c .before .before .before .before .before .optional-of .ensures, c .before .before .before .before .place-of .ensures, c .before .before .before .optional-of2 .ensures, c .before .before .yes-of .ensures, c .before .f64-of .ensures, c .yes-of2 .ensures)
+returns c = rw (c .before .before .before .before .before .before .half-of .ensures, c .before .before .before .before .before .optional-of .ensures, c .before .before .before .before .position-of .ensures, c .before .before .before .optional-of2 .ensures, c .before .before .yes-of .ensures, c .before .f64-of .ensures, c .yes-of2 .ensures)
 
 pub settings-of-spec : {M : Type 1} → statement M
 settings-of-spec =
@@ -82,9 +82,9 @@ settings-of-spec =
     array-read-optional-of-2
     array-read-optional-of-3
     optional-of-requires
-    array-read-place-of
-    array-read-place-of-2
-    place-of-requires
+    array-read-position-of
+    array-read-position-of-2
+    position-of-requires
     array-read-optional-of-4
     array-read-optional-of-5
     array-read-optional-of-6

@@ -2,7 +2,7 @@
 use native.Mathlib.Omega.{arith}
 use denote.Ref.{now}
 use mathlib.Core.List.{[], _∷_, _++_}
-use Rattle.trace_lines.specs.Lines.{decimal, told, block·is, frames·are, steps·are, state·is, position·is, refused·by, at·is, blockLine, refusedBlockLine, refusedLine}
+use Rattle.trace_lines.specs.Lines.{decimal, labelled, block·is, frames·are, steps·are, state·is, position·is, refused·by, at·is, blockLine, refusedBlockLine, refusedLine}
 use Rattle.trace_lines.proofs.Digits.{then}
 use borrow.Author.Needs.{needs}
 use Rattle.trace_lines.proofs.put_refused_block.Statement.{statement}
@@ -10,19 +10,19 @@ use Rattle.trace_lines.proofs.put_refused_block.Tie as tie
 use Rattle.trace_lines.proofs.put_refused_block.Reads as reads
 use Rattle.trace_lines.proofs.put_refused_block.Lts as lts
 use Rattle.trace_lines.proofs.put.Reads as put-reads
-use Rattle.trace_lines.proofs.tell.Reads as tell-reads
+use Rattle.trace_lines.proofs.put_labelled.Reads as put-labelled-reads
 
-slice-aggregate-tell : tie.Need-slice-aggregate-tell
-slice-aggregate-tell c = search needs
+slice-aggregate-put-labelled : tie.Need-slice-aggregate-put-labelled
+slice-aggregate-put-labelled c = search needs
 
-tell-requires : tie.Need-tell-requires
-tell-requires c κs = search needs
+put-labelled-requires : tie.Need-put-labelled-requires
+put-labelled-requires c κs = search needs
 
-slice-aggregate-tell-2 : tie.Need-slice-aggregate-tell-2
-slice-aggregate-tell-2 c = search needs
+slice-aggregate-put-labelled-2 : tie.Need-slice-aggregate-put-labelled-2
+slice-aggregate-put-labelled-2 c = search needs
 
-tell-requires-2 : tie.Need-tell-requires-2
-tell-requires-2 c κs = search needs
+put-labelled-requires-2 : tie.Need-put-labelled-requires-2
+put-labelled-requires-2 c κs = search needs
 
 slice-aggregate-put : tie.Need-slice-aggregate-put
 slice-aggregate-put c = search needs
@@ -40,20 +40,20 @@ returns c =
     let b = p .before .before .before .before .before in
     let f = b .before .before .before .before .before in
     let a = f .before .before .before .before .args in
-    let x = told (block·is) (a .number) in
-    let y = told (32 ∷ refused·by) (a .refusal) in
-    let t = then (f .tell .last .0) (b .tell2 .last .0) (p .put .last .0) y (10 ∷ []) (f .tell .result) (b .tell2 .result) (p .put .result) (b .tell2 .ensures .0) (b .tell2 .ensures .1) (p .put .ensures .0) (p .put .ensures .1) in
-    let s = then (now (a .line)) (f .tell .last .0) (p .put .last .0) x (y ++ (10 ∷ [])) 0 (f .tell .result) (p .put .result) (f .tell .ensures .0) (f .tell .ensures .1) (t .0) (t .1) in
-    (s .0, omega (arith, s .1), omega (arith, f .tell .ensures .2, b .tell2 .ensures .2, p .put .ensures .1))
+    let x = labelled (block·is) (a .number) in
+    let y = labelled (32 ∷ refused·by) (a .refusal) in
+    let t = then (f .put-labelled .last .0) (b .put-labelled2 .last .0) (p .put .last .0) y (10 ∷ []) (f .put-labelled .result) (b .put-labelled2 .result) (p .put .result) (b .put-labelled2 .ensures .0) (b .put-labelled2 .ensures .1) (p .put .ensures .0) (p .put .ensures .1) in
+    let s = then (now (a .line)) (f .put-labelled .last .0) (p .put .last .0) x (y ++ (10 ∷ [])) 0 (f .put-labelled .result) (p .put .result) (f .put-labelled .ensures .0) (f .put-labelled .ensures .1) (t .0) (t .1) in
+    (s .0, omega (arith, s .1), omega (arith, f .put-labelled .ensures .2, b .put-labelled2 .ensures .2, p .put .ensures .1))
 
 pub put-refused-block-spec : {M : Type 1} → statement M
 put-refused-block-spec =
     tie.close
     (tie.spec
-    slice-aggregate-tell
-    tell-requires
-    slice-aggregate-tell-2
-    tell-requires-2
+    slice-aggregate-put-labelled
+    put-labelled-requires
+    slice-aggregate-put-labelled-2
+    put-labelled-requires-2
     slice-aggregate-put
     put-requires
     same-length

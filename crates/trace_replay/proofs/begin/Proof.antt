@@ -6,7 +6,7 @@ use denote.Ref.{now}
 use mathlib.Core.List.{[]}
 use Rattle.trace_inputs.specs.Inputs.{samplesOf, settingsOf, commandsOf, blockOf}
 use Rattle.trace_replay.proofs.Parts.{prefix, inside, part-long}
-use Rattle.trace_replay.proofs.Courses.{course, few-samples, few-frames, creation-course, command-course, block-course, block-line}
+use Rattle.trace_replay.proofs.Replays.{replay, few-samples, few-frames, creation-replay, command-replay, block-replay, block-line}
 use borrow.Author.Needs.{needs}
 use Rattle.trace_replay.proofs.begin.Statement.{statement}
 use Rattle.trace_replay.proofs.begin.Tie as tie
@@ -18,7 +18,7 @@ blank-requires : tie.Need-blank-requires
 blank-requires c κs = search needs
 
 returns : tie.Need-returns
-returns c = (ap (λ v. course v [] 0) (c .blank .ensures), refl)
+returns c = (ap (λ v. replay v [] 0) (c .blank .ensures), refl)
 
 pub begin-spec : {M : Type 1} → statement M
 begin-spec = tie.close (tie.spec blank-requires returns)

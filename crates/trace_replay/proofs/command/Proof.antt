@@ -6,7 +6,7 @@ use denote.Ref.{now}
 use lib.ListN.{length, take}
 use Rattle.trace_inputs.specs.Inputs.{samplesOf, settingsOf, commandsOf, blockOf}
 use Rattle.trace_replay.proofs.Parts.{prefix, inside, part-long}
-use Rattle.trace_replay.proofs.Courses.{course, few-samples, few-frames, creation-course, command-course, block-course, block-line}
+use Rattle.trace_replay.proofs.Replays.{replay, few-samples, few-frames, creation-replay, command-replay, block-replay, block-line}
 use borrow.Author.Needs.{needs}
 use Rattle.trace_replay.proofs.command.Statement.{statement}
 use Rattle.trace_replay.proofs.command.Tie as tie
@@ -29,7 +29,7 @@ returns c =
     let w = c .before in
     let s = w .before in
     let a = s .before .before .before .before .args in
-    (command-course (w .on-start-processing .result) (take (a .run .samples) (now (a .sound))) (a .run .voice) (s .commands-of .result) (commandsOf (a .values)) (a .run .blocks) (w .on-start-processing .ensures) (s .commands-of .ensures), s .before .before .before .before .pre)
+    (command-replay (w .on-start-processing .result) (take (a .run .samples) (now (a .sound))) (a .run .voice) (s .commands-of .result) (commandsOf (a .values)) (a .run .blocks) (w .on-start-processing .ensures) (s .commands-of .ensures), s .before .before .before .before .pre)
 
 pub command-spec : {M : Type 1} → statement M
 command-spec =

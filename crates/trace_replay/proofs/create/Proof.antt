@@ -7,7 +7,7 @@ use denote.Ref.{now}
 use lib.ListN.{length, take}
 use Rattle.trace_inputs.specs.Inputs.{samplesOf, settingsOf, commandsOf, blockOf}
 use Rattle.trace_replay.proofs.Parts.{prefix, inside, part-long}
-use Rattle.trace_replay.proofs.Courses.{course, few-samples, few-frames, creation-course, command-course, block-course, block-line}
+use Rattle.trace_replay.proofs.Replays.{replay, few-samples, few-frames, creation-replay, command-replay, block-replay, block-line}
 use borrow.Author.Needs.{needs}
 use Rattle.trace_replay.proofs.create.Statement.{statement}
 use Rattle.trace_replay.proofs.create.Tie as tie
@@ -52,7 +52,7 @@ returns c =
     let a = ps .before .before .before .args in
     let h = inside (now (a .sound)) (ps .put-samples .last .1 .0) (samplesOf (a .values)) (ps .put-samples .result) (ps .put-samples .ensures .0) (ps .put-samples .ensures .1) (few-samples (a .values) (long ps)) (ps .before .before .before .pre) in
     let e = ps .put-samples .ensures in (
-      creation-course (n .new .result) (take (ps .put-samples .result) (ps .put-samples .last .1 .0)) (samplesOf (a .values)) (s .settings-of .result) (settingsOf (a .values)) (a .run .blocks) (n .new .ensures)
+      creation-replay (n .new .result) (take (ps .put-samples .result) (ps .put-samples .last .1 .0)) (samplesOf (a .values)) (s .settings-of .result) (settingsOf (a .values)) (a .run .blocks) (n .new .ensures)
           (prefix (now (a .sound)) (ps .put-samples .last .1 .0) (samplesOf (a .values)) (ps .put-samples .result) (e .0) (e .1) (omega (arith, few-samples (a .values) (long ps), ps .before .before .before .pre))) (s .settings-of .ensures),
       h,
     )

@@ -6,7 +6,7 @@ use denote.Ref.{now}
 use lib.ListN.{length, take}
 use Rattle.trace_inputs.specs.Inputs.{samplesOf, settingsOf, commandsOf, blockOf}
 use Rattle.trace_replay.proofs.Parts.{prefix, inside, part-long}
-use Rattle.trace_replay.proofs.Courses.{course, few-samples, few-frames, creation-course, command-course, block-course, block-line}
+use Rattle.trace_replay.proofs.Replays.{replay, few-samples, few-frames, creation-replay, command-replay, block-replay, block-line}
 use borrow.Author.Needs.{needs}
 use Rattle.trace_replay.proofs.play.Statement.{statement}
 use Rattle.trace_replay.proofs.play.Tie as tie
@@ -44,7 +44,7 @@ returns c =
     let s = b .before .before .before .before in
     let a = s .args in
     let x = take (a .run .samples) (now (a .sound)) in (
-      block-course x (a .run .voice) (a .values) (b .block-of .result) (w .answer .result) (m .more-of .result) (a .run .blocks) (b .block-of .ensures) (w .answer .ensures) (m .more-of .ensures),
+      block-replay x (a .run .voice) (a .values) (b .block-of .result) (w .answer .result) (m .more-of .result) (a .run .blocks) (b .block-of .ensures) (w .answer .ensures) (m .more-of .ensures),
       block-line x (a .run .voice) (a .values) (b .block-of .result) (w .answer .result) (m .more-of .result) (a .run .blocks) (b .block-of .ensures) (w .answer .ensures) (m .more-of .ensures) _ (p .put-line .ensures .0),
       s .pre .0,
       p .put-line .ensures .1,

@@ -35,7 +35,7 @@ returns c =
     let a = t .before .before .before .args in
     let e = q .put-block .ensures in
     let g = t .before .before .before .pre in
-    (line-played (a .number) (a .frames) (a .processed) (n .number .result) _ (t .if1 .taken) (n .number .ensures) (prefix (now (a .line)) (q .put-block .last .0) _ (q .put-block .result) (e .0) (e .1) (omega (arith, e .1, e .2, g))), fits (now (a .line)) (q .put-block .last .0) (blockLine (a .number) (a .frames) (a .processed .steps) (n .number .result) (a .processed .sound .moving .transport .position)) (q .put-block .result) (e .0) (e .2) g)
+    (line-played (a .number) (a .frames) (a .processed) (n .number .result) _ (t .if1 .taken) (n .number .ensures) (prefix (now (a .line)) (q .put-block .last .0) _ (q .put-block .result) (e .0) (e .1) (omega (arith, e .1, e .2, g))), fits (now (a .line)) (q .put-block .last .0) (blockLine (a .number) (a .frames) (a .processed .steps) (n .number .result) (a .processed .voice .moving .transport .position)) (q .put-block .result) (e .0) (e .2) g)
 
 cast-put-refused-block : tie.Need-cast-put-refused-block
 cast-put-refused-block c = search needs

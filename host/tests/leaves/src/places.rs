@@ -18,7 +18,7 @@ pub fn into_frames(region: Region, sample_rate: u32, num_frames: usize) -> Optio
     range_of(range)
 }
 
-/// `Region::is_lawful`.
+/// `Region::is_well_formed`.
 #[must_use]
 pub fn is_lawful(region: Region, sample_rate: u32, num_frames: usize) -> bool {
     calls::cableowl_test_is_lawful(plain_region(region), sample_rate, num_frames as u64) != 0

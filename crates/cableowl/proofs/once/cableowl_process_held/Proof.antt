@@ -3,7 +3,7 @@ use denote.Ref.{now}
 use Prim.Native.Nat.{_/_}
 use lib.ListN.{length}
 use Rattle.sound_lanes.specs.Lanes.{Lanes}
-use Rattle.sound_held.specs.Held.{once}
+use Rattle.sound_held.specs.Held.{heldLanes}
 use Rattle.cableowl.proofs.Answers.{block-few, block-is}
 use borrow.Author.Needs.{needs}
 use Rattle.cableowl.proofs.once.cableowl_process_held.Statement.{statement}
@@ -15,7 +15,7 @@ start c = c .before .before .before .before .before
 abbrev lent : tie.Start → Lanes
 lent c =
     let a = c .args in
-    once (record { fade = a .fade; volume = a .volume; left = a .left; right = a .right; rate = a .rate }) (length (now (a .out)) / 2)
+    heldLanes (record { fade = a .fade; volume = a .volume; left = a .left; right = a .right; rate = a .rate }) (length (now (a .out)) / 2)
 
 decode-requires : tie.Need-decode-requires
 decode-requires c κs = search needs

@@ -1,7 +1,7 @@
 -- `cableowl_process_held_into` meets its contract: the block between records of numbers.
 use denote.Ref.{now}
 use Rattle.sound_lanes.specs.Lanes.{Lanes}
-use Rattle.sound_held.specs.Held.{once}
+use Rattle.sound_held.specs.Held.{heldLanes}
 use Rattle.cableowl.proofs.Answers.{mix-few, mix-is}
 use borrow.Author.Needs.{needs}
 use Rattle.cableowl.proofs.once.cableowl_process_held_into.Statement.{statement}
@@ -13,7 +13,7 @@ start c = c .before .before .before .before .before
 abbrev lent : tie.Start → Lanes
 lent c =
     let a = c .args in
-    once (record { fade = a .fade; volume = a .volume; left = a .left; right = a .right; rate = a .rate }) (a .frames)
+    heldLanes (record { fade = a .fade; volume = a .volume; left = a .left; right = a .right; rate = a .rate }) (a .frames)
 
 decode-requires : tie.Need-decode-requires
 decode-requires c κs = search needs

@@ -50,8 +50,8 @@ returns-3 c =
 read-requires : tie.Need-read-requires
 read-requires c κs = search needs
 
-turn-requires : tie.Need-turn-requires
-turn-requires c κs =
+play-record-requires : tie.Need-play-record-requires
+play-record-requires c κs =
     let e = c .before .before .before .before .before .before in
     let k = e .before in
     let a = start k .args in
@@ -72,7 +72,7 @@ returns-4 c =
     let e = n .before in
     let k = e .before in
     let a = start k .args in
-    step-played (a .replay) (now (a .bytes)) (a .ended) (now (a .sound)) (now (a .out)) _ (k .refusal-of .ensures) (d .read .result) (e .if1 .left) (n .if2 .left) (d .read .ensures) _ (t .if4 .taken) (p .turn .ensures)
+    step-played (a .replay) (now (a .bytes)) (a .ended) (now (a .sound)) (now (a .out)) _ (k .refusal-of .ensures) (d .read .result) (e .if1 .left) (n .if2 .left) (d .read .ensures) _ (t .if4 .taken) (p .play-record .ensures)
 
 not-played-requires-4 : tie.Need-not-played-requires-4
 not-played-requires-4 c κs = search needs
@@ -114,7 +114,7 @@ cableowl-replay-step-spec =
     not-played-requires-3
     returns-3
     read-requires
-    turn-requires
+    play-record-requires
     same-length
     same-length-2
     returns-4

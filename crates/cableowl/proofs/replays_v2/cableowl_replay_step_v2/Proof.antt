@@ -68,8 +68,8 @@ returns-4 c =
     let a = start k .args in
     step-lacking (a .replay) (now (a .bytes)) (a .ended) (now (a .sound)) (now (a .given)) (a .sounds) (now (a .out)) _ (k .refusal-v2 .ensures) (d .read .result) (e .if1 .left) (n .if2 .left) (d .read .ensures) _ _ (t .if4 .taken) (l .lacking-of .ensures) (x .if5 .taken) (c .not-played4 .ensures)
 
-turn-v2-requires : tie.Need-turn-v2-requires
-turn-v2-requires c κs =
+play-record-v2-requires : tie.Need-play-record-v2-requires
+play-record-v2-requires c κs =
     let x = c .before .before in
     let l = x .before in
     let t = l .before in
@@ -98,7 +98,7 @@ returns-5 c =
     let e = n .before in
     let k = e .before in
     let a = start k .args in
-    step-played-v2 (a .replay) (now (a .bytes)) (a .ended) (now (a .sound)) (now (a .given)) (a .sounds) (now (a .out)) _ (k .refusal-v2 .ensures) (d .read .result) (e .if1 .left) (n .if2 .left) (d .read .ensures) _ _ (t .if4 .taken) (l .lacking-of .ensures) (x .if5 .left) (p .turn-v2 .ensures)
+    step-played-v2 (a .replay) (now (a .bytes)) (a .ended) (now (a .sound)) (now (a .given)) (a .sounds) (now (a .out)) _ (k .refusal-v2 .ensures) (d .read .result) (e .if1 .left) (n .if2 .left) (d .read .ensures) _ _ (t .if4 .taken) (l .lacking-of .ensures) (x .if5 .left) (p .play-record-v2 .ensures)
 
 not-played-requires-5 : tie.Need-not-played-requires-5
 not-played-requires-5 c κs = search needs
@@ -143,7 +143,7 @@ cableowl-replay-step-v2-spec =
     lacking-of-requires
     not-played-requires-4
     returns-4
-    turn-v2-requires
+    play-record-v2-requires
     same-length
     same-length-2
     returns-5

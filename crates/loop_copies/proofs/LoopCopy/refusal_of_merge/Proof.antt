@@ -3,23 +3,23 @@ use mathlib.Core.Path.{_≡_, sym, _∙_}
 use mathlib.Core.Bool.{true, false}
 use borrow.Author.Needs.{needs}
 use borrow.Author.Tests.{eq-eqb, ne-eqb, not-true, not-false}
-use Rattle.loop_table.specs.Tables.{lawfulTable}
+use Rattle.loop_table.specs.Tables.{wellFormedTable}
 use Rattle.loop_table.specs.declared.Hall.the-variants as hall
 use Rattle.loop_copies.specs.Copies.{agrees, refusedMerge}
 use Rattle.loop_copies.proofs.LoopCopy.refusal_of_merge.Statement.{statement}
 use Rattle.loop_copies.proofs.LoopCopy.refusal_of_merge.Tie as tie
 
-ours-not : (c : tie.Then1) → lawfulTable (c .before .before .before .before .args .self .table) ≡ false
-ours-not c = sym (c .before .is-lawful .ensures) ∙ not-true _ (c .if1 .taken)
+ours-not : (c : tie.Then1) → wellFormedTable (c .before .before .before .before .args .self .table) ≡ false
+ours-not c = sym (c .before .is-well-formed .ensures) ∙ not-true _ (c .if1 .taken)
 
-ours-so : (c : tie.Else1) → lawfulTable (c .before .before .before .before .args .self .table) ≡ true
-ours-so c = sym (c .before .is-lawful .ensures) ∙ not-false _ (c .if1 .left)
+ours-so : (c : tie.Else1) → wellFormedTable (c .before .before .before .before .args .self .table) ≡ true
+ours-so c = sym (c .before .is-well-formed .ensures) ∙ not-false _ (c .if1 .left)
 
-theirs-not : (c : tie.Then2) → lawfulTable (c .before .before .before .before .before .before .args .theirs .table) ≡ false
-theirs-not c = sym (c .before .is-lawful2 .ensures) ∙ not-true _ (c .if2 .taken)
+theirs-not : (c : tie.Then2) → wellFormedTable (c .before .before .before .before .before .before .args .theirs .table) ≡ false
+theirs-not c = sym (c .before .is-well-formed2 .ensures) ∙ not-true _ (c .if2 .taken)
 
-theirs-so : (c : tie.Else2) → lawfulTable (c .before .before .before .before .before .before .args .theirs .table) ≡ true
-theirs-so c = sym (c .before .is-lawful2 .ensures) ∙ not-false _ (c .if2 .left)
+theirs-so : (c : tie.Else2) → wellFormedTable (c .before .before .before .before .before .before .args .theirs .table) ≡ true
+theirs-so c = sym (c .before .is-well-formed2 .ensures) ∙ not-false _ (c .if2 .left)
 
 a-not : (c : tie.Then4) → let a = c .before .before .before .before .before .before .before .before .before .before .before .args in agrees hall.A (a .self) (a .theirs) ≡ false
 a-not c = sym (c .before .agrees .ensures) ∙ not-true _ (c .if4 .taken)
@@ -33,15 +33,15 @@ b-not c = sym (c .before .agrees2 .ensures) ∙ not-true _ (c .if5 .taken)
 b-so : (c : tie.Else5) → let a = c .before .before .before .before .before .before .before .before .before .before .before .before .before .args in agrees hall.B (a .self) (a .theirs) ≡ true
 b-so c = sym (c .before .agrees2 .ensures) ∙ not-false _ (c .if5 .left)
 
-is-lawful-requires : tie.Need-is-lawful-requires
-is-lawful-requires c κs = search needs
+is-well-formed-requires : tie.Need-is-well-formed-requires
+is-well-formed-requires c κs = search needs
 
 returns : tie.Need-returns
 unfolding refusedMerge
 returns c = rw (ours-not c)
 
-is-lawful-requires-2 : tie.Need-is-lawful-requires-2
-is-lawful-requires-2 c κs = search needs
+is-well-formed-requires-2 : tie.Need-is-well-formed-requires-2
+is-well-formed-requires-2 c κs = search needs
 
 returns-2 : tie.Need-returns-2
 unfolding refusedMerge
@@ -81,9 +81,9 @@ pub refusal-of-merge-spec : {M : Type 1} → statement M
 refusal-of-merge-spec =
     tie.close
     (tie.spec
-    is-lawful-requires
+    is-well-formed-requires
     returns
-    is-lawful-requires-2
+    is-well-formed-requires-2
     returns-2
     returns-3
     agrees-requires

@@ -1,6 +1,6 @@
--- `playback_position::EndPosition::into_samples` meets its contract: each arm is a case of `ended`.
+-- `playback_position::EndPosition::into_samples` meets its contract: each arm is a case of `endInFrames`.
 -- Assumes nothing.
-use Rattle.playback_position.specs.Positions.{ended}
+use Rattle.playback_position.specs.Positions.{endInFrames}
 use borrow.Author.Needs.{needs}
 use Rattle.playback_position.proofs.EndPosition.into_samples.Statement.{statement}
 use Rattle.playback_position.proofs.EndPosition.into_samples.Tie as tie
@@ -15,11 +15,11 @@ into-samples-requires : tie.Need-into-samples-requires
 into-samples-requires c κs = search needs
 
 returns : tie.Need-returns
-unfolding ended
+unfolding endInFrames
 returns c = search needs
 
 returns-2 : tie.Need-returns-2
-unfolding ended
+unfolding endInFrames
 returns-2 c = simp (c .before .before .self .given .1) (c .into-samples .ensures)
 
 pub into-samples-spec : {M : Type 1} → statement M

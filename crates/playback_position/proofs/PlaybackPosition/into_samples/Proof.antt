@@ -1,6 +1,6 @@
--- `playback_position::PlaybackPosition::into_samples` meets its contract: each arm is a case of `placed`.
+-- `playback_position::PlaybackPosition::into_samples` meets its contract: each arm is a case of `positionInFrames`.
 -- Assumes nothing.
-use Rattle.playback_position.specs.Positions.{placed}
+use Rattle.playback_position.specs.Positions.{positionInFrames}
 use borrow.Author.Needs.{needs}
 use Rattle.playback_position.proofs.PlaybackPosition.into_samples.Statement.{statement}
 use Rattle.playback_position.proofs.PlaybackPosition.into_samples.Tie as tie
@@ -18,11 +18,11 @@ enum-known-self-2 : tie.Need-enum-known-self-2
 enum-known-self-2 c = search needs
 
 returns : tie.Need-returns
-unfolding placed
+unfolding positionInFrames
 returns c = simp (c .before .before .before .self .given .1) (c .round-half-away .ensures)
 
 returns-2 : tie.Need-returns-2
-unfolding placed
+unfolding positionInFrames
 returns-2 c = search needs
 
 pub into-samples-spec : {M : Type 1} → statement M

@@ -2,7 +2,7 @@
 -- Assumes nothing.
 use mathlib.Core.Path.{ap₂}
 use Rattle.playback_position.specs.declared.FrameRange.the-variants.{Frames}
-use Rattle.playback_position.specs.Positions.{stretched}
+use Rattle.playback_position.specs.Positions.{regionInFrames}
 use borrow.Author.Needs.{needs}
 use Rattle.playback_position.proofs.Region.into_frames.Statement.{statement}
 use Rattle.playback_position.proofs.Region.into_frames.Tie as tie
@@ -14,7 +14,7 @@ into-samples-requires-2 : tie.Need-into-samples-requires-2
 into-samples-requires-2 c κs = search needs
 
 returns : tie.Need-returns
-unfolding stretched
+unfolding regionInFrames
 returns c = ap₂ Frames (c .before .into-samples .ensures) (c .into-samples2 .ensures)
 
 pub into-frames-spec : {M : Type 1} → statement M

@@ -1,4 +1,4 @@
--- `play_held` rides where the window is the trail, and plays the rest, if any, frame by frame.
+-- `play_held` scans where the window is the contiguous window, and plays the rest, if any, frame by frame.
 use Prim.Native.Nat.{ℕ, _+_, _-_, _*_, _/_, _^_, _≤_, _<_}
 use mathlib.Core.Path.{_≡_, sym, ap, _∙_, subst}
 use native.Mathlib.Omega.{arith}
@@ -7,17 +7,17 @@ use denote.Ref.{now}
 use Rattle.sound_lanes.specs.Lanes.{Lanes}
 use Rattle.sound_update.specs.declared.Wraps.{Wraps}
 use Rattle.sound_state.specs.declared.StaticSound.{StaticSound}
-use Rattle.sound_state.specs.Voices.{courseOf, moved}
-use Rattle.sound_state.specs.WellFormed.{Formed}
+use Rattle.sound_state.specs.Voices.{sliceOf, moved}
+use Rattle.sound_state.specs.WellFormed.{WellFormed}
 use Rattle.sound_track.specs.Tracks.{trackOf}
-use Rattle.sound_track.specs.Trails.{Lies, trailOf, Trailing}
+use Rattle.sound_track.specs.Contiguous.{InsideSound, contiguousOf, Contiguous}
 use Rattle.sound_track.proofs.Same.{not-false}
 use Rattle.sound_gains.proofs.Gained.{gained-fewer}
-use Rattle.sound_held.specs.Held.{once}
-use Rattle.sound_slow_path.specs.Turns.{Playable}
-use Rattle.sound_fast_path.specs.Rides.{Tracked, riddenTo, playedFrom}
-use Rattle.sound_fast_path.proofs.Rides.{position-on, Heard, heard-of, rideable, ride-begins}
-use Rattle.sound_fast_path.proofs.Joins.{lies-of, from-few, from-long, ridden-on, ridden-whole}
+use Rattle.sound_held.specs.Held.{heldLanes}
+use Rattle.sound_slow_path.specs.FrameSteps.{Playable}
+use Rattle.sound_fast_path.specs.Scans.{Tracked, scannedTo, playedFrom}
+use Rattle.sound_fast_path.proofs.Scans.{position-on, Heard, heard-of, scannable, scan-begins}
+use Rattle.sound_fast_path.proofs.Joins.{lies-of, from-few, from-long, reached-on, reached-whole}
 use Rattle.sound_fast_path.proofs.After.{most}
 use borrow.Author.Needs.{needs}
 use Rattle.sound_fast_path.proofs.held.play_held.Statement.{statement}
@@ -28,86 +28,86 @@ use Rattle.sound_fast_path.proofs.held.play_held.Tie as tie
 abbrev start : tie.After-track-of → tie.Start
 start c = c .before .before .before .before .before .before .before
 
-abbrev trail : tie.After-once → tie.Else1
-trail c = c .before .before .before .before .before .before .before .before
+abbrev contiguous : tie.After-once → tie.Else1
+contiguous c = c .before .before .before .before .before .before .before .before
 
 abbrev track : tie.After-once → tie.After-track-of
-track c = trail c .before .before
+track c = contiguous c .before .before
 
-abbrev ridden : tie.After-once → tie.After-ride-held
-ridden c = c .before .before .before .before
+abbrev reached : tie.After-once → tie.After-scan-held
+reached c = c .before .before .before .before
 
-abbrev gains : tie.After-trail-at → tie.After-once
+abbrev gains : tie.After-contiguous-at → tie.After-once
 gains c = c .before .before .before .before
 
 abbrev frames : tie.After-track-of → ℕ
 frames c = length (now (start c .args .out)) / 2
 
 abbrev lent : tie.After-track-of → Lanes
-lent c = once (start c .args .held) (frames c)
+lent c = heldLanes (start c .args .held) (frames c)
 
 -- ---- the track
 
 -- the track is the voice's
-track-is : (c : tie.After-track-of) → (let v = start c .args .timed .voice in c .track-of .result ≡ trackOf (v .moving .transport .«loop_region») (courseOf v))
-track-is c = let v = start c .args .timed .voice in c .track-of .ensures ∙ ap (trackOf (v .moving .transport .«loop_region»)) (c .before .before .before .course .ensures)
+track-is : (c : tie.After-track-of) → (let v = start c .args .timed .voice in c .track-of .result ≡ trackOf (v .moving .transport .«loop_region») (sliceOf v))
+track-is c = let v = start c .args .timed .voice in c .track-of .ensures ∙ ap (trackOf (v .moving .transport .«loop_region»)) (c .before .before .before .slice .ensures)
 
 tracked : (c : tie.After-track-of) → Tracked (now (start c .args .sound)) (start c .args .timed .voice) (c .track-of .result)
 tracked c =
     let st = start c in
     let v = st .args .timed .voice in
-    record { is = track-is c; lies = subst (Lies (now (st .args .sound))) (sym (track-is c)) (lies-of (now (st .args .sound)) v (st .pre .formed) (st .pre .lent)) }
+    record { is = track-is c; lies = subst (InsideSound (now (st .args .sound))) (sym (track-is c)) (lies-of (now (st .args .sound)) v (st .pre .wellFormed) (st .pre .lent)) }
 
--- the window is the voice's trail
-trailing : (c : tie.Else1) → Trailing (now (start (c .before .before) .args .sound)) (c .before .before .track-of .result) (start (c .before .before) .args .timed .voice .moving)
-trailing c = c .before .is-trail .ensures .1 (not-false _ (c .if1 .left))
+-- the window is the voice's contiguous window
+contiguous : (c : tie.Else1) → Contiguous (now (start (c .before .before) .args .sound)) (c .before .before .track-of .result) (start (c .before .before) .args .timed .voice .moving)
+contiguous c = c .before .is-contiguous .ensures .1 (not-false _ (c .if1 .left))
 
 few-frames : (c : tie.After-track-of) → frames c ≤ 4096
 few-frames c = let a = start c .args in most (now (a .sound)) (a .timed .voice) (a .timed .dt) (a .held) (frames c) (now (a .out)) (start c .pre)
 
--- ---- the ride
+-- ---- the scan
 
-inside : (c : tie.After-once) → ridden c .ride-held .result .next ≤ frames (track c)
-inside c = subst (λ (n : ℕ). ridden c .ride-held .result .next ≤ n) (length-replicate (frames (track c)) (start (track c) .args .held .rate)) (ridden c .ride-held .ensures .within)
+inside : (c : tie.After-once) → reached c .scan-held .result .next ≤ frames (track c)
+inside c = subst (λ (n : ℕ). reached c .scan-held .result .next ≤ n) (length-replicate (frames (track c)) (start (track c) .args .held .rate)) (reached c .scan-held .ensures .within)
 
 -- what is heard once the gains are in
 heard : (c : tie.After-once)
     → (let t = track c in
     let a = start t .args in
-    Heard (now (a .sound)) (a .timed .dt) (lent t) (a .timed .voice) (t .track-of .result) (ridden c .ride-held .result) (c .once .last .1 .1 .0))
+    Heard (now (a .sound)) (a .timed .dt) (lent t) (a .timed .voice) (t .track-of .result) (reached c .scan-held .result) (c .once .last .1 .1 .0))
 heard c =
     let t = track c in
     let st = start t in
     let a = st .args in
     let x = a .held in
-    let r = ridden c .ride-held in
-    heard-of (now (a .sound)) (a .timed .dt) (lent t) (a .timed .voice) (t .track-of .result) (tracked t) (trailing (trail c)) (st .pre) (r .result) (r .last .1 .1 .1 .1 .0) (c .once .last .1 .1 .0) (r .ensures)
+    let r = reached c .scan-held in
+    heard-of (now (a .sound)) (a .timed .dt) (lent t) (a .timed .voice) (t .track-of .result) (tracked t) (contiguous (contiguous c)) (st .pre) (r .result) (r .last .1 .1 .1 .1 .0) (c .once .last .1 .1 .0) (r .ensures)
     (c .once .ensures ∙ gained-fewer (x .fade) (x .volume) (x .left) (x .right) (r .result .next) (frames t) (r .last .1 .1 .1 .1 .0) (inside c))
 
--- the voice after the ride
-abbrev passed : tie.After-trail-at → StaticSound
-passed c = moved (start (track (gains c)) .args .timed .voice) (ridden (gains c) .ride-held .result .«fractional_position») (c .trail-at .result)
+-- the voice after the scan
+abbrev passed : tie.After-contiguous-at → StaticSound
+passed c = moved (start (track (gains c)) .args .timed .voice) (reached (gains c) .scan-held .result .«fractional_position») (c .contiguous-at .result)
 
-passed-is : (c : tie.After-trail-at)
+passed-is : (c : tie.After-contiguous-at)
     → (let t = track (gains c) in
     let v = start t .args .timed .voice in
-    let r = ridden (gains c) .ride-held .result in
-    moved v (r .«fractional_position») (c .trail-at .result) ≡ moved v (r .«fractional_position») (riddenTo (now (start t .args .sound)) (t .track-of .result) v (r .steps) (r .at)))
+    let r = reached (gains c) .scan-held .result in
+    moved v (r .«fractional_position») (c .contiguous-at .result) ≡ moved v (r .«fractional_position») (scannedTo (now (start t .args .sound)) (t .track-of .result) v (r .steps) (r .at)))
 passed-is c =
     let t = track (gains c) in
     let v = start t .args .timed .voice in
-    let r = ridden (gains c) .ride-held .result in
-    ap (moved v (r .«fractional_position»)) (c .trail-at .ensures ∙ ap (λ (w : Wraps). trailOf (now (start t .args .sound)) (t .track-of .result) (v .moving) w (r .at)) (c .before .wraps-after .ensures))
+    let r = reached (gains c) .scan-held .result in
+    ap (moved v (r .«fractional_position»)) (c .contiguous-at .ensures ∙ ap (λ (w : Wraps). contiguousOf (now (start t .args .sound)) (t .track-of .result) (v .moving) w (r .at)) (c .before .wraps-after .ensures))
 
-passed-plays : (c : tie.After-trail-at) (m : ℕ) → m ≡ 2 * length (lent (track (gains c)) .rate)
+passed-plays : (c : tie.After-contiguous-at) (m : ℕ) → m ≡ 2 * length (lent (track (gains c)) .rate)
     → (let t = track (gains c) in
     let v = start t .args .timed .voice in
-    let r = ridden (gains c) .ride-held .result in
-    Playable (now (start t .args .sound)) (moved v (r .«fractional_position») (c .trail-at .result)) (start t .args .timed .dt) (lent t) m)
+    let r = reached (gains c) .scan-held .result in
+    Playable (now (start t .args .sound)) (moved v (r .«fractional_position») (c .contiguous-at .result)) (start t .args .timed .dt) (lent t) m)
 passed-plays c m eq =
     let st = start (track (gains c)) in
     record {
-      formed = subst Formed (sym (passed-is c)) (heard (gains c) .formed);
+      wellFormed = subst WellFormed (sym (passed-is c)) (heard (gains c) .wellFormed);
       lent = st .pre .lent;
       sized = st .pre .sized;
       long = eq;
@@ -134,14 +134,14 @@ as-many o m n e f = omega arith
 
 -- ---- the needs
 
-course-requires : tie.Need-course-requires
-course-requires c κs = search needs
+slice-requires : tie.Need-slice-requires
+slice-requires c κs = search needs
 
 track-of-requires : tie.Need-track-of-requires
 track-of-requires c κs = search needs
 
-is-trail-requires : tie.Need-is-trail-requires
-is-trail-requires c κs = (tracked c .lies, (start c) .pre .formed .window .four)
+is-contiguous-requires : tie.Need-is-contiguous-requires
+is-contiguous-requires c κs = (tracked c .lies, (start c) .pre .wellFormed .window .four)
 
 play-requires : tie.Need-play-requires
 play-requires c κs = search needs
@@ -155,13 +155,13 @@ returns c = search needs
 element-copy-out-first : tie.Need-element-copy-out-first
 element-copy-out-first c = search needs
 
-ride-held-requires : tie.Need-ride-held-requires
-ride-held-requires c κs =
+scan-held-requires : tie.Need-scan-held-requires
+scan-held-requires c κs =
     let t = c .before .before .before .before .before in
     let st = start t in
     let a = st .args in
-    let e = trailing (c .before .before .before) in
-    (rideable (now (a .sound)) (a .timed .dt) (lent t) (a .timed .voice) (t .track-of .result) (tracked t) e (st .pre), ride-begins (now (a .sound)) (a .timed .dt) (lent t) (a .timed .voice) (t .track-of .result) (tracked t) e (st .pre) (now (a .out)) (st .pre .long))
+    let e = contiguous (c .before .before .before) in
+    (scannable (now (a .sound)) (a .timed .dt) (lent t) (a .timed .voice) (t .track-of .result) (tracked t) e (st .pre), scan-begins (now (a .sound)) (a .timed .dt) (lent t) (a .timed .voice) (t .track-of .result) (tracked t) e (st .pre) (now (a .out)) (st .pre .long))
 
 once-requires : tie.Need-once-requires
 once-requires c κs =
@@ -169,17 +169,17 @@ once-requires c κs =
     let t = c .before .before .before .before .before .before .before .before .before in
     let x = start t .args .held in
     let e = length-replicate (frames t) (x .rate) in
-    let w = subst (λ (n : ℕ). r .ride-held .result .next ≤ n) e (r .ride-held .ensures .within) in
-    (twice-in _ _ _ _ w (r .ride-held .ensures .asLong) e, at-most _ _ w (few-frames t))
+    let w = subst (λ (n : ℕ). r .scan-held .result .next ≤ n) e (r .scan-held .ensures .within) in
+    (twice-in _ _ _ _ w (r .scan-held .ensures .asLong) e, at-most _ _ w (few-frames t))
 
 wraps-after-requires : tie.Need-wraps-after-requires
 wraps-after-requires c κs =
     let o = c .before .before in
-    let r = ridden o .ride-held .ensures in
-    (position-on _ _ _ (trailing (trail o)), few-steps _ _ _ (r .few) (inside o) (few-frames (track o)))
+    let r = reached o .scan-held .ensures in
+    (position-on _ _ _ (contiguous (contiguous o)), few-steps _ _ _ (r .few) (inside o) (few-frames (track o)))
 
-trail-at-requires : tie.Need-trail-at-requires
-trail-at-requires c κs = let o = c .before .before .before in (tracked (track o) .lies, ridden o .ride-held .ensures .on)
+contiguous-at-requires : tie.Need-contiguous-at-requires
+contiguous-at-requires c κs = let o = c .before .before .before in (tracked (track o) .lies, reached o .scan-held .ensures .on)
 
 same-length-2 : tie.Need-same-length-2
 same-length-2 c = let o = gains (c .before .before .before) in heard o .asLong ∙ sym (start (track o) .pre .long)
@@ -190,7 +190,7 @@ returns-2 c =
     let o = gains p in
     let t = track o in
     let a = start t .args in
-    ridden-whole (now (a .sound)) (a .timed .dt) (lent t) (a .timed .voice) _ (t .track-of .result) (ridden o .ride-held .result) (o .once .last .1 .1 .0) (passed-plays p _ (heard o .asLong)) (heard o) (passed-is p)
+    reached-whole (now (a .sound)) (a .timed .dt) (lent t) (a .timed .voice) _ (t .track-of .result) (reached o .scan-held .result) (o .once .last .1 .1 .0) (passed-plays p _ (heard o .asLong)) (heard o) (passed-is p)
     (c .if2 .taken ∙ sym (length-replicate (frames t) (a .held .rate)))
 
 play-rest-requires : tie.Need-play-rest-requires
@@ -200,7 +200,7 @@ play-rest-requires c κs =
     let t = track o in
     let a = start t .args in
     let e = as-many _ _ _ (heard o .asLong) (length-replicate (frames t) (a .held .rate)) in
-    (subst (λ (n : ℕ). Playable (now (a .sound)) (passed p) (a .timed .dt) (once (a .held) n) (length (o .once .last .1 .1 .0))) (sym e) (passed-plays p _ (heard o .asLong)), subst (λ (n : ℕ). ridden o .ride-held .result .next ≤ n) (sym e) (inside o))
+    (subst (λ (n : ℕ). Playable (now (a .sound)) (passed p) (a .timed .dt) (heldLanes (a .held) n) (length (o .once .last .1 .1 .0))) (sym e) (passed-plays p _ (heard o .asLong)), subst (λ (n : ℕ). reached o .scan-held .result .next ≤ n) (sym e) (inside o))
 
 add-steps : tie.Need-add-steps
 add-steps c =
@@ -211,8 +211,8 @@ add-steps c =
     let a = start t .args in
     let h = heard o in
     let e = as-many _ _ _ (h .asLong) (length-replicate (frames t) (a .held .rate)) in
-    let rest = q .ensures ∙ ap (λ (n : ℕ). playedFrom (now (a .sound)) (a .timed .dt) (once (a .held) n) (ridden o .ride-held .result .next) (passed p) (o .once .last .1 .1 .0)) e in
-    let f = from-few (now (a .sound)) _ (a .timed .dt) (lent t) (o .once .last .1 .1 .0) (passed-plays p _ (h .asLong)) (ridden o .ride-held .result .next) (q .result) _ rest in
+    let rest = q .ensures ∙ ap (λ (n : ℕ). playedFrom (now (a .sound)) (a .timed .dt) (heldLanes (a .held) n) (reached o .scan-held .result .next) (passed p) (o .once .last .1 .1 .0)) e in
+    let f = from-few (now (a .sound)) _ (a .timed .dt) (lent t) (o .once .last .1 .1 .0) (passed-plays p _ (h .asLong)) (reached o .scan-held .result .next) (q .result) _ rest in
     record { fits = sum-fits _ _ _ _ _ (h .few) f (inside o) (length-replicate (frames t) (a .held .rate)) (few-frames t) }
 
 same-length-3 : tie.Need-same-length-3
@@ -224,8 +224,8 @@ same-length-3 c =
     let a = start t .args in
     let h = heard o in
     let e = as-many _ _ _ (h .asLong) (length-replicate (frames t) (a .held .rate)) in
-    let rest = q .ensures ∙ ap (λ (n : ℕ). playedFrom (now (a .sound)) (a .timed .dt) (once (a .held) n) (ridden o .ride-held .result .next) (passed p) (o .once .last .1 .1 .0)) e in
-    from-long (now (a .sound)) _ (a .timed .dt) (lent t) (o .once .last .1 .1 .0) (passed-plays p _ (h .asLong)) (ridden o .ride-held .result .next) (q .result) _ (h .within) rest ∙ (h .asLong ∙ sym (start t .pre .long))
+    let rest = q .ensures ∙ ap (λ (n : ℕ). playedFrom (now (a .sound)) (a .timed .dt) (heldLanes (a .held) n) (reached o .scan-held .result .next) (passed p) (o .once .last .1 .1 .0)) e in
+    from-long (now (a .sound)) _ (a .timed .dt) (lent t) (o .once .last .1 .1 .0) (passed-plays p _ (h .asLong)) (reached o .scan-held .result .next) (q .result) _ (h .within) rest ∙ (h .asLong ∙ sym (start t .pre .long))
 
 returns-3 : tie.Need-returns-3
 returns-3 c =
@@ -236,24 +236,24 @@ returns-3 c =
     let a = start t .args in
     let h = heard o in
     let e = as-many _ _ _ (h .asLong) (length-replicate (frames t) (a .held .rate)) in
-    let rest = q .ensures ∙ ap (λ (n : ℕ). playedFrom (now (a .sound)) (a .timed .dt) (once (a .held) n) (ridden o .ride-held .result .next) (passed p) (o .once .last .1 .1 .0)) e in
-    ridden-on (now (a .sound)) (a .timed .dt) (lent t) (a .timed .voice) _ (t .track-of .result) (ridden o .ride-held .result) (q .result) (o .once .last .1 .1 .0) _ h (passed-is p) rest
+    let rest = q .ensures ∙ ap (λ (n : ℕ). playedFrom (now (a .sound)) (a .timed .dt) (heldLanes (a .held) n) (reached o .scan-held .result .next) (passed p) (o .once .last .1 .1 .0)) e in
+    reached-on (now (a .sound)) (a .timed .dt) (lent t) (a .timed .voice) _ (t .track-of .result) (reached o .scan-held .result) (q .result) (o .once .last .1 .1 .0) _ h (passed-is p) rest
 
 pub play-held-spec : {M : Type 1} → statement M
 play-held-spec =
     tie.close
     (tie.spec
-    course-requires
+    slice-requires
     track-of-requires
-    is-trail-requires
+    is-contiguous-requires
     play-requires
     same-length
     returns
     element-copy-out-first
-    ride-held-requires
+    scan-held-requires
     once-requires
     wraps-after-requires
-    trail-at-requires
+    contiguous-at-requires
     same-length-2
     returns-2
     play-rest-requires

@@ -1,4 +1,4 @@
--- `held_back` reads four frames a turn at consecutive places, all of one advance. The invariant: the ride so far, and room for the window.
+-- `held_back` reads four frames a turn at consecutive places, all of one advance. The invariant: the scan so far, and room for the window.
 use Prim.Native.Nat.{ℕ, _+_, _-_, _*_, _^_, _≤_, _<_}
 use mathlib.Core.Path.{_≡_, refl, sym, ap, _∙_, subst}
 use mathlib.Core.List.{List}
@@ -8,19 +8,19 @@ use lib.Ieee.{Float}
 use denote.Ref.{now}
 use borrow.Author.Needs.{needs}
 use Rattle.sound_fast_reading.specs.declared.Way.{Way}
-use Rattle.sound_fast_reading.specs.declared.Ridden.{Ridden}
-use Rattle.sound_fast_reading.specs.Rides.{Rideable, Rode}
+use Rattle.sound_fast_reading.specs.declared.Reached.{Reached}
+use Rattle.sound_fast_reading.specs.Scans.{Scannable, Scanned}
 use Rattle.numbers.specs.Words.{advance}
 use Rattle.sound_lanes.specs.Lanes.{slow}
 use Rattle.sound_fast_reading.proofs.Moves.{slow-advance}
-use Rattle.sound_fast_reading.proofs.Rides.{place, rode-more, all-at, stored-at, stored-length}
+use Rattle.sound_fast_reading.proofs.Scans.{place, scanned-more, all-at, stored-at, stored-length}
 use Rattle.sound_fast_straight.proofs.Straight.{back-four, held-move}
 use Rattle.sound_fast_straight.proofs.backward.held_back.Statement.{statement}
 use Rattle.sound_fast_straight.proofs.backward.held_back.Tie as tie
 
--- the ride so far, and room for the window's four frames
-record Going (snd : List Float) (way : Way) (rates : List Float) (from : Ridden) (out : List Float) (p : ℕ) (f : Float) (i : ℕ) : Type 0 where
-  rode : Rode snd way rates (place (p + 3 - way .track .start) f (from .steps + (way .track .start + from .at - 3 - p)) i) out
+-- the scan so far, and room for the window's four frames
+record Going (snd : List Float) (way : Way) (rates : List Float) (from : Reached) (out : List Float) (p : ℕ) (f : Float) (i : ℕ) : Type 0 where
+  scanned : Scanned snd way rates (place (p + 3 - way .track .start) f (from .steps + (way .track .start + from .at - 3 - p)) i) out
   here : p ≤ way .track .start + from .at - 3
   over : way .track .start + way .track .low < p
   below : from .at < way .track .count
@@ -44,7 +44,7 @@ most : (st : tie.Start Inv-loop μ-loop) → st .args .frames ≤ 4096
 most st = subst (λ (n : ℕ). n ≤ 4096) (length-replicate (st .args .frames) (st .args .rate)) (st .pre .0 .most)
 
 long : (c : tie.At-loop Inv-loop μ-loop) → length (c .loop .out) ≡ 2 * begin c .args .frames
-long c = let a = begin c .args in c .loop .inv .rode .asLong ∙ ap (λ (n : ℕ). 2 * n) (length-replicate (a .frames) (a .rate))
+long c = let a = begin c .args in c .loop .inv .scanned .asLong ∙ ap (λ (n : ℕ). 2 * n) (length-replicate (a .frames) (a .rate))
 
 -- the advance of every frame
 abbrev called : tie.At-loop Inv-loop μ-loop → tie.After-advance-of Inv-loop μ-loop
@@ -73,7 +73,7 @@ numbers c =
     let st = begin c in
     let y = st .pre .0 .lies in
     let v = c .loop .inv in
-    record { over = v .over; inside = lowly _ _ _ (y .some) (y .inside); lent = y .lent; small = y .short; here = v .here; below = v .below; within = subst (λ (n : ℕ). c .loop .i ≤ n) (length-replicate (st .args .frames) (st .args .rate)) (v .rode .within); most = most st; few = v .rode .few }
+    record { over = v .over; inside = lowly _ _ _ (y .some) (y .inside); lent = y .lent; small = y .short; here = v .here; below = v .below; within = subst (λ (n : ℕ). c .loop .i ≤ n) (length-replicate (st .args .frames) (st .args .rate)) (v .scanned .within); most = most st; few = v .scanned .few }
 
 deep2 : (s k l q : ℕ) → 2 * (s + k) ≤ l → l ≤ 33554432 → q < k → s + q < 2 ^ 64
 deep2 s k l q a b c = omega arith
@@ -138,13 +138,13 @@ on p a z h = omega arith
 further : (t z p s l a b c d : ℕ) → p ≤ z → s + l + (a + b + c + d) < p → t + (z - (p - (a + b + c + d))) ≡ t + (z - p) + (a + b + c + d)
 further t z p s l a b c d h e = omega arith
 
--- where the ride begins
-begun : (snd : List Float) (way : Way) (rates : List Float) (from : Ridden) (out : List Float) → Rode snd way rates from out → way .track .low + 4 ≤ from .at → from .at < way .track .count
+-- where the scan begins
+begun : (snd : List Float) (way : Way) (rates : List Float) (from : Reached) (out : List Float) → Scanned snd way rates from out → way .track .low + 4 ≤ from .at → from .at < way .track .count
     → Going snd way rates from out (way .track .start + from .at - 3) (from .«fractional_position») (from .next)
 begun snd way rates from out h l k =
     record {
-      rode = subst (λ (q : ℕ). Rode snd way rates (place q (from .«fractional_position») (from .steps + (way .track .start + from .at - 3 - (way .track .start + from .at - 3))) (from .next)) out) (back (way .track .start) (way .track .low) (from .at) l)
-          (subst (λ (s : ℕ). Rode snd way rates (place (from .at) (from .«fractional_position») s (from .next)) out) (none (from .steps) (way .track .start + from .at - 3)) h);
+      scanned = subst (λ (q : ℕ). Scanned snd way rates (place q (from .«fractional_position») (from .steps + (way .track .start + from .at - 3 - (way .track .start + from .at - 3))) (from .next)) out) (back (way .track .start) (way .track .low) (from .at) l)
+          (subst (λ (s : ℕ). Scanned snd way rates (place (from .at) (from .«fractional_position») s (from .next)) out) (none (from .steps) (way .track .start + from .at - 3)) h);
       here = le (way .track .start + from .at - 3);
       over = room (way .track .start) (way .track .low) (from .at) l;
       below = k;
@@ -199,7 +199,7 @@ add-loop : tie.Need-add-loop Inv-loop μ-loop
 add-loop c = omega (arith, numbers c)
 
 four-held-requires : tie.Need-four-held-requires Inv-loop μ-loop
-four-held-requires c κs = let st = begin (c .before) in ((c .before) .loop .inv .rode .below, slow-advance _ _ _ _ (made (c .before)) (st .pre .0 .timeStep) (st .pre .1 .1 .1))
+four-held-requires c κs = let st = begin (c .before) in ((c .before) .loop .inv .scanned .below, slow-advance _ _ _ _ (made (c .before)) (st .pre .0 .timeStep) (st .pre .1 .1 .1))
 
 add-n2 : tie.Need-add-n2 Inv-loop μ-loop
 add-n2 c = omega (arith, (c .before) .four-held .ensures .0 .few, (c .before) .four-held .ensures .1 .0 .few)
@@ -226,13 +226,13 @@ add-t30 : tie.Need-add-t30 Inv-loop μ-loop
 add-t30 c = omega (arith, numbers (c .before .before .before .before .before .before .before .before))
 
 same-length : tie.Need-same-length Inv-loop μ-loop
-same-length c = (c .before .before .before .before .before .before .before .before) .loop .inv .rode .asLong ∙ sym ((c .before .before .before .before .before .before .before .before .before .before .before .before .before .before .before .before .before) .pre .1 .0 .asLong)
+same-length c = (c .before .before .before .before .before .before .before .before) .loop .inv .scanned .asLong ∙ sym ((c .before .before .before .before .before .before .before .before .before .before .before .before .before .before .before .before .before) .pre .1 .0 .asLong)
 
 returns-2 : tie.Need-returns-2 Inv-loop μ-loop
-returns-2 c = (c .before .before .before .before .before .before .before .before) .loop .inv .rode
+returns-2 c = (c .before .before .before .before .before .before .before .before) .loop .inv .scanned
 
 read-back-requires : tie.Need-read-back-requires Inv-loop μ-loop
-read-back-requires c κs = (reads0 _ _ _ _ _ (numbers (c .before .before .before .before .before .before)), (c .before .before .before .before .before .before) .loop .inv .rode .below)
+read-back-requires c κs = (reads0 _ _ _ _ _ (numbers (c .before .before .before .before .before .before)), (c .before .before .before .before .before .before) .loop .inv .scanned .below)
 
 sub-read-back : tie.Need-sub-read-back Inv-loop μ-loop
 sub-read-back c = lower1 _ _ _ _ _ _ ((c .before) .if2 .left)
@@ -300,8 +300,8 @@ loop-again c =
     let a = (c .before .before .before .before .before .before .before .before .before .before .before .before .before .before .before .before .before .before .before .before .before .before .before .before .before .before .before .before .before .before .before .before .before .before .before) .args in
     let m = (c .before .before .before .before .before .before .before .before .before .before .before .before .before .before .before .before .before .before .before .before .before .before .before .before) .four-held in
     record {
-      rode = back-four (now (a .sound)) (a .way) (replicate (a .frames) (a .rate)) ((c .before .before .before .before .before .before .before .before .before .before .before .before .before .before .before .before .before .before .before .before .before .before .before .before .before .before .before .before .before .before .before .before .before .before .before) .pre .0) ((c .before .before .before .before .before .before .before .before .before .before .before .before .before .before .before .before .before .before .before .before .before .before .before .before .before .before .before .before .before .before .before .before .before .before .before) .pre .1 .1 .0) (at .loop .i) (a .from .steps + (a .way .track .start + a .from .at - 3 - at .loop .p)) (at .loop .p) (at .loop .fractional-position) (at .loop .out) (m .result) ((c .before .before .before .before .before .before .before .before .before .before .before .before .before .before .before .before .before .before .before) .read-back .result) ((c .before .before .before .before .before .before .before .before .before .before .before .before .before .before .before .before .before .before) .read-back2 .result) ((c .before .before .before .before .before .before .before .before .before .before .before .before .before .before .before .before .before) .read-back3 .result) ((c .before .before .before .before .before .before .before .before .before .before .before .before .before .before .before .before) .read-back4 .result) (m .result .first .steps) (m .result .first .steps + m .result .second .steps) (m .result .first .steps + m .result .second .steps + m .result .third .steps) (m .result .first .steps + m .result .second .steps + m .result .third .steps + m .result .fourth .steps) _ _ ((c .before .before .before .before .before .before .before .before .before .before .before .before .before .before) .store .last .0) ((c .before .before .before .before .before .before .before .before .before .before) .store2 .last .0) ((c .before .before .before .before .before .before) .store3 .last .0) ((c .before .before) .store4 .last .0)
-          (at .loop .inv .rode) (counted (a .frames) (a .rate) ((c .before .before .before .before .before .before .before .before .before .before .before .before .before .before .before .before .before .before .before .before .before .before .before .before .before) .loop-test .taken)) (held-move _ _ _ (a .frames) (a .rate) _ (made at) (at .loop .i) (less0 _ _ ((c .before .before .before .before .before .before .before .before .before .before .before .before .before .before .before .before .before .before .before .before .before .before .before .before .before) .loop-test .taken)) (m .ensures .0)) (held-move _ _ _ (a .frames) (a .rate) _ (made at) (at .loop .i + 1) (less1 _ _ ((c .before .before .before .before .before .before .before .before .before .before .before .before .before .before .before .before .before .before .before .before .before .before .before .before .before) .loop-test .taken)) (m .ensures .1 .0)) (held-move _ _ _ (a .frames) (a .rate) _ (made at) (at .loop .i + 2) (less2 _ _ ((c .before .before .before .before .before .before .before .before .before .before .before .before .before .before .before .before .before .before .before .before .before .before .before .before .before) .loop-test .taken)) (m .ensures .1 .1 .0)) (held-move _ _ _ (a .frames) (a .rate) _ (made at) (at .loop .i + 3) (less3 _ _ ((c .before .before .before .before .before .before .before .before .before .before .before .before .before .before .before .before .before .before .before .before .before .before .before .before .before) .loop-test .taken)) (m .ensures .1 .1 .1)) refl refl refl refl ((c .before .before .before .before .before .before .before .before .before .before .before .before .before .before .before .before .before .before .before .before) .if2 .left)
+      scanned = back-four (now (a .sound)) (a .way) (replicate (a .frames) (a .rate)) ((c .before .before .before .before .before .before .before .before .before .before .before .before .before .before .before .before .before .before .before .before .before .before .before .before .before .before .before .before .before .before .before .before .before .before .before) .pre .0) ((c .before .before .before .before .before .before .before .before .before .before .before .before .before .before .before .before .before .before .before .before .before .before .before .before .before .before .before .before .before .before .before .before .before .before .before) .pre .1 .1 .0) (at .loop .i) (a .from .steps + (a .way .track .start + a .from .at - 3 - at .loop .p)) (at .loop .p) (at .loop .fractional-position) (at .loop .out) (m .result) ((c .before .before .before .before .before .before .before .before .before .before .before .before .before .before .before .before .before .before .before) .read-back .result) ((c .before .before .before .before .before .before .before .before .before .before .before .before .before .before .before .before .before .before) .read-back2 .result) ((c .before .before .before .before .before .before .before .before .before .before .before .before .before .before .before .before .before) .read-back3 .result) ((c .before .before .before .before .before .before .before .before .before .before .before .before .before .before .before .before) .read-back4 .result) (m .result .first .steps) (m .result .first .steps + m .result .second .steps) (m .result .first .steps + m .result .second .steps + m .result .third .steps) (m .result .first .steps + m .result .second .steps + m .result .third .steps + m .result .fourth .steps) _ _ ((c .before .before .before .before .before .before .before .before .before .before .before .before .before .before) .store .last .0) ((c .before .before .before .before .before .before .before .before .before .before) .store2 .last .0) ((c .before .before .before .before .before .before) .store3 .last .0) ((c .before .before) .store4 .last .0)
+          (at .loop .inv .scanned) (counted (a .frames) (a .rate) ((c .before .before .before .before .before .before .before .before .before .before .before .before .before .before .before .before .before .before .before .before .before .before .before .before .before) .loop-test .taken)) (held-move _ _ _ (a .frames) (a .rate) _ (made at) (at .loop .i) (less0 _ _ ((c .before .before .before .before .before .before .before .before .before .before .before .before .before .before .before .before .before .before .before .before .before .before .before .before .before) .loop-test .taken)) (m .ensures .0)) (held-move _ _ _ (a .frames) (a .rate) _ (made at) (at .loop .i + 1) (less1 _ _ ((c .before .before .before .before .before .before .before .before .before .before .before .before .before .before .before .before .before .before .before .before .before .before .before .before .before) .loop-test .taken)) (m .ensures .1 .0)) (held-move _ _ _ (a .frames) (a .rate) _ (made at) (at .loop .i + 2) (less2 _ _ ((c .before .before .before .before .before .before .before .before .before .before .before .before .before .before .before .before .before .before .before .before .before .before .before .before .before) .loop-test .taken)) (m .ensures .1 .1 .0)) (held-move _ _ _ (a .frames) (a .rate) _ (made at) (at .loop .i + 3) (less3 _ _ ((c .before .before .before .before .before .before .before .before .before .before .before .before .before .before .before .before .before .before .before .before .before .before .before .before .before) .loop-test .taken)) (m .ensures .1 .1 .1)) refl refl refl refl ((c .before .before .before .before .before .before .before .before .before .before .before .before .before .before .before .before .before .before .before .before) .if2 .left)
           ((c .before .before .before .before .before .before .before .before .before .before .before .before .before .before .before .before .before .before .before) .read-back .ensures) ((c .before .before .before .before .before .before .before .before .before .before .before .before .before .before .before .before .before .before) .read-back2 .ensures) ((c .before .before .before .before .before .before .before .before .before .before .before .before .before .before .before .before .before) .read-back3 .ensures) ((c .before .before .before .before .before .before .before .before .before .before .before .before .before .before .before .before) .read-back4 .ensures)
           (stored-at ((c .before .before .before .before .before .before .before .before .before .before .before .before .before .before) .store .last .0) ((c .before .before .before .before .before .before .before .before .before .before .before .before .before .before .before .before .before .before .before .before .before .before .before .before .before .before) .loop .out) (2 * (c .before .before .before .before .before .before .before .before .before .before .before .before .before .before .before .before .before .before .before .before .before .before .before .before .before .before) .loop .i) ((c .before .before .before .before .before .before .before .before .before .before .before .before .before .before .before .before .before .before .before .before .before .before .before .before .before .before) .loop .i) ((c .before .before .before .before .before .before .before .before .before .before .before .before .before .before .before .before .before .before .before) .read-back .result) refl ((c .before .before .before .before .before .before .before .before .before .before .before .before .before .before) .store .ensures)) (stored-at ((c .before .before .before .before .before .before .before .before .before .before) .store2 .last .0) ((c .before .before .before .before .before .before .before .before .before .before .before .before .before .before) .store .last .0) (2 * (c .before .before .before .before .before .before .before .before .before .before .before .before .before .before .before .before .before .before .before .before .before .before .before .before .before .before) .loop .i + 2) ((c .before .before .before .before .before .before .before .before .before .before .before .before .before .before .before .before .before .before .before .before .before .before .before .before .before .before) .loop .i + 1) ((c .before .before .before .before .before .before .before .before .before .before .before .before .before .before .before .before .before .before) .read-back2 .result) (even1 _) ((c .before .before .before .before .before .before .before .before .before .before) .store2 .ensures)) (stored-at ((c .before .before .before .before .before .before) .store3 .last .0) ((c .before .before .before .before .before .before .before .before .before .before) .store2 .last .0) (2 * (c .before .before .before .before .before .before .before .before .before .before .before .before .before .before .before .before .before .before .before .before .before .before .before .before .before .before) .loop .i + 4) ((c .before .before .before .before .before .before .before .before .before .before .before .before .before .before .before .before .before .before .before .before .before .before .before .before .before .before) .loop .i + 2) ((c .before .before .before .before .before .before .before .before .before .before .before .before .before .before .before .before .before) .read-back3 .result) (even2 _) ((c .before .before .before .before .before .before) .store3 .ensures)) (stored-at ((c .before .before) .store4 .last .0) ((c .before .before .before .before .before .before) .store3 .last .0) (2 * (c .before .before .before .before .before .before .before .before .before .before .before .before .before .before .before .before .before .before .before .before .before .before .before .before .before .before) .loop .i + 6) ((c .before .before .before .before .before .before .before .before .before .before .before .before .before .before .before .before .before .before .before .before .before .before .before .before .before .before) .loop .i + 3) ((c .before .before .before .before .before .before .before .before .before .before .before .before .before .before .before .before) .read-back4 .result) (even3 _) ((c .before .before) .store4 .ensures)) (further _ _ _ _ _ _ _ _ _ (at .loop .inv .here) ((c .before .before .before .before .before .before .before .before .before .before .before .before .before .before .before .before .before .before .before .before) .if2 .left)) refl;
       here = on _ _ _ (at .loop .inv .here);
@@ -322,10 +322,10 @@ add-t43 : tie.Need-add-t43 Inv-loop μ-loop
 add-t43 c = omega (arith, numbers (c .before .before .before))
 
 same-length-2 : tie.Need-same-length-2 Inv-loop μ-loop
-same-length-2 c = (c .before .before .before) .loop .inv .rode .asLong ∙ sym ((c .before .before .before .before .before .before .before .before .before .before .before .before) .pre .1 .0 .asLong)
+same-length-2 c = (c .before .before .before) .loop .inv .scanned .asLong ∙ sym ((c .before .before .before .before .before .before .before .before .before .before .before .before) .pre .1 .0 .asLong)
 
 returns-3 : tie.Need-returns-3 Inv-loop μ-loop
-returns-3 c = (c .before .before .before) .loop .inv .rode
+returns-3 c = (c .before .before .before) .loop .inv .scanned
 
 pub held-back-spec : {M : Type 1} → statement M
 held-back-spec =

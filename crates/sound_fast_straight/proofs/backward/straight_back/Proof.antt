@@ -1,4 +1,4 @@
--- `straight_back` reads four frames a turn at consecutive places. The invariant: the ride so far, and room for the window.
+-- `straight_back` reads four frames a turn at consecutive places. The invariant: the scan so far, and room for the window.
 use Prim.Native.Nat.{ℕ, _+_, _-_, _*_, _^_, _≤_, _<_}
 use mathlib.Core.Path.{_≡_, refl, sym, ap, _∙_, subst}
 use mathlib.Core.List.{List}
@@ -8,17 +8,17 @@ use lib.Ieee.{Float}
 use denote.Ref.{now}
 use borrow.Author.Needs.{needs}
 use Rattle.sound_fast_reading.specs.declared.Way.{Way}
-use Rattle.sound_fast_reading.specs.declared.Ridden.{Ridden}
-use Rattle.sound_fast_reading.specs.Rides.{Rideable, Rode}
+use Rattle.sound_fast_reading.specs.declared.Reached.{Reached}
+use Rattle.sound_fast_reading.specs.Scans.{Scannable, Scanned}
 use Rattle.sound_lanes.specs.Lanes.{slow}
-use Rattle.sound_fast_reading.proofs.Rides.{place, rode-more, all-at, stored-at, stored-length}
+use Rattle.sound_fast_reading.proofs.Scans.{place, scanned-more, all-at, stored-at, stored-length}
 use Rattle.sound_fast_straight.proofs.Straight.{back-four}
 use Rattle.sound_fast_straight.proofs.backward.straight_back.Statement.{statement}
 use Rattle.sound_fast_straight.proofs.backward.straight_back.Tie as tie
 
--- the ride so far, and room for the window's four frames
-record Going (snd : List Float) (way : Way) (rates : List Float) (from : Ridden) (out : List Float) (p : ℕ) (f : Float) (i : ℕ) : Type 0 where
-  rode : Rode snd way rates (place (p + 3 - way .track .start) f (from .steps + (way .track .start + from .at - 3 - p)) i) out
+-- the scan so far, and room for the window's four frames
+record Going (snd : List Float) (way : Way) (rates : List Float) (from : Reached) (out : List Float) (p : ℕ) (f : Float) (i : ℕ) : Type 0 where
+  scanned : Scanned snd way rates (place (p + 3 - way .track .start) f (from .steps + (way .track .start + from .at - 3 - p)) i) out
   here : p ≤ way .track .start + from .at - 3
   over : way .track .start + way .track .low < p
   below : from .at < way .track .count
@@ -53,7 +53,7 @@ numbers c =
     let st = begin c in
     let y = st .pre .0 .lies in
     let v = c .loop .inv in
-    record { over = v .over; inside = lowly _ _ _ (y .some) (y .inside); lent = y .lent; small = y .short; here = v .here; below = v .below; within = v .rode .within; most = st .pre .0 .most; few = v .rode .few }
+    record { over = v .over; inside = lowly _ _ _ (y .some) (y .inside); lent = y .lent; small = y .short; here = v .here; below = v .below; within = v .scanned .within; most = st .pre .0 .most; few = v .scanned .few }
 
 deep2 : (s k l q : ℕ) → 2 * (s + k) ≤ l → l ≤ 33554432 → q < k → s + q < 2 ^ 64
 deep2 s k l q a b c = omega arith
@@ -118,13 +118,13 @@ on p a z h = omega arith
 further : (t z p s l a b c d : ℕ) → p ≤ z → s + l + (a + b + c + d) < p → t + (z - (p - (a + b + c + d))) ≡ t + (z - p) + (a + b + c + d)
 further t z p s l a b c d h e = omega arith
 
--- where the ride begins
-begun : (snd : List Float) (way : Way) (rates : List Float) (from : Ridden) (out : List Float) → Rode snd way rates from out → way .track .low + 4 ≤ from .at → from .at < way .track .count
+-- where the scan begins
+begun : (snd : List Float) (way : Way) (rates : List Float) (from : Reached) (out : List Float) → Scanned snd way rates from out → way .track .low + 4 ≤ from .at → from .at < way .track .count
     → Going snd way rates from out (way .track .start + from .at - 3) (from .«fractional_position») (from .next)
 begun snd way rates from out h l k =
     record {
-      rode = subst (λ (q : ℕ). Rode snd way rates (place q (from .«fractional_position») (from .steps + (way .track .start + from .at - 3 - (way .track .start + from .at - 3))) (from .next)) out) (back (way .track .start) (way .track .low) (from .at) l)
-          (subst (λ (s : ℕ). Rode snd way rates (place (from .at) (from .«fractional_position») s (from .next)) out) (none (from .steps) (way .track .start + from .at - 3)) h);
+      scanned = subst (λ (q : ℕ). Scanned snd way rates (place q (from .«fractional_position») (from .steps + (way .track .start + from .at - 3 - (way .track .start + from .at - 3))) (from .next)) out) (back (way .track .start) (way .track .low) (from .at) l)
+          (subst (λ (s : ℕ). Scanned snd way rates (place (from .at) (from .«fractional_position») s (from .next)) out) (none (from .steps) (way .track .start + from .at - 3)) h);
       here = le (way .track .start + from .at - 3);
       over = room (way .track .start) (way .track .low) (from .at) l;
       below = k;
@@ -164,7 +164,7 @@ add-loop : tie.Need-add-loop Inv-loop μ-loop
 add-loop c = omega (arith, numbers c)
 
 four-moves-requires : tie.Need-four-moves-requires Inv-loop μ-loop
-four-moves-requires c κs = ((c .before) .loop .inv .rode .below, ((c .before .before .before .before .before .before .before .before .before .before) .pre .0 .timeStep, ((c .before .before .before .before .before .before .before .before .before .before) .pre .0 .slow, (c .loop-test .taken, small _ ((c .before .before .before .before .before .before .before .before .before .before) .pre .0 .most)))))
+four-moves-requires c κs = ((c .before) .loop .inv .scanned .below, ((c .before .before .before .before .before .before .before .before .before .before) .pre .0 .timeStep, ((c .before .before .before .before .before .before .before .before .before .before) .pre .0 .slow, (c .loop-test .taken, small _ ((c .before .before .before .before .before .before .before .before .before .before) .pre .0 .most)))))
 
 add-n2 : tie.Need-add-n2 Inv-loop μ-loop
 add-n2 c = omega (arith, (c .before) .four-moves .ensures .0 .few, (c .before) .four-moves .ensures .1 .0 .few)
@@ -191,13 +191,13 @@ add-t29 : tie.Need-add-t29 Inv-loop μ-loop
 add-t29 c = omega (arith, numbers (c .before .before .before .before .before .before .before))
 
 same-length : tie.Need-same-length Inv-loop μ-loop
-same-length c = (c .before .before .before .before .before .before .before) .loop .inv .rode .asLong ∙ sym ((c .before .before .before .before .before .before .before .before .before .before .before .before .before .before .before .before) .pre .1 .0 .asLong)
+same-length c = (c .before .before .before .before .before .before .before) .loop .inv .scanned .asLong ∙ sym ((c .before .before .before .before .before .before .before .before .before .before .before .before .before .before .before .before) .pre .1 .0 .asLong)
 
 returns-2 : tie.Need-returns-2 Inv-loop μ-loop
-returns-2 c = (c .before .before .before .before .before .before .before) .loop .inv .rode
+returns-2 c = (c .before .before .before .before .before .before .before) .loop .inv .scanned
 
 read-back-requires : tie.Need-read-back-requires Inv-loop μ-loop
-read-back-requires c κs = (reads0 _ _ _ _ _ (numbers (c .before .before .before .before .before .before)), (c .before .before .before .before .before .before) .loop .inv .rode .below)
+read-back-requires c κs = (reads0 _ _ _ _ _ (numbers (c .before .before .before .before .before .before)), (c .before .before .before .before .before .before) .loop .inv .scanned .below)
 
 sub-read-back : tie.Need-sub-read-back Inv-loop μ-loop
 sub-read-back c = lower1 _ _ _ _ _ _ ((c .before) .if2 .left)
@@ -221,7 +221,7 @@ mul-store : tie.Need-mul-store Inv-loop μ-loop
 mul-store c = omega (arith, numbers (c .before .before .before .before .before .before .before .before .before .before .before), (c .before .before .before .before .before .before .before .before .before .before) .loop-test .taken)
 
 store-requires : tie.Need-store-requires Inv-loop μ-loop
-store-requires c κs = stores0 _ (length ((c .before .before .before .before .before .before .before .before .before .before .before) .loop .out)) _ _ refl ((c .before .before .before .before .before .before .before .before .before .before .before) .loop .inv .rode .asLong) ((c .before .before .before .before .before .before .before .before .before .before) .loop-test .taken) ((c .before .before .before .before .before .before .before .before .before .before .before .before .before .before .before .before .before .before .before .before) .pre .0 .most)
+store-requires c κs = stores0 _ (length ((c .before .before .before .before .before .before .before .before .before .before .before) .loop .out)) _ _ refl ((c .before .before .before .before .before .before .before .before .before .before .before) .loop .inv .scanned .asLong) ((c .before .before .before .before .before .before .before .before .before .before) .loop-test .taken) ((c .before .before .before .before .before .before .before .before .before .before .before .before .before .before .before .before .before .before .before .before) .pre .0 .most)
 
 mul-store-2 : tie.Need-mul-store-2 Inv-loop μ-loop
 mul-store-2 c = omega (arith, numbers (c .before .before .before .before .before .before .before .before .before .before .before .before .before .before .before), (c .before .before .before .before .before .before .before .before .before .before .before .before .before .before) .loop-test .taken)
@@ -230,7 +230,7 @@ add-store : tie.Need-add-store Inv-loop μ-loop
 add-store c = omega (arith, numbers (c .before .before .before .before .before .before .before .before .before .before .before .before .before .before .before), (c .before .before .before .before .before .before .before .before .before .before .before .before .before .before) .loop-test .taken)
 
 store-requires-2 : tie.Need-store-requires-2 Inv-loop μ-loop
-store-requires-2 c κs = stores1 _ (length ((c .before .before .before .before .before .before .before .before .before .before .before .before .before .before .before) .loop .out)) _ _ (stored-length ((c .before .before .before) .store .last .0) ((c .before .before .before .before .before .before .before .before .before .before .before .before .before .before .before) .loop .out) ((c .before .before .before .before .before .before .before .before .before .before .before .before .before .before .before) .loop .i) ((c .before .before .before .before .before .before .before .before) .read-back .result) (stored-at ((c .before .before .before) .store .last .0) ((c .before .before .before .before .before .before .before .before .before .before .before .before .before .before .before) .loop .out) (2 * (c .before .before .before .before .before .before .before .before .before .before .before .before .before .before .before) .loop .i) ((c .before .before .before .before .before .before .before .before .before .before .before .before .before .before .before) .loop .i) ((c .before .before .before .before .before .before .before .before) .read-back .result) refl ((c .before .before .before) .store .ensures))) ((c .before .before .before .before .before .before .before .before .before .before .before .before .before .before .before) .loop .inv .rode .asLong) ((c .before .before .before .before .before .before .before .before .before .before .before .before .before .before) .loop-test .taken) ((c .before .before .before .before .before .before .before .before .before .before .before .before .before .before .before .before .before .before .before .before .before .before .before .before) .pre .0 .most)
+store-requires-2 c κs = stores1 _ (length ((c .before .before .before .before .before .before .before .before .before .before .before .before .before .before .before) .loop .out)) _ _ (stored-length ((c .before .before .before) .store .last .0) ((c .before .before .before .before .before .before .before .before .before .before .before .before .before .before .before) .loop .out) ((c .before .before .before .before .before .before .before .before .before .before .before .before .before .before .before) .loop .i) ((c .before .before .before .before .before .before .before .before) .read-back .result) (stored-at ((c .before .before .before) .store .last .0) ((c .before .before .before .before .before .before .before .before .before .before .before .before .before .before .before) .loop .out) (2 * (c .before .before .before .before .before .before .before .before .before .before .before .before .before .before .before) .loop .i) ((c .before .before .before .before .before .before .before .before .before .before .before .before .before .before .before) .loop .i) ((c .before .before .before .before .before .before .before .before) .read-back .result) refl ((c .before .before .before) .store .ensures))) ((c .before .before .before .before .before .before .before .before .before .before .before .before .before .before .before) .loop .inv .scanned .asLong) ((c .before .before .before .before .before .before .before .before .before .before .before .before .before .before) .loop-test .taken) ((c .before .before .before .before .before .before .before .before .before .before .before .before .before .before .before .before .before .before .before .before .before .before .before .before) .pre .0 .most)
 
 mul-store-3 : tie.Need-mul-store-3 Inv-loop μ-loop
 mul-store-3 c = omega (arith, numbers (c .before .before .before .before .before .before .before .before .before .before .before .before .before .before .before .before .before .before .before), (c .before .before .before .before .before .before .before .before .before .before .before .before .before .before .before .before .before .before) .loop-test .taken)
@@ -239,7 +239,7 @@ add-store-2 : tie.Need-add-store-2 Inv-loop μ-loop
 add-store-2 c = omega (arith, numbers (c .before .before .before .before .before .before .before .before .before .before .before .before .before .before .before .before .before .before .before), (c .before .before .before .before .before .before .before .before .before .before .before .before .before .before .before .before .before .before) .loop-test .taken)
 
 store-requires-3 : tie.Need-store-requires-3 Inv-loop μ-loop
-store-requires-3 c κs = stores2 _ (length ((c .before .before .before .before .before .before .before .before .before .before .before .before .before .before .before .before .before .before .before) .loop .out)) _ _ (stored-length ((c .before .before .before) .store2 .last .0) ((c .before .before .before .before .before .before .before) .store .last .0) ((c .before .before .before .before .before .before .before .before .before .before .before .before .before .before .before .before .before .before .before) .loop .i + 1) ((c .before .before .before .before .before .before .before .before .before .before .before) .read-back2 .result) (stored-at ((c .before .before .before) .store2 .last .0) ((c .before .before .before .before .before .before .before) .store .last .0) (2 * (c .before .before .before .before .before .before .before .before .before .before .before .before .before .before .before .before .before .before .before) .loop .i + 2) ((c .before .before .before .before .before .before .before .before .before .before .before .before .before .before .before .before .before .before .before) .loop .i + 1) ((c .before .before .before .before .before .before .before .before .before .before .before) .read-back2 .result) (even1 _) ((c .before .before .before) .store2 .ensures)) ∙ stored-length ((c .before .before .before .before .before .before .before) .store .last .0) ((c .before .before .before .before .before .before .before .before .before .before .before .before .before .before .before .before .before .before .before) .loop .out) ((c .before .before .before .before .before .before .before .before .before .before .before .before .before .before .before .before .before .before .before) .loop .i) ((c .before .before .before .before .before .before .before .before .before .before .before .before) .read-back .result) (stored-at ((c .before .before .before .before .before .before .before) .store .last .0) ((c .before .before .before .before .before .before .before .before .before .before .before .before .before .before .before .before .before .before .before) .loop .out) (2 * (c .before .before .before .before .before .before .before .before .before .before .before .before .before .before .before .before .before .before .before) .loop .i) ((c .before .before .before .before .before .before .before .before .before .before .before .before .before .before .before .before .before .before .before) .loop .i) ((c .before .before .before .before .before .before .before .before .before .before .before .before) .read-back .result) refl ((c .before .before .before .before .before .before .before) .store .ensures))) ((c .before .before .before .before .before .before .before .before .before .before .before .before .before .before .before .before .before .before .before) .loop .inv .rode .asLong) ((c .before .before .before .before .before .before .before .before .before .before .before .before .before .before .before .before .before .before) .loop-test .taken) ((c .before .before .before .before .before .before .before .before .before .before .before .before .before .before .before .before .before .before .before .before .before .before .before .before .before .before .before .before) .pre .0 .most)
+store-requires-3 c κs = stores2 _ (length ((c .before .before .before .before .before .before .before .before .before .before .before .before .before .before .before .before .before .before .before) .loop .out)) _ _ (stored-length ((c .before .before .before) .store2 .last .0) ((c .before .before .before .before .before .before .before) .store .last .0) ((c .before .before .before .before .before .before .before .before .before .before .before .before .before .before .before .before .before .before .before) .loop .i + 1) ((c .before .before .before .before .before .before .before .before .before .before .before) .read-back2 .result) (stored-at ((c .before .before .before) .store2 .last .0) ((c .before .before .before .before .before .before .before) .store .last .0) (2 * (c .before .before .before .before .before .before .before .before .before .before .before .before .before .before .before .before .before .before .before) .loop .i + 2) ((c .before .before .before .before .before .before .before .before .before .before .before .before .before .before .before .before .before .before .before) .loop .i + 1) ((c .before .before .before .before .before .before .before .before .before .before .before) .read-back2 .result) (even1 _) ((c .before .before .before) .store2 .ensures)) ∙ stored-length ((c .before .before .before .before .before .before .before) .store .last .0) ((c .before .before .before .before .before .before .before .before .before .before .before .before .before .before .before .before .before .before .before) .loop .out) ((c .before .before .before .before .before .before .before .before .before .before .before .before .before .before .before .before .before .before .before) .loop .i) ((c .before .before .before .before .before .before .before .before .before .before .before .before) .read-back .result) (stored-at ((c .before .before .before .before .before .before .before) .store .last .0) ((c .before .before .before .before .before .before .before .before .before .before .before .before .before .before .before .before .before .before .before) .loop .out) (2 * (c .before .before .before .before .before .before .before .before .before .before .before .before .before .before .before .before .before .before .before) .loop .i) ((c .before .before .before .before .before .before .before .before .before .before .before .before .before .before .before .before .before .before .before) .loop .i) ((c .before .before .before .before .before .before .before .before .before .before .before .before) .read-back .result) refl ((c .before .before .before .before .before .before .before) .store .ensures))) ((c .before .before .before .before .before .before .before .before .before .before .before .before .before .before .before .before .before .before .before) .loop .inv .scanned .asLong) ((c .before .before .before .before .before .before .before .before .before .before .before .before .before .before .before .before .before .before) .loop-test .taken) ((c .before .before .before .before .before .before .before .before .before .before .before .before .before .before .before .before .before .before .before .before .before .before .before .before .before .before .before .before) .pre .0 .most)
 
 mul-store-4 : tie.Need-mul-store-4 Inv-loop μ-loop
 mul-store-4 c = omega (arith, numbers (c .before .before .before .before .before .before .before .before .before .before .before .before .before .before .before .before .before .before .before .before .before .before .before), (c .before .before .before .before .before .before .before .before .before .before .before .before .before .before .before .before .before .before .before .before .before .before) .loop-test .taken)
@@ -248,7 +248,7 @@ add-store-3 : tie.Need-add-store-3 Inv-loop μ-loop
 add-store-3 c = omega (arith, numbers (c .before .before .before .before .before .before .before .before .before .before .before .before .before .before .before .before .before .before .before .before .before .before .before), (c .before .before .before .before .before .before .before .before .before .before .before .before .before .before .before .before .before .before .before .before .before .before) .loop-test .taken)
 
 store-requires-4 : tie.Need-store-requires-4 Inv-loop μ-loop
-store-requires-4 c κs = stores3 _ (length ((c .before .before .before .before .before .before .before .before .before .before .before .before .before .before .before .before .before .before .before .before .before .before .before) .loop .out)) _ _ (stored-length ((c .before .before .before) .store3 .last .0) ((c .before .before .before .before .before .before .before) .store2 .last .0) ((c .before .before .before .before .before .before .before .before .before .before .before .before .before .before .before .before .before .before .before .before .before .before .before) .loop .i + 2) ((c .before .before .before .before .before .before .before .before .before .before .before .before .before .before) .read-back3 .result) (stored-at ((c .before .before .before) .store3 .last .0) ((c .before .before .before .before .before .before .before) .store2 .last .0) (2 * (c .before .before .before .before .before .before .before .before .before .before .before .before .before .before .before .before .before .before .before .before .before .before .before) .loop .i + 4) ((c .before .before .before .before .before .before .before .before .before .before .before .before .before .before .before .before .before .before .before .before .before .before .before) .loop .i + 2) ((c .before .before .before .before .before .before .before .before .before .before .before .before .before .before) .read-back3 .result) (even2 _) ((c .before .before .before) .store3 .ensures)) ∙ stored-length ((c .before .before .before .before .before .before .before) .store2 .last .0) ((c .before .before .before .before .before .before .before .before .before .before .before) .store .last .0) ((c .before .before .before .before .before .before .before .before .before .before .before .before .before .before .before .before .before .before .before .before .before .before .before) .loop .i + 1) ((c .before .before .before .before .before .before .before .before .before .before .before .before .before .before .before) .read-back2 .result) (stored-at ((c .before .before .before .before .before .before .before) .store2 .last .0) ((c .before .before .before .before .before .before .before .before .before .before .before) .store .last .0) (2 * (c .before .before .before .before .before .before .before .before .before .before .before .before .before .before .before .before .before .before .before .before .before .before .before) .loop .i + 2) ((c .before .before .before .before .before .before .before .before .before .before .before .before .before .before .before .before .before .before .before .before .before .before .before) .loop .i + 1) ((c .before .before .before .before .before .before .before .before .before .before .before .before .before .before .before) .read-back2 .result) (even1 _) ((c .before .before .before .before .before .before .before) .store2 .ensures)) ∙ stored-length ((c .before .before .before .before .before .before .before .before .before .before .before) .store .last .0) ((c .before .before .before .before .before .before .before .before .before .before .before .before .before .before .before .before .before .before .before .before .before .before .before) .loop .out) ((c .before .before .before .before .before .before .before .before .before .before .before .before .before .before .before .before .before .before .before .before .before .before .before) .loop .i) ((c .before .before .before .before .before .before .before .before .before .before .before .before .before .before .before .before) .read-back .result) (stored-at ((c .before .before .before .before .before .before .before .before .before .before .before) .store .last .0) ((c .before .before .before .before .before .before .before .before .before .before .before .before .before .before .before .before .before .before .before .before .before .before .before) .loop .out) (2 * (c .before .before .before .before .before .before .before .before .before .before .before .before .before .before .before .before .before .before .before .before .before .before .before) .loop .i) ((c .before .before .before .before .before .before .before .before .before .before .before .before .before .before .before .before .before .before .before .before .before .before .before) .loop .i) ((c .before .before .before .before .before .before .before .before .before .before .before .before .before .before .before .before) .read-back .result) refl ((c .before .before .before .before .before .before .before .before .before .before .before) .store .ensures))) ((c .before .before .before .before .before .before .before .before .before .before .before .before .before .before .before .before .before .before .before .before .before .before .before) .loop .inv .rode .asLong) ((c .before .before .before .before .before .before .before .before .before .before .before .before .before .before .before .before .before .before .before .before .before .before) .loop-test .taken) ((c .before .before .before .before .before .before .before .before .before .before .before .before .before .before .before .before .before .before .before .before .before .before .before .before .before .before .before .before .before .before .before .before) .pre .0 .most)
+store-requires-4 c κs = stores3 _ (length ((c .before .before .before .before .before .before .before .before .before .before .before .before .before .before .before .before .before .before .before .before .before .before .before) .loop .out)) _ _ (stored-length ((c .before .before .before) .store3 .last .0) ((c .before .before .before .before .before .before .before) .store2 .last .0) ((c .before .before .before .before .before .before .before .before .before .before .before .before .before .before .before .before .before .before .before .before .before .before .before) .loop .i + 2) ((c .before .before .before .before .before .before .before .before .before .before .before .before .before .before) .read-back3 .result) (stored-at ((c .before .before .before) .store3 .last .0) ((c .before .before .before .before .before .before .before) .store2 .last .0) (2 * (c .before .before .before .before .before .before .before .before .before .before .before .before .before .before .before .before .before .before .before .before .before .before .before) .loop .i + 4) ((c .before .before .before .before .before .before .before .before .before .before .before .before .before .before .before .before .before .before .before .before .before .before .before) .loop .i + 2) ((c .before .before .before .before .before .before .before .before .before .before .before .before .before .before) .read-back3 .result) (even2 _) ((c .before .before .before) .store3 .ensures)) ∙ stored-length ((c .before .before .before .before .before .before .before) .store2 .last .0) ((c .before .before .before .before .before .before .before .before .before .before .before) .store .last .0) ((c .before .before .before .before .before .before .before .before .before .before .before .before .before .before .before .before .before .before .before .before .before .before .before) .loop .i + 1) ((c .before .before .before .before .before .before .before .before .before .before .before .before .before .before .before) .read-back2 .result) (stored-at ((c .before .before .before .before .before .before .before) .store2 .last .0) ((c .before .before .before .before .before .before .before .before .before .before .before) .store .last .0) (2 * (c .before .before .before .before .before .before .before .before .before .before .before .before .before .before .before .before .before .before .before .before .before .before .before) .loop .i + 2) ((c .before .before .before .before .before .before .before .before .before .before .before .before .before .before .before .before .before .before .before .before .before .before .before) .loop .i + 1) ((c .before .before .before .before .before .before .before .before .before .before .before .before .before .before .before) .read-back2 .result) (even1 _) ((c .before .before .before .before .before .before .before) .store2 .ensures)) ∙ stored-length ((c .before .before .before .before .before .before .before .before .before .before .before) .store .last .0) ((c .before .before .before .before .before .before .before .before .before .before .before .before .before .before .before .before .before .before .before .before .before .before .before) .loop .out) ((c .before .before .before .before .before .before .before .before .before .before .before .before .before .before .before .before .before .before .before .before .before .before .before) .loop .i) ((c .before .before .before .before .before .before .before .before .before .before .before .before .before .before .before .before) .read-back .result) (stored-at ((c .before .before .before .before .before .before .before .before .before .before .before) .store .last .0) ((c .before .before .before .before .before .before .before .before .before .before .before .before .before .before .before .before .before .before .before .before .before .before .before) .loop .out) (2 * (c .before .before .before .before .before .before .before .before .before .before .before .before .before .before .before .before .before .before .before .before .before .before .before) .loop .i) ((c .before .before .before .before .before .before .before .before .before .before .before .before .before .before .before .before .before .before .before .before .before .before .before) .loop .i) ((c .before .before .before .before .before .before .before .before .before .before .before .before .before .before .before .before) .read-back .result) refl ((c .before .before .before .before .before .before .before .before .before .before .before) .store .ensures))) ((c .before .before .before .before .before .before .before .before .before .before .before .before .before .before .before .before .before .before .before .before .before .before .before) .loop .inv .scanned .asLong) ((c .before .before .before .before .before .before .before .before .before .before .before .before .before .before .before .before .before .before .before .before .before .before) .loop-test .taken) ((c .before .before .before .before .before .before .before .before .before .before .before .before .before .before .before .before .before .before .before .before .before .before .before .before .before .before .before .before .before .before .before .before) .pre .0 .most)
 
 sub-p : tie.Need-sub-p Inv-loop μ-loop
 sub-p c = lower4 _ _ _ _ _ _ ((c .before .before .before .before .before .before .before .before .before .before .before .before .before .before .before .before .before .before .before .before) .if2 .left)
@@ -265,8 +265,8 @@ loop-again c =
     let a = (c .before .before .before .before .before .before .before .before .before .before .before .before .before .before .before .before .before .before .before .before .before .before .before .before .before .before .before .before .before .before .before .before .before .before .before) .args in
     let m = (c .before .before .before .before .before .before .before .before .before .before .before .before .before .before .before .before .before .before .before .before .before .before .before .before) .four-moves in
     record {
-      rode = back-four (now (a .sound)) (a .way) (now (a .rate)) ((c .before .before .before .before .before .before .before .before .before .before .before .before .before .before .before .before .before .before .before .before .before .before .before .before .before .before .before .before .before .before .before .before .before .before .before) .pre .0) ((c .before .before .before .before .before .before .before .before .before .before .before .before .before .before .before .before .before .before .before .before .before .before .before .before .before .before .before .before .before .before .before .before .before .before .before) .pre .1 .1) (at .loop .i) (a .from .steps + (a .way .track .start + a .from .at - 3 - at .loop .p)) (at .loop .p) (at .loop .fractional-position) (at .loop .out) (m .result) ((c .before .before .before .before .before .before .before .before .before .before .before .before .before .before .before .before .before .before .before) .read-back .result) ((c .before .before .before .before .before .before .before .before .before .before .before .before .before .before .before .before .before .before) .read-back2 .result) ((c .before .before .before .before .before .before .before .before .before .before .before .before .before .before .before .before .before) .read-back3 .result) ((c .before .before .before .before .before .before .before .before .before .before .before .before .before .before .before .before) .read-back4 .result) (m .result .first .steps) (m .result .first .steps + m .result .second .steps) (m .result .first .steps + m .result .second .steps + m .result .third .steps) (m .result .first .steps + m .result .second .steps + m .result .third .steps + m .result .fourth .steps) _ _ ((c .before .before .before .before .before .before .before .before .before .before .before .before .before .before) .store .last .0) ((c .before .before .before .before .before .before .before .before .before .before) .store2 .last .0) ((c .before .before .before .before .before .before) .store3 .last .0) ((c .before .before) .store4 .last .0)
-          (at .loop .inv .rode) ((c .before .before .before .before .before .before .before .before .before .before .before .before .before .before .before .before .before .before .before .before .before .before .before .before .before) .loop-test .taken) (m .ensures .0) (m .ensures .1 .0) (m .ensures .1 .1 .0) (m .ensures .1 .1 .1) refl refl refl refl ((c .before .before .before .before .before .before .before .before .before .before .before .before .before .before .before .before .before .before .before .before) .if2 .left)
+      scanned = back-four (now (a .sound)) (a .way) (now (a .rate)) ((c .before .before .before .before .before .before .before .before .before .before .before .before .before .before .before .before .before .before .before .before .before .before .before .before .before .before .before .before .before .before .before .before .before .before .before) .pre .0) ((c .before .before .before .before .before .before .before .before .before .before .before .before .before .before .before .before .before .before .before .before .before .before .before .before .before .before .before .before .before .before .before .before .before .before .before) .pre .1 .1) (at .loop .i) (a .from .steps + (a .way .track .start + a .from .at - 3 - at .loop .p)) (at .loop .p) (at .loop .fractional-position) (at .loop .out) (m .result) ((c .before .before .before .before .before .before .before .before .before .before .before .before .before .before .before .before .before .before .before) .read-back .result) ((c .before .before .before .before .before .before .before .before .before .before .before .before .before .before .before .before .before .before) .read-back2 .result) ((c .before .before .before .before .before .before .before .before .before .before .before .before .before .before .before .before .before) .read-back3 .result) ((c .before .before .before .before .before .before .before .before .before .before .before .before .before .before .before .before) .read-back4 .result) (m .result .first .steps) (m .result .first .steps + m .result .second .steps) (m .result .first .steps + m .result .second .steps + m .result .third .steps) (m .result .first .steps + m .result .second .steps + m .result .third .steps + m .result .fourth .steps) _ _ ((c .before .before .before .before .before .before .before .before .before .before .before .before .before .before) .store .last .0) ((c .before .before .before .before .before .before .before .before .before .before) .store2 .last .0) ((c .before .before .before .before .before .before) .store3 .last .0) ((c .before .before) .store4 .last .0)
+          (at .loop .inv .scanned) ((c .before .before .before .before .before .before .before .before .before .before .before .before .before .before .before .before .before .before .before .before .before .before .before .before .before) .loop-test .taken) (m .ensures .0) (m .ensures .1 .0) (m .ensures .1 .1 .0) (m .ensures .1 .1 .1) refl refl refl refl ((c .before .before .before .before .before .before .before .before .before .before .before .before .before .before .before .before .before .before .before .before) .if2 .left)
           ((c .before .before .before .before .before .before .before .before .before .before .before .before .before .before .before .before .before .before .before) .read-back .ensures) ((c .before .before .before .before .before .before .before .before .before .before .before .before .before .before .before .before .before .before) .read-back2 .ensures) ((c .before .before .before .before .before .before .before .before .before .before .before .before .before .before .before .before .before) .read-back3 .ensures) ((c .before .before .before .before .before .before .before .before .before .before .before .before .before .before .before .before) .read-back4 .ensures)
           (stored-at ((c .before .before .before .before .before .before .before .before .before .before .before .before .before .before) .store .last .0) ((c .before .before .before .before .before .before .before .before .before .before .before .before .before .before .before .before .before .before .before .before .before .before .before .before .before .before) .loop .out) (2 * (c .before .before .before .before .before .before .before .before .before .before .before .before .before .before .before .before .before .before .before .before .before .before .before .before .before .before) .loop .i) ((c .before .before .before .before .before .before .before .before .before .before .before .before .before .before .before .before .before .before .before .before .before .before .before .before .before .before) .loop .i) ((c .before .before .before .before .before .before .before .before .before .before .before .before .before .before .before .before .before .before .before) .read-back .result) refl ((c .before .before .before .before .before .before .before .before .before .before .before .before .before .before) .store .ensures)) (stored-at ((c .before .before .before .before .before .before .before .before .before .before) .store2 .last .0) ((c .before .before .before .before .before .before .before .before .before .before .before .before .before .before) .store .last .0) (2 * (c .before .before .before .before .before .before .before .before .before .before .before .before .before .before .before .before .before .before .before .before .before .before .before .before .before .before) .loop .i + 2) ((c .before .before .before .before .before .before .before .before .before .before .before .before .before .before .before .before .before .before .before .before .before .before .before .before .before .before) .loop .i + 1) ((c .before .before .before .before .before .before .before .before .before .before .before .before .before .before .before .before .before .before) .read-back2 .result) (even1 _) ((c .before .before .before .before .before .before .before .before .before .before) .store2 .ensures)) (stored-at ((c .before .before .before .before .before .before) .store3 .last .0) ((c .before .before .before .before .before .before .before .before .before .before) .store2 .last .0) (2 * (c .before .before .before .before .before .before .before .before .before .before .before .before .before .before .before .before .before .before .before .before .before .before .before .before .before .before) .loop .i + 4) ((c .before .before .before .before .before .before .before .before .before .before .before .before .before .before .before .before .before .before .before .before .before .before .before .before .before .before) .loop .i + 2) ((c .before .before .before .before .before .before .before .before .before .before .before .before .before .before .before .before .before) .read-back3 .result) (even2 _) ((c .before .before .before .before .before .before) .store3 .ensures)) (stored-at ((c .before .before) .store4 .last .0) ((c .before .before .before .before .before .before) .store3 .last .0) (2 * (c .before .before .before .before .before .before .before .before .before .before .before .before .before .before .before .before .before .before .before .before .before .before .before .before .before .before) .loop .i + 6) ((c .before .before .before .before .before .before .before .before .before .before .before .before .before .before .before .before .before .before .before .before .before .before .before .before .before .before) .loop .i + 3) ((c .before .before .before .before .before .before .before .before .before .before .before .before .before .before .before .before) .read-back4 .result) (even3 _) ((c .before .before) .store4 .ensures)) (further _ _ _ _ _ _ _ _ _ (at .loop .inv .here) ((c .before .before .before .before .before .before .before .before .before .before .before .before .before .before .before .before .before .before .before .before) .if2 .left)) refl;
       here = on _ _ _ (at .loop .inv .here);
@@ -287,10 +287,10 @@ add-t41 : tie.Need-add-t41 Inv-loop μ-loop
 add-t41 c = omega (arith, numbers (c .before .before))
 
 same-length-2 : tie.Need-same-length-2 Inv-loop μ-loop
-same-length-2 c = (c .before .before) .loop .inv .rode .asLong ∙ sym ((c .before .before .before .before .before .before .before .before .before .before .before) .pre .1 .0 .asLong)
+same-length-2 c = (c .before .before) .loop .inv .scanned .asLong ∙ sym ((c .before .before .before .before .before .before .before .before .before .before .before) .pre .1 .0 .asLong)
 
 returns-3 : tie.Need-returns-3 Inv-loop μ-loop
-returns-3 c = (c .before .before) .loop .inv .rode
+returns-3 c = (c .before .before) .loop .inv .scanned
 
 pub straight-back-spec : {M : Type 1} → statement M
 straight-back-spec =

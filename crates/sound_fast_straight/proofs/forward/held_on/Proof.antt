@@ -1,4 +1,4 @@
--- `held_on` reads four frames a turn at consecutive places, all of one advance. The invariant: the ride so far, and room for the window.
+-- `held_on` reads four frames a turn at consecutive places, all of one advance. The invariant: the scan so far, and room for the window.
 use Prim.Native.Nat.{ℕ, _+_, _-_, _*_, _^_, _≤_, _<_}
 use mathlib.Core.Path.{_≡_, refl, sym, ap, _∙_, subst}
 use mathlib.Core.List.{List}
@@ -8,19 +8,19 @@ use lib.Ieee.{Float}
 use denote.Ref.{now}
 use borrow.Author.Needs.{needs}
 use Rattle.sound_fast_reading.specs.declared.Way.{Way}
-use Rattle.sound_fast_reading.specs.declared.Ridden.{Ridden}
-use Rattle.sound_fast_reading.specs.Rides.{Rideable, Rode}
+use Rattle.sound_fast_reading.specs.declared.Reached.{Reached}
+use Rattle.sound_fast_reading.specs.Scans.{Scannable, Scanned}
 use Rattle.numbers.specs.Words.{advance}
 use Rattle.sound_lanes.specs.Lanes.{slow}
 use Rattle.sound_fast_reading.proofs.Moves.{slow-advance}
-use Rattle.sound_fast_reading.proofs.Rides.{place, rode-more, all-at, stored-at, stored-length}
+use Rattle.sound_fast_reading.proofs.Scans.{place, scanned-more, all-at, stored-at, stored-length}
 use Rattle.sound_fast_straight.proofs.Straight.{on-four, held-move}
 use Rattle.sound_fast_straight.proofs.forward.held_on.Statement.{statement}
 use Rattle.sound_fast_straight.proofs.forward.held_on.Tie as tie
 
--- the ride so far, and room for the window's four frames
-record Going (snd : List Float) (way : Way) (rates : List Float) (from : Ridden) (out : List Float) (p : ℕ) (f : Float) (i : ℕ) : Type 0 where
-  rode : Rode snd way rates (place (p - way .track .start) f (from .steps + (p - (way .track .start + from .at))) i) out
+-- the scan so far, and room for the window's four frames
+record Going (snd : List Float) (way : Way) (rates : List Float) (from : Reached) (out : List Float) (p : ℕ) (f : Float) (i : ℕ) : Type 0 where
+  scanned : Scanned snd way rates (place (p - way .track .start) f (from .steps + (p - (way .track .start + from .at))) i) out
   here : way .track .start + from .at ≤ p
   short : p + 4 < way .track .start + way .track .high
 
@@ -40,7 +40,7 @@ most : (st : tie.Start Inv-loop μ-loop) → st .args .frames ≤ 4096
 most st = subst (λ (n : ℕ). n ≤ 4096) (length-replicate (st .args .frames) (st .args .rate)) (st .pre .0 .most)
 
 long : (c : tie.At-loop Inv-loop μ-loop) → length (c .loop .out) ≡ 2 * begin c .args .frames
-long c = let a = begin c .args in c .loop .inv .rode .asLong ∙ ap (λ (n : ℕ). 2 * n) (length-replicate (a .frames) (a .rate))
+long c = let a = begin c .args in c .loop .inv .scanned .asLong ∙ ap (λ (n : ℕ). 2 * n) (length-replicate (a .frames) (a .rate))
 
 -- the advance of every frame
 abbrev called : tie.At-loop Inv-loop μ-loop → tie.After-advance-of Inv-loop μ-loop
@@ -68,7 +68,7 @@ numbers c =
     let st = begin c in
     let y = st .pre .0 .lies in
     let v = c .loop .inv in
-    record { short = v .short; inside = y .inside; lent = y .lent; small = y .short; here = v .here; within = subst (λ (n : ℕ). c .loop .i ≤ n) (length-replicate (st .args .frames) (st .args .rate)) (v .rode .within); most = most st; few = v .rode .few }
+    record { short = v .short; inside = y .inside; lent = y .lent; small = y .short; here = v .here; within = subst (λ (n : ℕ). c .loop .i ≤ n) (length-replicate (st .args .frames) (st .args .rate)) (v .scanned .within); most = most st; few = v .scanned .few }
 
 tall : (q : ℕ) {k : ℕ} → q < k → k ≤ 16777216 → q + 4 < 2 ^ 64
 tall q h l = omega arith
@@ -133,13 +133,13 @@ on s f p a b e d h = omega arith
 further : (t s f p a b e d : ℕ) → s + f ≤ p → t + (p + a + b + e + d - (s + f)) ≡ t + (p - (s + f)) + (p + a + b + e + d - p)
 further t s f p a b e d h = omega arith
 
--- where the ride begins
-begun : (snd : List Float) (way : Way) (rates : List Float) (from : Ridden) (out : List Float) → Rode snd way rates from out → from .at + 4 < way .track .high
+-- where the scan begins
+begun : (snd : List Float) (way : Way) (rates : List Float) (from : Reached) (out : List Float) → Scanned snd way rates from out → from .at + 4 < way .track .high
     → Going snd way rates from out (way .track .start + from .at) (from .«fractional_position») (from .next)
 begun snd way rates from out h l =
     record {
-      rode = subst (λ (q : ℕ). Rode snd way rates (place q (from .«fractional_position») (from .steps + (way .track .start + from .at - (way .track .start + from .at))) (from .next)) out) (back (way .track .start) (from .at))
-          (subst (λ (s : ℕ). Rode snd way rates (place (from .at) (from .«fractional_position») s (from .next)) out) (none (from .steps) (way .track .start + from .at)) h);
+      scanned = subst (λ (q : ℕ). Scanned snd way rates (place q (from .«fractional_position») (from .steps + (way .track .start + from .at - (way .track .start + from .at))) (from .next)) out) (back (way .track .start) (from .at))
+          (subst (λ (s : ℕ). Scanned snd way rates (place (from .at) (from .«fractional_position») s (from .next)) out) (none (from .steps) (way .track .start + from .at)) h);
       here = le (way .track .start + from .at);
       short = room (way .track .start) (from .at) (way .track .high) l;
     }
@@ -193,7 +193,7 @@ add-loop : tie.Need-add-loop Inv-loop μ-loop
 add-loop c = omega (arith, numbers c)
 
 four-held-requires : tie.Need-four-held-requires Inv-loop μ-loop
-four-held-requires c κs = let st = begin (c .before) in ((c .before) .loop .inv .rode .below, slow-advance _ _ _ _ (made (c .before)) (st .pre .0 .timeStep) (st .pre .1 .1 .1))
+four-held-requires c κs = let st = begin (c .before) in ((c .before) .loop .inv .scanned .below, slow-advance _ _ _ _ (made (c .before)) (st .pre .0 .timeStep) (st .pre .1 .1 .1))
 
 add-p1 : tie.Need-add-p1 Inv-loop μ-loop
 add-p1 c = omega (arith, numbers (c .before .before .before), (c .before) .four-held .ensures .0 .few)
@@ -217,13 +217,13 @@ add-t29 : tie.Need-add-t29 Inv-loop μ-loop
 add-t29 c = omega (arith, numbers (c .before .before .before .before .before .before .before .before .before))
 
 same-length : tie.Need-same-length Inv-loop μ-loop
-same-length c = (c .before .before .before .before .before .before .before .before .before) .loop .inv .rode .asLong ∙ sym ((c .before .before .before .before .before .before .before .before .before .before .before .before .before .before .before .before .before .before) .pre .1 .0 .asLong)
+same-length c = (c .before .before .before .before .before .before .before .before .before) .loop .inv .scanned .asLong ∙ sym ((c .before .before .before .before .before .before .before .before .before .before .before .before .before .before .before .before .before .before) .pre .1 .0 .asLong)
 
 returns-2 : tie.Need-returns-2 Inv-loop μ-loop
-returns-2 c = (c .before .before .before .before .before .before .before .before .before) .loop .inv .rode
+returns-2 c = (c .before .before .before .before .before .before .before .before .before) .loop .inv .scanned
 
 read-on-requires : tie.Need-read-on-requires Inv-loop μ-loop
-read-on-requires c κs = (reads0 _ _ _ _ _ (numbers (c .before .before .before .before .before .before .before)), (c .before .before .before .before .before .before .before) .loop .inv .rode .below)
+read-on-requires c κs = (reads0 _ _ _ _ _ (numbers (c .before .before .before .before .before .before .before)), (c .before .before .before .before .before .before .before) .loop .inv .scanned .below)
 
 read-on-requires-2 : tie.Need-read-on-requires-2 Inv-loop μ-loop
 read-on-requires-2 c κs = (reads1 _ _ _ _ _ _ _ _ _ (numbers (c .before .before .before .before .before .before .before .before)) ((c .before) .if2 .left), (c .before .before .before .before .before .before) .four-held .ensures .0 .below)
@@ -279,8 +279,8 @@ loop-again c =
     let a = (c .before .before .before .before .before .before .before .before .before .before .before .before .before .before .before .before .before .before .before .before .before .before .before .before .before .before .before .before .before .before .before .before .before .before .before .before) .args in
     let m = (c .before .before .before .before .before .before .before .before .before .before .before .before .before .before .before .before .before .before .before .before .before .before .before .before .before) .four-held in
     record {
-      rode = on-four (now (a .sound)) (a .way) (replicate (a .frames) (a .rate)) ((c .before .before .before .before .before .before .before .before .before .before .before .before .before .before .before .before .before .before .before .before .before .before .before .before .before .before .before .before .before .before .before .before .before .before .before .before) .pre .0) ((c .before .before .before .before .before .before .before .before .before .before .before .before .before .before .before .before .before .before .before .before .before .before .before .before .before .before .before .before .before .before .before .before .before .before .before .before) .pre .1 .1 .0) (at .loop .i) (a .from .steps + (at .loop .p - (a .way .track .start + a .from .at))) (at .loop .p) (at .loop .fractional-position) (at .loop .out) (m .result) ((c .before .before .before .before .before .before .before .before .before .before .before .before .before .before .before .before .before .before .before) .read-on .result) ((c .before .before .before .before .before .before .before .before .before .before .before .before .before .before .before .before .before .before) .read-on2 .result) ((c .before .before .before .before .before .before .before .before .before .before .before .before .before .before .before .before .before) .read-on3 .result) ((c .before .before .before .before .before .before .before .before .before .before .before .before .before .before .before .before) .read-on4 .result) (at .loop .p + m .result .first .steps) (at .loop .p + m .result .first .steps + m .result .second .steps) (at .loop .p + m .result .first .steps + m .result .second .steps + m .result .third .steps) (at .loop .p + m .result .first .steps + m .result .second .steps + m .result .third .steps + m .result .fourth .steps) _ _ ((c .before .before .before .before .before .before .before .before .before .before .before .before .before .before) .store .last .0) ((c .before .before .before .before .before .before .before .before .before .before) .store2 .last .0) ((c .before .before .before .before .before .before) .store3 .last .0) ((c .before .before) .store4 .last .0)
-          (at .loop .inv .rode) (above _ _ _ (at .loop .inv .here)) (counted (a .frames) (a .rate) ((c .before .before .before .before .before .before .before .before .before .before .before .before .before .before .before .before .before .before .before .before .before .before .before .before .before .before) .loop-test .taken)) (held-move _ _ _ (a .frames) (a .rate) _ (made at) (at .loop .i) (less0 _ _ ((c .before .before .before .before .before .before .before .before .before .before .before .before .before .before .before .before .before .before .before .before .before .before .before .before .before .before) .loop-test .taken)) (m .ensures .0)) (held-move _ _ _ (a .frames) (a .rate) _ (made at) (at .loop .i + 1) (less1 _ _ ((c .before .before .before .before .before .before .before .before .before .before .before .before .before .before .before .before .before .before .before .before .before .before .before .before .before .before) .loop-test .taken)) (m .ensures .1 .0)) (held-move _ _ _ (a .frames) (a .rate) _ (made at) (at .loop .i + 2) (less2 _ _ ((c .before .before .before .before .before .before .before .before .before .before .before .before .before .before .before .before .before .before .before .before .before .before .before .before .before .before) .loop-test .taken)) (m .ensures .1 .1 .0)) (held-move _ _ _ (a .frames) (a .rate) _ (made at) (at .loop .i + 3) (less3 _ _ ((c .before .before .before .before .before .before .before .before .before .before .before .before .before .before .before .before .before .before .before .before .before .before .before .before .before .before) .loop-test .taken)) (m .ensures .1 .1 .1)) refl refl refl refl (ends _ _ _ ((c .before .before .before .before .before .before .before .before .before .before .before .before .before .before .before .before .before .before .before .before) .if2 .left))
+      scanned = on-four (now (a .sound)) (a .way) (replicate (a .frames) (a .rate)) ((c .before .before .before .before .before .before .before .before .before .before .before .before .before .before .before .before .before .before .before .before .before .before .before .before .before .before .before .before .before .before .before .before .before .before .before .before) .pre .0) ((c .before .before .before .before .before .before .before .before .before .before .before .before .before .before .before .before .before .before .before .before .before .before .before .before .before .before .before .before .before .before .before .before .before .before .before .before) .pre .1 .1 .0) (at .loop .i) (a .from .steps + (at .loop .p - (a .way .track .start + a .from .at))) (at .loop .p) (at .loop .fractional-position) (at .loop .out) (m .result) ((c .before .before .before .before .before .before .before .before .before .before .before .before .before .before .before .before .before .before .before) .read-on .result) ((c .before .before .before .before .before .before .before .before .before .before .before .before .before .before .before .before .before .before) .read-on2 .result) ((c .before .before .before .before .before .before .before .before .before .before .before .before .before .before .before .before .before) .read-on3 .result) ((c .before .before .before .before .before .before .before .before .before .before .before .before .before .before .before .before) .read-on4 .result) (at .loop .p + m .result .first .steps) (at .loop .p + m .result .first .steps + m .result .second .steps) (at .loop .p + m .result .first .steps + m .result .second .steps + m .result .third .steps) (at .loop .p + m .result .first .steps + m .result .second .steps + m .result .third .steps + m .result .fourth .steps) _ _ ((c .before .before .before .before .before .before .before .before .before .before .before .before .before .before) .store .last .0) ((c .before .before .before .before .before .before .before .before .before .before) .store2 .last .0) ((c .before .before .before .before .before .before) .store3 .last .0) ((c .before .before) .store4 .last .0)
+          (at .loop .inv .scanned) (above _ _ _ (at .loop .inv .here)) (counted (a .frames) (a .rate) ((c .before .before .before .before .before .before .before .before .before .before .before .before .before .before .before .before .before .before .before .before .before .before .before .before .before .before) .loop-test .taken)) (held-move _ _ _ (a .frames) (a .rate) _ (made at) (at .loop .i) (less0 _ _ ((c .before .before .before .before .before .before .before .before .before .before .before .before .before .before .before .before .before .before .before .before .before .before .before .before .before .before) .loop-test .taken)) (m .ensures .0)) (held-move _ _ _ (a .frames) (a .rate) _ (made at) (at .loop .i + 1) (less1 _ _ ((c .before .before .before .before .before .before .before .before .before .before .before .before .before .before .before .before .before .before .before .before .before .before .before .before .before .before) .loop-test .taken)) (m .ensures .1 .0)) (held-move _ _ _ (a .frames) (a .rate) _ (made at) (at .loop .i + 2) (less2 _ _ ((c .before .before .before .before .before .before .before .before .before .before .before .before .before .before .before .before .before .before .before .before .before .before .before .before .before .before) .loop-test .taken)) (m .ensures .1 .1 .0)) (held-move _ _ _ (a .frames) (a .rate) _ (made at) (at .loop .i + 3) (less3 _ _ ((c .before .before .before .before .before .before .before .before .before .before .before .before .before .before .before .before .before .before .before .before .before .before .before .before .before .before) .loop-test .taken)) (m .ensures .1 .1 .1)) refl refl refl refl (ends _ _ _ ((c .before .before .before .before .before .before .before .before .before .before .before .before .before .before .before .before .before .before .before .before) .if2 .left))
           ((c .before .before .before .before .before .before .before .before .before .before .before .before .before .before .before .before .before .before .before) .read-on .ensures) ((c .before .before .before .before .before .before .before .before .before .before .before .before .before .before .before .before .before .before) .read-on2 .ensures) ((c .before .before .before .before .before .before .before .before .before .before .before .before .before .before .before .before .before) .read-on3 .ensures) ((c .before .before .before .before .before .before .before .before .before .before .before .before .before .before .before .before) .read-on4 .ensures)
           (stored-at ((c .before .before .before .before .before .before .before .before .before .before .before .before .before .before) .store .last .0) ((c .before .before .before .before .before .before .before .before .before .before .before .before .before .before .before .before .before .before .before .before .before .before .before .before .before .before .before) .loop .out) (2 * (c .before .before .before .before .before .before .before .before .before .before .before .before .before .before .before .before .before .before .before .before .before .before .before .before .before .before .before) .loop .i) ((c .before .before .before .before .before .before .before .before .before .before .before .before .before .before .before .before .before .before .before .before .before .before .before .before .before .before .before) .loop .i) ((c .before .before .before .before .before .before .before .before .before .before .before .before .before .before .before .before .before .before .before) .read-on .result) refl ((c .before .before .before .before .before .before .before .before .before .before .before .before .before .before) .store .ensures)) (stored-at ((c .before .before .before .before .before .before .before .before .before .before) .store2 .last .0) ((c .before .before .before .before .before .before .before .before .before .before .before .before .before .before) .store .last .0) (2 * (c .before .before .before .before .before .before .before .before .before .before .before .before .before .before .before .before .before .before .before .before .before .before .before .before .before .before .before) .loop .i + 2) ((c .before .before .before .before .before .before .before .before .before .before .before .before .before .before .before .before .before .before .before .before .before .before .before .before .before .before .before) .loop .i + 1) ((c .before .before .before .before .before .before .before .before .before .before .before .before .before .before .before .before .before .before) .read-on2 .result) (even1 _) ((c .before .before .before .before .before .before .before .before .before .before) .store2 .ensures)) (stored-at ((c .before .before .before .before .before .before) .store3 .last .0) ((c .before .before .before .before .before .before .before .before .before .before) .store2 .last .0) (2 * (c .before .before .before .before .before .before .before .before .before .before .before .before .before .before .before .before .before .before .before .before .before .before .before .before .before .before .before) .loop .i + 4) ((c .before .before .before .before .before .before .before .before .before .before .before .before .before .before .before .before .before .before .before .before .before .before .before .before .before .before .before) .loop .i + 2) ((c .before .before .before .before .before .before .before .before .before .before .before .before .before .before .before .before .before) .read-on3 .result) (even2 _) ((c .before .before .before .before .before .before) .store3 .ensures)) (stored-at ((c .before .before) .store4 .last .0) ((c .before .before .before .before .before .before) .store3 .last .0) (2 * (c .before .before .before .before .before .before .before .before .before .before .before .before .before .before .before .before .before .before .before .before .before .before .before .before .before .before .before) .loop .i + 6) ((c .before .before .before .before .before .before .before .before .before .before .before .before .before .before .before .before .before .before .before .before .before .before .before .before .before .before .before) .loop .i + 3) ((c .before .before .before .before .before .before .before .before .before .before .before .before .before .before .before .before) .read-on4 .result) (even3 _) ((c .before .before) .store4 .ensures)) (further _ _ _ _ _ _ _ _ (at .loop .inv .here)) refl;
       here = on _ _ _ _ _ _ _ (at .loop .inv .here);
@@ -297,10 +297,10 @@ add-t41 : tie.Need-add-t41 Inv-loop μ-loop
 add-t41 c = omega (arith, numbers (c .before .before .before))
 
 same-length-2 : tie.Need-same-length-2 Inv-loop μ-loop
-same-length-2 c = (c .before .before .before) .loop .inv .rode .asLong ∙ sym ((c .before .before .before .before .before .before .before .before .before .before .before .before) .pre .1 .0 .asLong)
+same-length-2 c = (c .before .before .before) .loop .inv .scanned .asLong ∙ sym ((c .before .before .before .before .before .before .before .before .before .before .before .before) .pre .1 .0 .asLong)
 
 returns-3 : tie.Need-returns-3 Inv-loop μ-loop
-returns-3 c = (c .before .before .before) .loop .inv .rode
+returns-3 c = (c .before .before .before) .loop .inv .scanned
 
 pub held-on-spec : {M : Type 1} → statement M
 held-on-spec =

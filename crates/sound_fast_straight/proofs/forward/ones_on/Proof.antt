@@ -1,4 +1,4 @@
--- `ones_on` reads one frame a turn at consecutive places. The invariant: the ride so far.
+-- `ones_on` reads one frame a turn at consecutive places. The invariant: the scan so far.
 use Prim.Native.Nat.{ℕ, _+_, _-_, _*_, _^_, _≤_, _<_}
 use mathlib.Core.Path.{_≡_, refl, sym, ap, _∙_, subst}
 use mathlib.Core.List.{List}
@@ -8,16 +8,16 @@ use lib.Ieee.{Float}
 use denote.Ref.{now}
 use borrow.Author.Needs.{needs}
 use Rattle.sound_fast_reading.specs.declared.Way.{Way}
-use Rattle.sound_fast_reading.specs.declared.Ridden.{Ridden}
-use Rattle.sound_fast_reading.specs.Rides.{Rideable, Rode}
+use Rattle.sound_fast_reading.specs.declared.Reached.{Reached}
+use Rattle.sound_fast_reading.specs.Scans.{Scannable, Scanned}
 use Rattle.sound_lanes.specs.Lanes.{slow}
-use Rattle.sound_fast_reading.proofs.Rides.{place, rode-more, all-at, stored-at, stored-length}
+use Rattle.sound_fast_reading.proofs.Scans.{place, scanned-more, all-at, stored-at, stored-length}
 use Rattle.sound_fast_straight.proofs.Straight.{on-more}
 use Rattle.sound_fast_straight.proofs.forward.ones_on.Statement.{statement}
 use Rattle.sound_fast_straight.proofs.forward.ones_on.Tie as tie
 
 abbrev Inv-loop : tie.InvT-loop
-Inv-loop way sound rate out₀ start r₀ out r = Rode sound way rate r out
+Inv-loop way sound rate out₀ start r₀ out r = Scanned sound way rate r out
 
 abbrev μ-loop : tie.MeasureT-loop
 μ-loop way sound rate out₀ start r₀ out r = length rate - r .next
@@ -115,9 +115,9 @@ loop-again c =
     let at = (c .before .before .before .before .before .before .before .before .before .before .before .before .before .before .before .before .before .before) in
     let a = (c .before .before .before .before .before .before .before .before .before .before .before .before .before .before .before .before .before .before .before .before .before .before) .args in
     let m = (c .before .before .before .before .before .before .before .before .before .before .before .before .before .before) .moved in
-    subst (λ (q : ℕ). Rode (now (a .sound)) (a .way) (now (a .rate)) (place q (m .result .rest) (at .loop .r .steps + m .result .steps) (at .loop .r .next + 1)) ((c .before .before .before .before .before .before) .store .last .0)) (back (a .way .track .start) (at .loop .r .at) (m .result .steps))
+    subst (λ (q : ℕ). Scanned (now (a .sound)) (a .way) (now (a .rate)) (place q (m .result .fraction) (at .loop .r .steps + m .result .steps) (at .loop .r .next + 1)) ((c .before .before .before .before .before .before) .store .last .0)) (back (a .way .track .start) (at .loop .r .at) (m .result .steps))
     (on-more (now (a .sound)) (a .way) (now (a .rate)) ((c .before .before .before .before .before .before .before .before .before .before .before .before .before .before .before .before .before .before .before .before .before .before) .pre .0) ((c .before .before .before .before .before .before .before .before .before .before .before .before .before .before .before .before .before .before .before .before .before .before) .pre .1 .1) (at .loop .r .next) (at .loop .r .steps) (a .way .track .start + at .loop .r .at) (at .loop .r .«fractional_position») (at .loop .out) ((c .before .before .before .before .before .before .before .before) .read-on .result) (m .result) (a .way .track .start + at .loop .r .at + m .result .steps) (at .loop .r .steps + m .result .steps) (at .loop .r .next + 1) ((c .before .before .before .before .before .before) .store .last .0)
-    (subst (λ (q : ℕ). Rode (now (a .sound)) (a .way) (now (a .rate)) (place q (at .loop .r .«fractional_position») (at .loop .r .steps) (at .loop .r .next)) (at .loop .out)) (there (a .way .track .start) (at .loop .r .at)) (at .loop .inv))
+    (subst (λ (q : ℕ). Scanned (now (a .sound)) (a .way) (now (a .rate)) (place q (at .loop .r .«fractional_position») (at .loop .r .steps) (at .loop .r .next)) (at .loop .out)) (there (a .way .track .start) (at .loop .r .at)) (at .loop .inv))
     (above _ _) ((c .before .before .before .before .before .before .before .before .before .before .before .before .before .before .before .before) .if1 .taken) ((c .before .before .before .before .before .before .before .before) .read-on .ensures) (m .ensures) refl (ends _ _ _ _ ((c .before .before .before .before .before .before .before .before .before .before) .if2 .left)) refl refl (stored-at ((c .before .before .before .before .before .before) .store .last .0) (at .loop .out) (2 * at .loop .r .next) (at .loop .r .next) ((c .before .before .before .before .before .before .before .before) .read-on .result) refl ((c .before .before .before .before .before .before) .store .ensures)))
 
 same-length-2 : tie.Need-same-length-2 Inv-loop μ-loop

@@ -10,13 +10,13 @@ use Rattle.resampler.specs.declared.Resampler.{Resampler}
 use Rattle.resampler.specs.Windows.{isEmpty}
 use Rattle.sound_update.specs.declared.Wraps.{Wraps}
 use Rattle.sound_update.specs.declared.Moving.{Moving}
-use Rattle.sound_update.specs.declared.Course.{Course}
+use Rattle.sound_update.specs.declared.Slice.{Slice}
 use Rattle.sound_update.specs.Updates.{pushed, stepped, counted, updated}
 use Rattle.sound_update.proofs.Moving.update_position.Statement.{statement}
 use Rattle.sound_update.proofs.Moving.update_position.Tie as tie
 
 -- after the push and the step, with the answer e to whether the window is empty
-updated-by : (snd : List Float) (c : Course) (m : Moving) (t : Transport) (k : Wraps) (w : Resampler) (e b : Bool)
+updated-by : (snd : List Float) (c : Slice) (m : Moving) (t : Transport) (k : Wraps) (w : Resampler) (e b : Bool)
     → t ≡ stepped c (m .transport) → k ≡ counted c (m .transport) (m .wraps) → w ≡ pushed snd c m → e ≡ isEmpty w → not (t .playing) && e ≡ b
     → _≡_ {A = Moving} (record { state = cond b state.Stopped (m .state); transport = t; resampler = w; wraps = k }) (updated snd c m)
 unfolding updated

@@ -6,20 +6,20 @@ use lib.ListN.{length, length-map}
 use denote.Ref.{now}
 use borrow.Author.Needs.{needs}
 use Rattle.sound_update.specs.declared.Moving.{Moving}
-use Rattle.sound_update.specs.Updates.{updates, movingOf, Able}
+use Rattle.sound_update.specs.Updates.{updates, movingOf, Updatable}
 use Rattle.sound_update.specs.Windows.{windowOf}
-use Rattle.sound_update.proofs.Kept.{updated-able}
+use Rattle.sound_update.proofs.Kept.{updated-updatable}
 use Rattle.sound_update.proofs.Updates.{together-as, updates-one, updates-none, updated-apart}
 use Rattle.sound_update.proofs.Moving.update_positions.Statement.{statement}
 use Rattle.sound_update.proofs.Moving.update_positions.Tie as tie
 
 abbrev Inv-loop : tie.InvT-loop
-Inv-loop course sound steps loop-region state₀ position₀ playing₀ wraps₀ frames₀ numbers₀ left₀ state position playing wraps frames numbers left =
+Inv-loop slice sound steps loop-region state₀ position₀ playing₀ wraps₀ frames₀ numbers₀ left₀ state position playing wraps frames numbers left =
     let m = movingOf loop-region state position playing wraps (windowOf frames numbers) in
-    Able sound course m × (updates left sound course m ≡ updates steps sound course (movingOf loop-region state₀ position₀ playing₀ wraps₀ (windowOf frames₀ numbers₀)))
+    Updatable sound slice m × (updates left sound slice m ≡ updates steps sound slice (movingOf loop-region state₀ position₀ playing₀ wraps₀ (windowOf frames₀ numbers₀)))
 
 abbrev μ-loop : tie.MeasureT-loop
-μ-loop course sound steps loop-region state₀ position₀ playing₀ wraps₀ frames₀ numbers₀ left₀ state position playing wraps frames numbers left = left
+μ-loop slice sound steps loop-region state₀ position₀ playing₀ wraps₀ frames₀ numbers₀ left₀ state position playing wraps frames numbers left = left
 
 -- ---- the places
 
@@ -52,7 +52,7 @@ numbers-of-requires : tie.Need-numbers-of-requires Inv-loop μ-loop
 numbers-of-requires c κs = search needs
 
 loop-holds : tie.Need-loop-holds Inv-loop μ-loop
-loop-holds c = (subst (Able _ _) (sym (begins c)) (start c .pre), refl)
+loop-holds c = (subst (Updatable _ _) (sym (begins c)) (start c .pre), refl)
 
 window-of-requires : tie.Need-window-of-requires Inv-loop μ-loop
 window-of-requires c κs = search needs
@@ -61,7 +61,7 @@ moving-of-requires : tie.Need-moving-of-requires Inv-loop μ-loop
 moving-of-requires c κs = search needs
 
 update-position-requires : tie.Need-update-position-requires Inv-loop μ-loop
-update-position-requires c κs = subst (Able _ _) (sym (given c)) (c .before .before .before .loop .inv .0)
+update-position-requires c κs = subst (Updatable _ _) (sym (given c)) (c .before .before .before .loop .inv .0)
 
 frames-of-requires-2 : tie.Need-frames-of-requires-2 Inv-loop μ-loop
 frames-of-requires-2 c κs = search needs
@@ -82,7 +82,7 @@ loop-again c =
     let l = m .before .before in
     let at = l .before in
     rw (updated-apart _ _ _ (moving at) _ _ _ _ (given m) (u .update-position .ensures) refl (c .before .frames-of2 .ensures) (c .numbers-of2 .ensures))
-    (updated-able _ _ _ (at .loop .inv .0), updates-one (at .loop .left) _ _ _ (l .loop-test .taken) ∙ at .loop .inv .1)
+    (updated-updatable _ _ _ (at .loop .inv .0), updates-one (at .loop .left) _ _ _ (l .loop-test .taken) ∙ at .loop .inv .1)
 
 window-of-requires-2 : tie.Need-window-of-requires-2 Inv-loop μ-loop
 window-of-requires-2 c κs = search needs
@@ -97,7 +97,7 @@ returns c =
     let b = at .before in
     let s = start b in
     c .moving-of2 .ensures ∙ ap (movingOf _ _ _ _ _) (c .before .window-of2 .ensures) ∙ sym (updates-none (at .loop .left) _ _ _ (omega (arith, l .loop-test .left))) ∙ at .loop .inv .1
-    ∙ ap (updates (s .args .steps) (now (s .args .sound)) (s .args .course)) (begins b)
+    ∙ ap (updates (s .args .steps) (now (s .args .sound)) (s .args .slice)) (begins b)
 
 pub update-positions-spec : {M : Type 1} → statement M
 update-positions-spec =

@@ -4,7 +4,7 @@ use native.Mathlib.Omega.{arith}
 use denote.Ref.{now}
 use Prim.Native.Nat.{_+_, _*_, _≤_}
 use lib.ListN.{length}
-use Rattle.sound_held.specs.Held.{once}
+use Rattle.sound_held.specs.Held.{heldLanes}
 use Rattle.static_sound.specs.Entries.{refusedBlock, room}
 use Rattle.static_sound.proofs.Held.{refused-held-into, held-inside, playable-held-part, held-into}
 use borrow.Author.Needs.{needs}
@@ -21,12 +21,12 @@ start c = c .before .before .before .before
 
 numbered : (c : tie.After-refusal-held)
     → (let a = start c .args in
-    c .refusal-held .result ≡ refusedBlock (length (now (a .sound))) (a .voice) (a .dt) (once (a .held) (a .frames)) (room (a .from) (a .frames) (now (a .mix))))
+    c .refusal-held .result ≡ refusedBlock (length (now (a .sound))) (a .voice) (a .dt) (heldLanes (a .held) (a .frames)) (room (a .from) (a .frames) (now (a .mix))))
 numbered c = rw (c .before .has-room .ensures) at (c .refusal-held .ensures)
 
 none : (c : tie.Else1)
     → (let a = start (c .before) .args in
-    refusedBlock (length (now (a .sound))) (a .voice) (a .dt) (once (a .held) (a .frames)) (room (a .from) (a .frames) (now (a .mix))) ≡ 0)
+    refusedBlock (length (now (a .sound))) (a .voice) (a .dt) (heldLanes (a .held) (a .frames)) (room (a .from) (a .frames) (now (a .mix))) ≡ 0)
 none c = sym (numbered (c .before)) ∙ c .if1 .left
 
 -- the part lies in the mix

@@ -4,8 +4,8 @@ use lib.Dec.{T}
 use mathlib.Core.Bool.{true}
 use Prim.Native.Nat.{ℕ}
 use Rattle.sound_lanes.specs.Lanes.{sized, timeStep}
-use Rattle.sound_held.specs.Held.{once}
-use Rattle.sound_state.specs.WellFormed.{ours}
+use Rattle.sound_held.specs.Held.{heldLanes}
+use Rattle.sound_state.specs.WellFormed.{wellFormedFor}
 use Rattle.static_sound.proofs.Calls.{number-1, number-9, number-9-place, number-10, number-judged, fails, passes}
 use Rattle.static_sound.proofs.Held.{sized-few, sized-many, judged-some, judged-none}
 use borrow.Author.Tests.{not-true, not-false}
@@ -23,10 +23,10 @@ use Rattle.sound_state.proofs.StaticSound.is_well_formed.Reads as is-well-forme
 abbrev start : tie.Else1 → tie.Start
 start c = c .before .before .before
 
-formed : (c : tie.Else1) → ours (start c .args .samples) (start c .args .timed .voice) ≡ true
-formed c = passes (c .before .is-well-formed .ensures) (c .if1 .left)
+wellFormed : (c : tie.Else1) → wellFormedFor (start c .args .samples) (start c .args .timed .voice) ≡ true
+wellFormed c = passes (c .before .is-well-formed .ensures) (c .if1 .left)
 
-few : (c : tie.Else2) → sized (once (start (c .before) .args .held) (start (c .before) .args .frames)) ≡ true
+few : (c : tie.Else2) → sized (heldLanes (start (c .before) .args .held) (start (c .before) .args .frames)) ≡ true
 few c = sized-few _ _ (c .if2 .left)
 
 time-step-one : (c : tie.Else4) → timeStep (start (c .before .before .before .before) .args .timed .dt) ≡ true
@@ -39,22 +39,22 @@ returns : tie.Need-returns
 returns c = number-1 _ _ _ _ _ (fails (c .before .is-well-formed .ensures) (c .if1 .taken))
 
 returns-2 : tie.Need-returns-2
-returns-2 c = number-9 _ _ _ _ _ (formed (c .before)) (sized-many _ _ (c .if2 .taken))
+returns-2 c = number-9 _ _ _ _ _ (wellFormed (c .before)) (sized-many _ _ (c .if2 .taken))
 
 returns-3 : tie.Need-returns-3
-returns-3 c = number-9-place _ _ _ _ _ (formed (c .before .before)) (few (c .before)) (not-true _ (c .if3 .taken))
+returns-3 c = number-9-place _ _ _ _ _ (wellFormed (c .before .before)) (few (c .before)) (not-true _ (c .if3 .taken))
 
 is-time-step-requires : tie.Need-is-time-step-requires
 is-time-step-requires c κs = search needs
 
 returns-4 : tie.Need-returns-4
-returns-4 c = let p = c .before .before in number-10 _ _ _ _ _ (formed (p .before .before)) (few (p .before)) (not-false _ (p .if3 .left)) (fails (c .before .is-time-step .ensures) (c .if4 .taken))
+returns-4 c = let p = c .before .before in number-10 _ _ _ _ _ (wellFormed (p .before .before)) (few (p .before)) (not-false _ (p .if3 .left)) (fails (c .before .is-time-step .ensures) (c .if4 .taken))
 
 returns-5 : tie.Need-returns-5
 returns-5 c =
     let q = c .before in
     let p = q .before .before in
-    judged-none _ _ _ _ (c .if5 .taken) ∙ number-judged _ _ _ _ _ (formed (p .before .before)) (few (p .before)) (not-false _ (p .if3 .left)) (time-step-one q)
+    judged-none _ _ _ _ (c .if5 .taken) ∙ number-judged _ _ _ _ _ (wellFormed (p .before .before)) (few (p .before)) (not-false _ (p .if3 .left)) (time-step-one q)
 
 slice-aggregate-judge : tie.Need-slice-aggregate-judge
 slice-aggregate-judge c = search needs
@@ -79,7 +79,7 @@ returns-6 c =
     let e = c .before .before .before .before .before .before in
     let q = e .before in
     let p = q .before .before in
-    c .judge .ensures ∙ judged-some _ _ _ _ (e .if5 .left) ∙ number-judged _ _ _ _ _ (formed (p .before .before)) (few (p .before)) (not-false _ (p .if3 .left)) (time-step-one q)
+    c .judge .ensures ∙ judged-some _ _ _ _ (e .if5 .left) ∙ number-judged _ _ _ _ _ (wellFormed (p .before .before)) (few (p .before)) (not-false _ (p .if3 .left)) (time-step-one q)
 
 pub refusal-held-spec : {M : Type 1} → statement M
 refusal-held-spec =

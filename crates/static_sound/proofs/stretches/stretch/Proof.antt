@@ -10,8 +10,8 @@ use lib.ListN.{length}
 use Rattle.playback_position.specs.Positions.{within}
 use Rattle.playback_position.specs.declared.FrameRange.{FrameRange}
 use Rattle.playback_position.proofs.Ranges.{Ranged, ranged-parts}
-use Rattle.sound_state.specs.WellFormed.{ours}
-use Rattle.sound_state.proofs.Formed.{Fixed, setup-parts, ours-parts}
+use Rattle.sound_state.specs.WellFormed.{wellFormedFor}
+use Rattle.sound_state.proofs.WellFormed.{Fixed, setup-parts, well-formed-for-parts}
 use Rattle.static_sound.specs.Entries.{stretchOf, stretchAt}
 use Rattle.static_sound.proofs.Calls.{fails, passes}
 use borrow.Author.Needs.{needs}
@@ -31,8 +31,8 @@ is-true e = subst T (sym e) tt
 abbrev start : tie.Else1 → tie.Start
 start c = c .before .before .before
 
-formed : (c : tie.Else1) → ours (length (now (start c .args .sound))) (start c .args .voice) ≡ true
-formed c = passes (c .before .is-well-formed .ensures) (c .if1 .left)
+wellFormed : (c : tie.Else1) → wellFormedFor (length (now (start c .args .sound))) (start c .args .voice) ≡ true
+wellFormed c = passes (c .before .is-well-formed .ensures) (c .if1 .left)
 
 -- the slice lies in the sound
 record Numbers (s e n len : ℕ) : Type 0 where
@@ -47,7 +47,7 @@ numbers : (c : tie.After-slice)
 numbers c =
     let e = c .before .before .before in
     let a = start e .args in
-    let o = ours-parts (length (now (a .sound))) (a .voice) (is-true (formed e)) in
+    let o = well-formed-for-parts (length (now (a .sound))) (a .voice) (is-true (wellFormed e)) in
     let k = setup-parts (a .voice .setup) (o .0 .setup) in
     let r = ranged-parts (a .voice .setup .«num_frames») (c .slice .given .0 .0) (c .slice .given .0 .1 .0) (subst (λ (r : FrameRange). T (within (a .voice .setup .«num_frames») r)) (c .slice .given .1) (k .slice)) in
     record { more = r .more; inside = r .inside; few = k .few; lent = o .1 }
@@ -91,14 +91,14 @@ part-result-end c = omega (arith, numbers (c .before))
 returns-2 : tie.Need-returns-2
 unfolding stretchOf stretchAt
 returns-2 c =
-    let e = formed (c .before .before .before) in
+    let e = wellFormed (c .before .before .before) in
     let h = c .enum-told .given .1 in
     (simp (e, h), simp (e, h) (at-start (ptr (c .before .before .before .before .before .before .args .sound))))
 
 returns-3 : tie.Need-returns-3
 unfolding stretchOf stretchAt
 returns-3 c =
-    let e = formed (c .before .before .before .before .before) in
+    let e = wellFormed (c .before .before .before .before .before) in
     let h = c .before .before .slice .given .1 in
     (simp (e, h), simp (e, h) refl)
 

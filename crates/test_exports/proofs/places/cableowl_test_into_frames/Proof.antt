@@ -1,6 +1,6 @@
 -- `test_exports::places::cableowl_test_into_frames` meets its contract, by its callees'. Assumes nothing.
 use mathlib.Core.Path.{ap, _∙_}
-use Rattle.playback_position.specs.Positions.{stretched}
+use Rattle.playback_position.specs.Positions.{regionInFrames}
 use Rattle.test_exports.specs.Places.{plainRange}
 use borrow.Author.Needs.{needs}
 use Rattle.test_exports.proofs.places.cableowl_test_into_frames.Statement.{statement}
@@ -19,7 +19,7 @@ returns : tie.Need-returns
 returns c =
     let start = c .before .before .before in
     c .plain-range .ensures
-    ∙ ap plainRange (c .before .into-frames .ensures ∙ ap (stretched (start .args .sample-rate) (start .args .num-frames)) (c .before .before .region-of .ensures))
+    ∙ ap plainRange (c .before .into-frames .ensures ∙ ap (regionInFrames (start .args .sample-rate) (start .args .num-frames)) (c .before .before .region-of .ensures))
 
 pub cableowl-test-into-frames-spec : {M : Type 1} → statement M
 cableowl-test-into-frames-spec =
