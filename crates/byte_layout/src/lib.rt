@@ -10,6 +10,7 @@ ghost use Rattle.byte_layout.specs.Numbers.{num, bytes};
 ghost use Rattle.byte_layout.specs.Rows.{rowAt, rows, stands, within, sound};
 ghost use Rattle.byte_layout.specs.Reads.{step, steps, view};
 ghost use Rattle.byte_layout.specs.Writes.{field, payload, fits, fine};
+use refusals::words;
 
 // A row: a number of `width` bytes, from `least` to `most` or refused with `refusal`. It is present if the number of
 // row `guard` is at least `low`.
@@ -110,12 +111,21 @@ fn read_row(s: &[u8], p: Parsed, i: usize, r: Row) -> Parsed
         let n = s.len() - at;
         if left < w {
             if left <= n {
-                return Parsed { refused: 17, ..p };
+                return Parsed {
+                    refused: words::RECORD,
+                    ..p
+                };
             }
-            return Parsed { refused: 18, ..p };
+            return Parsed {
+                refused: words::TRUNCATED,
+                ..p
+            };
         }
         if n < w {
-            return Parsed { refused: 18, ..p };
+            return Parsed {
+                refused: words::TRUNCATED,
+                ..p
+            };
         }
         let x = number(s, at, w);
         if row_within(r, x) {

@@ -24,7 +24,10 @@ pub extern "C" fn cableowl_write_copy(
     ensures { λ r. ⌜ r ≡ copyWrittenC copy hall slot start end ⌝ }
 {
     if hall > 1 {
-        return CopyChanged { copy, refusal: 1 };
+        return CopyChanged {
+            copy,
+            refusal: refusals::STATE,
+        };
     }
     copy.write(hall_of(hall), slot as usize, start, end)
 }
@@ -34,7 +37,10 @@ pub extern "C" fn cableowl_clear_copy(copy: LoopCopy, hall: u32, slot: u64) -> C
     ensures { λ r. ⌜ r ≡ copyClearedC copy hall slot ⌝ }
 {
     if hall > 1 {
-        return CopyChanged { copy, refusal: 1 };
+        return CopyChanged {
+            copy,
+            refusal: refusals::STATE,
+        };
     }
     copy.clear(hall_of(hall), slot as usize)
 }

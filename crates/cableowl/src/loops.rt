@@ -38,7 +38,10 @@ pub extern "C" fn cableowl_write_loop(
     ensures { λ r. ⌜ r ≡ writtenC table hall slot start end ⌝ }
 {
     if hall > 1 {
-        return LoopChanged { table, refusal: 1 };
+        return LoopChanged {
+            table,
+            refusal: refusals::STATE,
+        };
     }
     table.write(hall_of(hall), slot as usize, start, end)
 }
@@ -48,7 +51,10 @@ pub extern "C" fn cableowl_clear_loop(table: LoopTable, hall: u32, slot: u64) ->
     ensures { λ r. ⌜ r ≡ clearedC table hall slot ⌝ }
 {
     if hall > 1 {
-        return LoopChanged { table, refusal: 1 };
+        return LoopChanged {
+            table,
+            refusal: refusals::STATE,
+        };
     }
     table.clear(hall_of(hall), slot as usize)
 }

@@ -24,6 +24,7 @@ use crate::state_after;
 use c_state::CableowlState;
 use c_state::decode;
 use c_state::encode;
+use refusals::words;
 use sound_held::Held;
 use trace_inputs::Block;
 use trace_records::Record;
@@ -256,10 +257,10 @@ fn refusal_of(replay: CableowlReplay, sound: usize, out: usize) -> u64
     ensures { λ r. ⌜ r ≡ refusedStep replay sound out ⌝ }
 {
     if !((replay.reader == 1) & (replay.given == 0) & (replay.samples <= sound as u64)) {
-        return 1;
+        return words::STATE;
     }
     if !((128 <= sound) & (2048 <= out)) {
-        return 19;
+        return words::ROOM;
     }
     0
 }
@@ -305,7 +306,7 @@ pub extern "C" fn cableowl_replay_step(
     if read.refusal == 0 {
         return play_record(replay, read, sound, out);
     }
-    if (read.refusal == 18) & (ended == 0) {
+    if (read.refusal == words::TRUNCATED) & (ended == 0) {
         return not_played(replay, 1, 0);
     }
     not_played(replay, 3, read.refusal)

@@ -33,6 +33,7 @@ use crate::replays::played;
 use crate::state_after;
 use c_state::decode;
 use c_state::encode;
+use refusals::words;
 use sound_slow_path::Processed;
 use sound_state::StaticSound;
 use trace_inputs::LanedBlock;
@@ -69,7 +70,7 @@ fn refuse_sound(replay: CableowlReplay, size: u64) -> CableowlReplayed
 {
     let voice = encode(sound_creation::blank());
     let after = behind_record(playing_of(1, replay), size, voice, 0, replay.blocks);
-    played(after, size, 4, 26, 0, 0, 4)
+    played(after, size, 4, refusals::OTHER_SOUND, 0, 0, 4)
 }
 
 // Plays a creation record over a given sound.
@@ -250,12 +251,12 @@ fn lacking_of(replay: CableowlReplay, read: Record, sounds: u32, len: usize) -> 
         if (sounds != 0) | (samples <= len) {
             return 0;
         }
-        return 19;
+        return words::ROOM;
     }
     if (read.kind == 1) | (replay.given == 0) | (replay.samples <= len as u64) {
         return 0;
     }
-    1
+    words::STATE
 }
 
 fn refusal_v2(replay: CableowlReplay, sound: usize, out: usize) -> u64
@@ -263,10 +264,10 @@ fn refusal_v2(replay: CableowlReplay, sound: usize, out: usize) -> u64
 {
     let held = (replay.given == 1) | (replay.samples <= sound as u64);
     if !((replay.reader == 2) & (replay.given <= 1) & held) {
-        return 1;
+        return words::STATE;
     }
     if !((128 <= sound) & (2048 <= out)) {
-        return 19;
+        return words::ROOM;
     }
     0
 }
@@ -319,7 +320,7 @@ pub extern "C" fn cableowl_replay_step_v2(
         }
         return play_record_v2(replay, read, bytes, sound, given, sounds, out);
     }
-    if (read.refusal == 18) & (ended == 0) {
+    if (read.refusal == words::TRUNCATED) & (ended == 0) {
         return not_played(replay, 1, 0);
     }
     not_played(replay, 3, read.refusal)

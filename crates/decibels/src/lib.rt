@@ -10,12 +10,6 @@ ghost use Rattle.decibels.specs.Promises.{Promises};
 
 mod table;
 
-// Refusal: a level above 601.
-const REFUSAL_LEVEL: u32 = 13;
-
-// Refusal: a frame count that is not 1 to 65,536, or not the lane's length.
-const REFUSAL_RAMP: u32 = 14;
-
 // An entry of the table is at most 2^24, so it is an f32 and its quotient is exact.
 fn amplitude(entries: &[u32; 601], level: u32) -> f32
     requires { ⌜ Table (now entries) ⌝ }
@@ -35,7 +29,7 @@ pub fn as_amplitude(level: u32, to: &mut f32) -> u32
     ensures { λ r. ⌜ (r ≡ levelRefusal level) × (now (to .exit) ≡ amplitudeOr level (now (to .entry))) ⌝ }
 {
     if level > 601 {
-        return REFUSAL_LEVEL;
+        return refusals::LEVEL;
     }
     let entries = table::all();
     *to = amplitude(&entries, level);
@@ -86,21 +80,21 @@ fn refusal_of(start: u32, end: u32, count: u32, room: usize) -> u32
     ensures { λ r. ⌜ r ≡ refusal start end count room ⌝ }
 {
     if start > 601 {
-        return REFUSAL_LEVEL;
+        return refusals::LEVEL;
     }
     if end > 601 {
-        return REFUSAL_LEVEL;
+        return refusals::LEVEL;
     }
     if count < 1 {
-        return REFUSAL_RAMP;
+        return refusals::RAMP;
     }
     if count > 65536 {
-        return REFUSAL_RAMP;
+        return refusals::RAMP;
     }
     if count as usize == room {
         0
     } else {
-        REFUSAL_RAMP
+        refusals::RAMP
     }
 }
 

@@ -25,15 +25,6 @@ use loop_table::LoopChanged;
 use loop_table::LoopSlot;
 use loop_table::LoopTable;
 
-// Refusal: a copy's table is not well formed.
-const REFUSAL_STATE: u32 = 1;
-
-// Refusal: two tables over different numbers of frames.
-const REFUSAL_OTHER_FRAMES: u32 = 27;
-
-// Refusal: two halves that differ and have the same number of changes.
-const REFUSAL_TWO_HALVES: u32 = 28;
-
 // The table, and how many writes and clears each hall has made.
 #[repr(C)]
 pub struct LoopCopy {
@@ -181,19 +172,19 @@ impl LoopCopy {
         let ours = self.table;
         let other = theirs.table;
         if !ours.is_well_formed() {
-            return REFUSAL_STATE;
+            return refusals::STATE;
         }
         if !other.is_well_formed() {
-            return REFUSAL_STATE;
+            return refusals::STATE;
         }
         if ours.num_frames != other.num_frames {
-            return REFUSAL_OTHER_FRAMES;
+            return refusals::OTHER_FRAMES;
         }
         if !self.agrees(theirs, Hall::A, 0) {
-            return REFUSAL_TWO_HALVES;
+            return refusals::TWO_HALVES;
         }
         if !self.agrees(theirs, Hall::B, 8) {
-            return REFUSAL_TWO_HALVES;
+            return refusals::TWO_HALVES;
         }
         0
     }

@@ -18,21 +18,6 @@ ghost use Rattle.loop_table.specs.Tables.{
   found,
 };
 
-// Refusal: the table is not well formed.
-const REFUSAL_STATE: u32 = 1;
-
-// Refusal: not start < end <= all frames.
-const REFUSAL_LOOP_REGION: u32 = 6;
-
-// Refusal: a slot above 15.
-const REFUSAL_LOOP_SLOT: u32 = 20;
-
-// Refusal: a slot of the other hall.
-const REFUSAL_OTHER_HALL: u32 = 21;
-
-// Refusal: an empty slot.
-const REFUSAL_EMPTY_SLOT: u32 = 22;
-
 pub enum Hall {
     A,
     B,
@@ -102,10 +87,10 @@ impl Hall {
         ensures { λ r. ⌜ r ≡ refusedSlot self slot ⌝ }
     {
         if slot > 15 {
-            return REFUSAL_LOOP_SLOT;
+            return refusals::LOOP_SLOT;
         }
         if !self.owns(slot) {
-            return REFUSAL_OTHER_HALL;
+            return refusals::OTHER_HALL;
         }
         0
     }
@@ -164,10 +149,10 @@ impl LoopTable {
         ensures { λ r. ⌜ r ≡ refusedWrite self hall slot start end ⌝ }
     {
         if !self.is_well_formed() {
-            return REFUSAL_STATE;
+            return refusals::STATE;
         }
         if !is_loop(self.num_frames, start, end) {
-            return REFUSAL_LOOP_REGION;
+            return refusals::LOOP_REGION;
         }
         hall.refusal_of(slot)
     }
@@ -176,7 +161,7 @@ impl LoopTable {
         ensures { λ r. ⌜ r ≡ refusedClear self hall slot ⌝ }
     {
         if !self.is_well_formed() {
-            return REFUSAL_STATE;
+            return refusals::STATE;
         }
         hall.refusal_of(slot)
     }
@@ -203,13 +188,13 @@ impl LoopTable {
         if !self.is_well_formed() {
             return LoopFound {
                 slot: none,
-                refusal: REFUSAL_STATE,
+                refusal: refusals::STATE,
             };
         }
         if slot > 15 {
             return LoopFound {
                 slot: none,
-                refusal: REFUSAL_LOOP_SLOT,
+                refusal: refusals::LOOP_SLOT,
             };
         }
         let slots = self.slots;
@@ -217,7 +202,7 @@ impl LoopTable {
         if held.is_empty() {
             return LoopFound {
                 slot: none,
-                refusal: REFUSAL_EMPTY_SLOT,
+                refusal: refusals::EMPTY_SLOT,
             };
         }
         LoopFound {

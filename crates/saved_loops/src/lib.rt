@@ -28,15 +28,7 @@ mod tables;
 
 use byte_layout::Parsed;
 use tables::HALF;
-
-// Refusal: the bytes end too early.
-const REFUSAL_TRUNCATED: u32 = 18;
-
-// Refusal: the buffer is too short.
-const REFUSAL_ROOM: u32 = 19;
-
-// Refusal: a number that no half has, or a wrong checksum.
-const REFUSAL_SAVED_FIELD: u32 = 24;
+use tables::HALF_ROWS;
 
 // The words of a half, or a refusal's number and every word 0.
 pub struct LoadedHalf {
@@ -78,7 +70,7 @@ fn read_half(s: &[u8]) -> Parsed
     ensures { λ p. ⌜ view (now (s .entry)) 23 p ≡ steps halfRows (good 666 [] (now (s .entry))) ⌝ }
 {
     let table = HALF;
-    byte_layout::read_rows(s, byte_layout::begin(0, 666), &table, 23)
+    byte_layout::read_rows(s, byte_layout::begin(0, 666), &table, HALF_ROWS)
 }
 
 // The words among the numbers of a record.
@@ -117,7 +109,7 @@ fn show(ok: bool, words: [u64; 19]) -> LoadedHalf
     if ok {
         return LoadedHalf { words, refusal: 0 };
     }
-    refused(REFUSAL_SAVED_FIELD)
+    refused(refusals::SAVED_FIELD)
 }
 
 // Loads a half from any bytes. It does not read what follows the record.
@@ -129,7 +121,7 @@ pub fn load(s: &[u8]) -> LoadedHalf
         return refused(p.refused as u32);
     }
     if s.len() < 666 {
-        return refused(REFUSAL_TRUNCATED);
+        return refused(refusals::TRUNCATED);
     }
     let values = p.values;
     let words = words_of(values);
@@ -149,9 +141,9 @@ fn refusal_of(words: [u64; 19], named: usize, room: usize) -> u32
     ensures { λ r. ⌜ r ≡ storeRefusal words named room ⌝ }
 {
     if !is_storable(words, named) {
-        return REFUSAL_SAVED_FIELD;
+        return refusals::SAVED_FIELD;
     }
-    if room < 666 { REFUSAL_ROOM } else { 0 }
+    if room < 666 { refusals::ROOM } else { 0 }
 }
 
 fn numbers(words: [u64; 19]) -> [u64; 80]
@@ -176,7 +168,7 @@ fn put_numbers(words: [u64; 19], buffer: &mut [u8])
 {
     let table = HALF;
     let values = numbers(words);
-    let end = byte_layout::put_rows(buffer, 0, values, &table, 23);
+    let end = byte_layout::put_rows(buffer, 0, values, &table, HALF_ROWS);
 }
 
 fn put(words: [u64; 19], names: &[u8], buffer: &mut [u8])

@@ -32,13 +32,9 @@ mod tables;
 
 use byte_layout::Parsed;
 use tables::FIRST;
+use tables::FIRST_ROWS;
 use tables::SECOND;
-
-// Refusal: the buffer is too short.
-const REFUSAL_ROOM: u32 = 19;
-
-// Refusal: a number that no saved settings have.
-const REFUSAL_SAVED_FIELD: u32 = 24;
+use tables::SECOND_ROWS;
 
 // Frames, the rate by its bits, the pitch in semitones in two's complement. Without a loop both loop numbers are 0.
 pub struct SavedSettings {
@@ -158,21 +154,21 @@ fn show(version: u64, settings: SavedSettings) -> Loaded
             refusal: 0,
         };
     }
-    refused(REFUSAL_SAVED_FIELD)
+    refused(refusals::SAVED_FIELD)
 }
 
 fn read_first(s: &[u8]) -> Parsed
     ensures { λ p. ⌜ view (now (s .entry)) 9 p ≡ steps firstRows (good 25 [] (now (s .entry))) ⌝ }
 {
     let table = FIRST;
-    byte_layout::read_rows(s, byte_layout::begin(0, 25), &table, 9)
+    byte_layout::read_rows(s, byte_layout::begin(0, 25), &table, FIRST_ROWS)
 }
 
 fn read_second(s: &[u8]) -> Parsed
     ensures { λ p. ⌜ view (now (s .entry)) 10 p ≡ steps secondRows (good 26 [] (now (s .entry))) ⌝ }
 {
     let table = SECOND;
-    byte_layout::read_rows(s, byte_layout::begin(0, 26), &table, 10)
+    byte_layout::read_rows(s, byte_layout::begin(0, 26), &table, SECOND_ROWS)
 }
 
 fn is_second(reader: u64, s: &[u8]) -> bool
@@ -228,10 +224,10 @@ fn refusal_of(version: u64, s: SavedSettings, room: usize) -> u32
     ensures { λ r. ⌜ r ≡ storeRefusal version s room ⌝ }
 {
     if !is_storable(version, s) {
-        return REFUSAL_SAVED_FIELD;
+        return refusals::SAVED_FIELD;
     }
     if room < size_of(version) {
-        REFUSAL_ROOM
+        refusals::ROOM
     } else {
         0
     }
@@ -276,7 +272,7 @@ fn put_first(s: SavedSettings, buffer: &mut [u8])
 {
     let table = FIRST;
     let values = first_numbers(s);
-    let end = byte_layout::put_rows(buffer, 0, values, &table, 9);
+    let end = byte_layout::put_rows(buffer, 0, values, &table, FIRST_ROWS);
 }
 
 fn put_second(s: SavedSettings, buffer: &mut [u8])
@@ -285,7 +281,7 @@ fn put_second(s: SavedSettings, buffer: &mut [u8])
 {
     let table = SECOND;
     let values = second_numbers(s);
-    let end = byte_layout::put_rows(buffer, 0, values, &table, 10);
+    let end = byte_layout::put_rows(buffer, 0, values, &table, SECOND_ROWS);
 }
 
 // Returns the refusal, or 0 and writes the record at the buffer's start.

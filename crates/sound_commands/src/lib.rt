@@ -148,16 +148,16 @@ fn refusal_of(voice: StaticSound, samples: usize, commands: Commands) -> u32
     let seek_by = commands.seek_by;
     let seek_to = commands.seek_to;
     if !voice.is_well_formed(samples) {
-        return 1;
+        return refusals::STATE;
     }
     if !is_loop(voice, loop_region) {
-        return 6;
+        return refusals::LOOP_REGION;
     }
     if !is_rate(playback_rate) {
-        return 7;
+        return refusals::PLAYBACK_RATE;
     }
     if !(is_seek_by(voice, seek_by) & is_seek_to(voice, seek_to)) {
-        return 8;
+        return refusals::SEEK;
     }
     0
 }

@@ -112,24 +112,24 @@ fn refusal_of(settings: Settings, samples: usize) -> u32
     let slice = settings.slice;
     let loop_region = settings.loop_region;
     if !is_sample_rate(sample_rate) {
-        return 2;
+        return refusals::SAMPLE_RATE;
     }
     if !is_sound(samples) {
-        return 3;
+        return refusals::FRAME_COUNT;
     }
     if !is_well_formed(slice, sample_rate, samples / 2) {
-        return 4;
+        return refusals::SLICE;
     }
     let setup = setup_of(settings, samples);
     let num_frames = setup.num_frames();
     if !is_start(settings, num_frames) {
-        return 5;
+        return refusals::START_POSITION;
     }
     if !is_well_formed(loop_region, sample_rate, num_frames) {
-        return 6;
+        return refusals::LOOP_REGION;
     }
     if !numbers::is_finite(settings.playback_rate) {
-        return 7;
+        return refusals::PLAYBACK_RATE;
     }
     0
 }

@@ -96,10 +96,14 @@ pub fn judge(
         ⌝ }
 {
     if !four_finite_clear(fade, volume, left, right) {
-        return 11;
+        return refusals::LANE;
     }
     if all_slow(sample_rate, dt, rate) {
         return 0;
     }
-    if all_finite(rate) { 12 } else { 11 }
+    if all_finite(rate) {
+        refusals::ADVANCE
+    } else {
+        refusals::LANE
+    }
 }

@@ -6,6 +6,7 @@ ghost use lib.Dec.{eqb};
 ghost use lib.ListN.{length, drop};
 ghost use Rattle.trace_salvage.specs.Promises.{Promises};
 ghost use Rattle.trace_salvage.specs.Salvage.{sizeBy, savedOf, salvageBy, salvageOf, Salvages};
+use refusals::words;
 use trace_records::Record;
 
 // A salvage in progress: the offsets in the input and in the output, the bytes skipped, the records kept, and the
@@ -104,7 +105,7 @@ pub fn salvage_by(reader: u64, s: &[u8], out: &mut [u8]) -> Saved
 {
     if out.len() < s.len() {
         return Saved {
-            refusal: 25,
+            refusal: words::OUTPUT,
             records: 0,
             skipped: 0,
             first: 0,

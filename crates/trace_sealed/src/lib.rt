@@ -17,9 +17,13 @@ mod tables;
 mod writes;
 
 use byte_layout::Parsed;
+use refusals::words;
 use tables::GIVEN;
+use tables::GIVEN_ROWS;
 use tables::HEAD;
+use tables::HEAD_ROWS;
 use tables::LANED;
+use tables::LANED_ROWS;
 use trace_records::Record;
 pub use writes::write;
 
@@ -64,7 +68,7 @@ fn read_head(s: &[u8], at: usize) -> Parsed
         × (q .at ≤ length (now (s .entry))) ⌝ }
 {
     let table = HEAD;
-    byte_layout::read_rows(s, byte_layout::begin(at, 5), &table, 4)
+    byte_layout::read_rows(s, byte_layout::begin(at, 5), &table, HEAD_ROWS)
 }
 
 // Reads the fields of a kind from a payload that has n bytes before the checksum.
@@ -78,10 +82,10 @@ fn read_fields(s: &[u8], at: usize, kind: u64, n: usize) -> Parsed
     let p = byte_layout::begin(at, n);
     if kind == 4 {
         let table = GIVEN;
-        return byte_layout::read_rows(s, p, &table, 17);
+        return byte_layout::read_rows(s, p, &table, GIVEN_ROWS);
     }
     let table = LANED;
-    byte_layout::read_rows(s, p, &table, 5)
+    byte_layout::read_rows(s, p, &table, LANED_ROWS)
 }
 
 // The bytes of the lanes of a kind whose first number is given.
@@ -101,20 +105,20 @@ fn tail_refusal(w: usize, left: usize, input: usize) -> u64
 {
     if w <= left {
         if input < w {
-            return 18;
+            return words::TRUNCATED;
         }
         if w != left {
-            return 17;
+            return words::RECORD;
         }
         if input - w < 4 {
-            return 18;
+            return words::TRUNCATED;
         }
         return 0;
     }
     if left <= input {
-        return 17;
+        return words::RECORD;
     }
-    18
+    words::TRUNCATED
 }
 
 fn wide(b: u8) -> u64
@@ -153,7 +157,7 @@ fn close(s: &[u8], at: usize, kind: u64, n: usize, p: Parsed) -> Record
     let sum = end + w;
     let wanted = crc32::checksum(s, at + 2, n - 1);
     if four_bytes(s, sum) != (wanted as u64) {
-        return refuse(17, at);
+        return refuse(words::RECORD, at);
     }
     Record {
         refusal: 0,
@@ -175,7 +179,7 @@ fn read_sealed(s: &[u8], at: usize) -> Record
     let kind = head.values[2];
     let n = head.values[3];
     if !is_possible(kind, n) {
-        return refuse(17, at);
+        return refuse(words::RECORD, at);
     }
     let p = read_fields(s, head.at, kind, (n - 4) as usize);
     if 0 < p.refused {

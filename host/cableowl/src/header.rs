@@ -317,6 +317,36 @@ fn three_declarations_are_one() {
     }
 }
 
+/// The consts of a file of the crate `refusals`.
+fn refusals(file: &str) -> BTreeMap<String, u64> {
+    let text = read(&format!("../../crates/refusals/src/{file}.rt"));
+    let consts = text.lines().filter_map(|line| {
+        let (name, number) = line.strip_prefix("pub const ")?.split_once(" = ")?;
+        let (name, _) = name.split_once(':')?;
+        Some((name.to_string(), number.trim_end_matches(';').parse().ok()?))
+    });
+    consts.collect()
+}
+
+#[test]
+fn refusals_have_the_names_of_the_header() {
+    let header = header_text();
+    let named = constants(&header).into_iter();
+    let in_c: BTreeMap<String, u64> = named
+        .filter_map(|(name, number)| {
+            let name = name.strip_prefix("CABLEOWL_REFUSAL_")?;
+            Some((name.to_string(), number))
+        })
+        .collect();
+    assert_eq!(in_c.len(), 28);
+    assert_eq!(refusals("lib"), in_c);
+    let words = refusals("words");
+    assert!(words.len() > 5, "they are read: {words:?}");
+    for (name, number) in words {
+        assert_eq!(in_c.get(&name), Some(&number), "{name}");
+    }
+}
+
 #[test]
 fn rust_declares_each_function_of_the_header() {
     let [in_c, in_rust] = [c_functions(&header_text()), rust_functions(&sys_text())];
