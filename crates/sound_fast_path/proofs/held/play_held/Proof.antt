@@ -28,11 +28,11 @@ use Rattle.sound_fast_path.proofs.held.play_held.Tie as tie
 abbrev start : tie.After-track-of → tie.Start
 start c = c .before .before .before .before .before .before
 
-abbrev on-track : tie.After-once → tie.Else1
-on-track c = c .before .before .before .before .before .before .before .before
+abbrev where-contiguous : tie.After-once → tie.Else1
+where-contiguous c = c .before .before .before .before .before .before .before .before
 
 abbrev track : tie.After-once → tie.After-track-of
-track c = on-track c .before .before
+track c = where-contiguous c .before .before
 
 abbrev reached : tie.After-once → tie.After-scan-held
 reached c = c .before .before .before .before
@@ -81,7 +81,7 @@ heard c =
     let a = st .args in
     let x = a .held in
     let r = reached c .scan-held in
-    heard-of (now (a .sound)) (a .dt) (lent t) (a .voice) (t .track-of .result) (tracked t) (contiguous (on-track c)) (st .pre) (r .result) (r .last .1 .1 .1 .1 .0) (c .once .last .1 .1 .0) (r .ensures)
+    heard-of (now (a .sound)) (a .dt) (lent t) (a .voice) (t .track-of .result) (tracked t) (contiguous (where-contiguous c)) (st .pre) (r .result) (r .last .1 .1 .1 .1 .0) (c .once .last .1 .1 .0) (r .ensures)
     (c .once .ensures ∙ gained-fewer (x .fade) (x .volume) (x .left) (x .right) (r .result .next) (frames t) (r .last .1 .1 .1 .1 .0) (inside c))
 
 -- the voice after the scan
@@ -176,7 +176,7 @@ wraps-after-requires : tie.Need-wraps-after-requires
 wraps-after-requires c κs =
     let o = c .before .before in
     let r = reached o .scan-held .ensures in
-    (position-on _ _ _ (contiguous (on-track o)), few-steps _ _ _ (r .few) (inside o) (few-frames (track o)))
+    (position-on _ _ _ (contiguous (where-contiguous o)), few-steps _ _ _ (r .few) (inside o) (few-frames (track o)))
 
 contiguous-at-requires : tie.Need-contiguous-at-requires
 contiguous-at-requires c κs = let o = c .before .before .before in (tracked (track o) .lies, reached o .scan-held .ensures .on)
