@@ -2,7 +2,7 @@
 // its field's number.
 ghost use mathlib.Core.Path.{_≡_};
 ghost use Prim.Native.Nat.{_≤_};
-ghost use Rattle.sound_lanes.specs.Lanes.{five};
+ghost use Rattle.sound_lanes.specs.Lanes.{lanesAtEntry};
 ghost use Rattle.cableowl.specs.Entries.{
   after,
   createdC,
@@ -174,9 +174,8 @@ pub extern "C" fn cableowl_process(
     out: &mut [f32],
 ) -> CableowlProcessed
     ensures { λ r. ⌜ record { answer = r; samples = now (out .exit) }
-        ≡ processedC (now (sound .entry)) state dt
-        (five (now (fade .entry)) (now (volume .entry)) (now (left .entry)) (now (right .entry)) (now (rate .entry)))
-        signals (now (out .entry)) ⌝ }
+        ≡ processedC (now (sound .entry)) state dt (lanesAtEntry fade volume left right rate) signals
+        (now (out .entry)) ⌝ }
 {
     let processed = static_sound::process(
         decode(state),
@@ -209,9 +208,8 @@ pub extern "C" fn cableowl_process_into(
     from: u64,
 ) -> CableowlProcessed
     ensures { λ r. ⌜ record { answer = r; samples = now (mix .exit) }
-        ≡ processedIntoC (now (sound .entry)) state dt
-        (five (now (fade .entry)) (now (volume .entry)) (now (left .entry)) (now (right .entry)) (now (rate .entry)))
-        signals (now (mix .entry)) from ⌝ }
+        ≡ processedIntoC (now (sound .entry)) state dt (lanesAtEntry fade volume left right rate) signals
+        (now (mix .entry)) from ⌝ }
 {
     let processed = static_sound::process_into(
         decode(state),

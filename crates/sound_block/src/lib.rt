@@ -2,7 +2,7 @@
 ghost use mathlib.Core.Path.{_≡_};
 ghost use lib.ListN.{length, replicate};
 ghost use Rattle.numbers.specs.Words.{positiveZero};
-ghost use Rattle.sound_lanes.specs.Lanes.{five, rows};
+ghost use Rattle.sound_lanes.specs.Lanes.{lanesNow, lanesAtEntry, rows};
 ghost use Rattle.sound_slow_path.specs.Plays.{acceptedAs};
 ghost use Rattle.sound_slow_path.specs.FrameSteps.{Playable};
 ghost use Rattle.sound_block.specs.Blocks.{begun, live, block};
@@ -14,7 +14,6 @@ use playback_state_manager::PlaybackState;
 use playback_state_manager::StartAnswer;
 use sound_fast_path::play;
 use sound_slow_path::Processed;
-use sound_slow_path::Timed;
 use sound_state::StaticSound;
 use sound_update::Moving;
 use start_time::StartSignal;
@@ -25,13 +24,6 @@ pub struct Signals {
     pub finished: bool,
     pub start: StartSignal,
     pub resume: StartAnswer,
-}
-
-// A voice, and the time step and signals of its block.
-pub struct Signalled {
-    pub voice: StaticSound,
-    pub dt: f64,
-    pub signals: Signals,
 }
 
 // Applies the signals: the state, then the answer of the start signal.
@@ -97,7 +89,9 @@ fn silence(out: &mut [f32])
 
 // The block of a well formed voice over checked lanes.
 pub fn block(
-    signalled: Signalled,
+    voice: StaticSound,
+    dt: f64,
+    signals: Signals,
     sound: &[f32],
     fade: &[f32],
     volume: &[f32],
@@ -106,22 +100,14 @@ pub fn block(
     rate: &[f64],
     out: &mut [f32],
 ) -> Processed
-    requires { ⌜ Playable (now sound) (signalled .voice) (signalled .dt)
-        (five (now fade) (now volume) (now left) (now right) (now rate)) (length (now out)) ⌝ }
+    requires { ⌜ Playable (now sound) voice dt (lanesNow fade volume left right rate) (length (now out)) ⌝ }
     ensures { λ r. ⌜ record { answer = r; samples = now (out .exit) }
-        ≡ acceptedAs (block (now (sound .entry)) (signalled .dt)
-        (rows (five (now (fade .entry)) (now (volume .entry)) (now (left .entry)) (now (right .entry))
-        (now (rate .entry)))) (signalled .signals) (signalled .voice)) ⌝ }
+        ≡ acceptedAs (block (now (sound .entry)) dt (rows (lanesAtEntry fade volume left right rate)) signals
+        voice) ⌝ }
 {
-    let voice = signalled.voice;
-    let signals = signalled.signals;
     let begun = begin(voice, signals);
     if is_live(begun) {
-        let timed = Timed {
-            voice: begun,
-            dt: signalled.dt,
-        };
-        return play(timed, sound, fade, volume, left, right, rate, out);
+        return play(begun, dt, sound, fade, volume, left, right, rate, out);
     }
     silence(out);
     Processed {

@@ -5,7 +5,7 @@ ghost use Prim.Native.Nat.{_-_, _<_};
 ghost use lib.ListN.{length, getD, replicate};
 ghost use lib.Ieee.{nan, eq};
 ghost use Rattle.numbers.specs.Words.{positiveZero};
-ghost use Rattle.sound_lanes.specs.Lanes.{five};
+ghost use Rattle.sound_lanes.specs.Lanes.{lanesNow, lanesAtEntry};
 ghost use Rattle.sound_constant.specs.Constant.{first, Constant};
 use sound_held::Held;
 
@@ -75,8 +75,7 @@ fn is_constant_rate(lane: &[f64]) -> bool
 
 // Whether all lanes of a block repeat their first number, and none of these is 0.
 pub fn are_constant(fade: &[f32], volume: &[f32], left: &[f32], right: &[f32], rate: &[f64]) -> bool
-    ensures { λ r. ⌜ (r ≡ true → Constant (five (now (fade .entry)) (now (volume .entry)) (now (left .entry))
-        (now (right .entry)) (now (rate .entry)))) ⌝ }
+    ensures { λ r. ⌜ (r ≡ true → Constant (lanesAtEntry fade volume left right rate)) ⌝ }
 {
     if rate.len() == 0 {
         return false;
@@ -99,9 +98,8 @@ pub fn are_constant(fade: &[f32], volume: &[f32], left: &[f32], right: &[f32], r
 
 // The first frame's numbers of constant lanes.
 pub fn first_of(fade: &[f32], volume: &[f32], left: &[f32], right: &[f32], rate: &[f64]) -> Held
-    requires { ⌜ Constant (five (now fade) (now volume) (now left) (now right) (now rate)) ⌝ }
-    ensures { λ r. ⌜ r ≡ first (five (now (fade .entry)) (now (volume .entry)) (now (left .entry))
-        (now (right .entry)) (now (rate .entry))) ⌝ }
+    requires { ⌜ Constant (lanesNow fade volume left right rate) ⌝ }
+    ensures { λ r. ⌜ r ≡ first (lanesAtEntry fade volume left right rate) ⌝ }
 {
     Held {
         fade: fade[0],

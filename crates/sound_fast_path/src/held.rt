@@ -1,6 +1,5 @@
 // A block of a started, advancing voice whose five numbers are given once: along the track if the window is a
-// contiguous window,
-// the rest frame by frame.
+// contiguous window, the rest frame by frame.
 ghost use mathlib.Core.Path.{_≡_};
 ghost use Prim.Native.Nat.{_/_, _≤_};
 ghost use lib.ListN.{length};
@@ -13,7 +12,6 @@ use sound_fast_reading::Way;
 use sound_gains::Gains;
 use sound_held::Held;
 use sound_slow_path::Processed;
-use sound_slow_path::Timed;
 use sound_state::StaticSound;
 
 // Plays the rest frame by frame, from the first frame that is left.
@@ -32,26 +30,28 @@ fn play_rest(
         (now (out .entry)) ⌝ }
 {
     let k = 2 * next;
-    sound_held::play(Timed { voice, dt }, sound, held, &mut out[k..])
+    sound_held::play(voice, dt, sound, held, &mut out[k..])
 }
 
 // The block over lanes that repeat the five numbers.
-pub fn play_held(timed: Timed, sound: &[f32], held: Held, out: &mut [f32]) -> Processed
-    requires { ⌜ Playable (now sound) (timed .voice) (timed .dt) (heldLanes held (length (now out) / 2))
-        (length (now out)) ⌝ }
+pub fn play_held(
+    voice: StaticSound,
+    dt: f64,
+    sound: &[f32],
+    held: Held,
+    out: &mut [f32],
+) -> Processed
+    requires { ⌜ Playable (now sound) voice dt (heldLanes held (length (now out) / 2)) (length (now out)) ⌝ }
     ensures { λ r. ⌜ record { answer = r; samples = now (out .exit) }
-        ≡ acceptedAs (plays (now (sound .entry)) (timed .dt) (rows (heldLanes held (length (now (out .entry)) / 2)))
-        (timed .voice)) ⌝ }
+        ≡ acceptedAs (plays (now (sound .entry)) dt (rows (heldLanes held (length (now (out .entry)) / 2))) voice) ⌝ }
 {
-    let voice = timed.voice;
-    let dt = timed.dt;
     let slice = voice.slice();
     let moving = voice.moving;
     let transport = moving.transport;
     let loop_region = transport.loop_region;
     let track = sound_track::track_of(loop_region, slice);
     if !sound_track::is_contiguous(moving, sound, track) {
-        return sound_held::play(timed, sound, held, out);
+        return sound_held::play(voice, dt, sound, held, out);
     }
     let window = moving.resampler;
     let first = window.frames[0];

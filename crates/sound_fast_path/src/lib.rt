@@ -1,11 +1,10 @@
 // The fast path: if the window is four neighbouring frames of the track (a contiguous window), the frames are read in
-// the sound
-// (crates sound_fast_straight and sound_fast_wrapping), then multiplied by their gains (crate sound_gains).
+// the sound (crates sound_fast_straight and sound_fast_wrapping), then multiplied by their gains (crate sound_gains).
 // Otherwise, and after the track's end, the block is played by sound_slow_path.
 ghost use mathlib.Core.Path.{_≡_};
 ghost use Prim.Native.Nat.{_≤_};
 ghost use lib.ListN.{length};
-ghost use Rattle.sound_lanes.specs.Lanes.{five, rows};
+ghost use Rattle.sound_lanes.specs.Lanes.{lanesNow, lanesAtEntry, rows};
 ghost use Rattle.sound_fast_reading.specs.Scans.{begun, Scannable, Scanned};
 ghost use Rattle.sound_slow_path.specs.Plays.{plays, acceptedAs};
 ghost use Rattle.sound_slow_path.specs.FrameSteps.{Playable};
@@ -17,15 +16,7 @@ pub use held::play_held;
 use sound_fast_reading::Reached;
 use sound_fast_reading::Way;
 use sound_slow_path::Processed;
-use sound_slow_path::Timed;
 use sound_state::StaticSound;
-
-// A voice, the time step of its block, and the first frame that is left.
-pub struct Remaining {
-    pub voice: StaticSound,
-    pub dt: f64,
-    pub next: usize,
-}
 
 // The straight loop, then the wrapping loop.
 fn stretch(way: Way, from: Reached, sound: &[f32], rate: &[f64], out: &mut [f32]) -> Reached
@@ -78,44 +69,41 @@ fn scan(way: Way, sound: &[f32], rate: &[f64], out: &mut [f32]) -> Reached
 
 // Plays the rest frame by frame, from the first frame that is left.
 fn play_from(
-    remaining: Remaining,
+    voice: StaticSound,
+    dt: f64,
     sound: &[f32],
     fade: &[f32],
     volume: &[f32],
     left: &[f32],
     right: &[f32],
     rate: &[f64],
+    next: usize,
     out: &mut [f32],
 ) -> Processed
-    requires { ⌜ Playable (now sound) (remaining .voice) (remaining .dt)
-        (five (now fade) (now volume) (now left) (now right) (now rate)) (length (now out)) ⌝ }
-    requires { ⌜ remaining .next ≤ length (now rate) ⌝ }
+    requires { ⌜ Playable (now sound) voice dt (lanesNow fade volume left right rate) (length (now out)) ⌝ }
+    requires { ⌜ next ≤ length (now rate) ⌝ }
     ensures { λ r. ⌜ record { answer = r; samples = now (out .exit) }
-        ≡ playedFrom (now (sound .entry)) (remaining .dt)
-        (five (now (fade .entry)) (now (volume .entry)) (now (left .entry)) (now (right .entry)) (now (rate .entry)))
-        (remaining .next) (remaining .voice) (now (out .entry)) ⌝ }
+        ≡ playedFrom (now (sound .entry)) dt (lanesAtEntry fade volume left right rate) next voice
+        (now (out .entry)) ⌝ }
 {
-    let voice = remaining.voice;
-    let i = remaining.next;
-    let k = 2 * i;
+    let k = 2 * next;
     sound_slow_path::play(
-        Timed {
-            voice,
-            dt: remaining.dt,
-        },
+        voice,
+        dt,
         sound,
-        &fade[i..],
-        &volume[i..],
-        &left[i..],
-        &right[i..],
-        &rate[i..],
+        &fade[next..],
+        &volume[next..],
+        &left[next..],
+        &right[next..],
+        &rate[next..],
         &mut out[k..],
     )
 }
 
 // A block of a started, advancing voice: along the track if the window is a contiguous window, the rest frame by frame.
 pub fn play(
-    timed: Timed,
+    voice: StaticSound,
+    dt: f64,
     sound: &[f32],
     fade: &[f32],
     volume: &[f32],
@@ -124,22 +112,17 @@ pub fn play(
     rate: &[f64],
     out: &mut [f32],
 ) -> Processed
-    requires { ⌜ Playable (now sound) (timed .voice) (timed .dt)
-        (five (now fade) (now volume) (now left) (now right) (now rate)) (length (now out)) ⌝ }
+    requires { ⌜ Playable (now sound) voice dt (lanesNow fade volume left right rate) (length (now out)) ⌝ }
     ensures { λ r. ⌜ record { answer = r; samples = now (out .exit) }
-        ≡ acceptedAs (plays (now (sound .entry)) (timed .dt)
-        (rows (five (now (fade .entry)) (now (volume .entry)) (now (left .entry)) (now (right .entry))
-        (now (rate .entry)))) (timed .voice)) ⌝ }
+        ≡ acceptedAs (plays (now (sound .entry)) dt (rows (lanesAtEntry fade volume left right rate)) voice) ⌝ }
 {
-    let voice = timed.voice;
-    let dt = timed.dt;
     let slice = voice.slice();
     let moving = voice.moving;
     let transport = moving.transport;
     let loop_region = transport.loop_region;
     let track = sound_track::track_of(loop_region, slice);
     if !sound_track::is_contiguous(moving, sound, track) {
-        return sound_slow_path::play(timed, sound, fade, volume, left, right, rate, out);
+        return sound_slow_path::play(voice, dt, sound, fade, volume, left, right, rate, out);
     }
     let window = moving.resampler;
     let first = window.frames[0];
@@ -166,12 +149,18 @@ pub fn play(
             lowest_count: 4,
         };
     }
-    let remaining = Remaining {
-        voice: passed,
+    let played = play_from(
+        passed,
         dt,
-        next: reached.next,
-    };
-    let played = play_from(remaining, sound, fade, volume, left, right, rate, out);
+        sound,
+        fade,
+        volume,
+        left,
+        right,
+        rate,
+        reached.next,
+        out,
+    );
     let after = played.voice;
     let steps = reached.steps + played.steps;
     Processed {

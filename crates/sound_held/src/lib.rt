@@ -7,7 +7,7 @@ ghost use Rattle.sound_slow_path.specs.Plays.{plays, acceptedAs};
 ghost use Rattle.sound_slow_path.specs.FrameSteps.{Playable};
 ghost use Rattle.sound_held.specs.Held.{heldLanes};
 use sound_slow_path::Processed;
-use sound_slow_path::Timed;
+use sound_state::StaticSound;
 
 // The five numbers of every frame of a block.
 pub struct Held {
@@ -19,17 +19,15 @@ pub struct Held {
 }
 
 // Plays the block frame by frame.
-pub fn play(timed: Timed, sound: &[f32], held: Held, out: &mut [f32]) -> Processed
-    requires { ⌜ Playable (now sound) (timed .voice) (timed .dt) (heldLanes held (length (now out) / 2))
-        (length (now out)) ⌝ }
+pub fn play(voice: StaticSound, dt: f64, sound: &[f32], held: Held, out: &mut [f32]) -> Processed
+    requires { ⌜ Playable (now sound) voice dt (heldLanes held (length (now out) / 2)) (length (now out)) ⌝ }
     ensures { λ r. ⌜ record { answer = r; samples = now (out .exit) }
-        ≡ acceptedAs (plays (now (sound .entry)) (timed .dt) (rows (heldLanes held (length (now (out .entry)) / 2)))
-        (timed .voice)) ⌝ }
+        ≡ acceptedAs (plays (now (sound .entry)) dt (rows (heldLanes held (length (now (out .entry)) / 2))) voice) ⌝ }
 {
     let fade = [held.fade];
     let volume = [held.volume];
     let left = [held.left];
     let right = [held.right];
     let rate = [held.rate];
-    sound_slow_path::play_spread(timed, sound, &fade, &volume, &left, &right, &rate, out)
+    sound_slow_path::play_spread(voice, dt, sound, &fade, &volume, &left, &right, &rate, out)
 }

@@ -7,6 +7,8 @@ use lib.Dec.{leb, ltb, eqb}
 use lib.IntN.{pos}
 use lib.ListN.{length, getD, take, drop}
 use lib.Ieee.{Float, nan, fin, lt, le}
+use denote.Ref.{RefT, now}
+use denote.Triple.Both.{Both}
 use Rattle.numbers.specs.Words.{positiveZero, finite, finiteClear, advance}
 use Rattle.numbers.specs.Lists.{all}
 
@@ -28,6 +30,15 @@ pub record Lanes : Type 0 where
 
 abbrev pub five : List Float → List Float → List Float → List Float → List Float → Lanes
 five fade volume left right rate = record { fade = fade; volume = volume; left = left; right = right; rate = rate }
+
+-- the lanes that five slices hold now
+abbrev pub lanesNow : (fade volume left right rate : RefT (List Float)) → Lanes
+lanesNow fade volume left right rate = five (now fade) (now volume) (now left) (now right) (now rate)
+
+-- the lanes that five slices hold when a function is called
+abbrev pub lanesAtEntry : (fade volume left right rate : Both (RefT (List Float)) (RefT (List Float))) → Lanes
+lanesAtEntry fade volume left right rate =
+    lanesNow (fade .entry) (volume .entry) (left .entry) (right .entry) (rate .entry)
 
 -- the lanes side by side
 abbrev pub beside : List Float → List Float → List Float → List Float → List Float → List Lane

@@ -4,13 +4,20 @@ ghost use lib.Dec.{T};
 ghost use lib.ListN.{length};
 ghost use Rattle.numbers.specs.Words.{finite, finiteClear};
 ghost use Rattle.numbers.specs.Lists.{all};
-ghost use Rattle.sound_lanes.specs.Lanes.{five, sized, timeStep, slow, judged, fourFiniteClear, low};
+ghost use Rattle.sound_lanes.specs.Lanes.{
+  lanesNow,
+  lanesAtEntry,
+  sized,
+  timeStep,
+  slow,
+  judged,
+  fourFiniteClear,
+  low,
+};
 
 // Refusal 9, except for the output's length.
 pub fn are_sized(fade: &[f32], volume: &[f32], left: &[f32], right: &[f32], rate: &[f64]) -> bool
-    ensures { λ r. ⌜ r ≡ sized
-        (five (now (fade .entry)) (now (volume .entry)) (now (left .entry)) (now (right .entry)) (now (rate .entry)))
-        ⌝ }
+    ensures { λ r. ⌜ r ≡ sized (lanesAtEntry fade volume left right rate) ⌝ }
 {
     let n = rate.len();
     (n <= 4096) & (fade.len() == n) & (volume.len() == n) & (left.len() == n) & (right.len() == n)
@@ -89,11 +96,9 @@ pub fn judge(
     right: &[f32],
     rate: &[f64],
 ) -> u32
-    requires { ⌜ T (sized (five (now fade) (now volume) (now left) (now right) (now rate))) ⌝ }
+    requires { ⌜ T (sized (lanesNow fade volume left right rate)) ⌝ }
     requires { ⌜ T (timeStep dt) ⌝ }
-    ensures { λ r. ⌜ r ≡ judged «sample_rate» dt
-        (five (now (fade .entry)) (now (volume .entry)) (now (left .entry)) (now (right .entry)) (now (rate .entry)))
-        ⌝ }
+    ensures { λ r. ⌜ r ≡ judged «sample_rate» dt (lanesAtEntry fade volume left right rate) ⌝ }
 {
     if !four_finite_clear(fade, volume, left, right) {
         return refusals::LANE;

@@ -5,7 +5,7 @@ ghost use mathlib.Core.Bool.{cond};
 ghost use lib.Dec.{T, eqb};
 ghost use lib.ListN.{length};
 ghost use Rattle.numbers.specs.Words.{proper};
-ghost use Rattle.sound_lanes.specs.Lanes.{five, rows};
+ghost use Rattle.sound_lanes.specs.Lanes.{lanesNow, lanesAtEntry, rows};
 ghost use Rattle.sound_slow_path.specs.Plays.{lower, plays, acceptedAs};
 ghost use Rattle.sound_slow_path.specs.FrameSteps.{
   frameWithGainsAt,
@@ -21,12 +21,6 @@ use resampler::Resampler;
 use sound_state::StaticSound;
 use sound_update::Moving;
 use sound_update::Slice;
-
-// A voice, and the time step of its block.
-pub struct Timed {
-    pub voice: StaticSound,
-    pub dt: f64,
-}
 
 // The result of a block: refusal (0 for none), the voice after it, its steps, and the lowest count that it read.
 pub struct Processed {
@@ -115,7 +109,8 @@ fn lane_frame(frames: usize, i: usize) -> usize
 
 // A started, advancing block; lanes of one frame apply to every frame.
 pub fn play_spread(
-    timed: Timed,
+    voice: StaticSound,
+    dt: f64,
     sound: &[f32],
     fade: &[f32],
     volume: &[f32],
@@ -124,16 +119,13 @@ pub fn play_spread(
     rate: &[f64],
     out: &mut [f32],
 ) -> Processed
-    requires { ⌜ Alike (five (now fade) (now volume) (now left) (now right) (now rate)) ⌝ }
-    requires { ⌜ Playable (now sound) (timed .voice) (timed .dt)
-        (spread (length (now out) / 2) (five (now fade) (now volume) (now left) (now right) (now rate)))
+    requires { ⌜ Alike (lanesNow fade volume left right rate) ⌝ }
+    requires { ⌜ Playable (now sound) voice dt (spread (length (now out) / 2) (lanesNow fade volume left right rate))
         (length (now out)) ⌝ }
     ensures { λ r. ⌜ record { answer = r; samples = now (out .exit) }
-        ≡ acceptedAs (plays (now (sound .entry)) (timed .dt)
-        (rows (spread (length (now (out .entry)) / 2) (five (now (fade .entry)) (now (volume .entry))
-        (now (left .entry)) (now (right .entry)) (now (rate .entry))))) (timed .voice)) ⌝ }
+        ≡ acceptedAs (plays (now (sound .entry)) dt
+        (rows (spread (length (now (out .entry)) / 2) (lanesAtEntry fade volume left right rate))) voice) ⌝ }
 {
-    let voice = timed.voice;
     let slice = voice.slice();
     let frames = out.len() / 2;
     let mut moving = voice.moving;
@@ -154,7 +146,7 @@ pub fn play_spread(
             slice,
             voice.setup.sample_rate,
             rate[j],
-            timed.dt,
+            dt,
             sound,
         );
         moving = next.moving;
@@ -176,7 +168,8 @@ pub fn play_spread(
 
 // A started, advancing block.
 pub fn play(
-    timed: Timed,
+    voice: StaticSound,
+    dt: f64,
     sound: &[f32],
     fade: &[f32],
     volume: &[f32],
@@ -185,12 +178,9 @@ pub fn play(
     rate: &[f64],
     out: &mut [f32],
 ) -> Processed
-    requires { ⌜ Playable (now sound) (timed .voice) (timed .dt)
-        (five (now fade) (now volume) (now left) (now right) (now rate)) (length (now out)) ⌝ }
+    requires { ⌜ Playable (now sound) voice dt (lanesNow fade volume left right rate) (length (now out)) ⌝ }
     ensures { λ r. ⌜ record { answer = r; samples = now (out .exit) }
-        ≡ acceptedAs (plays (now (sound .entry)) (timed .dt)
-        (rows (five (now (fade .entry)) (now (volume .entry)) (now (left .entry)) (now (right .entry))
-        (now (rate .entry)))) (timed .voice)) ⌝ }
+        ≡ acceptedAs (plays (now (sound .entry)) dt (rows (lanesAtEntry fade volume left right rate)) voice) ⌝ }
 {
-    play_spread(timed, sound, fade, volume, left, right, rate, out)
+    play_spread(voice, dt, sound, fade, volume, left, right, rate, out)
 }

@@ -2,7 +2,7 @@
 ghost use mathlib.Core.Path.{_≡_};
 ghost use Prim.Native.Nat.{_*_};
 ghost use lib.Dec.{eqb};
-ghost use Rattle.sound_lanes.specs.Lanes.{five};
+ghost use Rattle.sound_lanes.specs.Lanes.{lanesAtEntry};
 ghost use Rattle.static_sound.specs.Entries.{refusedBlock, processed};
 
 mod mix;
@@ -15,7 +15,6 @@ pub use once::process_held;
 pub use once::process_held_into;
 use sound_block::Signals;
 use sound_slow_path::Processed;
-use sound_slow_path::Timed;
 use sound_state::StaticSound;
 pub use stretches::stretch;
 
@@ -28,7 +27,8 @@ fn holds(samples: usize, frames: usize) -> bool
 
 // The lowest number that applies to a block, 0 for none.
 fn refusal_of(
-    timed: Timed,
+    voice: StaticSound,
+    dt: f64,
     samples: usize,
     fade: &[f32],
     volume: &[f32],
@@ -37,11 +37,8 @@ fn refusal_of(
     rate: &[f64],
     placed: bool,
 ) -> u32
-    ensures { λ r. ⌜ r ≡ refusedBlock samples (timed .voice) (timed .dt)
-        (five (now (fade .entry)) (now (volume .entry)) (now (left .entry)) (now (right .entry)) (now (rate .entry)))
-        placed ⌝ }
+    ensures { λ r. ⌜ r ≡ refusedBlock samples voice dt (lanesAtEntry fade volume left right rate) placed ⌝ }
 {
-    let voice = timed.voice;
     if !voice.is_well_formed(samples) {
         return 1;
     }
@@ -51,18 +48,10 @@ fn refusal_of(
     if !placed {
         return 9;
     }
-    if !sound_lanes::is_time_step(timed.dt) {
+    if !sound_lanes::is_time_step(dt) {
         return 10;
     }
-    sound_lanes::judge(
-        voice.setup.sample_rate,
-        timed.dt,
-        fade,
-        volume,
-        left,
-        right,
-        rate,
-    )
+    sound_lanes::judge(voice.setup.sample_rate, dt, fade, volume, left, right, rate)
 }
 
 // A block into an output of its own: a block into a mix, from frame 0 on. Constant lanes are numbers given once.
@@ -79,9 +68,8 @@ pub fn process(
     out: &mut [f32],
 ) -> Processed
     ensures { λ r. ⌜ record { answer = r; samples = now (out .exit) }
-        ≡ processed (now (sound .entry)) voice dt
-        (five (now (fade .entry)) (now (volume .entry)) (now (left .entry)) (now (right .entry)) (now (rate .entry)))
-        signals (now (out .entry)) ⌝ }
+        ≡ processed (now (sound .entry)) voice dt (lanesAtEntry fade volume left right rate) signals
+        (now (out .entry)) ⌝ }
 {
     if !holds(out.len(), rate.len()) {
         // No frame from the output's end on has room: the block is refused.

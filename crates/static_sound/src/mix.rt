@@ -3,15 +3,13 @@ ghost use mathlib.Core.Path.{_≡_};
 ghost use Prim.Native.Nat.{_+_, _/_, _%_};
 ghost use mathlib.Core.Bool.{_&&_};
 ghost use lib.Dec.{leb, eqb};
-ghost use Rattle.sound_lanes.specs.Lanes.{five};
+ghost use Rattle.sound_lanes.specs.Lanes.{lanesAtEntry};
 ghost use Rattle.static_sound.specs.Entries.{processedInto};
 use crate::once::process_held_into;
 use crate::refusal_of;
-use sound_block::Signalled;
 use sound_block::Signals;
 use sound_block::block;
 use sound_slow_path::Processed;
-use sound_slow_path::Timed;
 use sound_state::StaticSound;
 
 // Whether a mix of this many samples has whole frames, and enough of them from the given frame on.
@@ -42,13 +40,13 @@ pub(crate) fn process_lanes(
     from: usize,
 ) -> Processed
     ensures { λ r. ⌜ record { answer = r; samples = now (mix .exit) }
-        ≡ processedInto (now (sound .entry)) voice dt
-        (five (now (fade .entry)) (now (volume .entry)) (now (left .entry)) (now (right .entry)) (now (rate .entry)))
-        signals (now (mix .entry)) from ⌝ }
+        ≡ processedInto (now (sound .entry)) voice dt (lanesAtEntry fade volume left right rate) signals
+        (now (mix .entry)) from ⌝ }
 {
     let placed = has_room(from, rate.len(), mix.len());
     let refusal = refusal_of(
-        Timed { voice, dt },
+        voice,
+        dt,
         sound.len(),
         fade,
         volume,
@@ -68,7 +66,9 @@ pub(crate) fn process_lanes(
     let a = 2 * from;
     let e = a + 2 * rate.len();
     block(
-        Signalled { voice, dt, signals },
+        voice,
+        dt,
+        signals,
         sound,
         fade,
         volume,
@@ -94,9 +94,8 @@ pub fn process_into(
     from: usize,
 ) -> Processed
     ensures { λ r. ⌜ record { answer = r; samples = now (mix .exit) }
-        ≡ processedInto (now (sound .entry)) voice dt
-        (five (now (fade .entry)) (now (volume .entry)) (now (left .entry)) (now (right .entry)) (now (rate .entry)))
-        signals (now (mix .entry)) from ⌝ }
+        ≡ processedInto (now (sound .entry)) voice dt (lanesAtEntry fade volume left right rate) signals
+        (now (mix .entry)) from ⌝ }
 {
     if sound_constant::are_constant(fade, volume, left, right, rate) {
         let held = sound_constant::first_of(fade, volume, left, right, rate);

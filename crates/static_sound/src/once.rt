@@ -3,20 +3,24 @@ ghost use mathlib.Core.Path.{_≡_};
 ghost use Rattle.sound_held.specs.Held.{heldLanes};
 ghost use Rattle.static_sound.specs.Entries.{refusedBlock, processedHeld, processedHeldInto};
 use crate::mix::has_room;
-use sound_block::Signalled;
 use sound_block::Signals;
 use sound_block::block_held;
 use sound_held::Held;
 use sound_slow_path::Processed;
-use sound_slow_path::Timed;
 use sound_state::StaticSound;
 
 // The lowest number that applies to a block of this many frames, 0 for none. If there are frames, the numbers are
 // checked as one frame's.
-fn refusal_held(timed: Timed, samples: usize, held: Held, frames: usize, placed: bool) -> u32
-    ensures { λ r. ⌜ r ≡ refusedBlock samples (timed .voice) (timed .dt) (heldLanes held frames) placed ⌝ }
+fn refusal_held(
+    voice: StaticSound,
+    dt: f64,
+    samples: usize,
+    held: Held,
+    frames: usize,
+    placed: bool,
+) -> u32
+    ensures { λ r. ⌜ r ≡ refusedBlock samples voice dt (heldLanes held frames) placed ⌝ }
 {
-    let voice = timed.voice;
     if !voice.is_well_formed(samples) {
         return 1;
     }
@@ -26,7 +30,7 @@ fn refusal_held(timed: Timed, samples: usize, held: Held, frames: usize, placed:
     if !placed {
         return 9;
     }
-    if !sound_lanes::is_time_step(timed.dt) {
+    if !sound_lanes::is_time_step(dt) {
         return 10;
     }
     if frames == 0 {
@@ -39,7 +43,7 @@ fn refusal_held(timed: Timed, samples: usize, held: Held, frames: usize, placed:
     let rate = [held.rate];
     sound_lanes::judge(
         voice.setup.sample_rate,
-        timed.dt,
+        dt,
         &fade,
         &volume,
         &left,
@@ -79,7 +83,7 @@ pub fn process_held_into(
         ≡ processedHeldInto (now (sound .entry)) voice dt held signals (now (mix .entry)) from frames ⌝ }
 {
     let placed = has_room(from, frames, mix.len());
-    let refusal = refusal_held(Timed { voice, dt }, sound.len(), held, frames, placed);
+    let refusal = refusal_held(voice, dt, sound.len(), held, frames, placed);
     if refusal != 0 {
         return Processed {
             refusal,
@@ -90,10 +94,5 @@ pub fn process_held_into(
     }
     let a = 2 * from;
     let e = a + 2 * frames;
-    block_held(
-        Signalled { voice, dt, signals },
-        sound,
-        held,
-        &mut mix[a..e],
-    )
+    block_held(voice, dt, signals, sound, held, &mut mix[a..e])
 }

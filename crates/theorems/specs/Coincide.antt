@@ -150,8 +150,8 @@ pub record Coincide : Type 0 where
   -- sound_commands
   pub sound-commands-on-start-processing : Decides sound_commands.on_start_processing.Reads.Post
   -- sound_slow_path, sound_fast_path, sound_held and sound_block
-  pub sound-slow-path-play : DecidesWith (λ k r s. s .1 .1 .1 .1 .1 .1 .1 .0 .now) sound_slow_path.play.Reads.Post
-  pub sound-slow-path-play-spread : DecidesWith (λ k r s. s .1 .1 .1 .1 .1 .1 .1 .0 .now)
+  pub sound-slow-path-play : DecidesWith (λ k r s. s .1 .1 .1 .1 .1 .1 .1 .1 .0 .now) sound_slow_path.play.Reads.Post
+  pub sound-slow-path-play-spread : DecidesWith (λ k r s. s .1 .1 .1 .1 .1 .1 .1 .1 .0 .now)
       sound_slow_path.play_spread.Reads.Post
   pub sound-fast-reading-advance-of : Decides sound_fast_reading.advance_of.Reads.Post
   pub sound-fast-reading-stepped-by : Decides sound_fast_reading.stepped_by.Reads.Post
@@ -159,11 +159,11 @@ pub record Coincide : Type 0 where
   pub sound-fast-reading-store : DecidesWith (λ k r s. s .0 .now) sound_fast_reading.store.Reads.Post
   pub sound-gains-by-frame : DecidesWith (λ k r s. s .1 .1 .1 .1 .1 .0 .now) sound_gains.by_frame.Reads.Post
   pub sound-gains-once : DecidesWith (λ k r s. s .1 .1 .0 .now) sound_gains.once.Reads.Post
-  pub sound-fast-path-play : DecidesWith (λ k r s. s .1 .1 .1 .1 .1 .1 .1 .0 .now) sound_fast_path.play.Reads.Post
-  pub sound-fast-path-play-held : DecidesWith (λ k r s. s .1 .1 .1 .0 .now) sound_fast_path.play_held.Reads.Post
-  pub sound-held-play : DecidesWith (λ k r s. s .1 .1 .1 .0 .now) sound_held.play.Reads.Post
-  pub sound-block-block-held : DecidesWith (λ k r s. s .1 .1 .1 .0 .now) sound_block.block_held.Reads.Post
-  pub sound-block-block : DecidesWith (λ k r s. s .1 .1 .1 .1 .1 .1 .1 .0 .now) sound_block.block.Reads.Post
+  pub sound-fast-path-play : DecidesWith (λ k r s. s .1 .1 .1 .1 .1 .1 .1 .1 .0 .now) sound_fast_path.play.Reads.Post
+  pub sound-fast-path-play-held : DecidesWith (λ k r s. s .1 .1 .1 .1 .0 .now) sound_fast_path.play_held.Reads.Post
+  pub sound-held-play : DecidesWith (λ k r s. s .1 .1 .1 .1 .0 .now) sound_held.play.Reads.Post
+  pub sound-block-block-held : DecidesWith (λ k r s. s .1 .1 .1 .1 .1 .0 .now) sound_block.block_held.Reads.Post
+  pub sound-block-block : DecidesWith (λ k r s. s .1 .1 .1 .1 .1 .1 .1 .1 .1 .0 .now) sound_block.block.Reads.Post
   pub sound-constant-first-of : Decides sound_constant.first_of.Reads.Post
   -- static_sound
   pub static-sound-process : DecidesWith

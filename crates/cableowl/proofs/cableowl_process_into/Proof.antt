@@ -1,6 +1,6 @@
 -- `cableowl_process_into` meets its contract: the block between records of numbers.
 use denote.Ref.{now}
-use Rattle.sound_lanes.specs.Lanes.{Lanes, five}
+use Rattle.sound_lanes.specs.Lanes.{Lanes, lanesNow}
 use Rattle.cableowl.proofs.Answers.{mix-few, mix-is}
 use borrow.Author.Needs.{needs}
 use Rattle.cableowl.proofs.cableowl_process_into.Statement.{statement}
@@ -12,7 +12,7 @@ start c = c .before .before .before .before .before .before .before .before .bef
 abbrev lent : tie.Start → Lanes
 lent c =
     let a = c .args in
-    five (now (a .fade)) (now (a .volume)) (now (a .left)) (now (a .right)) (now (a .rate))
+    lanesNow (a .fade) (a .volume) (a .left) (a .right) (a .rate)
 
 decode-requires : tie.Need-decode-requires
 decode-requires c κs = search needs

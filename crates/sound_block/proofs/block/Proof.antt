@@ -2,7 +2,7 @@
 use mathlib.Core.Path.{_≡_, sym, _∙_}
 use denote.Ref.{now}
 use lib.ListN.{length}
-use Rattle.sound_lanes.specs.Lanes.{Lanes, five}
+use Rattle.sound_lanes.specs.Lanes.{Lanes, lanesNow}
 use Rattle.sound_block.proofs.Sounds.{sounds, rests, playable}
 use borrow.Author.Needs.{needs}
 use Rattle.sound_block.proofs.block.Statement.{statement}
@@ -15,10 +15,10 @@ use Rattle.sound_block.proofs.silence.Reads as silence-reads
 use Rattle.sound_fast_path.proofs.play.Reads as play-reads
 
 abbrev start : tie.After-begin → tie.Start
-start c = c .before .before .before .before .before .before .before .before .before .before
+start c = c .before .before .before .before .before .before .before .before
 
 abbrev lent : tie.After-begin → Lanes
-lent c = let a = start c .args in five (now (a .fade)) (now (a .volume)) (now (a .left)) (now (a .right)) (now (a .rate))
+lent c = let a = start c .args in lanesNow (a .fade) (a .volume) (a .left) (a .right) (a .rate)
 
 begin-requires : tie.Need-begin-requires
 begin-requires c κs = search needs
@@ -31,7 +31,7 @@ play-requires c κs =
     let b = c .before .before .before in
     let s = start b in
     let a = s .args in
-    playable (now (a .sound)) (a .signalled .dt) (lent b) (a .signalled .signals) (a .signalled .voice) (b .begin .result) (b .begin .ensures) (length (now (a .out))) (s .pre)
+    playable (now (a .sound)) (a .dt) (lent b) (a .signals) (a .voice) (b .begin .result) (b .begin .ensures) (length (now (a .out))) (s .pre)
 
 same-length : tie.Need-same-length
 same-length c = search needs
@@ -41,7 +41,7 @@ returns c =
     let l = c .before .before .before .before in
     let b = l .before .before in
     let a = start b .args in
-    sounds (now (a .sound)) (a .signalled .dt) (lent b) (a .signalled .signals) (a .signalled .voice) _ (b .begin .ensures) (sym (l .before .is-live .ensures) ∙ l .if1 .taken) _ (c .before .before .play .ensures)
+    sounds (now (a .sound)) (a .dt) (lent b) (a .signals) (a .voice) _ (b .begin .ensures) (sym (l .before .is-live .ensures) ∙ l .if1 .taken) _ (c .before .before .play .ensures)
 
 silence-requires : tie.Need-silence-requires
 silence-requires c κs = search needs
@@ -55,7 +55,7 @@ returns-2 c =
     let b = l .before .before in
     let s = start b in
     let a = s .args in
-    rests (now (a .sound)) (a .signalled .dt) (lent b) (a .signalled .signals) (a .signalled .voice) _ (b .begin .ensures) (sym (l .before .is-live .ensures) ∙ l .if1 .left) _ (length (now (a .out))) (c .before .before .silence .ensures) (s .pre .long)
+    rests (now (a .sound)) (a .dt) (lent b) (a .signals) (a .voice) _ (b .begin .ensures) (sym (l .before .is-live .ensures) ∙ l .if1 .left) _ (length (now (a .out))) (c .before .before .silence .ensures) (s .pre .long)
 
 pub block-spec : {M : Type 1} → statement M
 block-spec =

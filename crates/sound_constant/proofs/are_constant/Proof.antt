@@ -5,11 +5,10 @@ use mathlib.Core.Bool.{Bool, true, false, false≢true, not, _&&_}
 use native.Mathlib.Omega.{arith}
 use lib.Dec.{T}
 use lib.ListN.{length}
-use denote.Ref.{now}
 use borrow.Author.Tests.{not-false}
 use borrow.Author.Needs.{needs}
 use Rattle.sound_track.proofs.Same.{first-of, second-of}
-use Rattle.sound_lanes.specs.Lanes.{Lanes, five, sized}
+use Rattle.sound_lanes.specs.Lanes.{Lanes, lanesNow, sized}
 use Rattle.sound_lanes.proofs.Rows.{Sized, sized-parts}
 use Rattle.sound_constant.proofs.Equal.{constant-of}
 use Rattle.sound_constant.proofs.are_constant.Statement.{statement}
@@ -25,7 +24,7 @@ abbrev start : tie.Else2 → tie.Start
 start c = c .before .before .before .before .before .before .before .before
 
 abbrev lent : tie.Else2 → Lanes
-lent c = let a = start c .args in five (now (a .fade)) (now (a .volume)) (now (a .left)) (now (a .right)) (now (a .rate))
+lent c = let a = start c .args in lanesNow (a .fade) (a .volume) (a .left) (a .right) (a .rate)
 
 is-sized : (c : tie.Else2) → T (sized (lent c))
 is-sized c = subst T (sym (sym (c .before .are-sized .ensures) ∙ not-false _ (c .if2 .left))) tt

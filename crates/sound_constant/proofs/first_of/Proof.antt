@@ -1,6 +1,5 @@
 -- `first_of`: every lane of constant lanes has a first number.
-use denote.Ref.{now}
-use Rattle.sound_lanes.specs.Lanes.{Lanes, five}
+use Rattle.sound_lanes.specs.Lanes.{Lanes, lanesNow}
 use Rattle.sound_constant.proofs.Equal.{fade-some, volume-some, left-some, right-some}
 use borrow.Author.Needs.{needs}
 use Rattle.sound_constant.proofs.first_of.Statement.{statement}
@@ -9,7 +8,7 @@ use Rattle.sound_constant.proofs.first_of.Reads as reads
 use Rattle.sound_constant.proofs.first_of.Lts as lts
 
 abbrev lent : tie.Start → Lanes
-lent c = let a = c .args in five (now (a .fade)) (now (a .volume)) (now (a .left)) (now (a .right)) (now (a .rate))
+lent c = let a = c .args in lanesNow (a .fade) (a .volume) (a .left) (a .right) (a .rate)
 
 shared-slice-read-t7 : tie.Need-shared-slice-read-t7
 shared-slice-read-t7 c = let s = c .before in fade-some (lent s) (s .pre)

@@ -1,7 +1,7 @@
 -- `play_from` lends the rest of every lane and of the output.
 use native.Mathlib.Omega.{arith}
 use denote.Ref.{now}
-use Rattle.sound_lanes.specs.Lanes.{five}
+use Rattle.sound_lanes.specs.Lanes.{lanesNow}
 use Rattle.sound_lanes.proofs.Rows.{sized-parts}
 use Rattle.sound_fast_path.proofs.Joins.{playable-from, played-from}
 use borrow.Author.Needs.{needs}
@@ -17,10 +17,10 @@ mul-play : tie.Need-mul-play
 mul-play c = search needs
 
 sub-play : tie.Need-sub-play
-sub-play c = let st = c .before .before .before .before .before .before .before .before in let a = st .args in let z = sized-parts (five (now (a .fade)) (now (a .volume)) (now (a .left)) (now (a .right)) (now (a .rate))) (st .pre .0 .sized) in omega (arith, z, st .pre .1)
+sub-play c = let st = c .before .before .before .before .before .before .before in let a = st .args in let z = sized-parts (lanesNow (a .fade) (a .volume) (a .left) (a .right) (a .rate)) (st .pre .0 .sized) in omega (arith, z, st .pre .1)
 
 part-play-start : tie.Need-part-play-start
-part-play-start c = let st = c .before .before .before .before .before .before .before .before in let a = st .args in let z = sized-parts (five (now (a .fade)) (now (a .volume)) (now (a .left)) (now (a .right)) (now (a .rate))) (st .pre .0 .sized) in omega (arith, z, st .pre .1)
+part-play-start c = let st = c .before .before .before .before .before .before .before in let a = st .args in let z = sized-parts (lanesNow (a .fade) (a .volume) (a .left) (a .right) (a .rate)) (st .pre .0 .sized) in omega (arith, z, st .pre .1)
 
 part-play-end : tie.Need-part-play-end
 part-play-end c = search needs
@@ -29,10 +29,10 @@ mul-play-2 : tie.Need-mul-play-2
 mul-play-2 c = search needs
 
 sub-play-2 : tie.Need-sub-play-2
-sub-play-2 c = let st = c .before .before .before .before .before .before .before .before .before in let a = st .args in let z = sized-parts (five (now (a .fade)) (now (a .volume)) (now (a .left)) (now (a .right)) (now (a .rate))) (st .pre .0 .sized) in omega (arith, z, st .pre .1)
+sub-play-2 c = let st = c .before .before .before .before .before .before .before .before in let a = st .args in let z = sized-parts (lanesNow (a .fade) (a .volume) (a .left) (a .right) (a .rate)) (st .pre .0 .sized) in omega (arith, z, st .pre .1)
 
 part-play-start-2 : tie.Need-part-play-start-2
-part-play-start-2 c = let st = c .before .before .before .before .before .before .before .before .before in let a = st .args in let z = sized-parts (five (now (a .fade)) (now (a .volume)) (now (a .left)) (now (a .right)) (now (a .rate))) (st .pre .0 .sized) in omega (arith, z, st .pre .1)
+part-play-start-2 c = let st = c .before .before .before .before .before .before .before .before in let a = st .args in let z = sized-parts (lanesNow (a .fade) (a .volume) (a .left) (a .right) (a .rate)) (st .pre .0 .sized) in omega (arith, z, st .pre .1)
 
 part-play-end-2 : tie.Need-part-play-end-2
 part-play-end-2 c = search needs
@@ -41,10 +41,10 @@ mul-play-3 : tie.Need-mul-play-3
 mul-play-3 c = search needs
 
 sub-play-3 : tie.Need-sub-play-3
-sub-play-3 c = let st = c .before .before .before .before .before .before .before .before .before .before in let a = st .args in let z = sized-parts (five (now (a .fade)) (now (a .volume)) (now (a .left)) (now (a .right)) (now (a .rate))) (st .pre .0 .sized) in omega (arith, z, st .pre .1)
+sub-play-3 c = let st = c .before .before .before .before .before .before .before .before .before in let a = st .args in let z = sized-parts (lanesNow (a .fade) (a .volume) (a .left) (a .right) (a .rate)) (st .pre .0 .sized) in omega (arith, z, st .pre .1)
 
 part-play-start-3 : tie.Need-part-play-start-3
-part-play-start-3 c = let st = c .before .before .before .before .before .before .before .before .before .before in let a = st .args in let z = sized-parts (five (now (a .fade)) (now (a .volume)) (now (a .left)) (now (a .right)) (now (a .rate))) (st .pre .0 .sized) in omega (arith, z, st .pre .1)
+part-play-start-3 c = let st = c .before .before .before .before .before .before .before .before .before in let a = st .args in let z = sized-parts (lanesNow (a .fade) (a .volume) (a .left) (a .right) (a .rate)) (st .pre .0 .sized) in omega (arith, z, st .pre .1)
 
 part-play-end-3 : tie.Need-part-play-end-3
 part-play-end-3 c = search needs
@@ -53,10 +53,10 @@ mul-play-4 : tie.Need-mul-play-4
 mul-play-4 c = search needs
 
 sub-play-4 : tie.Need-sub-play-4
-sub-play-4 c = let st = c .before .before .before .before .before .before .before .before .before .before .before in let a = st .args in let z = sized-parts (five (now (a .fade)) (now (a .volume)) (now (a .left)) (now (a .right)) (now (a .rate))) (st .pre .0 .sized) in omega (arith, z, st .pre .1)
+sub-play-4 c = let st = c .before .before .before .before .before .before .before .before .before .before in let a = st .args in let z = sized-parts (lanesNow (a .fade) (a .volume) (a .left) (a .right) (a .rate)) (st .pre .0 .sized) in omega (arith, z, st .pre .1)
 
 part-play-start-4 : tie.Need-part-play-start-4
-part-play-start-4 c = let st = c .before .before .before .before .before .before .before .before .before .before .before in let a = st .args in let z = sized-parts (five (now (a .fade)) (now (a .volume)) (now (a .left)) (now (a .right)) (now (a .rate))) (st .pre .0 .sized) in omega (arith, z, st .pre .1)
+part-play-start-4 c = let st = c .before .before .before .before .before .before .before .before .before .before in let a = st .args in let z = sized-parts (lanesNow (a .fade) (a .volume) (a .left) (a .right) (a .rate)) (st .pre .0 .sized) in omega (arith, z, st .pre .1)
 
 part-play-end-4 : tie.Need-part-play-end-4
 part-play-end-4 c = search needs
@@ -87,19 +87,19 @@ part-play-end-6 c = search needs
 
 play-requires : tie.Need-play-requires
 play-requires c κs =
-    let st = c .before .before .before .before .before .before .before .before .before .before .before .before .before .before in
+    let st = c .before .before .before .before .before .before .before .before .before .before .before .before .before in
     let a = st .args in
-    playable-from (now (a .sound)) (a .remaining .voice) (a .remaining .dt) (five (now (a .fade)) (now (a .volume)) (now (a .left)) (now (a .right)) (now (a .rate))) (now (a .out)) (st .pre .0) (a .remaining .next) (st .pre .1)
+    playable-from (now (a .sound)) (a .voice) (a .dt) (lanesNow (a .fade) (a .volume) (a .left) (a .right) (a .rate)) (now (a .out)) (st .pre .0) (a .next) (st .pre .1)
 
 same-length : tie.Need-same-length
 same-length c = search needs
 
 returns : tie.Need-returns
 returns c =
-    let st = c .before .before .before .before .before .before .before .before .before .before .before .before .before .before .before .before .before in
+    let st = c .before .before .before .before .before .before .before .before .before .before .before .before .before .before .before .before in
     let a = st .args in
     let p = c .before .before .play in
-    played-from (now (a .sound)) (a .remaining .voice) (a .remaining .dt) (five (now (a .fade)) (now (a .volume)) (now (a .left)) (now (a .right)) (now (a .rate))) (now (a .out)) (st .pre .0) (a .remaining .next) (p .result) _ (p .ensures)
+    played-from (now (a .sound)) (a .voice) (a .dt) (lanesNow (a .fade) (a .volume) (a .left) (a .right) (a .rate)) (now (a .out)) (st .pre .0) (a .next) (p .result) _ (p .ensures)
 
 pub play-from-spec : {M : Type 1} → statement M
 play-from-spec =

@@ -2,18 +2,17 @@
 use Prim.Native.Nat.{ℕ}
 use mathlib.Core.Path.{_≡_, refl, sym, ap, _∙_}
 use mathlib.Core.Bool.{Bool, true, false, cond}
-use denote.Ref.{now}
 use borrow.Author.Needs.{needs}
 use borrow.Author.Tests.{not-true, not-false}
 use Rattle.numbers.specs.Words.{finite}
 use Rattle.numbers.specs.Lists.{all}
-use Rattle.sound_lanes.specs.Lanes.{Lanes, five, judged, slow, fourFiniteClear}
+use Rattle.sound_lanes.specs.Lanes.{Lanes, lanesNow, judged, slow, fourFiniteClear}
 use Rattle.sound_lanes.proofs.Rows.{Sized, sized-parts, judged-lanes}
 use Rattle.sound_lanes.proofs.judge.Statement.{statement}
 use Rattle.sound_lanes.proofs.judge.Tie as tie
 
 abbrev given : tie.Start → Lanes
-given st = let a = st .args in five (now (a .fade)) (now (a .volume)) (now (a .left)) (now (a .right)) (now (a .rate))
+given st = let a = st .args in lanesNow (a .fade) (a .volume) (a .left) (a .right) (a .rate)
 
 abbrev levels : tie.Start → Bool
 levels st = let b = given st in fourFiniteClear (b .fade) (b .volume) (b .left) (b .right)

@@ -8,7 +8,7 @@ use lib.Dec.{T}
 use lib.Ieee.{Float, nan}
 use denote.Ref.{now}
 use borrow.Author.Needs.{needs}
-use Rattle.sound_lanes.specs.Lanes.{Lane, Lanes, five, rows, slow}
+use Rattle.sound_lanes.specs.Lanes.{Lane, Lanes, five, lanesNow, rows, slow}
 use Rattle.sound_lanes.proofs.Rows.{sized-parts}
 use Rattle.sound_update.specs.declared.Slice.{Slice}
 use Rattle.sound_update.specs.declared.Moving.{Moving}
@@ -33,24 +33,24 @@ record Sofar (snd : List Float) (dt : Float) (b : Lanes) (v : StaticSound) (i : 
   so-far : plays snd dt (take i (rows b)) v ≡ played (moved v f m) (take (2 * i) out) steps low
 
 abbrev Inv-loop : tie.InvT-loop
-Inv-loop timed sound fade volume left right rate out₀ voice slice frames moving₀ fractional-position₀ steps₀ lowest-count₀ i₀ out moving fractional-position steps lowest-count i =
-    Sofar sound (timed .dt) (spread (length out₀ / 2) (five fade volume left right rate)) (timed .voice) i out₀ out moving fractional-position steps lowest-count
+Inv-loop voice dt sound fade volume left right rate out₀ slice frames moving₀ fractional-position₀ steps₀ lowest-count₀ i₀ out moving fractional-position steps lowest-count i =
+    Sofar sound dt (spread (length out₀ / 2) (five fade volume left right rate)) voice i out₀ out moving fractional-position steps lowest-count
 
 abbrev μ-loop : tie.MeasureT-loop
-μ-loop timed sound fade volume left right rate out₀ voice slice frames moving₀ fractional-position₀ steps₀ lowest-count₀ i₀ out moving fractional-position steps lowest-count i =
+μ-loop voice dt sound fade volume left right rate out₀ slice frames moving₀ fractional-position₀ steps₀ lowest-count₀ i₀ out moving fractional-position steps lowest-count i =
     length out₀ / 2 - i
 
 -- ---- the places
 
 abbrev start : tie.At-loop Inv-loop μ-loop → tie.Start Inv-loop μ-loop
-start c = c .before .before .before .before .before .before .before .before .before .before .before
+start c = c .before .before .before .before .before .before .before .before .before .before
 
 abbrev voice : tie.At-loop Inv-loop μ-loop → StaticSound
-voice c = start c .args .timed .voice
+voice c = start c .args .voice
 
 -- the lanes as they are passed, and as the block reads them
 abbrev given : tie.At-loop Inv-loop μ-loop → Lanes
-given c = let a = start c .args in five (now (a .fade)) (now (a .volume)) (now (a .left)) (now (a .right)) (now (a .rate))
+given c = let a = start c .args in lanesNow (a .fade) (a .volume) (a .left) (a .right) (a .rate)
 
 abbrev lent : tie.At-loop Inv-loop μ-loop → Lanes
 lent c = spread (length (now (start c .args .out)) / 2) (given c)
@@ -93,7 +93,7 @@ lane-there c = let l = c .before .before in spread-below (given (l .before)) _ (
 turning : (c : tie.After-lane-frame Inv-loop μ-loop)
     → let at = c .before .before .before in
     let a = start at .args in
-    Steppable (now (a .sound)) (sliceOf (voice at)) (voice at .setup .«sample_rate») (getD (now (a .rate)) (c .lane-frame .result) nan) (a .timed .dt) (at .loop .moving) (at .loop .fractional-position)
+    Steppable (now (a .sound)) (sliceOf (voice at)) (voice at .setup .«sample_rate») (getD (now (a .rate)) (c .lane-frame .result) nan) (a .dt) (at .loop .moving) (at .loop .fractional-position)
 turning c =
     let at = c .before .before .before in
     let st = start at in
@@ -104,8 +104,8 @@ turning c =
       below = at .loop .inv .wellFormed .fraction;
       timeStep = p .timeStep;
       slow =
-          subst (λ (l : Lane). T (slow (v .setup .«sample_rate») (st .args .timed .dt) (l .rate))) (lane-is c)
-          (slow-at (now (st .args .sound)) (st .args .timed .dt) (lent at) v (v .setup .«sample_rate») (at .loop .i) (inside (c .before .before)) (p .near));
+          subst (λ (l : Lane). T (slow (v .setup .«sample_rate») (st .args .dt) (l .rate))) (lane-is c)
+          (slow-at (now (st .args .sound)) (st .args .dt) (lent at) v (v .setup .«sample_rate») (at .loop .i) (inside (c .before .before)) (p .near));
     }
 
 -- the steps are the definition's, at the rate that is read
@@ -113,12 +113,12 @@ turn-here : (c : tie.After-frame-steps Inv-loop μ-loop)
     → let at = after-frame-steps c .before in
     let a = start at .args in
     c .frame-steps .result
-    ≡ frameSteps (now (a .sound)) (sliceOf (voice at)) (voice at .setup .«sample_rate») (getD (now (a .rate)) (after-lane c .lane-frame .result) nan) (a .timed .dt) (at .loop .moving) (at .loop .fractional-position)
+    ≡ frameSteps (now (a .sound)) (sliceOf (voice at)) (voice at .setup .«sample_rate») (getD (now (a .rate)) (after-lane c .lane-frame .result) nan) (a .dt) (at .loop .moving) (at .loop .fractional-position)
 turn-here c =
     let at = after-frame-steps c .before in
     let a = start at .args in
     c .frame-steps .ensures
-    ∙ ap (λ (k : Slice). frameSteps (now (a .sound)) k (voice at .setup .«sample_rate») (getD (now (a .rate)) (after-lane c .lane-frame .result) nan) (a .timed .dt) (at .loop .moving) (at .loop .fractional-position))
+    ∙ ap (λ (k : Slice). frameSteps (now (a .sound)) k (voice at .setup .«sample_rate») (getD (now (a .rate)) (after-lane c .lane-frame .result) nan) (a .dt) (at .loop .moving) (at .loop .fractional-position))
     (at .before .before .slice .ensures)
 
 -- and at the frame's own rate
@@ -126,12 +126,12 @@ turn-is : (c : tie.After-frame-steps Inv-loop μ-loop)
     → let at = after-frame-steps c .before in
     let a = start at .args in
     c .frame-steps .result
-    ≡ frameSteps (now (a .sound)) (sliceOf (voice at)) (voice at .setup .«sample_rate») (laneAt (lent at) (at .loop .i) .rate) (a .timed .dt) (at .loop .moving) (at .loop .fractional-position)
+    ≡ frameSteps (now (a .sound)) (sliceOf (voice at)) (voice at .setup .«sample_rate») (laneAt (lent at) (at .loop .i) .rate) (a .dt) (at .loop .moving) (at .loop .fractional-position)
 turn-is c =
     let at = after-frame-steps c .before in
     let a = start at .args in
     turn-here c
-    ∙ ap (λ (l : Lane). frameSteps (now (a .sound)) (sliceOf (voice at)) (voice at .setup .«sample_rate») (l .rate) (a .timed .dt) (at .loop .moving) (at .loop .fractional-position)) (sym (lane-is (after-lane c)))
+    ∙ ap (λ (l : Lane). frameSteps (now (a .sound)) (sliceOf (voice at)) (voice at .setup .«sample_rate») (l .rate) (a .dt) (at .loop .moving) (at .loop .fractional-position)) (sym (lane-is (after-lane c)))
 
 few : (c : tie.After-frame-steps Inv-loop μ-loop) → c .frame-steps .result .steps ≤ 257
 few c = turned-few _ _ _ _ _ _ _ (c .frame-steps .result) (turning (after-lane c)) (turn-here c)
@@ -143,7 +143,7 @@ slice-requires c κs = search needs
 
 loop-holds : tie.Need-loop-holds Inv-loop μ-loop
 loop-holds c =
-    let st = c .before .before .before .before .before .before .before .before .before .before in
+    let st = c .before .before .before .before .before .before .before .before .before in
     let a = st .args in
     record {
       within = omega arith;
@@ -151,7 +151,7 @@ loop-holds c =
       as-long = refl;
       wellFormed = st .pre .1 .wellFormed;
       so-far =
-          played-none (now (a .sound)) (a .timed .dt) (spread (length (now (a .out)) / 2) (five (now (a .fade)) (now (a .volume)) (now (a .left)) (now (a .right)) (now (a .rate)))) (a .timed .voice) (now (a .out));
+          played-none (now (a .sound)) (a .dt) (spread (length (now (a .out)) / 2) (lanesNow (a .fade) (a .volume) (a .left) (a .right) (a .rate))) (a .voice) (now (a .out));
     }
 
 lane-frame-requires : tie.Need-lane-frame-requires Inv-loop μ-loop
@@ -222,9 +222,9 @@ loop-again c =
       within = omega (arith, n);
       few = omega (arith, n, w);
       as-long = simp length-set (at .loop .inv .as-long);
-      wellFormed = turned-on (now (st .args .sound)) (st .args .timed .dt) (voice at) _ (at .loop .moving) (at .loop .fractional-position) (a .frame-steps .result) (at .loop .inv .wellFormed) (turning (after-lane a)) (turn-here a);
+      wellFormed = turned-on (now (st .args .sound)) (st .args .dt) (voice at) _ (at .loop .moving) (at .loop .fractional-position) (a .frame-steps .result) (at .loop .inv .wellFormed) (turning (after-lane a)) (turn-here a);
       so-far =
-          played-more (now (st .args .sound)) (st .args .timed .dt) (lent at) (voice at) (at .loop .i) (at .loop .steps) (at .loop .lowest-count) (at .loop .out) (at .loop .moving) (at .loop .fractional-position)
+          played-more (now (st .args .sound)) (st .args .dt) (lent at) (voice at) (at .loop .i) (at .loop .steps) (at .loop .lowest-count) (at .loop .out) (at .loop .moving) (at .loop .fractional-position)
           (read .result .frame) (a .before .before .lower .result) (a .frame-steps .result) (inside t) (omega (arith, n)) (at .loop .inv .so-far)
           (ap (λ (r : Reading). r .frame) (read .ensures) ∙ ap (λ (l : Lane). framed (at .loop .moving) (at .loop .fractional-position) l) (sym (lane-is (after-lane a)))) (a .before .before .lower .ensures ∙ ap (λ (r : Reading). lower (at .loop .lowest-count) (r .count)) (read .ensures)) (turn-is a);
     }

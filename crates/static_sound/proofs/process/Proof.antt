@@ -5,7 +5,7 @@ use Prim.Native.Nat.{_*_}
 use lib.Dec.{eqb}
 use lib.ListN.{length}
 use borrow.Author.Tests.{not-true, not-false}
-use Rattle.sound_lanes.specs.Lanes.{Lanes, five}
+use Rattle.sound_lanes.specs.Lanes.{Lanes, lanesNow}
 use Rattle.static_sound.proofs.Whole.{lanes-whole, lanes-never, constant-into}
 use borrow.Author.Needs.{needs}
 use Rattle.static_sound.proofs.process.Statement.{statement}
@@ -22,7 +22,7 @@ abbrev start : tie.After-holds → tie.Start
 start c = c .before .before .before .before .before .before .before .before
 
 abbrev lent : tie.After-holds → Lanes
-lent c = let a = start c .args in five (now (a .fade)) (now (a .volume)) (now (a .left)) (now (a .right)) (now (a .rate))
+lent c = let a = start c .args in lanesNow (a .fade) (a .volume) (a .left) (a .right) (a .rate)
 
 holds-requires : tie.Need-holds-requires
 holds-requires c κs = search needs

@@ -2,8 +2,7 @@
 use mathlib.Core.Path.{_≡_, sym, _∙_, subst}
 use lib.Dec.{T}
 use mathlib.Core.Bool.{true}
-use denote.Ref.{now}
-use Rattle.sound_lanes.specs.Lanes.{five, sized, timeStep}
+use Rattle.sound_lanes.specs.Lanes.{lanesNow, sized, timeStep}
 use Rattle.sound_state.specs.WellFormed.{wellFormedFor}
 use Rattle.static_sound.proofs.Calls.{number-1, number-9, number-9-place, number-10, number-judged, fails, passes}
 use borrow.Author.Tests.{not-true, not-false}
@@ -20,15 +19,15 @@ use Rattle.sound_state.proofs.StaticSound.is_well_formed.Reads as is-well-forme
 -- ---- what each place has passed
 
 abbrev start : tie.Else1 → tie.Start
-start c = c .before .before .before .before .before .before .before .before
+start c = c .before .before .before .before .before .before .before
 
-wellFormed : (c : tie.Else1) → wellFormedFor (start c .args .samples) (start c .args .timed .voice) ≡ true
+wellFormed : (c : tie.Else1) → wellFormedFor (start c .args .samples) (start c .args .voice) ≡ true
 wellFormed c = passes (c .before .is-well-formed .ensures) (c .if1 .left)
 
-lanes-sized : (c : tie.Else2) → (let a = start (c .before .before) .args in sized (five (now (a .fade)) (now (a .volume)) (now (a .left)) (now (a .right)) (now (a .rate))) ≡ true)
+lanes-sized : (c : tie.Else2) → (let a = start (c .before .before) .args in sized (lanesNow (a .fade) (a .volume) (a .left) (a .right) (a .rate)) ≡ true)
 lanes-sized c = passes (c .before .are-sized .ensures) (c .if2 .left)
 
-time-step-one : (c : tie.Else4) → timeStep (start (c .before .before .before .before .before) .args .timed .dt) ≡ true
+time-step-one : (c : tie.Else4) → timeStep (start (c .before .before .before .before .before) .args .dt) ≡ true
 time-step-one c = passes (c .before .is-time-step .ensures) (c .if4 .left)
 
 is-well-formed-requires : tie.Need-is-well-formed-requires

@@ -16,7 +16,7 @@ use Rattle.sound_block.proofs.is_live.Reads as is-live-reads
 use Rattle.sound_block.proofs.silence.Reads as silence-reads
 
 abbrev start : tie.After-begin → tie.Start
-start c = c .before .before .before .before .before
+start c = c .before .before .before
 
 abbrev lent : tie.After-begin → Lanes
 lent c = let a = start c .args in heldLanes (a .held) (length (now (a .out)) / 2)
@@ -32,7 +32,7 @@ play-held-requires c κs =
     let b = c .before .before .before in
     let s = start b in
     let a = s .args in
-    playable (now (a .sound)) (a .signalled .dt) (lent b) (a .signalled .signals) (a .signalled .voice) (b .begin .result) (b .begin .ensures) (length (now (a .out))) (s .pre)
+    playable (now (a .sound)) (a .dt) (lent b) (a .signals) (a .voice) (b .begin .result) (b .begin .ensures) (length (now (a .out))) (s .pre)
 
 same-length : tie.Need-same-length
 same-length c = search needs
@@ -42,7 +42,7 @@ returns c =
     let l = c .before .before .before .before in
     let b = l .before .before in
     let a = start b .args in
-    sounds (now (a .sound)) (a .signalled .dt) (lent b) (a .signalled .signals) (a .signalled .voice) _ (b .begin .ensures) (sym (l .before .is-live .ensures) ∙ l .if1 .taken) _ (c .before .before .play-held .ensures)
+    sounds (now (a .sound)) (a .dt) (lent b) (a .signals) (a .voice) _ (b .begin .ensures) (sym (l .before .is-live .ensures) ∙ l .if1 .taken) _ (c .before .before .play-held .ensures)
 
 silence-requires : tie.Need-silence-requires
 silence-requires c κs = search needs
@@ -56,7 +56,7 @@ returns-2 c =
     let b = l .before .before in
     let s = start b in
     let a = s .args in
-    rests (now (a .sound)) (a .signalled .dt) (lent b) (a .signalled .signals) (a .signalled .voice) _ (b .begin .ensures) (sym (l .before .is-live .ensures) ∙ l .if1 .left) _ (length (now (a .out))) (c .before .before .silence .ensures) (s .pre .long)
+    rests (now (a .sound)) (a .dt) (lent b) (a .signals) (a .voice) _ (b .begin .ensures) (sym (l .before .is-live .ensures) ∙ l .if1 .left) _ (length (now (a .out))) (c .before .before .silence .ensures) (s .pre .long)
 
 pub block-held-spec : {M : Type 1} → statement M
 block-held-spec =

@@ -26,7 +26,7 @@ use Rattle.sound_fast_path.proofs.held.play_held.Tie as tie
 -- ---- the places
 
 abbrev start : tie.After-track-of → tie.Start
-start c = c .before .before .before .before .before .before .before
+start c = c .before .before .before .before .before .before
 
 abbrev where-contiguous : tie.After-once → tie.Else1
 where-contiguous c = c .before .before .before .before .before .before .before .before
@@ -49,21 +49,21 @@ lent c = heldLanes (start c .args .held) (frames c)
 -- ---- the track
 
 -- the track is the voice's
-track-is : (c : tie.After-track-of) → (let v = start c .args .timed .voice in c .track-of .result ≡ trackOf (v .moving .transport .«loop_region») (sliceOf v))
-track-is c = let v = start c .args .timed .voice in c .track-of .ensures ∙ ap (trackOf (v .moving .transport .«loop_region»)) (c .before .before .before .slice .ensures)
+track-is : (c : tie.After-track-of) → (let v = start c .args .voice in c .track-of .result ≡ trackOf (v .moving .transport .«loop_region») (sliceOf v))
+track-is c = let v = start c .args .voice in c .track-of .ensures ∙ ap (trackOf (v .moving .transport .«loop_region»)) (c .before .before .before .slice .ensures)
 
-tracked : (c : tie.After-track-of) → Tracked (now (start c .args .sound)) (start c .args .timed .voice) (c .track-of .result)
+tracked : (c : tie.After-track-of) → Tracked (now (start c .args .sound)) (start c .args .voice) (c .track-of .result)
 tracked c =
     let st = start c in
-    let v = st .args .timed .voice in
+    let v = st .args .voice in
     record { is = track-is c; lies = subst (InsideSound (now (st .args .sound))) (sym (track-is c)) (lies-of (now (st .args .sound)) v (st .pre .wellFormed) (st .pre .lent)) }
 
 -- the window is the voice's contiguous window
-contiguous : (c : tie.Else1) → Contiguous (now (start (c .before .before) .args .sound)) (c .before .before .track-of .result) (start (c .before .before) .args .timed .voice .moving)
+contiguous : (c : tie.Else1) → Contiguous (now (start (c .before .before) .args .sound)) (c .before .before .track-of .result) (start (c .before .before) .args .voice .moving)
 contiguous c = c .before .is-contiguous .ensures .1 (not-false _ (c .if1 .left))
 
 few-frames : (c : tie.After-track-of) → frames c ≤ 4096
-few-frames c = let a = start c .args in most (now (a .sound)) (a .timed .voice) (a .timed .dt) (a .held) (frames c) (now (a .out)) (start c .pre)
+few-frames c = let a = start c .args in most (now (a .sound)) (a .voice) (a .dt) (a .held) (frames c) (now (a .out)) (start c .pre)
 
 -- ---- the scan
 
@@ -74,36 +74,36 @@ inside c = subst (λ (n : ℕ). reached c .scan-held .result .next ≤ n) (lengt
 heard : (c : tie.After-once)
     → (let t = track c in
     let a = start t .args in
-    Heard (now (a .sound)) (a .timed .dt) (lent t) (a .timed .voice) (t .track-of .result) (reached c .scan-held .result) (c .once .last .1 .1 .0))
+    Heard (now (a .sound)) (a .dt) (lent t) (a .voice) (t .track-of .result) (reached c .scan-held .result) (c .once .last .1 .1 .0))
 heard c =
     let t = track c in
     let st = start t in
     let a = st .args in
     let x = a .held in
     let r = reached c .scan-held in
-    heard-of (now (a .sound)) (a .timed .dt) (lent t) (a .timed .voice) (t .track-of .result) (tracked t) (contiguous (where-contiguous c)) (st .pre) (r .result) (r .last .1 .1 .1 .1 .0) (c .once .last .1 .1 .0) (r .ensures)
+    heard-of (now (a .sound)) (a .dt) (lent t) (a .voice) (t .track-of .result) (tracked t) (contiguous (where-contiguous c)) (st .pre) (r .result) (r .last .1 .1 .1 .1 .0) (c .once .last .1 .1 .0) (r .ensures)
     (c .once .ensures ∙ gained-fewer (x .fade) (x .volume) (x .left) (x .right) (r .result .next) (frames t) (r .last .1 .1 .1 .1 .0) (inside c))
 
 -- the voice after the scan
 abbrev passed : tie.After-contiguous-at → StaticSound
-passed c = moved (start (track (gains c)) .args .timed .voice) (reached (gains c) .scan-held .result .«fractional_position») (c .contiguous-at .result)
+passed c = moved (start (track (gains c)) .args .voice) (reached (gains c) .scan-held .result .«fractional_position») (c .contiguous-at .result)
 
 passed-is : (c : tie.After-contiguous-at)
     → (let t = track (gains c) in
-    let v = start t .args .timed .voice in
+    let v = start t .args .voice in
     let r = reached (gains c) .scan-held .result in
     moved v (r .«fractional_position») (c .contiguous-at .result) ≡ moved v (r .«fractional_position») (scannedTo (now (start t .args .sound)) (t .track-of .result) v (r .steps) (r .at)))
 passed-is c =
     let t = track (gains c) in
-    let v = start t .args .timed .voice in
+    let v = start t .args .voice in
     let r = reached (gains c) .scan-held .result in
     ap (moved v (r .«fractional_position»)) (c .contiguous-at .ensures ∙ ap (λ (w : Wraps). contiguousOf (now (start t .args .sound)) (t .track-of .result) (v .moving) w (r .at)) (c .before .wraps-after .ensures))
 
 passed-plays : (c : tie.After-contiguous-at) (m : ℕ) → m ≡ 2 * length (lent (track (gains c)) .rate)
     → (let t = track (gains c) in
-    let v = start t .args .timed .voice in
+    let v = start t .args .voice in
     let r = reached (gains c) .scan-held .result in
-    Playable (now (start t .args .sound)) (moved v (r .«fractional_position») (c .contiguous-at .result)) (start t .args .timed .dt) (lent t) m)
+    Playable (now (start t .args .sound)) (moved v (r .«fractional_position») (c .contiguous-at .result)) (start t .args .dt) (lent t) m)
 passed-plays c m eq =
     let st = start (track (gains c)) in
     record {
@@ -161,7 +161,7 @@ scan-held-requires c κs =
     let st = start t in
     let a = st .args in
     let e = contiguous (c .before .before .before) in
-    (scannable (now (a .sound)) (a .timed .dt) (lent t) (a .timed .voice) (t .track-of .result) (tracked t) e (st .pre), scan-begins (now (a .sound)) (a .timed .dt) (lent t) (a .timed .voice) (t .track-of .result) (tracked t) e (st .pre) (now (a .out)) (st .pre .long))
+    (scannable (now (a .sound)) (a .dt) (lent t) (a .voice) (t .track-of .result) (tracked t) e (st .pre), scan-begins (now (a .sound)) (a .dt) (lent t) (a .voice) (t .track-of .result) (tracked t) e (st .pre) (now (a .out)) (st .pre .long))
 
 once-requires : tie.Need-once-requires
 once-requires c κs =
@@ -190,7 +190,7 @@ returns-2 c =
     let o = gains p in
     let t = track o in
     let a = start t .args in
-    reached-whole (now (a .sound)) (a .timed .dt) (lent t) (a .timed .voice) _ (t .track-of .result) (reached o .scan-held .result) (o .once .last .1 .1 .0) (passed-plays p _ (heard o .asLong)) (heard o) (passed-is p)
+    reached-whole (now (a .sound)) (a .dt) (lent t) (a .voice) _ (t .track-of .result) (reached o .scan-held .result) (o .once .last .1 .1 .0) (passed-plays p _ (heard o .asLong)) (heard o) (passed-is p)
     (c .if2 .taken ∙ sym (length-replicate (frames t) (a .held .rate)))
 
 play-rest-requires : tie.Need-play-rest-requires
@@ -200,7 +200,7 @@ play-rest-requires c κs =
     let t = track o in
     let a = start t .args in
     let e = as-many _ _ _ (heard o .asLong) (length-replicate (frames t) (a .held .rate)) in
-    (subst (λ (n : ℕ). Playable (now (a .sound)) (passed p) (a .timed .dt) (heldLanes (a .held) n) (length (o .once .last .1 .1 .0))) (sym e) (passed-plays p _ (heard o .asLong)), subst (λ (n : ℕ). reached o .scan-held .result .next ≤ n) (sym e) (inside o))
+    (subst (λ (n : ℕ). Playable (now (a .sound)) (passed p) (a .dt) (heldLanes (a .held) n) (length (o .once .last .1 .1 .0))) (sym e) (passed-plays p _ (heard o .asLong)), subst (λ (n : ℕ). reached o .scan-held .result .next ≤ n) (sym e) (inside o))
 
 add-steps : tie.Need-add-steps
 add-steps c =
@@ -211,8 +211,8 @@ add-steps c =
     let a = start t .args in
     let h = heard o in
     let e = as-many _ _ _ (h .asLong) (length-replicate (frames t) (a .held .rate)) in
-    let rest = q .ensures ∙ ap (λ (n : ℕ). playedFrom (now (a .sound)) (a .timed .dt) (heldLanes (a .held) n) (reached o .scan-held .result .next) (passed p) (o .once .last .1 .1 .0)) e in
-    let f = from-few (now (a .sound)) _ (a .timed .dt) (lent t) (o .once .last .1 .1 .0) (passed-plays p _ (h .asLong)) (reached o .scan-held .result .next) (q .result) _ rest in
+    let rest = q .ensures ∙ ap (λ (n : ℕ). playedFrom (now (a .sound)) (a .dt) (heldLanes (a .held) n) (reached o .scan-held .result .next) (passed p) (o .once .last .1 .1 .0)) e in
+    let f = from-few (now (a .sound)) _ (a .dt) (lent t) (o .once .last .1 .1 .0) (passed-plays p _ (h .asLong)) (reached o .scan-held .result .next) (q .result) _ rest in
     record { fits = sum-fits _ _ _ _ _ (h .few) f (inside o) (length-replicate (frames t) (a .held .rate)) (few-frames t) }
 
 same-length-3 : tie.Need-same-length-3
@@ -224,8 +224,8 @@ same-length-3 c =
     let a = start t .args in
     let h = heard o in
     let e = as-many _ _ _ (h .asLong) (length-replicate (frames t) (a .held .rate)) in
-    let rest = q .ensures ∙ ap (λ (n : ℕ). playedFrom (now (a .sound)) (a .timed .dt) (heldLanes (a .held) n) (reached o .scan-held .result .next) (passed p) (o .once .last .1 .1 .0)) e in
-    from-long (now (a .sound)) _ (a .timed .dt) (lent t) (o .once .last .1 .1 .0) (passed-plays p _ (h .asLong)) (reached o .scan-held .result .next) (q .result) _ (h .within) rest ∙ (h .asLong ∙ sym (start t .pre .long))
+    let rest = q .ensures ∙ ap (λ (n : ℕ). playedFrom (now (a .sound)) (a .dt) (heldLanes (a .held) n) (reached o .scan-held .result .next) (passed p) (o .once .last .1 .1 .0)) e in
+    from-long (now (a .sound)) _ (a .dt) (lent t) (o .once .last .1 .1 .0) (passed-plays p _ (h .asLong)) (reached o .scan-held .result .next) (q .result) _ (h .within) rest ∙ (h .asLong ∙ sym (start t .pre .long))
 
 returns-3 : tie.Need-returns-3
 returns-3 c =
@@ -236,8 +236,8 @@ returns-3 c =
     let a = start t .args in
     let h = heard o in
     let e = as-many _ _ _ (h .asLong) (length-replicate (frames t) (a .held .rate)) in
-    let rest = q .ensures ∙ ap (λ (n : ℕ). playedFrom (now (a .sound)) (a .timed .dt) (heldLanes (a .held) n) (reached o .scan-held .result .next) (passed p) (o .once .last .1 .1 .0)) e in
-    reached-on (now (a .sound)) (a .timed .dt) (lent t) (a .timed .voice) _ (t .track-of .result) (reached o .scan-held .result) (q .result) (o .once .last .1 .1 .0) _ h (passed-is p) rest
+    let rest = q .ensures ∙ ap (λ (n : ℕ). playedFrom (now (a .sound)) (a .dt) (heldLanes (a .held) n) (reached o .scan-held .result .next) (passed p) (o .once .last .1 .1 .0)) e in
+    reached-on (now (a .sound)) (a .dt) (lent t) (a .voice) _ (t .track-of .result) (reached o .scan-held .result) (q .result) (o .once .last .1 .1 .0) _ h (passed-is p) rest
 
 pub play-held-spec : {M : Type 1} → statement M
 play-held-spec =

@@ -2,7 +2,7 @@
 use mathlib.Core.Path.{_≡_, sym, ap, _∙_}
 use denote.Ref.{now}
 use lib.ListN.{length}
-use Rattle.sound_lanes.specs.Lanes.{Lanes, five}
+use Rattle.sound_lanes.specs.Lanes.{Lanes, lanesNow}
 use Rattle.static_sound.proofs.Whole.{constant-into}
 use borrow.Author.Needs.{needs}
 use Rattle.static_sound.proofs.mix.process_into.Statement.{statement}
@@ -18,7 +18,7 @@ abbrev start : tie.After-are-constant → tie.Start
 start c = c .before .before .before .before .before .before .before .before
 
 abbrev lent : tie.After-are-constant → Lanes
-lent c = let a = start c .args in five (now (a .fade)) (now (a .volume)) (now (a .left)) (now (a .right)) (now (a .rate))
+lent c = let a = start c .args in lanesNow (a .fade) (a .volume) (a .left) (a .right) (a .rate)
 
 are-constant-requires : tie.Need-are-constant-requires
 are-constant-requires c κs = search needs

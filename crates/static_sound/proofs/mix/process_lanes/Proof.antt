@@ -4,7 +4,7 @@ use native.Mathlib.Omega.{arith}
 use denote.Ref.{now}
 use Prim.Native.Nat.{ℕ, _+_, _*_, _≤_}
 use lib.ListN.{length}
-use Rattle.sound_lanes.specs.Lanes.{Lanes, five}
+use Rattle.sound_lanes.specs.Lanes.{Lanes, lanesNow}
 use Rattle.static_sound.specs.Entries.{refusedBlock, room}
 use Rattle.static_sound.proofs.Calls.{refused-into, processed-into, playable-part, inside}
 use borrow.Author.Needs.{needs}
@@ -20,7 +20,7 @@ abbrev start : tie.After-refusal-of → tie.Start
 start c = c .before .before .before .before .before .before .before .before .before
 
 abbrev lent : tie.After-refusal-of → Lanes
-lent c = let a = start c .args in five (now (a .fade)) (now (a .volume)) (now (a .left)) (now (a .right)) (now (a .rate))
+lent c = let a = start c .args in lanesNow (a .fade) (a .volume) (a .left) (a .right) (a .rate)
 
 numbered : (c : tie.After-refusal-of)
     → (let a = start c .args in

@@ -21,15 +21,15 @@ use Rattle.sound_state.proofs.StaticSound.is_well_formed.Reads as is-well-forme
 -- ---- what each place has passed
 
 abbrev start : tie.Else1 → tie.Start
-start c = c .before .before .before
+start c = c .before .before
 
-wellFormed : (c : tie.Else1) → wellFormedFor (start c .args .samples) (start c .args .timed .voice) ≡ true
+wellFormed : (c : tie.Else1) → wellFormedFor (start c .args .samples) (start c .args .voice) ≡ true
 wellFormed c = passes (c .before .is-well-formed .ensures) (c .if1 .left)
 
 few : (c : tie.Else2) → sized (heldLanes (start (c .before) .args .held) (start (c .before) .args .frames)) ≡ true
 few c = sized-few _ _ (c .if2 .left)
 
-time-step-one : (c : tie.Else4) → timeStep (start (c .before .before .before .before) .args .timed .dt) ≡ true
+time-step-one : (c : tie.Else4) → timeStep (start (c .before .before .before .before) .args .dt) ≡ true
 time-step-one c = passes (c .before .is-time-step .ensures) (c .if4 .left)
 
 is-well-formed-requires : tie.Need-is-well-formed-requires
