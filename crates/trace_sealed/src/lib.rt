@@ -18,8 +18,11 @@ mod writes;
 
 use byte_layout::Parsed;
 use tables::GIVEN;
+use tables::GIVEN_ROWS;
 use tables::HEAD;
+use tables::HEAD_ROWS;
 use tables::LANED;
+use tables::LANED_ROWS;
 use trace_records::Record;
 pub use writes::write;
 
@@ -64,7 +67,7 @@ fn read_head(s: &[u8], at: usize) -> Parsed
         × (q .at ≤ length (now (s .entry))) ⌝ }
 {
     let table = HEAD;
-    byte_layout::read_rows(s, byte_layout::begin(at, 5), &table, 4)
+    byte_layout::read_rows(s, byte_layout::begin(at, 5), &table, HEAD_ROWS)
 }
 
 // Reads the fields of a kind from a payload that has n bytes before the checksum.
@@ -78,10 +81,10 @@ fn read_fields(s: &[u8], at: usize, kind: u64, n: usize) -> Parsed
     let p = byte_layout::begin(at, n);
     if kind == 4 {
         let table = GIVEN;
-        return byte_layout::read_rows(s, p, &table, 17);
+        return byte_layout::read_rows(s, p, &table, GIVEN_ROWS);
     }
     let table = LANED;
-    byte_layout::read_rows(s, p, &table, 5)
+    byte_layout::read_rows(s, p, &table, LANED_ROWS)
 }
 
 // The bytes of the lanes of a kind whose first number is given.

@@ -1,5 +1,7 @@
 // The layouts of sealed records: six numbers a row, width, guard, low, least, most, refusal.
 
+pub(crate) const HEAD_ROWS: usize = 4;
+
 pub(crate) const HEAD: [u64; 24] = [
     1,
     0,
@@ -26,6 +28,8 @@ pub(crate) const HEAD: [u64; 24] = [
     65535,
     17,
 ];
+
+pub(crate) const GIVEN_ROWS: usize = 17;
 
 pub(crate) const GIVEN: [u64; 102] = [
     4,
@@ -132,6 +136,8 @@ pub(crate) const GIVEN: [u64; 102] = [
     17,
 ];
 
+pub(crate) const LANED_ROWS: usize = 5;
+
 pub(crate) const LANED: [u64; 30] = [
     2,
     0,
@@ -164,5 +170,7 @@ pub(crate) const LANED: [u64; 30] = [
     2,
     17,
 ];
+
+pub(crate) const SUM_ROWS: usize = 1;
 
 pub(crate) const SUM: [u64; 6] = [4, 0, 0, 0, 4294967295, 17];

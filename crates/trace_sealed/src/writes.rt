@@ -12,9 +12,13 @@ ghost use Rattle.trace_sealed.specs.Tables.{headRows, fieldRows, fieldCo
 ghost use Rattle.trace_sealed.specs.Writes.{sealedKind, sealedOf, writeSealed, writeAny};
 use crate::lane_bytes;
 use crate::tables::GIVEN;
+use crate::tables::GIVEN_ROWS;
 use crate::tables::HEAD;
+use crate::tables::HEAD_ROWS;
 use crate::tables::LANED;
+use crate::tables::LANED_ROWS;
 use crate::tables::SUM;
+use crate::tables::SUM_ROWS;
 use trace_records::Sent;
 
 fn is_sealed_kind(kind: u64) -> bool
@@ -29,10 +33,10 @@ fn fits(kind: u64, values: [u64; 80]) -> bool
 {
     if kind == 4 {
         let table = GIVEN;
-        return byte_layout::rows_fit(values, &table, 17);
+        return byte_layout::rows_fit(values, &table, GIVEN_ROWS);
     }
     let table = LANED;
-    byte_layout::rows_fit(values, &table, 5)
+    byte_layout::rows_fit(values, &table, LANED_ROWS)
 }
 
 // The bytes of the fields.
@@ -41,10 +45,10 @@ fn fields_length(kind: u64, values: [u64; 80]) -> usize
 {
     if kind == 4 {
         let table = GIVEN;
-        return byte_layout::rows_length(values, &table, 17);
+        return byte_layout::rows_length(values, &table, GIVEN_ROWS);
     }
     let table = LANED;
-    byte_layout::rows_length(values, &table, 5)
+    byte_layout::rows_length(values, &table, LANED_ROWS)
 }
 
 fn put_head(buf: &mut [u8], at: usize, kind: u64, n: usize) -> usize
@@ -58,7 +62,7 @@ fn put_head(buf: &mut [u8], at: usize, kind: u64, n: usize) -> usize
     values[2] = kind;
     values[3] = n as u64;
     let table = HEAD;
-    byte_layout::put_rows(buf, at, values, &table, 4)
+    byte_layout::put_rows(buf, at, values, &table, HEAD_ROWS)
 }
 
 fn put_fields(buf: &mut [u8], at: usize, kind: u64, values: [u64; 80]) -> usize
@@ -69,10 +73,10 @@ fn put_fields(buf: &mut [u8], at: usize, kind: u64, values: [u64; 80]) -> usize
 {
     if kind == 4 {
         let table = GIVEN;
-        return byte_layout::put_rows(buf, at, values, &table, 17);
+        return byte_layout::put_rows(buf, at, values, &table, GIVEN_ROWS);
     }
     let table = LANED;
-    byte_layout::put_rows(buf, at, values, &table, 5)
+    byte_layout::put_rows(buf, at, values, &table, LANED_ROWS)
 }
 
 // Writes a checksum.
@@ -83,7 +87,7 @@ fn put_sum(buf: &mut [u8], at: usize, sum: u64) -> usize
     let mut values = [0u64; 80];
     values[0] = sum;
     let table = SUM;
-    byte_layout::put_rows(buf, at, values, &table, 1)
+    byte_layout::put_rows(buf, at, values, &table, SUM_ROWS)
 }
 
 // Writes a record whose payload has n bytes, and returns the place after it.
