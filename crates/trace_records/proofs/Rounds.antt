@@ -49,7 +49,7 @@ unfolding creationRows commandRows blockRows
 body-sound k = go (eqb k 1) (eqb k 2)
   where
     go : (a b : Bool) → sound (cond a creationRows (cond b commandRows blockRows)) ≡ true
-    go true b = creation-sound
+    go true b = creation-sound creationTable refl
     go false true = command-sound
     go false false = block-sound
 

@@ -19,9 +19,9 @@ use Rattle.trace_records.proofs.Rounds.{head-length, payload-few}
 -- ---- by the kind
 
 module _ {A : Type 0} (f : List Row → ℕ → A) (k : ℕ) where
-  pub of-creation : k ≡ 1 → f (rows creationTable 0 77) 77 ≡ f (body k) (fields k)
+  pub of-creation : (t : List ℕ) → t ≡ creationTable → k ≡ 1 → f (rows t 0 77) 77 ≡ f (body k) (fields k)
   unfolding creationRows
-  of-creation h = rw (eq-eqb k 1 h) refl
+  of-creation t e h = ap (λ (z : List ℕ). f (rows z 0 77) 77) e ∙ rw (eq-eqb k 1 h) refl
 
   pub of-commands : (k ≡ 1 → ⊥) → k ≡ 2 → f (rows commandTable 0 12) 12 ≡ f (body k) (fields k)
   unfolding commandRows

@@ -1,5 +1,5 @@
 -- The ways that the reading of a record can go, from the tests of the code.
-use mathlib.Core.Path.{_≡_, refl, sym, ap, _∙_}
+use mathlib.Core.Path.{_≡_, refl, sym, ap, subst, _∙_}
 use Prim.Native.Nat.{ℕ, zero, suc, _+_, _-_, _*_, _≤_, _<_}
 use native.Mathlib.Omega.{arith}
 use mathlib.Core.Bool.{Bool, true, false, not, cond}
@@ -34,9 +34,9 @@ pub head-sound : sound (rows headTable 0 4) ≡ true
 unfolding sound rows rowAt headTable
 head-sound = refl
 
-pub creation-sound : sound (rows creationTable 0 77) ≡ true
+pub creation-sound : (t : List ℕ) → t ≡ creationTable → sound (rows t 0 77) ≡ true
 unfolding sound rows rowAt creationTable frameTable
-creation-sound = refl
+creation-sound t e = ap (λ (z : List ℕ). sound (rows z 0 77)) e ∙ refl
 
 pub command-sound : sound (rows commandTable 0 12) ≡ true
 unfolding sound rows rowAt commandTable
@@ -62,9 +62,9 @@ from-start : (s : List ℕ) (at n m : ℕ) (rs : List Row) (p q : Parsed) → p 
 from-start s at n m rs p q e r z = (r .0 ∙ ap (steps rs) (begun s at n p e), r .1, r .2 ∙ ap (λ (x : Parsed). drop m (x .values)) e ∙ z)
 
 module _ (s : List ℕ) (at n k : ℕ) (p q : Parsed) (e : p ≡ Start at n) where
-  pub read-creation : k ≡ 1 → Read s 77 (rows creationTable 0 77) p q → Body s at n (fields k) (body k) q
+  pub read-creation : (t : List ℕ) → t ≡ creationTable → k ≡ 1 → Read s 77 (rows t 0 77) p q → Body s at n (fields k) (body k) q
   unfolding creationRows
-  read-creation h r = rw (eq-eqb k 1 h) (from-start s at n 77 (rows creationTable 0 77) p q e r refl)
+  read-creation t g h r = rw (eq-eqb k 1 h) (from-start s at n 77 (rows creationTable 0 77) p q e (subst (λ (z : List ℕ). Read s 77 (rows z 0 77) p q) g r) refl)
 
   pub read-commands : (k ≡ 1 → ⊥) → k ≡ 2 → Read s 12 (rows commandTable 0 12) p q → Body s at n (fields k) (body k) q
   unfolding commandRows

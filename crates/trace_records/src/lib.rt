@@ -13,9 +13,13 @@ mod writes;
 
 use byte_layout::Parsed;
 use tables::BLOCK;
+use tables::BLOCK_ROWS;
+use tables::COMMAND_ROWS;
 use tables::COMMANDS;
-use tables::CREATION;
+use tables::CREATION_ROWS;
 use tables::HEAD;
+use tables::HEAD_ROWS;
+use tables::creation_table;
 pub use writes::Sent;
 pub use writes::write;
 
@@ -88,15 +92,15 @@ fn read_body(s: &[u8], at: usize, kind: u64, n: usize) -> Parsed
 {
     let p = byte_layout::begin(at, n);
     if kind == 1 {
-        let table = CREATION;
-        return byte_layout::read_rows(s, p, &table, 77);
+        let table = creation_table();
+        return byte_layout::read_rows(s, p, &table, CREATION_ROWS);
     }
     if kind == 2 {
         let table = COMMANDS;
-        return byte_layout::read_rows(s, p, &table, 12);
+        return byte_layout::read_rows(s, p, &table, COMMAND_ROWS);
     }
     let table = BLOCK;
-    byte_layout::read_rows(s, p, &table, 10)
+    byte_layout::read_rows(s, p, &table, BLOCK_ROWS)
 }
 
 // The head's kind and length, once they are checked.
@@ -106,7 +110,7 @@ fn read_head(s: &[u8], at: usize) -> Parsed
         × (q .at ≤ length (now (s .entry))) ⌝ }
 {
     let table = HEAD;
-    byte_layout::read_rows(s, byte_layout::begin(at, 5), &table, 4)
+    byte_layout::read_rows(s, byte_layout::begin(at, 5), &table, HEAD_ROWS)
 }
 
 // The record at an offset of the bytes: any bytes, any offset.

@@ -8,9 +8,13 @@ ghost use Rattle.byte_layout.specs.Writes.{payload, fine};
 ghost use Rattle.trace_records.specs.Tables.{headRows, body, fields};
 ghost use Rattle.trace_records.specs.Writes.{headOf, known, sentOf, writeRecord};
 use crate::tables::BLOCK;
+use crate::tables::BLOCK_ROWS;
+use crate::tables::COMMAND_ROWS;
 use crate::tables::COMMANDS;
-use crate::tables::CREATION;
+use crate::tables::CREATION_ROWS;
 use crate::tables::HEAD;
+use crate::tables::HEAD_ROWS;
+use crate::tables::creation_table;
 
 // The result of a write: 0 or a refusal, and the offset after the record, or its own.
 #[repr(C)]
@@ -30,15 +34,15 @@ fn fits(kind: u64, values: [u64; 80]) -> bool
     ensures { λ b. ⌜ b ≡ fine (body kind) [] (take (fields kind) values) ⌝ }
 {
     if kind == 1 {
-        let table = CREATION;
-        return byte_layout::rows_fit(values, &table, 77);
+        let table = creation_table();
+        return byte_layout::rows_fit(values, &table, CREATION_ROWS);
     }
     if kind == 2 {
         let table = COMMANDS;
-        return byte_layout::rows_fit(values, &table, 12);
+        return byte_layout::rows_fit(values, &table, COMMAND_ROWS);
     }
     let table = BLOCK;
-    byte_layout::rows_fit(values, &table, 10)
+    byte_layout::rows_fit(values, &table, BLOCK_ROWS)
 }
 
 // The payload's bytes.
@@ -46,15 +50,15 @@ fn payload_length(kind: u64, values: [u64; 80]) -> usize
     ensures { λ n. ⌜ n ≡ length (payload (body kind) [] (take (fields kind) values)) ⌝ }
 {
     if kind == 1 {
-        let table = CREATION;
-        return byte_layout::rows_length(values, &table, 77);
+        let table = creation_table();
+        return byte_layout::rows_length(values, &table, CREATION_ROWS);
     }
     if kind == 2 {
         let table = COMMANDS;
-        return byte_layout::rows_length(values, &table, 12);
+        return byte_layout::rows_length(values, &table, COMMAND_ROWS);
     }
     let table = BLOCK;
-    byte_layout::rows_length(values, &table, 10)
+    byte_layout::rows_length(values, &table, BLOCK_ROWS)
 }
 
 fn put_head(buf: &mut [u8], at: usize, kind: u64, n: usize) -> usize
@@ -68,7 +72,7 @@ fn put_head(buf: &mut [u8], at: usize, kind: u64, n: usize) -> usize
     values[2] = kind;
     values[3] = n as u64;
     let table = HEAD;
-    byte_layout::put_rows(buf, at, values, &table, 4)
+    byte_layout::put_rows(buf, at, values, &table, HEAD_ROWS)
 }
 
 fn put_body(buf: &mut [u8], at: usize, kind: u64, values: [u64; 80]) -> usize
@@ -78,15 +82,15 @@ fn put_body(buf: &mut [u8], at: usize, kind: u64, values: [u64; 80]) -> usize
         × (a ≡ at + length (payload (body kind) [] (take (fields kind) values))) ⌝ }
 {
     if kind == 1 {
-        let table = CREATION;
-        return byte_layout::put_rows(buf, at, values, &table, 77);
+        let table = creation_table();
+        return byte_layout::put_rows(buf, at, values, &table, CREATION_ROWS);
     }
     if kind == 2 {
         let table = COMMANDS;
-        return byte_layout::put_rows(buf, at, values, &table, 12);
+        return byte_layout::put_rows(buf, at, values, &table, COMMAND_ROWS);
     }
     let table = BLOCK;
-    byte_layout::put_rows(buf, at, values, &table, 10)
+    byte_layout::put_rows(buf, at, values, &table, BLOCK_ROWS)
 }
 
 // Writes a record at an offset of a buffer: any kind, any numbers, any offset.

@@ -3,7 +3,7 @@ use mathlib.Core.Path.{_≡_, refl, sym, ap, _∙_}
 use native.Mathlib.Omega.{arith}
 use denote.Ref.{now}
 use Rattle.byte_layout.specs.declared.Parsed.{Parsed}
-use Rattle.trace_records.specs.Tables.{creationTable, frameTable, commandTable, blockTable}
+use Rattle.trace_records.specs.Tables.{commandTable, blockTable}
 use Rattle.trace_records.proofs.Ways.{creation-sound, command-sound, block-sound, read-creation, read-commands, read-block}
 use borrow.Author.Needs.{needs}
 use Rattle.trace_records.proofs.read_body.Statement.{statement}
@@ -16,16 +16,19 @@ use Rattle.byte_layout.proofs.read_rows.Reads as read-rows-reads
 begin-requires : tie.Need-begin-requires
 begin-requires c κs = search needs
 
+creation-table-requires : tie.Need-creation-table-requires
+creation-table-requires c κs = search needs
+
 slice-aggregate-read-rows : tie.Need-slice-aggregate-read-rows
 slice-aggregate-read-rows c = search needs
 
 read-rows-requires : tie.Need-read-rows-requires
-unfolding creationTable frameTable
-read-rows-requires c κs = (omega (arith, ap (λ (x : Parsed). x .at) (c .before .before .begin .ensures), c .before .before .before .before .pre), search needs, search needs, creation-sound)
+read-rows-requires c κs = (omega (arith, ap (λ (x : Parsed). x .at) (c .before .before .before .begin .ensures), c .before .before .before .before .before .pre), search needs, search needs, creation-sound (c .before .creation-table .result) (c .before .creation-table .ensures))
 
 returns : tie.Need-returns
-unfolding creationTable frameTable
-returns c = read-creation _ _ _ _ _ (c .read-rows .result) (c .before .before .before .begin .ensures) (c .before .before .if1 .taken) (c .read-rows .ensures)
+returns c =
+    let t = c .before .before .creation-table in
+    read-creation _ _ _ _ _ (c .read-rows .result) (c .before .before .before .before .begin .ensures) (t .result) (t .ensures) (c .before .before .before .if1 .taken) (c .read-rows .ensures)
 
 slice-aggregate-read-rows-2 : tie.Need-slice-aggregate-read-rows-2
 slice-aggregate-read-rows-2 c = search needs
@@ -54,6 +57,7 @@ read-body-spec =
     tie.close
     (tie.spec
     begin-requires
+    creation-table-requires
     slice-aggregate-read-rows
     read-rows-requires
     returns

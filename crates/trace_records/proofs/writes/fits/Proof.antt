@@ -11,7 +11,7 @@ use Rattle.byte_layout.specs.declared.Row.{Row}
 use Rattle.byte_layout.specs.Numbers.{bytes}
 use Rattle.byte_layout.specs.Rows.{rowAt, rows, stands}
 use Rattle.byte_layout.specs.Writes.{field, payload, fine}
-use Rattle.trace_records.specs.Tables.{headTable, creationTable, frameTable, commandTable, blockTable, headRows, body, fields}
+use Rattle.trace_records.specs.Tables.{commandTable, blockTable}
 use Rattle.trace_records.proofs.Ways.{not-true, not-false, creation-sound, command-sound, block-sound}
 use Rattle.trace_records.proofs.Rounds.{head-length}
 use Rattle.trace_records.proofs.Sends.{of-creation, of-commands, of-block, no-kind, unfit, few, no-room, written}
@@ -22,6 +22,9 @@ use Rattle.trace_records.proofs.writes.fits.Reads as reads
 use Rattle.trace_records.proofs.writes.fits.Lts as lts
 use Rattle.byte_layout.proofs.rows_fit.Reads as rows-fit-reads
 
+creation-table-requires : tie.Need-creation-table-requires
+creation-table-requires c κs = search needs
+
 slice-aggregate-rows-fit : tie.Need-slice-aggregate-rows-fit
 slice-aggregate-rows-fit c = search needs
 
@@ -29,8 +32,10 @@ rows-fit-requires : tie.Need-rows-fit-requires
 rows-fit-requires c κs = search needs
 
 returns : tie.Need-returns
-unfolding creationTable frameTable
-returns c = c .rows-fit .ensures ∙ of-creation (λ (rs : List Row) (m : ℕ). fine rs [] (take m (c .before .before .before .args .values))) (c .before .before .before .args .kind) (c .before .before .if1 .taken)
+returns c =
+    let t = c .before .before .creation-table in
+    let a = c .before .before .before .before .args in
+    c .rows-fit .ensures ∙ of-creation (λ (rs : List Row) (m : ℕ). fine rs [] (take m (a .values))) (a .kind) (t .result) (t .ensures) (c .before .before .before .if1 .taken)
 
 slice-aggregate-rows-fit-2 : tie.Need-slice-aggregate-rows-fit-2
 slice-aggregate-rows-fit-2 c = search needs
@@ -56,6 +61,7 @@ pub fits-spec : {M : Type 1} → statement M
 fits-spec =
     tie.close
     (tie.spec
+    creation-table-requires
     slice-aggregate-rows-fit
     rows-fit-requires
     returns

@@ -11,7 +11,7 @@ use Rattle.byte_layout.specs.declared.Row.{Row}
 use Rattle.byte_layout.specs.Numbers.{bytes}
 use Rattle.byte_layout.specs.Rows.{rowAt, rows, stands}
 use Rattle.byte_layout.specs.Writes.{field, payload, fine}
-use Rattle.trace_records.specs.Tables.{headTable, creationTable, frameTable, commandTable, blockTable, headRows, body, fields}
+use Rattle.trace_records.specs.Tables.{commandTable, blockTable}
 use Rattle.trace_records.proofs.Ways.{not-true, not-false, creation-sound, command-sound, block-sound}
 use Rattle.trace_records.proofs.Rounds.{head-length}
 use Rattle.trace_records.proofs.Sends.{of-creation, of-commands, of-block, no-kind, unfit, few, no-room, written}
@@ -22,16 +22,20 @@ use Rattle.trace_records.proofs.writes.payload_length.Reads as reads
 use Rattle.trace_records.proofs.writes.payload_length.Lts as lts
 use Rattle.byte_layout.proofs.rows_length.Reads as rows-length-reads
 
+creation-table-requires : tie.Need-creation-table-requires
+creation-table-requires c κs = search needs
+
 slice-aggregate-rows-length : tie.Need-slice-aggregate-rows-length
 slice-aggregate-rows-length c = search needs
 
 rows-length-requires : tie.Need-rows-length-requires
-unfolding creationTable frameTable
-rows-length-requires c κs = (search needs, search needs, creation-sound)
+rows-length-requires c κs = (search needs, search needs, creation-sound (c .before .creation-table .result) (c .before .creation-table .ensures))
 
 returns : tie.Need-returns
-unfolding creationTable frameTable
-returns c = c .rows-length .ensures ∙ of-creation (λ (rs : List Row) (m : ℕ). length (payload rs [] (take m (c .before .before .before .args .values)))) (c .before .before .before .args .kind) (c .before .before .if1 .taken)
+returns c =
+    let t = c .before .before .creation-table in
+    let a = c .before .before .before .before .args in
+    c .rows-length .ensures ∙ of-creation (λ (rs : List Row) (m : ℕ). length (payload rs [] (take m (a .values)))) (a .kind) (t .result) (t .ensures) (c .before .before .before .if1 .taken)
 
 slice-aggregate-rows-length-2 : tie.Need-slice-aggregate-rows-length-2
 slice-aggregate-rows-length-2 c = search needs
@@ -59,6 +63,7 @@ pub payload-length-spec : {M : Type 1} → statement M
 payload-length-spec =
     tie.close
     (tie.spec
+    creation-table-requires
     slice-aggregate-rows-length
     rows-length-requires
     returns
