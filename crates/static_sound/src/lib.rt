@@ -40,16 +40,16 @@ fn refusal_of(
     ensures { λ r. ⌜ r ≡ refusedBlock samples voice dt (lanesAtEntry fade volume left right rate) placed ⌝ }
 {
     if !voice.is_well_formed(samples) {
-        return 1;
+        return refusals::STATE;
     }
     if !sound_lanes::are_sized(fade, volume, left, right, rate) {
-        return 9;
+        return refusals::BLOCK;
     }
     if !placed {
-        return 9;
+        return refusals::BLOCK;
     }
     if !sound_lanes::is_time_step(dt) {
-        return 10;
+        return refusals::TIME_STEP;
     }
     sound_lanes::judge(voice.setup.sample_rate, dt, fade, volume, left, right, rate)
 }

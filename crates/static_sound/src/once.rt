@@ -22,16 +22,16 @@ fn refusal_held(
     ensures { λ r. ⌜ r ≡ refusedBlock samples voice dt (heldLanes held frames) placed ⌝ }
 {
     if !voice.is_well_formed(samples) {
-        return 1;
+        return refusals::STATE;
     }
     if frames > 4096 {
-        return 9;
+        return refusals::BLOCK;
     }
     if !placed {
-        return 9;
+        return refusals::BLOCK;
     }
     if !sound_lanes::is_time_step(dt) {
-        return 10;
+        return refusals::TIME_STEP;
     }
     if frames == 0 {
         return 0;

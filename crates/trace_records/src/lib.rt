@@ -12,6 +12,7 @@ mod tables;
 mod writes;
 
 use byte_layout::Parsed;
+use refusals::words;
 use tables::BLOCK;
 use tables::BLOCK_ROWS;
 use tables::COMMAND_ROWS;
@@ -118,7 +119,7 @@ pub fn read(s: &[u8], at: usize) -> Record
     ensures { λ r. ⌜ r ≡ recordAt (now (s .entry)) at ⌝ }
 {
     if s.len() < at {
-        return refuse(18, at);
+        return refuse(words::TRUNCATED, at);
     }
     let head = read_head(s, at);
     if 0 < head.refused {
@@ -127,14 +128,14 @@ pub fn read(s: &[u8], at: usize) -> Record
     let kind = head.values[2];
     let n = head.values[3];
     if !is_possible(kind, n) {
-        return refuse(17, at);
+        return refuse(words::RECORD, at);
     }
     let body = read_body(s, head.at, kind, n as usize);
     if 0 < body.refused {
         return refuse(body.refused, at);
     }
     if 0 < body.left {
-        return refuse(17, at);
+        return refuse(words::RECORD, at);
     }
     let values = body.values;
     Record {

@@ -15,6 +15,7 @@ use crate::tables::CREATION_ROWS;
 use crate::tables::HEAD;
 use crate::tables::HEAD_ROWS;
 use crate::tables::creation_table;
+use refusals::words;
 
 // The result of a write: 0 or a refusal, and the offset after the record, or its own.
 #[repr(C)]
@@ -100,26 +101,26 @@ pub fn write(buf: &mut [u8], at: usize, kind: u64, values: [u64; 80]) -> Sent
 {
     if !is_kind(kind) {
         return Sent {
-            refusal: 16,
+            refusal: words::KIND,
             next: at,
         };
     }
     if !fits(kind, values) {
         return Sent {
-            refusal: 17,
+            refusal: words::RECORD,
             next: at,
         };
     }
     let n = payload_length(kind, values);
     if buf.len() < at {
         return Sent {
-            refusal: 19,
+            refusal: words::ROOM,
             next: at,
         };
     }
     if buf.len() - at < 5 + n {
         return Sent {
-            refusal: 19,
+            refusal: words::ROOM,
             next: at,
         };
     }
