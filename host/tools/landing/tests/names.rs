@@ -16,19 +16,23 @@ fn cells(line: &str) -> Vec<&str> {
     line.trim_matches('|').split(" | ").map(str::trim).collect()
 }
 
-/// The single words of the column "not", and the words of the last table: those that may still be used.
+/// The single words of the column "not" that are no concept's own word, and the words of the last table: those that may still be
+/// used.
 fn words(page: &str) -> (BTreeSet<String>, BTreeSet<String>) {
     let (tables, still_used) = page
         .split_once("## Identifiers")
         .expect("the glossary has the section \"Identifiers\"");
     let rows = tables.lines().filter(|line| line.starts_with("| "));
-    let not = rows
+    let rows: Vec<Vec<&str>> = rows
         .map(cells)
-        .filter(|row| row.len() == 4 && row[3] != "not");
-    let not = not.flat_map(|row| {
+        .filter(|row| row.len() == 4 && row[3] != "not")
+        .collect();
+    let own: BTreeSet<&str> = rows.iter().map(|row| row[0]).collect();
+    let not = rows.iter().flat_map(|row| {
         let plain = row[3].split('(').next().unwrap_or_default();
         let words = plain.split(',').map(str::trim);
-        let single = words.filter(|word| !word.is_empty() && !word.contains(' '));
+        let single =
+            words.filter(|word| !word.is_empty() && !word.contains(' ') && !own.contains(word));
         single.map(str::to_string).collect::<Vec<_>>()
     });
     let rows = still_used.lines().filter(|line| line.starts_with("| "));
@@ -56,13 +60,14 @@ fn parts(identifier: &str) -> Vec<String> {
     parts
 }
 
-/// The identifiers of a text, without its comments, its imports' crates and the names of the C interface.
+/// The identifiers of a text, without its comments, its texts in quotes, its imports' crates and the names of the C interface.
 fn identifiers(text: &str) -> BTreeSet<&str> {
     let code = text.lines().map(|line| {
         let end = [line.find("//"), line.find("-- ")];
         &line[..end.into_iter().flatten().min().unwrap_or(line.len())]
     });
     let is_part = |c: char| c.is_alphanumeric() || "_-·'".contains(c);
+    let code = code.flat_map(|line| line.split('"').step_by(2));
     let found = code.flat_map(|line| line.split(move |c| !is_part(c)));
     found
         .filter(|name| !name.starts_with("Rattle·"))
