@@ -32,7 +32,7 @@ module _ (snd : List Float) (t : LoopTable) (k : ℕ) where
 
       go : (b : Bool) → eqb n 0 ≡ b
           → let r = cond {A = Commanded} b (commanded snd v (loopCommand ((found t k) .slot))) (record { refusal = n; voice = v; position = positiveZero }) in
-          r .refusal ≡ 0 → T (wellFormedFor (length snd) (r .sound))
+          r .refusal ≡ 0 → T (wellFormedFor (length snd) (r .voice))
       go true e z = commanded-well-formed-for snd v (loopCommand ((found t k) .slot)) z
       go false e z = absurd (eqb-false n 0 e z)
 

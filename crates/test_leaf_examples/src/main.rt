@@ -113,19 +113,19 @@ fn show_places(given: Tally) -> Tally {
     let mut t = given;
     t = show(
         t,
-        b"loop (4, 4) is well_formed",
+        b"loop (4, 4) is well formed",
         is_well_formed_loop(4, 4),
         0,
     );
     t = show(
         t,
-        b"loop (4, 11) is well_formed",
+        b"loop (4, 11) is well formed",
         is_well_formed_loop(4, 11),
         0,
     );
     t = show(
         t,
-        b"loop (0, 10) is well_formed",
+        b"loop (0, 10) is well formed",
         is_well_formed_loop(0, 10),
         1,
     );

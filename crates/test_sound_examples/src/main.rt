@@ -208,9 +208,9 @@ fn show_loops(given: Tally) -> Tally {
         creation_with_loop(0, 10),
         0,
     );
-    t = show(t, b"commanded loop (4, 4)", loop_command(4, 4), 6);
-    t = show(t, b"commanded loop (4, 11)", loop_command(4, 11), 6);
-    show(t, b"commanded loop (0, 10)", loop_command(0, 10), 0)
+    t = show(t, b"loop command (4, 4)", loop_command(4, 4), 6);
+    t = show(t, b"loop command (4, 11)", loop_command(4, 11), 6);
+    show(t, b"loop command (0, 10)", loop_command(0, 10), 0)
 }
 
 // ---- an advance of 256
@@ -333,37 +333,22 @@ fn show_zeros_commanded(given: Tally) -> Tally {
     let mut t = given;
     t = show(
         t,
-        b"at 7 commanded 0, a frame later",
+        b"at 7, rate 0, a frame later",
         commanded_before(0.0, false),
         8,
     );
-    t = show(t, b"commanded -0", commanded_before(-0.0, false), 6);
+    t = show(t, b"rate -0", commanded_before(-0.0, false), 6);
+    t = show(t, b"at 2, rate 0, reverse", commanded_before(0.0, true), 1);
+    t = show(t, b"rate -0, reverse", commanded_before(-0.0, true), 3);
     t = show(
         t,
-        b"at 2 commanded 0, reverse",
-        commanded_before(0.0, true),
-        1,
-    );
-    t = show(t, b"commanded -0, reverse", commanded_before(-0.0, true), 3);
-    t = show(
-        t,
-        b"at 8 commanded 0 at the cut",
+        b"at 8, rate 0 at the cut",
         commanded_between(0.0, false),
         9,
     );
-    t = show(t, b"commanded -0", commanded_between(-0.0, false), 7);
-    t = show(
-        t,
-        b"at 1 commanded 0, reverse",
-        commanded_between(0.0, true),
-        0,
-    );
-    show(
-        t,
-        b"commanded -0, reverse",
-        commanded_between(-0.0, true),
-        2,
-    )
+    t = show(t, b"rate -0", commanded_between(-0.0, false), 7);
+    t = show(t, b"at 1, rate 0, reverse", commanded_between(0.0, true), 0);
+    show(t, b"rate -0, reverse", commanded_between(-0.0, true), 2)
 }
 
 fn show_zeros_in_lanes(given: Tally) -> Tally {
