@@ -1,2 +1,4 @@
 -- Laws of a scan that does not wrap.
-pub mod Straight
+pub mod FourFrames
+pub mod StraightOn
+pub mod StraightBack

@@ -12,7 +12,7 @@ use Rattle.sound_fast_reading.specs.declared.Reached.{Reached}
 use Rattle.sound_fast_reading.specs.Scans.{Scannable, Scanned}
 use Rattle.sound_lanes.specs.Lanes.{slow}
 use Rattle.sound_fast_reading.proofs.Scans.{place, scanned-more, all-at, stored-at, stored-length}
-use Rattle.sound_fast_straight.proofs.Straight.{back-more}
+use Rattle.sound_fast_straight.proofs.StraightBack.{back-more}
 use Rattle.sound_fast_straight.proofs.backward.ones_back.Statement.{statement}
 use Rattle.sound_fast_straight.proofs.backward.ones_back.Tie as tie
 
@@ -121,7 +121,7 @@ loop-again c =
     subst (λ (q : ℕ). Scanned (now (a .sound)) (a .way) (now (a .rate)) (place q (m .result .fraction) (at .loop .r .steps + m .result .steps) (at .loop .r .next + 1)) ((c .before .before .before .before .before .before) .store .last .0)) (back (a .way .track .start) (a .way .track .low) (at .loop .r .at) (m .result .steps) ((c .before .before .before .before .before .before .before .before .before .before) .if2 .left))
     (back-more (now (a .sound)) (a .way) (now (a .rate)) ((c .before .before .before .before .before .before .before .before .before .before .before .before .before .before .before .before .before .before .before .before .before .before) .pre .0) ((c .before .before .before .before .before .before .before .before .before .before .before .before .before .before .before .before .before .before .before .before .before .before) .pre .1 .1) (at .loop .r .next) (at .loop .r .steps) (a .way .track .start + at .loop .r .at - 3) (at .loop .r .«fractional_position») (at .loop .out) ((c .before .before .before .before .before .before .before .before) .read-back .result) (m .result) (a .way .track .start + at .loop .r .at - 3 - m .result .steps) (at .loop .r .steps + m .result .steps) (at .loop .r .next + 1) ((c .before .before .before .before .before .before) .store .last .0)
     (subst (λ (q : ℕ). Scanned (now (a .sound)) (a .way) (now (a .rate)) (place q (at .loop .r .«fractional_position») (at .loop .r .steps) (at .loop .r .next)) (at .loop .out)) (there (a .way .track .start) (a .way .track .low) (at .loop .r .at) (m .result .steps) ((c .before .before .before .before .before .before .before .before .before .before) .if2 .left)) (at .loop .inv))
-    ((c .before .before .before .before .before .before .before .before .before .before .before .before .before .before .before .before) .if1 .taken) ((c .before .before .before .before .before .before .before .before) .read-back .ensures) (m .ensures) refl (ends _ _ _ _ ((c .before .before .before .before .before .before .before .before .before .before) .if2 .left)) refl refl (stored-at ((c .before .before .before .before .before .before) .store .last .0) (at .loop .out) (2 * at .loop .r .next) (at .loop .r .next) ((c .before .before .before .before .before .before .before .before) .read-back .result) refl ((c .before .before .before .before .before .before) .store .ensures)))
+    ((c .before .before .before .before .before .before .before .before .before .before .before .before .before .before .before .before) .if1 .taken) ((c .before .before .before .before .before .before .before .before) .read-back .ensures) (m .ensures) (refl, (ends _ _ _ _ ((c .before .before .before .before .before .before .before .before .before .before) .if2 .left))) refl refl (stored-at ((c .before .before .before .before .before .before) .store .last .0) (at .loop .out) (2 * at .loop .r .next) (at .loop .r .next) ((c .before .before .before .before .before .before .before .before) .read-back .result) refl ((c .before .before .before .before .before .before) .store .ensures)))
 
 same-length-2 : tie.Need-same-length-2 Inv-loop μ-loop
 same-length-2 c = (c .before .before) .loop .inv .asLong ∙ sym ((c .before .before .before .before .before .before) .pre .1 .0 .asLong)

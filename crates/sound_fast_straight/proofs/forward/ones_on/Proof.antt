@@ -12,7 +12,7 @@ use Rattle.sound_fast_reading.specs.declared.Reached.{Reached}
 use Rattle.sound_fast_reading.specs.Scans.{Scannable, Scanned}
 use Rattle.sound_lanes.specs.Lanes.{slow}
 use Rattle.sound_fast_reading.proofs.Scans.{place, scanned-more, all-at, stored-at, stored-length}
-use Rattle.sound_fast_straight.proofs.Straight.{on-more}
+use Rattle.sound_fast_straight.proofs.StraightOn.{on-more}
 use Rattle.sound_fast_straight.proofs.forward.ones_on.Statement.{statement}
 use Rattle.sound_fast_straight.proofs.forward.ones_on.Tie as tie
 
@@ -118,7 +118,7 @@ loop-again c =
     subst (λ (q : ℕ). Scanned (now (a .sound)) (a .way) (now (a .rate)) (place q (m .result .fraction) (at .loop .r .steps + m .result .steps) (at .loop .r .next + 1)) ((c .before .before .before .before .before .before) .store .last .0)) (back (a .way .track .start) (at .loop .r .at) (m .result .steps))
     (on-more (now (a .sound)) (a .way) (now (a .rate)) ((c .before .before .before .before .before .before .before .before .before .before .before .before .before .before .before .before .before .before .before .before .before .before) .pre .0) ((c .before .before .before .before .before .before .before .before .before .before .before .before .before .before .before .before .before .before .before .before .before .before) .pre .1 .1) (at .loop .r .next) (at .loop .r .steps) (a .way .track .start + at .loop .r .at) (at .loop .r .«fractional_position») (at .loop .out) ((c .before .before .before .before .before .before .before .before) .read-on .result) (m .result) (a .way .track .start + at .loop .r .at + m .result .steps) (at .loop .r .steps + m .result .steps) (at .loop .r .next + 1) ((c .before .before .before .before .before .before) .store .last .0)
     (subst (λ (q : ℕ). Scanned (now (a .sound)) (a .way) (now (a .rate)) (place q (at .loop .r .«fractional_position») (at .loop .r .steps) (at .loop .r .next)) (at .loop .out)) (there (a .way .track .start) (at .loop .r .at)) (at .loop .inv))
-    (above _ _) ((c .before .before .before .before .before .before .before .before .before .before .before .before .before .before .before .before) .if1 .taken) ((c .before .before .before .before .before .before .before .before) .read-on .ensures) (m .ensures) refl (ends _ _ _ _ ((c .before .before .before .before .before .before .before .before .before .before) .if2 .left)) refl refl (stored-at ((c .before .before .before .before .before .before) .store .last .0) (at .loop .out) (2 * at .loop .r .next) (at .loop .r .next) ((c .before .before .before .before .before .before .before .before) .read-on .result) refl ((c .before .before .before .before .before .before) .store .ensures)))
+    ((c .before .before .before .before .before .before .before .before .before .before .before .before .before .before .before .before) .if1 .taken) ((c .before .before .before .before .before .before .before .before) .read-on .ensures) (m .ensures) (above _ _, refl, (ends _ _ _ _ ((c .before .before .before .before .before .before .before .before .before .before) .if2 .left))) refl refl (stored-at ((c .before .before .before .before .before .before) .store .last .0) (at .loop .out) (2 * at .loop .r .next) (at .loop .r .next) ((c .before .before .before .before .before .before .before .before) .read-on .result) refl ((c .before .before .before .before .before .before) .store .ensures)))
 
 same-length-2 : tie.Need-same-length-2 Inv-loop μ-loop
 same-length-2 c = (c .before .before) .loop .inv .asLong ∙ sym ((c .before .before .before .before .before .before) .pre .1 .0 .asLong)
