@@ -1,5 +1,5 @@
 -- `wrapping_back` reads two frames a turn, each place chosen round the loop. The invariant: the scan so far.
-use Prim.Native.Nat.{ℕ, _+_, _-_, _*_}
+use Prim.Native.Nat.{_+_, _-_}
 use mathlib.Core.Path.{sym, _∙_}
 use native.Mathlib.Omega.{arith}
 use lib.ListN.{length}
