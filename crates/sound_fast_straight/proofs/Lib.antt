@@ -1,2 +1,5 @@
 -- Laws of a scan that does not wrap.
-pub mod Straight
+pub mod OneFrame
+pub mod FourFrames
+pub mod StraightOn
+pub mod StraightBack

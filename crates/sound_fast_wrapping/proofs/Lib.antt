@@ -1,2 +1,3 @@
 -- Laws of a scan round a track.
 pub mod Readings
+pub mod TwoFrames

@@ -1,18 +1,13 @@
 -- `ones_on` reads one frame a turn at consecutive places. The invariant: the scan so far.
-use Prim.Native.Nat.{ℕ, _+_, _-_, _*_, _^_, _≤_, _<_}
-use mathlib.Core.Path.{_≡_, refl, sym, ap, _∙_, subst}
-use mathlib.Core.List.{List}
+use Prim.Native.Nat.{ℕ, _+_, _-_, _*_, _≤_, _<_}
+use mathlib.Core.Path.{_≡_, refl, sym, _∙_, subst}
 use native.Mathlib.Omega.{arith}
 use lib.ListN.{length}
-use lib.Ieee.{Float}
 use denote.Ref.{now}
-use borrow.Author.Needs.{needs}
-use Rattle.sound_fast_reading.specs.declared.Way.{Way}
-use Rattle.sound_fast_reading.specs.declared.Reached.{Reached}
-use Rattle.sound_fast_reading.specs.Scans.{Scannable, Scanned}
-use Rattle.sound_lanes.specs.Lanes.{slow}
-use Rattle.sound_fast_reading.proofs.Scans.{place, scanned-more, all-at, stored-at, stored-length}
-use Rattle.sound_fast_straight.proofs.Straight.{on-more}
+use Rattle.sound_fast_reading.specs.Scans.{Scanned}
+use Rattle.sound_fast_reading.proofs.Scans.{place, stored-at}
+use Rattle.sound_fast_straight.proofs.OneFrame.{Numbers, numbers-of, slow-at, stores, less}
+use Rattle.sound_fast_straight.proofs.StraightOn.{on-more}
 use Rattle.sound_fast_straight.proofs.forward.ones_on.Statement.{statement}
 use Rattle.sound_fast_straight.proofs.forward.ones_on.Tie as tie
 
@@ -25,27 +20,8 @@ abbrev μ-loop : tie.MeasureT-loop
 abbrev begin : tie.At-loop Inv-loop μ-loop → tie.Start Inv-loop μ-loop
 begin c = c .before .before .before .before
 
-record Numbers (q k s l i n t w h : ℕ) : Type 0 where
-  here : q < k
-  lent : 2 * (s + k) ≤ l
-  small : l ≤ 33554432
-  within : i ≤ n
-  most : n ≤ 4096
-  few : t ≤ 257 * i
-  some : w < h
-  inside : h ≤ k
-
 numbers : (c : tie.At-loop Inv-loop μ-loop) → let a = begin c .args in Numbers (c .loop .r .at) (a .way .track .count) (a .way .track .start) (length (now (a .sound))) (c .loop .r .next) (length (now (a .rate))) (c .loop .r .steps) (a .way .track .low) (a .way .track .high)
-numbers c =
-    let p = begin c .pre .0 in
-    let v = c .loop .inv in
-    record { here = v .on .here; lent = p .lies .lent; small = p .lies .short; within = v .within; most = p .most; few = v .few; some = p .lies .some; inside = p .lies .inside }
-
-stores : (m i n : ℕ) → m ≡ 2 * n → i < n → n ≤ 4096 → 2 * i + 1 < m
-stores m i n b h l = omega arith
-
-less : (i n : ℕ) → i < n → n - (i + 1) < n - i
-less i n h = omega arith
+numbers c = let a = begin c .args in numbers-of (now (a .sound)) (a .way) (now (a .rate)) (begin c .pre .0) (c .loop .r) (c .loop .out) (c .loop .inv)
 
 reads : (q s k l h a : ℕ) → 2 * (s + k) ≤ l → h ≤ k → q + a + 4 < h → 2 * (s + q) + 7 < l
 reads q s k l h a x y z = omega arith
@@ -72,7 +48,10 @@ shared-slice-read-moved : tie.Need-shared-slice-read-moved Inv-loop μ-loop
 shared-slice-read-moved c = (c .before) .if1 .taken
 
 moved-requires : tie.Need-moved-requires Inv-loop μ-loop
-moved-requires c κs = ((c .before .before .before) .loop .inv .below, ((c .before .before .before .before .before .before .before) .pre .0 .timeStep, all-at (slow ((c .before .before .before .before .before .before .before) .args .way .«sample_rate») ((c .before .before .before .before .before .before .before) .args .way .dt)) (now ((c .before .before .before .before .before .before .before) .args .rate)) ((c .before .before .before) .loop .r .next) ((c .before) .if1 .taken) ((c .before .before .before .before .before .before .before) .pre .0 .slow)))
+moved-requires c κs =
+    let l = c .before .before .before in
+    let a = begin l .args in
+    (l .loop .inv .below, (begin l .pre .0 .timeStep, slow-at (now (a .sound)) (a .way) (now (a .rate)) (begin l .pre .0) (l .loop .r .next) ((c .before) .if1 .taken)))
 
 add-if2 : tie.Need-add-if2 Inv-loop μ-loop
 add-if2 c = omega (arith, numbers (c .before .before .before .before .before .before), (c .before .before) .moved .ensures .few, (c .before .before .before .before) .if1 .taken)
@@ -96,7 +75,7 @@ mul-store : tie.Need-mul-store Inv-loop μ-loop
 mul-store c = omega (arith, numbers (c .before .before .before .before .before .before .before .before .before .before .before), (c .before .before .before .before .before .before .before) .moved .ensures .few, (c .before .before .before .before .before .before .before .before .before) .if1 .taken)
 
 store-requires : tie.Need-store-requires Inv-loop μ-loop
-store-requires c κs = stores _ _ _ ((c .before .before .before .before .before .before .before .before .before .before .before) .loop .inv .asLong) ((c .before .before .before .before .before .before .before .before .before) .if1 .taken) ((c .before .before .before .before .before .before .before .before .before .before .before .before .before .before .before) .pre .0 .most)
+store-requires c κs = stores _ _ _ ((c .before .before .before .before .before .before .before .before .before .before .before) .loop .inv .asLong) ((c .before .before .before .before .before .before .before .before .before) .if1 .taken)
 
 add-t11 : tie.Need-add-t11 Inv-loop μ-loop
 add-t11 c = omega (arith, numbers (c .before .before .before .before .before .before .before .before .before .before .before .before .before .before .before .before), (c .before .before .before .before .before .before .before .before .before .before .before .before) .moved .ensures .few, (c .before .before .before .before .before .before .before .before .before .before .before .before .before .before) .if1 .taken)
@@ -118,7 +97,7 @@ loop-again c =
     subst (λ (q : ℕ). Scanned (now (a .sound)) (a .way) (now (a .rate)) (place q (m .result .fraction) (at .loop .r .steps + m .result .steps) (at .loop .r .next + 1)) ((c .before .before .before .before .before .before) .store .last .0)) (back (a .way .track .start) (at .loop .r .at) (m .result .steps))
     (on-more (now (a .sound)) (a .way) (now (a .rate)) ((c .before .before .before .before .before .before .before .before .before .before .before .before .before .before .before .before .before .before .before .before .before .before) .pre .0) ((c .before .before .before .before .before .before .before .before .before .before .before .before .before .before .before .before .before .before .before .before .before .before) .pre .1 .1) (at .loop .r .next) (at .loop .r .steps) (a .way .track .start + at .loop .r .at) (at .loop .r .«fractional_position») (at .loop .out) ((c .before .before .before .before .before .before .before .before) .read-on .result) (m .result) (a .way .track .start + at .loop .r .at + m .result .steps) (at .loop .r .steps + m .result .steps) (at .loop .r .next + 1) ((c .before .before .before .before .before .before) .store .last .0)
     (subst (λ (q : ℕ). Scanned (now (a .sound)) (a .way) (now (a .rate)) (place q (at .loop .r .«fractional_position») (at .loop .r .steps) (at .loop .r .next)) (at .loop .out)) (there (a .way .track .start) (at .loop .r .at)) (at .loop .inv))
-    (above _ _) ((c .before .before .before .before .before .before .before .before .before .before .before .before .before .before .before .before) .if1 .taken) ((c .before .before .before .before .before .before .before .before) .read-on .ensures) (m .ensures) refl (ends _ _ _ _ ((c .before .before .before .before .before .before .before .before .before .before) .if2 .left)) refl refl (stored-at ((c .before .before .before .before .before .before) .store .last .0) (at .loop .out) (2 * at .loop .r .next) (at .loop .r .next) ((c .before .before .before .before .before .before .before .before) .read-on .result) refl ((c .before .before .before .before .before .before) .store .ensures)))
+    ((c .before .before .before .before .before .before .before .before .before .before .before .before .before .before .before .before) .if1 .taken) ((c .before .before .before .before .before .before .before .before) .read-on .ensures) (m .ensures) (above _ _, refl, ends _ _ _ _ ((c .before .before .before .before .before .before .before .before .before .before) .if2 .left)) refl refl (stored-at ((c .before .before .before .before .before .before) .store .last .0) (at .loop .out) (2 * at .loop .r .next) (at .loop .r .next) ((c .before .before .before .before .before .before .before .before) .read-on .result) refl ((c .before .before .before .before .before .before) .store .ensures)))
 
 same-length-2 : tie.Need-same-length-2 Inv-loop μ-loop
 same-length-2 c = (c .before .before) .loop .inv .asLong ∙ sym ((c .before .before .before .before .before .before) .pre .1 .0 .asLong)
