@@ -263,40 +263,56 @@ impl Function {
     }
 }
 
-/// A row of docs/EXCEPTIONS.md that names callers.
-pub struct Asking {
-    pub path: String,
-    /// whether its row is in the table of public functions, which says who guarantees what they ask
+/// The page that lists the functions with a `requires`, and their callers.
+pub const EXCEPTIONS: &str = "docs/EXCEPTIONS.md";
+
+/// A row of docs/EXCEPTIONS.md for a function with a `requires`. Its last column lists the callers.
+pub struct Row<'a> {
+    pub path: &'a str,
+    /// Whether the row is in the table of public functions, which also says who guarantees what they require.
     pub public: bool,
-    pub callers: Vec<String>,
+    /// The row without its last column: `| ... | ...`.
+    kept: &'a str,
 }
 
-/// The rows of docs/EXCEPTIONS.md that name callers.
-pub fn callers_told(exceptions: &str) -> Vec<Asking> {
-    let mut callers_follow = false;
+/// The lines of docs/EXCEPTIONS.md, each with its row if it is one that lists callers.
+fn lines_with_rows(exceptions: &str) -> impl Iterator<Item = (&str, Option<Row<'_>>)> {
+    let mut has_callers = false;
     let mut public = false;
-    let mut found = Vec::new();
-    for line in exceptions.lines() {
+    exceptions.lines().map(move |line| {
         if line.starts_with("| function |") {
-            callers_follow = line.ends_with("| called by |");
+            has_callers = line.ends_with("| called by |");
             public = line.contains("| who guarantees it |");
         }
-        if !callers_follow || !line.starts_with("| `") {
-            continue;
-        }
-        let cells: Vec<&str> = line
-            .trim_start_matches("| ")
-            .trim_end_matches(" |")
-            .split(" | ")
-            .collect();
-        let name = |cell: &str| cell.trim_matches('`').to_string();
-        found.push(Asking {
-            path: name(cells[0]),
-            public,
-            callers: cells[cells.len() - 1].split(", ").map(name).collect(),
+        let row = line.strip_prefix("| `").filter(|_| has_callers);
+        let row = row.and_then(|rest| {
+            let path = rest.split('`').next()?;
+            let (kept, _) = line.strip_suffix(" |")?.rsplit_once(" | ")?;
+            Some(Row { path, public, kept })
         });
-    }
-    found
+        (line, row)
+    })
+}
+
+/// The rows of docs/EXCEPTIONS.md that list callers.
+pub fn rows(exceptions: &str) -> Vec<Row<'_>> {
+    let rows = lines_with_rows(exceptions).filter_map(|(_, row)| row);
+    rows.collect()
+}
+
+/// docs/EXCEPTIONS.md with the callers that the sources have: the last column of its first two tables.
+/// The callers are sorted by name. The row of a function without a `requires` stays the same.
+pub fn with_callers(exceptions: &str, all: &[Function]) -> String {
+    let lines = lines_with_rows(exceptions).map(|(line, row)| match row {
+        Some(row) if all.iter().any(|f| f.asks && f.path == row.path) => {
+            let callers = all.iter().filter(|f| f.calls(row.path));
+            let mut callers: Vec<String> = callers.map(|f| format!("`{}`", f.path)).collect();
+            callers.sort_unstable();
+            format!("{} | {} |\n", row.kept, callers.join(", "))
+        }
+        _ => format!("{line}\n"),
+    });
+    lines.collect()
 }
 
 /// The files that comments of a Rattle or antt source name: words that end in `.rt`, `.antt` or `.md`.

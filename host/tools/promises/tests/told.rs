@@ -1,6 +1,8 @@
 //! Every public function's promise is told, and a function whose promise is not told is found.
 
-use promises::{Function, Told, all_functions, all_laws, callers_told, files_named, functions};
+use promises::{
+    EXCEPTIONS, Function, Told, all_functions, all_laws, files_named, functions, rows, with_callers,
+};
 use std::fs;
 use std::path::{Path, PathBuf};
 
@@ -145,38 +147,55 @@ fn each_wrong_answer_named_is_an_edit_that_must_be_refused() {
 }
 
 #[test]
-fn each_function_that_asks_has_a_row_with_its_callers() {
+fn each_function_that_asks_has_a_row() {
     let all = all_functions(&root().join("crates"));
-    let told = callers_told(&read("docs/EXCEPTIONS.md"));
+    let exceptions = read(EXCEPTIONS);
+    let rows = rows(&exceptions);
     let mut wrong = Vec::new();
     for asking in all.iter().filter(|f| f.asks) {
-        let Some(row) = told.iter().find(|row| row.path == asking.path) else {
-            wrong.push(format!("{}: no row", asking.path));
-            continue;
-        };
-        if row.public != asking.public {
-            let table = if asking.public { "public" } else { "private" };
-            wrong.push(format!("{}: it is {table}", asking.path));
-        }
-        let mut named = row.callers.clone();
-        let mut calling: Vec<String> = all
-            .iter()
-            .filter(|f| f.calls(&asking.path))
-            .map(|f| f.path.clone())
-            .collect();
-        named.sort_unstable();
-        calling.sort_unstable();
-        if named != calling {
-            wrong.push(format!("{}: {named:?} against {calling:?}", asking.path));
+        match rows.iter().find(|row| row.path == asking.path) {
+            None => wrong.push(format!("{}: no row", asking.path)),
+            Some(row) if row.public != asking.public => {
+                let table = if asking.public { "public" } else { "private" };
+                wrong.push(format!("{}: it is {table}", asking.path));
+            }
+            Some(_) => (),
         }
     }
-    for row in &told {
+    for row in &rows {
         if !all.iter().any(|f| f.asks && f.path == row.path) {
-            wrong.push(format!("{}: asks nothing", row.path));
+            wrong.push(format!("{}: it has no `requires`", row.path));
         }
     }
-    assert!(told.len() > 20, "only {} found", told.len());
+    assert!(rows.len() > 20, "only {} found", rows.len());
     assert!(wrong.is_empty(), "{}", wrong.join("\n"));
+}
+
+#[test]
+fn each_row_lists_the_callers_that_the_sources_have() {
+    let page = read(EXCEPTIONS);
+    let right = with_callers(&page, &all_functions(&root().join("crates")));
+    let lines = page.lines().zip(right.lines());
+    let wrong: Vec<String> = lines
+        .filter(|(is, should)| is != should)
+        .map(|(is, should)| format!("- {is}\n+ {should}\n"))
+        .collect();
+    assert!(
+        page == right,
+        "{EXCEPTIONS} differs from the sources; run tools/callers:\n{}",
+        wrong.concat()
+    );
+}
+
+#[test]
+fn callers_are_written_into_the_last_column_only() {
+    let source = "fn held(x: u32) -> u32\n    requires { ⌜ x ⌝ }\n{\n    x\n}\nfn one() -> u32 {\n    held(1)\n}\nfn two() -> u32 {\n    held(2)\n}\n";
+    let page = "text\n\n| function | asks | called by |\n|---|---|---|\n| `k::held` | x `y` | `k::gone` |\n| `k::one` | asks nothing | `k::two` |\n\n| function | why |\n|---|---|\n| `k::held` | because |\n";
+    let right = page.replace("`k::gone`", "`k::one`, `k::two`");
+    let all = functions("k", source);
+    assert_eq!(with_callers(page, &all), right);
+    assert_eq!(with_callers(&page.replace("`k::gone`", ""), &all), right);
+    assert_eq!(with_callers(&right, &all), right);
 }
 
 #[test]
