@@ -64,6 +64,31 @@ pub struct State {
 }
 
 impl State {
+    /// The blank voice, which a refused creation returns.
+    pub const BLANK: Self = Self {
+        sample_rate: 0,
+        total_frames: 0,
+        slice: None,
+        reverse: false,
+        rate: 0.0,
+        started: false,
+        playback: PlaybackState::Stopped,
+        fraction: 0.0,
+        position: 0,
+        loop_region: None,
+        playing: false,
+        window: [Entry {
+            left: 0.0,
+            right: 0.0,
+            number: 0,
+        }; 4],
+        count: 0,
+        wraps: Wraps {
+            forward: 0,
+            backward: 0,
+        },
+    };
+
     /// Equal bit by bit, any NaN as any NaN.
     #[must_use]
     pub fn same_bits(&self, other: &Self) -> bool {

@@ -5,10 +5,7 @@ use std::{
     sync::{Arc, OnceLock},
 };
 
-use oracle::{
-    Commands, Entry, Frame, LaneBuffers, Oracle, PlaybackState, Settings, Signals, State, Wraps,
-    same_f32, same_f64,
-};
+use oracle::{Commands, Frame, LaneBuffers, Oracle, Settings, Signals, State, same_f32, same_f64};
 use rules::Rules;
 
 /// A sound that calls share.
@@ -202,7 +199,7 @@ impl Outcome {
     pub fn untouched(call: &Call) -> Self {
         Self {
             refusal: 0,
-            state: Some(call.state().copied().unwrap_or_else(blank)),
+            state: Some(call.state().copied().unwrap_or(State::BLANK)),
             steps: 0,
             lowest_count: 4,
             position: 0.0,
@@ -274,27 +271,6 @@ pub fn pattern(samples: usize) -> Vec<f32> {
     (0..samples as u32)
         .map(|i| f32::from_bits(0x7fa0_0000 ^ i.wrapping_mul(0x9e37_79b1)))
         .collect()
-}
-
-/// The blank state.
-#[must_use]
-pub fn blank() -> State {
-    State {
-        sample_rate: 0,
-        total_frames: 0,
-        slice: None,
-        reverse: false,
-        rate: 0.0,
-        started: false,
-        playback: PlaybackState::Stopped,
-        fraction: 0.0,
-        position: 0,
-        loop_region: None,
-        playing: false,
-        window: [Entry::default(); 4],
-        count: 0,
-        wraps: Wraps::default(),
-    }
 }
 
 /// The fields in which two states differ, each with both values.

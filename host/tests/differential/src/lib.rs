@@ -18,7 +18,7 @@ mod tally;
 pub mod wrong;
 
 pub use any::tick;
-pub use call::{Ask, Block, Call, Outcome, Place, Sound, blank, is_identical, pattern};
+pub use call::{Ask, Block, Call, Outcome, Place, Sound, is_identical, pattern};
 pub use harness::{Harness, differs, judged};
 pub use player::{DOCUMENT, Kira, Model, Ours, OursHeld, Player, refusal};
 pub use tally::{Found, Kind, Tally};

@@ -193,7 +193,7 @@ fn one_thread(options: &Options, work: &Work) -> Tally {
                     continue;
                 }
                 runs::large(&mut harness, random);
-                runs::rides(&mut harness, random);
+                runs::scans(&mut harness, random);
                 runs::refusals(&mut harness, random);
                 runs::cuts(&mut harness, random);
             }

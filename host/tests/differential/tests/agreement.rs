@@ -50,7 +50,7 @@ fn random_voices() {
 
 #[test]
 fn voices_that_play_on() {
-    rounds(10_000, runs::rides);
+    rounds(10_000, runs::scans);
 }
 
 /// The entries that are given each number once, against those with lanes, kira's text and the rules.

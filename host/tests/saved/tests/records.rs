@@ -105,22 +105,7 @@ fn examples_of_the_page() {
 
 #[test]
 fn every_input_of_at_most_three_bytes() {
-    compare(&[]);
-    std::thread::scope(|scope| {
-        for quarter in 0..4_u8 {
-            scope.spawn(move || {
-                for first in (0..=255).filter(|byte| byte % 4 == quarter) {
-                    compare(&[first]);
-                    for second in 0..=255 {
-                        compare(&[first, second]);
-                        for third in 0..=255 {
-                            compare(&[first, second, third]);
-                        }
-                    }
-                }
-            });
-        }
-    });
+    random::short_inputs(compare);
 }
 
 #[test]

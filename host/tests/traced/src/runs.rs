@@ -1,6 +1,6 @@
 //! Random runs against the page: each gives a tally, or what differs first.
 
-use std::fmt;
+use std::{fmt, ops::RangeInclusive};
 
 use cableowl::trace::{Replay, Trace, TraceVersion};
 use random::Random;
@@ -195,6 +195,48 @@ impl Codec {
             true => Ok(refusal),
             false => Err(format!("{bytes:x?}: a second salvage gives {second:?}")),
         }
+    }
+
+    /// Compares the salvage of a trace with each of its bytes changed to each value, removed, or preceded by another;
+    /// and of the trace cut at each byte.
+    ///
+    /// # Errors
+    ///
+    /// What differs.
+    pub fn compare_faults(&self, trace: &[u8]) -> Result<(), String> {
+        self.compare_salvages(trace, trace.len())?;
+        for place in 0..trace.len() {
+            let mut damaged = trace.to_vec();
+            for byte in 0..=255 {
+                damaged[place] = byte;
+                self.compare_salvage(&damaged, damaged.len())?;
+            }
+            damaged.remove(place);
+            self.compare_salvages(&damaged, damaged.len())?;
+            for byte in [0, 0x1d, 0xa5] {
+                let mut damaged = trace.to_vec();
+                damaged.insert(place, byte);
+                self.compare_salvages(&damaged, damaged.len())?;
+            }
+            self.compare_salvage(&trace[..place], place)?;
+            self.compare_salvage(&trace[place..], trace.len())?;
+        }
+        Ok(())
+    }
+
+    /// Compares what is read of a head alone, for each of these kinds with every length.
+    ///
+    /// # Errors
+    ///
+    /// What differs.
+    pub fn compare_heads(&self, kinds: RangeInclusive<u8>) -> Result<(), String> {
+        for kind in kinds {
+            for length in 0..=u16::MAX {
+                let [low, high] = length.to_le_bytes();
+                self.compare_read(&[0xa5, 0x1d, kind, low, high], 0)?;
+            }
+        }
+        Ok(())
     }
 
     /// How many records can be read from the first byte on.

@@ -79,15 +79,17 @@ fn what_its_example_prints() {
     assert!(PAGE.contains(&said), "{said}");
 }
 
+/// The rows of the page's table with this head.
+fn rows(head: &str) -> impl Iterator<Item = &'static str> {
+    let (_, table) = PAGE.split_once(head).unwrap();
+    let rows = table.lines().skip(2);
+    rows.take_while(|line| line.starts_with('|'))
+}
+
 #[test]
 fn its_short_inputs() {
-    let (_, table) = PAGE.split_once("| input | answer |").unwrap();
-    let rows = table
-        .lines()
-        .skip(2)
-        .take_while(|line| line.starts_with('|'));
     let mut tried = 0;
-    for row in rows {
+    for row in rows("| input | answer |") {
         let [_, inputs, answer, _] = row.split('|').collect::<Vec<_>>()[..] else {
             panic!("{row}");
         };
@@ -215,13 +217,8 @@ fn its_records_of_version_2() {
 
 #[test]
 fn its_short_inputs_of_version_2() {
-    let (_, table) = PAGE.split_once("| input | reader 1 | reader 2 |").unwrap();
-    let rows = table
-        .lines()
-        .skip(2)
-        .take_while(|line| line.starts_with('|'));
     let mut tried = 0;
-    for row in rows {
+    for row in rows("| input | reader 1 | reader 2 |") {
         let [_, inputs, first, then, _] = row.split('|').collect::<Vec<_>>()[..] else {
             panic!("{row}");
         };

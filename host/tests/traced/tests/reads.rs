@@ -1,9 +1,6 @@
 //! The compiled reader against the page: short inputs exhaustively, then changed, cut and random ones.
 
-use std::{
-    io::{self, Read},
-    thread,
-};
+use std::io::{self, Read};
 
 use cableowl::trace::{TraceReader, replay};
 use traced::{
@@ -17,32 +14,12 @@ fn compare(bytes: &[u8]) {
 
 #[test]
 fn every_input_of_at_most_three_bytes() {
-    compare(&[]);
-    thread::scope(|scope| {
-        for quarter in 0..4_u8 {
-            scope.spawn(move || {
-                for first in (0..=255).filter(|byte| byte % 4 == quarter) {
-                    compare(&[first]);
-                    for second in 0..=255 {
-                        compare(&[first, second]);
-                        for third in 0..=255 {
-                            compare(&[first, second, third]);
-                        }
-                    }
-                }
-            });
-        }
-    });
+    random::short_inputs(compare);
 }
 
 #[test]
 fn every_length_of_every_kind() {
-    for kind in 0..=4 {
-        for length in 0..=u16::MAX {
-            let [low, high] = length.to_le_bytes();
-            compare(&[0xa5, 0x1d, kind, low, high]);
-        }
-    }
+    COMPILED.compare_heads(0..=4).unwrap();
 }
 
 /// Every record of it, each byte changed to each value, and each cut.

@@ -6,26 +6,7 @@ use traced::{make, runs::COMPILED};
 
 #[test]
 fn every_fault_of_one_byte() {
-    let trace = make::all_kinds();
-    COMPILED.compare_salvages(&trace, trace.len()).unwrap();
-    for place in 0..trace.len() {
-        let mut damaged = trace.clone();
-        for byte in 0..=255 {
-            damaged[place] = byte;
-            COMPILED.compare_salvage(&damaged, damaged.len()).unwrap();
-        }
-        damaged.remove(place);
-        COMPILED.compare_salvages(&damaged, damaged.len()).unwrap();
-        for byte in [0, 0x1d, 0xa5] {
-            let mut damaged = trace.clone();
-            damaged.insert(place, byte);
-            COMPILED.compare_salvages(&damaged, damaged.len()).unwrap();
-        }
-        COMPILED.compare_salvage(&trace[..place], place).unwrap();
-        COMPILED
-            .compare_salvage(&trace[place..], trace.len())
-            .unwrap();
-    }
+    COMPILED.compare_faults(&make::all_kinds()).unwrap();
 }
 
 #[test]

@@ -1,8 +1,6 @@
 // A scenario as it is written: each record beside what the oracle answers, or the rules' refusal.
 
-use oracle::{
-    Commands, Entry, LaneBuffers, Oracle, PlaybackState, Reported, Settings, Signals, State, Wraps,
-};
+use oracle::{Commands, LaneBuffers, Oracle, Reported, Settings, Signals, State};
 
 use super::words::Words;
 
@@ -15,31 +13,6 @@ const COMMAND_SET: u64 = 5;
 const BLOCK: u64 = 6;
 const MIX: u64 = 7;
 const STRETCH: u64 = 8;
-
-/// What a refused creation leaves.
-const BLANK: State = State {
-    sample_rate: 0,
-    total_frames: 0,
-    slice: None,
-    reverse: false,
-    rate: 0.0,
-    started: false,
-    playback: PlaybackState::Stopped,
-    fraction: 0.0,
-    position: 0,
-    loop_region: None,
-    playing: false,
-    window: [Entry {
-        left: 0.0,
-        right: 0.0,
-        number: 0,
-    }; 4],
-    count: 0,
-    wraps: Wraps {
-        forward: 0,
-        backward: 0,
-    },
-};
 
 /// What a block is given.
 #[derive(Clone)]
@@ -68,7 +41,7 @@ impl<'a> Scene<'a> {
             sound: sound.to_vec(),
             lent: sound.len(),
             voice: None,
-            state: BLANK,
+            state: State::BLANK,
         }
     }
 
@@ -100,7 +73,7 @@ impl<'a> Scene<'a> {
     }
 
     pub fn create_refused(&mut self, settings: &Settings, refusal: u64) {
-        self.state = BLANK;
+        self.state = State::BLANK;
         self.voice = None;
         self.write_creation(settings, refusal);
     }
