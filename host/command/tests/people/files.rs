@@ -1,4 +1,4 @@
-//! Files that cannot be read or written, wrong words, a reader that goes.
+//! Files that cannot be read or written, wrong words, and a reader that closes the pipe.
 
 use std::{
     fs::{self, File, OpenOptions},
@@ -82,7 +82,7 @@ const NOBODY: u32 = 65_534;
 
 #[test]
 fn a_file_without_permission() {
-    // Root reads everything, so a copy of the command is run as nobody, from where nobody comes.
+    // Root can read everything, so a copy of the command is run as nobody, from a folder that nobody can enter.
     let folder = std::env::temp_dir().join(format!("cableowl-forbidden-{}", std::process::id()));
     let _ = fs::remove_dir_all(&folder);
     fs::create_dir(&folder).unwrap();

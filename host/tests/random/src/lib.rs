@@ -4,7 +4,7 @@
 
 use std::{ops::Range, thread};
 
-/// A xorshift generator: the same seed, the same words.
+/// A xorshift generator: the same seed produces the same words.
 #[derive(Debug, Clone)]
 pub struct Random(u64);
 
@@ -33,7 +33,7 @@ impl Random {
         self.below(2) == 1
     }
 
-    /// Yes, once in so many times.
+    /// Yes with a probability of 1 in `many`.
     pub fn one_in(&mut self, many: usize) -> bool {
         self.below(many) == 0
     }

@@ -1,4 +1,4 @@
-//! The compiled reader against the page: short inputs exhaustively, then changed, cut and random ones.
+//! Compares the compiled reader with the page: short inputs exhaustively, then changed, cut and random ones.
 
 use std::io::{self, Read};
 
@@ -22,7 +22,7 @@ fn every_length_of_every_kind() {
     COMPILED.compare_heads(0..=4).unwrap();
 }
 
-/// Every record of it, each byte changed to each value, and each cut.
+/// Each byte of each record changed to each value, and each cut.
 #[test]
 fn every_change_of_one_byte_and_every_cut() {
     let mut trace = make::all_kinds();
@@ -38,7 +38,7 @@ fn every_change_of_one_byte_and_every_cut() {
                 trace[place] = byte;
                 COMPILED.compare_read(&trace, at as u64).unwrap();
                 runs::compare_record(&trace, at).unwrap();
-                // The same with nothing behind the record.
+                // The same with nothing after the record.
                 COMPILED.compare_read(&trace[..next], at as u64).unwrap();
             }
             trace[place] = right;
@@ -47,7 +47,7 @@ fn every_change_of_one_byte_and_every_cut() {
     }
 }
 
-/// What is printed of each: the refusal stands where the page's reader finds it.
+/// What is printed of each cut: the refusal is at the offset at which the page's reader finds it.
 #[test]
 fn every_cut_of_a_trace_is_printed() {
     let trace = make::all_kinds();
@@ -83,7 +83,7 @@ fn random_traces_with_faults() {
     }
 }
 
-/// Past what is held at once, places go on; what cannot be read ends the records, and is said.
+/// After the first bufferful the offsets continue. A read error ends the records and is reported.
 #[test]
 fn a_trace_longer_than_what_is_held() {
     let (mut trace, mut part) = (Vec::new(), Vec::new());

@@ -1,4 +1,5 @@
-//! The compiled salvage against the page: every fault of one byte, every cut, every room, random faults.
+//! Compares the compiled salvage with the page: every fault of one byte, every cut, every length of the output, random
+//! faults.
 
 use cableowl::{Refusal, trace};
 use random::Random;
@@ -16,7 +17,7 @@ fn every_room() {
         let refusal = COMPILED.compare_salvages(&trace, room).unwrap();
         assert_eq!(refusal, if room < trace.len() { 25 } else { 0 });
     }
-    // 25 even where the kept bytes would fit, and nothing written.
+    // 25 even if the kept bytes would fit, and nothing is written.
     let mut out = [9; 11];
     assert_eq!(trace::salvage(&[0; 12], &mut out), Err(Refusal::Output));
     assert_eq!(out, [9; 11]);

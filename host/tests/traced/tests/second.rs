@@ -1,5 +1,5 @@
-//! The compiled reader, writer and salvage of version 2 against the page: short inputs exhaustively, then changed, cut,
-//! sealed again and random ones.
+//! Compares the compiled reader, writer and salvage of version 2 with the page: short inputs exhaustively, then
+//! changed, cut, sealed again and random ones.
 
 use random::Random;
 use traced::{
@@ -25,7 +25,7 @@ fn every_length_of_every_kind() {
     COMPILED_V2.compare_heads(0..=6).unwrap();
 }
 
-/// Each byte of each record changed to each value, with its checksum and with one that is right for it; and each cut.
+/// Each byte of each record changed to each value, with the old checksum and with a correct one; and each cut.
 #[test]
 fn every_change_of_one_byte_and_every_cut() {
     let trace = make::all_kinds();
@@ -61,7 +61,7 @@ fn every_change_of_one_byte_and_every_cut() {
     }
 }
 
-/// The longest record: every cut near its ends, and a bit of any of its bytes.
+/// The longest record: every cut near its ends, and a flipped bit in any of its bytes.
 #[test]
 fn the_longest_record() {
     let mut values = [0; 80];
@@ -99,13 +99,13 @@ fn random_records_out_and_back() {
     }
 }
 
-/// Each byte of a trace of all kinds changed, taken out or put in: what is kept.
+/// What is kept if a byte of a trace of all kinds is changed, removed or added.
 #[test]
 fn every_fault_of_one_byte() {
     COMPILED_V2.compare_faults(&make::all_kinds()).unwrap();
 }
 
-/// A false head of the longest kind before good records: its checksum is wrong, and none of them is lost.
+/// A false head of the longest kind before good records: its checksum is wrong, and no record is lost.
 #[test]
 fn a_false_head_loses_no_record() {
     let mut random = Random::new(386);
@@ -128,7 +128,7 @@ fn random_faults() {
     assert!(tally.refused[25] > 100, "{tally}");
 }
 
-/// Kinds 1 to 3 are written and read as version 1 does, whatever the lanes are.
+/// Kinds 1 to 3 are written and read as in version 1, whatever the lanes are.
 #[test]
 fn version_1_stays_as_it_is() {
     let mut random = Random::new(383);

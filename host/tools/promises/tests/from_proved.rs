@@ -1,6 +1,6 @@
-//! tools/from-proved and tools/together: only the check of an edit begins with what was checked before, with its own crate's
-//! modules; edits that cannot disturb each other are checked once, and each is judged by its own errors. Tried with a kit that
-//! says what it was called with, and refuses each function whose body has a 9.
+//! tools/from-proved and tools/together: only the check of an edit starts from the modules of its crate that were
+//! checked before. Edits that cannot disturb each other are checked once, and each is judged by its own errors. Tested
+//! with a kit that prints how it was called and refuses each function whose body contains a 9.
 
 use std::{
     fs,
@@ -9,8 +9,8 @@ use std::{
     process::Command,
 };
 
-/// In place of `rattle`: tells its words, and checks the crate `leaf` over the modules in the folder given to keep them in.
-/// The file `calls` gets a line for each such check. `third` calls `first`, so it falls with it.
+/// Replaces `rattle`: prints its words, and checks the crate `leaf` with the modules in the folder for checked modules.
+/// The file `calls` gets a line for each such check. `third` calls `first`, so it is refused with it.
 const RATTLE: &str = r#"#!/bin/sh
 echo "$*"
 root=$4 kept=''
@@ -50,7 +50,7 @@ awk -v kept="$kept" -v where="$where" -v blamed="$BLAMED" -v beside="$BESIDE" '
   }' "$root"
 "#;
 
-/// In place of `rt`: tries each edit of leaf and tells its status, or calls the kit's `rattle` with its own words.
+/// Replaces `rt`: tries each edit of leaf and prints its status, or calls the kit's `rattle` with its own words.
 const RT: &str = r#"#!/bin/sh
 rattle=$RATTLE_HOME/on/$(uname -m)/bin/rattle
 [ "$1" = edits ] || exec "$rattle" "$@"
@@ -140,7 +140,7 @@ impl Room {
         fs::write(self.0.join(file), text).unwrap();
     }
 
-    /// What `rt WORDS` says through tools/from-proved, and its status.
+    /// What `rt WORDS` prints through tools/from-proved, and its status.
     fn said(&self, words: &[&str], settings: &[(&str, &str)]) -> (String, Option<i32>) {
         let tools = Path::new(env!("CARGO_MANIFEST_DIR")).join("../../../tools");
         let bin = self.0.join("kit/bin");
@@ -189,7 +189,7 @@ fn an_edit_begins_with_its_crates_modules() {
     let (said, checks) = room.tried(&[]);
     assert_eq!((said.as_str(), checks), ("slip 1\n", 1));
     assert!(room.log("slip").contains("kept: 6\n"));
-    // What was proved stays as it was.
+    // The proved files do not change.
     let checked = room.0.join("target/rlib/leaf.rlib/toolchain/checked");
     assert_eq!(fs::read_dir(&checked).unwrap().count(), 6);
     let code = fs::read_to_string(checked.join("Rattle.leaf.proofs.first.Code.oantt"));
@@ -202,7 +202,7 @@ fn every_other_call_is_the_kits_own() {
     let edited = room.0.join("target/must-fail/twig/slip/src/lib.rt");
     let source = room.0.join("crates/leaf/src/lib.rt");
     for words in [
-        // A proof; a check of the crate as it stands; an edit of a crate that has no proof here.
+        // A proof; a check of the unchanged crate; an edit of a crate that has no proof here.
         ["build", "--crate-name", "leaf", source.to_str().unwrap()],
         ["check", "--crate-name", "leaf", source.to_str().unwrap()],
         ["check", "--crate-name", "twig", edited.to_str().unwrap()],
@@ -245,7 +245,7 @@ fn a_harmless_edit_among_wrong_ones_is_not_refused() {
     );
     let (said, checks) = room.tried(&[]);
     assert_eq!((said.as_str(), checks), ("one 1\ntwo 0\n", 2));
-    // One that calls a refused function, and falls with it.
+    // An edit that calls a refused function, and is refused with it.
     let room = Room::new(
         "caller",
         &[("one", "first", "9"), ("three", "third", "0 + 2")],

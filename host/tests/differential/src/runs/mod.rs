@@ -1,4 +1,5 @@
-//! The runs: tiny sounds exhaustively, held zeros, random calls, voices that play on, refusals by construction, cuts, rows of calls inside a loop, starts due at a tick, blocks whose numbers are given once, two sounds of equal length.
+//! The runs: tiny sounds exhaustively, held zeros, random calls, voices that play on, refusals by construction, cuts,
+//! sequences of calls inside a loop, starts due at a tick, blocks with held lanes, two sounds of equal length.
 
 mod cuts;
 mod held;

@@ -13,7 +13,7 @@ use traced::{
 /// A version of the page.
 trait Page {
     const VERSION: Version;
-    /// The first random run of the version.
+    /// The seed of the version's random runs.
     const SEED: u64;
 
     fn right() -> Codec {
@@ -97,7 +97,7 @@ fn partial_write<P: Page>(
     right
 }
 
-/// A salvage that skips `passes` bytes at each place without a record. `read` finds the records.
+/// A salvage that skips `passes` bytes at each offset without a record. `read` finds the records.
 fn skipping<P: Page>(
     bytes: &[u8],
     out: &mut [u8],

@@ -1,7 +1,8 @@
-//! Every public function's promise is told, and a function whose promise is not told is found.
+//! The promise of every public function is documented, and docs/EXCEPTIONS.md lists every function with a `requires`.
 
 use promises::{
-    EXCEPTIONS, Function, Told, all_functions, all_laws, files_named, functions, rows, with_callers,
+    Documents, EXCEPTIONS, Function, all_functions, all_laws, files_named, functions, rows,
+    with_callers,
 };
 use std::fs;
 use std::path::{Path, PathBuf};
@@ -14,8 +15,8 @@ fn read(path: &str) -> String {
     fs::read_to_string(root().join(path)).unwrap_or_else(|e| panic!("{path}: {e}"))
 }
 
-fn told() -> Told {
-    Told {
+fn documents() -> Documents {
+    Documents {
         promises: read("docs/PROMISES.md"),
         exceptions: read("docs/EXCEPTIONS.md"),
         laws: all_laws(&root().join("crates")),
@@ -29,11 +30,14 @@ fn public_functions() -> Vec<Function> {
 }
 
 #[test]
-fn every_public_function_has_its_promise_told() {
-    let told = told();
+fn every_promise_is_documented() {
+    let documents = documents();
     let functions = public_functions();
     assert!(functions.len() > 50, "only {} found", functions.len());
-    let missing: Vec<String> = functions.iter().filter_map(|f| told.missing(f)).collect();
+    let missing: Vec<String> = functions
+        .iter()
+        .filter_map(|f| documents.missing(f))
+        .collect();
     assert!(missing.is_empty(), "{}", missing.join("\n"));
 }
 
@@ -59,60 +63,72 @@ fn public(krate: &str, name: &str, parameter: &str, contract: &str) -> Function 
 }
 
 #[test]
-fn what_is_not_told_is_missed() {
-    let mut told = told();
+fn a_missing_document_is_found() {
+    let mut documents = documents();
     let ensures = "ensures { λ r. ⌜ x ⌝ }";
     let narrow = public("numbers", "narrow", "x: f64", ensures);
     let widen = public("numbers", "widen", "x: f64", ensures);
-    assert!(told.missing(&narrow).is_none());
-    assert!(told.missing(&widen).is_some());
-    told.promises
+    assert!(documents.missing(&narrow).is_none());
+    assert!(documents.missing(&widen).is_some());
+    documents
+        .promises
         .push_str("\n| `numbers::widen` | `wide` | |\n");
-    let words = told.missing(&widen).expect("it has no law");
+    let words = documents.missing(&widen).expect("it has no line");
     assert!(words.contains("numbers-widen"), "{words}");
     let law = "\npub numbers-widen : Decides numbers.widen.Reads.Post\n";
-    told.laws.push_str(&law.replace(".widen", ".narrow"));
-    let words = told.missing(&widen).expect("its law is another's");
+    documents.laws.push_str(&law.replace(".widen", ".narrow"));
+    let words = documents
+        .missing(&widen)
+        .expect("its line is about another function");
     assert!(words.contains("numbers.narrow"), "{words}");
-    told.laws = told.laws.replace(&law.replace(".widen", ".narrow"), law);
-    assert!(told.missing(&widen).is_none());
+    documents.laws = documents
+        .laws
+        .replace(&law.replace(".widen", ".narrow"), law);
+    assert!(documents.missing(&widen).is_none());
     let unpromised = public("numbers", "widen", "x: f64", "requires { ⌜ x ⌝ }");
-    let words = told.missing(&unpromised).expect("it promises nothing");
+    let words = documents.missing(&unpromised).expect("it promises nothing");
     assert!(words.contains("no `ensures`"), "{words}");
     let writing = public("numbers", "widen", "x: &mut f64", ensures);
-    let words = told.missing(&writing).expect("what it leaves is not told");
+    let words = documents
+        .missing(&writing)
+        .expect("what it leaves is not documented");
     assert!(words.contains("what it leaves"), "{words}");
-    told.laws.clear();
-    assert!(told.missing(&narrow).is_some());
+    documents.laws.clear();
+    assert!(documents.missing(&narrow).is_some());
 }
 
 #[test]
 fn what_is_excused_has_no_law_and_is_no_entry() {
-    let mut told = told();
+    let mut documents = documents();
     let ensures = "ensures { λ r. ⌜ x ⌝ }";
-    let excuse = |told: &mut Told, name: &str| {
-        told.exceptions
+    let excuse = |documents: &mut Documents, name: &str| {
+        documents
+            .exceptions
             .push_str(&format!("| `{name}` | why not |\n"));
     };
     let narrow = public("numbers", "narrow", "x: f64", ensures);
-    excuse(&mut told, "numbers::narrow");
-    let words = told.missing(&narrow).expect("it is excused for nothing");
+    excuse(&mut documents, "numbers::narrow");
+    let words = documents
+        .missing(&narrow)
+        .expect("it is excused for nothing");
     assert!(words.contains("need not excuse"), "{words}");
-    told.laws.clear();
-    assert!(told.missing(&narrow).is_none());
+    documents.laws.clear();
+    assert!(documents.missing(&narrow).is_none());
     let entry = public("cableowl", "cableowl_new", "x: u32", ensures);
     for name in ["cableowl::cableowl_new", "cableowl::*", "*::cableowl_new"] {
-        excuse(&mut told, name);
-        let words = told.missing(&entry).expect("an entry is never excused");
+        excuse(&mut documents, name);
+        let words = documents
+            .missing(&entry)
+            .expect("an entry is never excused");
         assert!(words.contains("cableowl-cableowl-new"), "{words}");
     }
 }
 
 #[test]
 fn each_excuse_is_of_a_function_that_is_there() {
-    let told = told();
+    let documents = documents();
     let functions = public_functions();
-    let idle: Vec<&str> = told
+    let idle: Vec<&str> = documents
         .excused()
         .filter(|row| {
             !functions.iter().any(|f| match row.split_once('*') {
