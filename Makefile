@@ -1,10 +1,11 @@
-# make: the main job, a student's evening: played, recorded, played again, audited, reported. make test: the gate, the same
-# as .ci/run. make command: the command that people run. make archive: the archive that C links, for the processor at hand.
-# make dist: what people install, a tarball and two Debian packages.
+# make: plays a student's evening, records it, replays, audits and reports it. make test: the gate, the same as .ci/run.
+# make command: the command that people run. make archive: the archive that C links, for this processor. make dist: what
+# people install, a tarball and two Debian packages.
 .PHONY: all archive command dist test
 cargo = cd host && CABLEOWL_PROGRESS=/proc/$$$$/fd/2 cargo
 
-# The build script of host/sys has rt prove the crates; where a proof fails it says which, and nothing is played.
+# The build script of host/sys runs rt, which proves the crates. If a proof fails, it says which one, and nothing is
+# played.
 all:
 	@$(cargo) run --release --offline -p command --example evening
 

@@ -1,10 +1,10 @@
-// For build scripts: has `rt` prove a crate of this repository, and links its archive: on x86-64 the one that the kit
-// writes, on Arm (aarch64) one compiled from the same module (archive/module.rs).
+// For build scripts: runs `rt` to prove a crate of this repository, and links its archive. On x86-64 that is the
+// archive that the kit writes; on Arm (aarch64) it is compiled from the same module (archive/module.rs).
 //
-// CABLEOWL_NO_ARCHIVE=1 leaves all of that out, for lints, which link nothing. CABLEOWL_ARCHIVE=PATH/libcableowl.a links
-// that archive, where it is what this crate expects (archive/given.rs), and proves nothing. CABLEOWL_ARCHIVE=module
-// compiles the module on x86-64 too, so that the way to Arm is tried there. CABLEOWL_PROGRESS=FILE has what takes minutes told to
-// that file; else it is told to the terminal, if there is one.
+// CABLEOWL_NO_ARCHIVE=1 skips all of this, for lints, which link nothing. CABLEOWL_ARCHIVE=PATH/libcableowl.a links
+// that archive if it is what this crate expects (archive/given.rs), and proves nothing. CABLEOWL_ARCHIVE=module
+// compiles the module on x86-64 too, to test the way that Arm uses. CABLEOWL_PROGRESS=FILE prints the progress of a
+// long proof to that file; without it, to the terminal, if there is one.
 
 use std::{
     collections::BTreeSet,
@@ -32,8 +32,8 @@ type Result<T> = std::result::Result<T, Box<dyn Error>>;
 /// What a crate is proved from.
 const PARTS: [&str; 3] = ["src", "specs", "proofs"];
 
-/// A build script's whole work: links the archive of the crate `name`, and tells its path to the
-/// package's own code as LINKED_ARCHIVE.
+/// The whole work of a build script: links the archive of the crate `name`, and passes its path to the package's code
+/// as LINKED_ARCHIVE.
 pub fn link(name: &str) -> ExitCode {
     for variable in [
         "CABLEOWL_NO_ARCHIVE",
@@ -61,7 +61,7 @@ fn prove_and_link(name: &str) -> Result<()> {
     let out = PathBuf::from(env::var("OUT_DIR")?);
     println!("cargo::rustc-link-search=native={}", out.display());
     println!("cargo::rustc-link-lib=static={name}");
-    // The leaves' own archive is for the tests alone, and is always made here.
+    // The archive of the leaves is only for the tests, and is always made here.
     if name == "cableowl"
         && let Some(archive) = given::asked_for(&root)?
     {
@@ -72,7 +72,7 @@ fn prove_and_link(name: &str) -> Result<()> {
     let Some(kit) = module::kit() else {
         return without_the_kit(&root, &out);
     };
-    // One at a time: two would write the same files.
+    // Only one run at a time: two would write the same files.
     let turn = File::open(root.join("crates.txt"))?;
     turn.lock()?;
     let (work, proved) = proved(&root, &out, &crates, name, &kit)?;
@@ -96,7 +96,8 @@ fn prove_and_link(name: &str) -> Result<()> {
     link_copy(&archive, name, &out)
 }
 
-/// The folder that has host/: above the package, the folder of this file is the nearest one that has a file of its name.
+/// The folder that contains host/. It is found from the package: the nearest folder above it that has a file archive.rs
+/// is host/.
 fn root() -> Result<PathBuf> {
     let package = PathBuf::from(env::var("CARGO_MANIFEST_DIR")?);
     let host = package
@@ -106,7 +107,7 @@ fn root() -> Result<PathBuf> {
     Ok(host.join("..").canonicalize()?)
 }
 
-/// Links a copy: `rt ci` begins by removing target/.
+/// Links a copy, because `rt ci` removes target/ when it starts.
 fn link_copy(archive: &Path, name: &str, out: &Path) -> Result<()> {
     let copy = out.join(format!("lib{name}.a"));
     fs::copy(archive, &copy)?;
@@ -114,7 +115,7 @@ fn link_copy(archive: &Path, name: &str, out: &Path) -> Result<()> {
     Ok(())
 }
 
-/// Links an archive that was made before, where it is what this crate expects.
+/// Links an archive that was made before, if it is what this crate expects.
 fn link_given(archive: &Path, root: &Path, name: &str, target: &Target, out: &Path) -> Result<()> {
     let sources = match root.join("crates.txt").is_file() {
         true => {
@@ -134,7 +135,7 @@ enum Way {
     Module,
 }
 
-/// What the archive is for.
+/// The target of the archive.
 struct Target {
     arch: String,
     way: Way,
@@ -147,7 +148,8 @@ impl Target {
         let asked = env::var("CABLEOWL_ARCHIVE").unwrap_or_default();
         let way = match (arch.as_str(), os.as_str(), asked.as_str()) {
             ("x86_64", "linux", "module") | ("aarch64", "linux", _) => Way::Module,
-            // Another word is the path of an archive of `cableowl`; others are made as without it.
+            // Any other word is the path of an archive of `cableowl`. Other crates' archives are made as if the
+            // variable were not set.
             ("x86_64", "linux", _) => Way::Kit,
             _ => {
                 return Err(format!(
@@ -159,7 +161,7 @@ impl Target {
         Ok(Self { arch, way })
     }
 
-    /// Where its archives are, below target/archive/: for C too.
+    /// The folder of its archives below target/archive/. C programs use it too.
     fn folder(&self) -> String {
         match (self.arch.as_str(), &self.way) {
             ("x86_64", Way::Module) => "x86_64-module".to_owned(),
@@ -168,7 +170,7 @@ impl Target {
     }
 }
 
-/// `cargo check` and `cargo doc` link nothing and go on; a build stops at the library that is not there.
+/// `cargo check` and `cargo doc` link nothing, so they continue. A build stops at the missing library.
 fn without_the_kit(root: &Path, out: &Path) -> Result<()> {
     let kit = fs::read_to_string(root.join("KIT"))?;
     println!(
@@ -177,12 +179,12 @@ fn without_the_kit(root: &Path, out: &Path) -> Result<()> {
         kit.trim(),
         root.display()
     );
-    // A path that is not there: the next run looks for the kit again.
+    // A path that does not exist, so that the next run looks for the kit again.
     println!("cargo::rerun-if-changed={}", out.join("the-kit").display());
     Ok(())
 }
 
-/// The crate and all of this repository that it depends on.
+/// The crate and all crates of this repository that it depends on.
 fn crates_of(root: &Path, name: &str) -> Result<BTreeSet<String>> {
     let list = fs::read_to_string(root.join("crates.txt"))?;
     let mut found = BTreeSet::new();
@@ -196,7 +198,7 @@ fn crates_of(root: &Path, name: &str) -> Result<BTreeSet<String>> {
     Ok(found)
 }
 
-/// What a line `NAME: DEP DEP` of crates.txt says of this crate.
+/// The dependencies of this crate, from its line `NAME: DEP DEP` in crates.txt.
 fn dependencies<'a>(list: &'a str, name: &str) -> impl Iterator<Item = &'a str> {
     list.lines()
         .filter_map(|line| line.split('#').next()?.split_once(':'))
@@ -205,7 +207,7 @@ fn dependencies<'a>(list: &'a str, name: &str) -> impl Iterator<Item = &'a str> 
         .split_whitespace()
 }
 
-/// Whatever a proof is made from is watched: after an edit of any of it `rt` decides again.
+/// Tells cargo to run the build script again after a change of any file that a proof depends on.
 fn watch(root: &Path, crates: &BTreeSet<String>) {
     println!(
         "cargo::rerun-if-changed={}",
@@ -223,9 +225,9 @@ fn folders(root: &Path, crates: &BTreeSet<String>) -> impl Iterator<Item = PathB
         .filter(|folder| folder.is_dir())
 }
 
-/// What is proved of the crate, and the folder to work in: the repository, or one below OUT_DIR where nothing can be
-/// written there. Then what was proved beside the sources is used if it was proved from this very text; if not, the
-/// crates are copied and proved below OUT_DIR.
+/// The proved files of the crate, and the folder to work in: the repository, or a folder below OUT_DIR if the
+/// repository cannot be written to. In that case the proved files beside the sources are used if they were proved from
+/// exactly this text; otherwise the crates are copied and proved below OUT_DIR.
 fn proved(
     root: &Path,
     out: &Path,
@@ -267,7 +269,7 @@ fn copy_crates(root: &Path, to: &Path, crates: &BTreeSet<String>) -> Result<()> 
     Ok(())
 }
 
-/// All files below a folder, in one order.
+/// All files below a folder, always in the same order.
 fn files(folder: &Path) -> io::Result<Vec<PathBuf>> {
     let mut found = Vec::new();
     let mut next = vec![folder.to_owned()];
@@ -285,16 +287,16 @@ fn files(folder: &Path) -> io::Result<Vec<PathBuf>> {
     Ok(found)
 }
 
-/// What `rt staticlib` gave for a crate: its archive for x86-64, and the module that was compiled for it.
+/// What `rt staticlib` wrote for a crate: its archive for x86-64, and the module that was compiled for it.
 struct Proved {
     archive: PathBuf,
     module: PathBuf,
-    /// The text that both were made from.
+    /// The digest of the text that both were made from.
     from: PathBuf,
 }
 
 impl Proved {
-    /// Its files below a repository, whether or not they are there.
+    /// The paths of its files below a repository, whether they exist or not.
     fn files(root: &Path, name: &str) -> Self {
         let kept = root.join("target/archive/proved");
         Self {
@@ -304,14 +306,14 @@ impl Proved {
         }
     }
 
-    /// Whether the files are there and were made from this text.
+    /// Whether the files exist and were made from this text.
     fn is_from(&self, text: &[u8]) -> bool {
         fs::read(&self.from).is_ok_and(|from| from == text)
             && self.archive.is_file()
             && self.module.is_file()
     }
 
-    /// Has `rt` prove the crate, unless what is kept was proved from the very same text by the same kit.
+    /// Runs `rt` to prove the crate, unless the same kit has already proved exactly this text.
     fn of(root: &Path, crates: &BTreeSet<String>, name: &str, kit: &module::Kit) -> Result<Self> {
         let kept = root.join("target/archive/proved");
         fs::create_dir_all(&kept)?;
@@ -337,7 +339,7 @@ impl Proved {
     }
 }
 
-/// Everything that decides what `rt` answers: the kit, and the sources.
+/// Everything that the result of `rt` depends on: the kit and the sources.
 fn proved_from(root: &Path, crates: &BTreeSet<String>, kit: &module::Kit) -> Result<Vec<u8>> {
     let mut text = format!("{}\n", kit.identity()?).into_bytes();
     text.extend(sources_of(root, crates)?);
@@ -357,7 +359,7 @@ fn sources_of(root: &Path, crates: &BTreeSet<String>) -> Result<Vec<u8>> {
     Ok(text)
 }
 
-/// What the crate depends on, several at a time, then the crate itself and its archive.
+/// Proves the crates that the crate depends on, several at a time, then the crate itself, and makes its archive.
 fn prove(
     root: &Path,
     crates: &BTreeSet<String>,
@@ -390,7 +392,7 @@ impl<'a> Progress<'a> {
         }
     }
 
-    /// What to tell of a line of `rt`: a crate that it has proved now, and how many are.
+    /// The message for a line of `rt` that says that a crate is proved now: the crate, and how many are proved.
     fn told(&mut self, line: &str) -> Option<String> {
         let (name, _) = line.strip_prefix("rt: ")?.split_once(" proved (")?;
         self.proved.insert(self.crates.get(name)?);
@@ -405,7 +407,7 @@ impl<'a> Progress<'a> {
     }
 }
 
-/// One command of `rt`, each crate told as it is proved.
+/// Runs one command of `rt` and prints each crate when it is proved.
 fn rt(
     root: &Path,
     words: &[&str],
@@ -445,7 +447,7 @@ fn rt(
     .into())
 }
 
-/// What `rt` lists of each crate that is proved, and its notes.
+/// What `rt` lists for each proved crate, and its notes.
 fn is_noise(line: &str) -> bool {
     const LISTED: [&str; 7] = [
         "fn ",
@@ -459,7 +461,8 @@ fn is_noise(line: &str) -> bool {
     LISTED.iter().any(|start| line.starts_with(start)) || line.contains(": note: ")
 }
 
-/// Tells what takes long. Cargo keeps a build script's output to itself, so it goes past it.
+/// Prints the progress of long work. Cargo does not show a build script's output, so this goes to a file or the
+/// terminal.
 fn told(line: &str) {
     let to = env::var("CABLEOWL_PROGRESS").unwrap_or_else(|_| "/dev/tty".to_owned());
     if let Ok(mut file) = OpenOptions::new().append(true).open(to) {

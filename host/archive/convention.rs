@@ -1,5 +1,5 @@
-// The exported functions of a crate, read from its own text, and the C convention over the functions of its module: C
-// that clang compiles for the processor at hand.
+// Reads the exported functions of a crate from its text, and writes C code that calls the functions of its module by
+// the C convention. clang compiles that code for this processor.
 
 use std::{
     collections::BTreeMap,
@@ -11,7 +11,7 @@ use std::{
 
 type Result<T> = std::result::Result<T, Box<dyn Error>>;
 
-/// What a crate exports: records `#[repr(C)]`, and functions `#[no_mangle] pub extern "C"`.
+/// What a crate exports: records with `#[repr(C)]`, and functions with `#[no_mangle] pub extern "C"`.
 #[derive(Default)]
 pub struct Exports {
     records: Vec<(String, Vec<Named>)>,
@@ -29,12 +29,12 @@ struct Function {
     gives: String,
 }
 
-/// The name of the module's function below an exported one.
+/// The name of the module's function that an exported function calls.
 pub fn inner(exported: &str) -> String {
     format!("module_{exported}")
 }
 
-/// What the files of `src/` export; their records may stand in the crates below it.
+/// The exports of the files of `src/`. Their records may be in crates that this crate depends on.
 pub fn exports(src: &Path, below: &[PathBuf]) -> Result<Exports> {
     let mut found = Exports::default();
     for src in below {
@@ -48,7 +48,7 @@ pub fn exports(src: &Path, below: &[PathBuf]) -> Result<Exports> {
     Ok(found)
 }
 
-/// The texts of a folder, in the order of their names.
+/// The texts of a folder, sorted by file name.
 fn texts(src: &Path) -> Result<Vec<String>> {
     let mut files: Vec<_> = fs::read_dir(src)?.collect::<std::result::Result<_, _>>()?;
     files.sort_by_key(fs::DirEntry::file_name);
@@ -100,12 +100,12 @@ impl Exports {
         Ok(())
     }
 
-    /// The exported functions, in the order of their names.
+    /// The exported functions, sorted by name.
     pub fn names(&self) -> impl Iterator<Item = &str> {
         self.functions.keys().map(String::as_str)
     }
 
-    /// The types of the module's function below an exported one: what it returns, then what it takes.
+    /// The types of the module's function that an exported function calls: what it returns, then its parameters.
     pub fn signature(&self, exported: &str) -> Result<String> {
         let function = &self.functions[exported];
         let mut takes = Vec::new();
@@ -122,7 +122,7 @@ impl Exports {
         Ok(format!("{gives}({})", takes.join(", ")))
     }
 
-    /// Each exported function over the module's.
+    /// C code for each exported function, which calls the module's function.
     pub fn in_c(&self) -> Result<String> {
         let mut c = "/* Made by host/archive/convention.rs: the C convention over the module's functions. */\n\
                      struct slice { const void *start; unsigned long length; };\n"
@@ -145,7 +145,7 @@ impl Exports {
     fn function_in_c(&self, c: &mut String, name: &str, function: &Function) -> Result<()> {
         let inner = inner(name);
         let gives = self.by_value(&function.gives)?;
-        // What the module's function takes, what C's takes, and what is handed on.
+        // The parameters of the module's function, those of the C function, and the arguments that it passes on.
         let (mut below, mut above, mut handed) = (Vec::new(), Vec::new(), Vec::new());
         let is_number = number(&function.gives).is_some();
         if !is_number {
@@ -214,7 +214,7 @@ impl Exports {
         .into())
     }
 
-    /// The records, each after those that it holds.
+    /// The records, each after the records that it contains.
     fn in_order(&self) -> Result<Vec<&(String, Vec<Named>)>> {
         let mut ordered: Vec<&(String, Vec<Named>)> = Vec::new();
         while ordered.len() < self.records.len() {
@@ -233,7 +233,7 @@ impl Exports {
     }
 }
 
-/// A number as C writes it, and as the module does.
+/// A number type as C writes it, and as the module does.
 struct Number {
     in_c: &'static str,
     in_the_module: &'static str,
@@ -254,7 +254,7 @@ fn number(kind: &str) -> Option<Number> {
     })
 }
 
-/// What `&T` or `&mut T` leads to, and whether it is only read.
+/// The target of `&T` or `&mut T`, and whether it is only read.
 fn lent(kind: &str) -> Option<(&str, bool)> {
     let rest = kind.strip_prefix('&')?.trim_start();
     let written = rest.strip_prefix("mut ");
@@ -268,7 +268,7 @@ fn slice(kind: &str) -> Option<(&str, bool)> {
     Some((element, constant))
 }
 
-/// The number that a reference to one, or to an array of them, leads to, and whether it is only read.
+/// The number type that a reference to a number or to an array of numbers refers to, and whether it is only read.
 fn place(kind: &str) -> Option<(&str, bool)> {
     let (lent, constant) = lent(kind)?;
     let (element, _) = array(lent);
@@ -286,7 +286,7 @@ fn array(kind: &str) -> (&str, Option<&str>) {
     }
 }
 
-/// What stands between two words at the start of a text, and what comes after.
+/// The text between two words at the start of a text, and the text after them.
 fn after<'a>(text: &'a str, start: &str, end: &str) -> Result<(&'a str, &'a str)> {
     let head = text.trim_start();
     let found = head

@@ -1,5 +1,5 @@
-// An archive that was made before: its note says what it was made from, and it is linked where that is what this crate
-// expects. No proof and no kit are needed for it.
+// An archive that was made before. A note beside it says what it was made from. It is linked if that is what this crate
+// expects, without a proof and without a kit.
 
 use std::{
     env,
@@ -14,11 +14,11 @@ use super::{
     sha256::{digest, hex},
 };
 
-/// What an archive was made from: the lines of the file beside it, `libNAME.txt`, each a word and what it says.
+/// What an archive was made from. The file `libNAME.txt` beside it has these as lines, each a word and its value.
 pub struct Note(Vec<(String, String)>);
 
 impl Note {
-    /// The note of an archive just made.
+    /// The note for an archive that was just made.
     pub fn of(archive: &Path, arch: &str, kit: &str, sources: &[u8]) -> Result<Self> {
         let lines = [
             ("version", env::var("CARGO_PKG_VERSION")?),
@@ -58,8 +58,8 @@ impl Note {
     }
 }
 
-/// The archive to link in place of one that is proved here: the one that CABLEOWL_ARCHIVE names, and where the crate
-/// came without the sources that are proved, the one that pkg-config knows.
+/// The archive to link in place of a proved one: the one that CABLEOWL_ARCHIVE names, or, if the crate came without the
+/// proved sources, the one that pkg-config knows.
 pub fn asked_for(root: &Path) -> Result<Option<PathBuf>> {
     let asked = env::var("CABLEOWL_ARCHIVE").unwrap_or_default();
     if !asked.is_empty() && asked != "module" {
@@ -83,9 +83,9 @@ pub fn asked_for(root: &Path) -> Result<Option<PathBuf>> {
     Ok(Some(Path::new(folder.trim()).join("libcableowl.a")))
 }
 
-/// Fails, in one sentence, unless the archive is what its note says and the note is what this crate expects: its
-/// version, the processor, and the archive of `archive.txt` beside Cargo.toml or, in the repository, one that was proved
-/// from these very sources.
+/// Fails, in one sentence, unless the archive matches its note and the note matches what this crate expects: its
+/// version, the processor, and the archive of `archive.txt` beside Cargo.toml or, in the repository, an archive that
+/// was proved from exactly these sources.
 pub fn judged(archive: &Path, arch: &str, sources: Option<Vec<u8>>) -> Result<()> {
     let path = archive.display();
     println!("cargo::rerun-if-changed={path}");

@@ -1,9 +1,10 @@
-// From the module that the kit proves and compiles for x86-64 to an archive for another processor, by the same clang.
+// Makes an archive for another processor from the module that the kit proves and compiles for x86-64, with the same
+// clang.
 //
-// In the module each function takes a record or a slice by a pointer, and writes a record that it returns through its
-// first pointer; numbers go by value. Only the thin exported functions follow x86-64's C convention. They are left out,
-// the functions that they call get plain names, and the convention is compiled anew (convention.rs). No instruction of
-// any other function changes.
+// In the module each function gets a record or a slice through a pointer, and writes a returned record through its
+// first pointer. Numbers are passed by value. Only the thin exported functions follow x86-64's C convention. They are
+// left out, the functions that they call get plain names, and the exported functions are written anew in C
+// (convention.rs). No instruction of any other function changes.
 
 use std::{
     collections::BTreeMap,
@@ -41,13 +42,13 @@ pub fn kit() -> Option<Kit> {
     Some(home.into())
 }
 
-/// A kit whose clang also keeps the module; all else in it is the kit's own.
+/// A kit with a clang that also keeps the module. Everything else in it is the kit's own.
 pub struct Shadow {
     pub home: PathBuf,
     kept: PathBuf,
 }
 
-/// In place of the kit's clang. `$0` is its own path.
+/// The script in place of the kit's clang. `$0` is its own path.
 const KEEPS: &str = r#"#!/bin/sh
 # The kit's clang, which keeps the module that it is given.
 kept=${0%/*}/../../module.bc
@@ -63,7 +64,10 @@ impl Kit {
         let file = self.home.join("KIT-ID");
         fs::read_to_string(&file).map_err(|error| {
             let file = file.display();
-            format!("`rt` on PATH stands in no kit ({file}: {error}): set RATTLE_HOME to the kit's folder").into()
+            format!(
+                "`rt` on PATH is in no kit ({file}: {error}): set RATTLE_HOME to the kit's folder"
+            )
+            .into()
         })
     }
 
@@ -75,8 +79,8 @@ impl Kit {
         Command::new(self.machine().join("toolchain/bin").join(name))
     }
 
-    /// The kit's clang for a processor, with the kit's own options; no product is fused with a sum. The option
-    /// beyond the kit's own has the inner functions inlined: each hands a whole voice on, and the copies wait for one another.
+    /// Runs the kit's clang for a processor, with the kit's own options, so no product is fused with a sum. One more
+    /// option inlines the inner functions: each passes on a whole voice, and the copies would wait for one another.
     fn compiler(&self, arch: &str) -> Command {
         let mut clang = self.tool("clang");
         clang
@@ -100,7 +104,7 @@ impl Kit {
         clang
     }
 
-    /// Links to everything of the kit, with another clang.
+    /// Links to all files of the kit, with another clang.
     pub fn that_keeps_the_module(&self, home: &Path) -> Result<Shadow> {
         if home.exists() {
             fs::remove_dir_all(home)?;
@@ -164,7 +168,7 @@ fn not_this_kit(why: &str) -> Box<dyn std::error::Error> {
     .into()
 }
 
-/// Compiles a module for a processor, with that processor's C convention for what is exported, into an archive.
+/// Compiles a module for a processor into an archive, with that processor's C convention for the exported functions.
 pub fn compile(
     kit: &Kit,
     module: &Path,
@@ -222,11 +226,11 @@ fn run(command: &mut Command) -> Result<()> {
     Err(not_this_kit(&format!("{command:?} failed:\n{text}")))
 }
 
-/// The module's text without its exported functions, those that they call under plain names, and without what names
-/// x86-64.
+/// The module's text without its exported functions and without what names x86-64. The functions that they call have
+/// plain names.
 fn retarget(text: &str, exports: &convention::Exports, arch: &str) -> Result<String> {
     let mut body = String::new();
-    // From an exported function's name to that of the one it calls.
+    // Maps the name of an exported function to the name of the function that it calls.
     let mut calls = BTreeMap::new();
     let mut leaving: Option<String> = None;
     for line in text.lines() {
@@ -276,7 +280,7 @@ fn retarget(text: &str, exports: &convention::Exports, arch: &str) -> Result<Str
     Ok(body)
 }
 
-/// The name of an exported function, where a line begins its definition.
+/// The name of the exported function whose definition starts at this line.
 fn exported(line: &str) -> Option<&str> {
     let rest = line
         .strip_prefix("define ")
@@ -284,14 +288,14 @@ fn exported(line: &str) -> Option<&str> {
     Some(rest.split_once('@')?.1.split_once('(')?.0)
 }
 
-/// The function that a line calls, with its quotes; an exported function calls one.
+/// The function that a line calls, with its quotes. An exported function calls exactly one.
 fn called(line: &str) -> Option<&str> {
     let call = &line[line.find("call ")?..];
     let name = &call[call.find("@\"")? + 1..];
     Some(name.split_once('(')?.0)
 }
 
-/// A definition's types: what it returns, then what it takes.
+/// The types of a definition: what it returns, then its parameters.
 fn signature(definition: &str) -> String {
     const SAID: [&str; 5] = ["define", "internal", "noundef", "zeroext", "signext"];
     let (before, rest) = definition.split_once('@').unwrap_or((definition, ""));

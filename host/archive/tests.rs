@@ -1,8 +1,9 @@
-// How an archive is found and its making told, tried on a small repository without a kit: host/tools/promises runs these.
+// Tests how an archive is found and how its progress is printed, on a small repository without a kit.
+// host/tools/promises runs these tests.
 
 use super::*;
 
-/// A repository of two crates with something proved, and OUT_DIR; removed at the end.
+/// A repository of two crates with proved files, and OUT_DIR. Both are removed at the end.
 struct Tree {
     root: PathBuf,
     out: PathBuf,
@@ -39,7 +40,7 @@ impl Tree {
         }
     }
 
-    /// Nothing can be written here any more, by root neither: a folder is where the probe would be.
+    /// Makes this folder impossible to write to, even for root: a folder is put where the probe file would be.
     fn lock(&self) {
         fs::create_dir(self.root.join("target/archive/probe")).unwrap();
     }
@@ -78,7 +79,7 @@ fn an_archive_of_another_text_is_not_used() {
         let tree = Tree::new("another");
         tree.lock();
         fs::write(tree.root.join(file), text).unwrap();
-        // What follows needs a whole kit: it is asked to prove, and this one cannot.
+        // The rest needs a whole kit: it is asked to prove, and this one cannot.
         let found = proved(&tree.root, &tree.out, &tree.crates, "high", &tree.kit);
         assert!(found.is_err(), "{file}");
         let copied = tree.out.join("source/crates/low/src/lib.rt");

@@ -1,10 +1,10 @@
-//! A host shaped like an audio callback: interleaved f32 output of any length, and commands from another thread through a
-//! bounded channel. Nothing in the callback waits or allocates, which a counting allocator shows.
+//! A host shaped like an audio callback: interleaved f32 output of any length, and commands from another thread through
+//! a bounded channel. Nothing in the callback waits or allocates; a counting allocator checks this.
 //!
-//! The callback notes at which frame it got each command. Afterwards the evening is played again with the same commands at
-//! the same frames, in as few calls as possible, and must give the same samples: the host decides when a command is heard,
-//! and nothing else. Commands come faster than callbacks, so several come before one frame. All are obeyed, in their order,
-//! and the result is the same with an empty call between them.
+//! The callback notes at which frame it got each command. Afterwards the evening is played again with the same commands
+//! at the same frames, in as few calls as possible, and must have the same samples. So the host only decides when a
+//! command takes effect. Commands come faster than callbacks, so several can come before one frame. All are obeyed in
+//! their order, and the result is the same with an empty call between them.
 //!
 //! `cd host && cargo run --release --offline -p cableowl --example audio_callback`
 

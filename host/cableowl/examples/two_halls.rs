@@ -23,7 +23,7 @@ impl Digest {
     }
 }
 
-/// A hall's evening: before each block it edits as often as it likes, then its voice takes a loop and plays.
+/// A hall's evening. Before each block the hall makes its edits, then its voice takes a loop and plays.
 fn evening(
     hall: Hall,
     edits: u64,

@@ -12,9 +12,9 @@ use std::{
 
 use crate::{MAX_BLOCK_FRAMES, PlaybackState, Refusal, ffi};
 
-/// A field: its name and its type, in Rust's words.
+/// A field: its name and its type as Rust writes it.
 type Field = (String, String);
-/// The structs in their order, each with its fields in theirs.
+/// The structs in their order, each with its fields in their order.
 type Structs = Vec<(String, Vec<Field>)>;
 /// The functions by their names, each with its parameters and the type that it returns.
 type Functions = BTreeMap<String, (Vec<Field>, String)>;
@@ -28,7 +28,7 @@ fn read(path: &str) -> String {
     fs::read_to_string(&path).unwrap_or_else(|error| panic!("{}: {error}", path.display()))
 }
 
-/// A struct's name as `cableowl-sys` has it.
+/// The name of a struct in `cableowl-sys`.
 fn short(name: &str) -> String {
     name.replace("Cableowl", "")
 }
@@ -70,7 +70,7 @@ fn rust_functions(text: &str) -> Functions {
         .collect()
 }
 
-/// A type of the header in Rust's words.
+/// A type of the header as Rust writes it.
 fn in_rust(kind: &str) -> String {
     match kind {
         "float" => "f32".into(),
@@ -144,7 +144,7 @@ fn sys_text() -> String {
     read("../sys/src/lib.rs")
 }
 
-/// The header's constants: its enums' and its plain numbers.
+/// The header's constants: those of its enums and its plain numbers.
 fn constants(header: &str) -> BTreeMap<&str, u64> {
     let words = header.split(|c: char| !c.is_ascii_alphanumeric() && c != '_');
     let words: Vec<&str> = words.filter(|word| !word.is_empty()).collect();
@@ -155,7 +155,7 @@ fn constants(header: &str) -> BTreeMap<&str, u64> {
         .collect()
 }
 
-/// Size and alignment of a type, by C's rule; a struct's offsets by the way.
+/// Size and alignment of a type by C's rules, and a struct's offsets.
 fn layout(structs: &Structs, kind: &str, offsets: &mut Vec<usize>) -> (usize, usize) {
     match kind {
         "u32" | "f32" => return (4, 4),
@@ -184,7 +184,7 @@ fn layout(structs: &Structs, kind: &str, offsets: &mut Vec<usize>) -> (usize, us
     (end.next_multiple_of(most), most)
 }
 
-/// C assertions that each struct has this size, and each field this place.
+/// C assertions that each struct has this size, and each field this offset.
 fn assertions(structs: &Structs) -> String {
     let mut lines = String::new();
     for (name, fields) in structs {
@@ -214,16 +214,16 @@ impl Folder {
 
 impl Drop for Folder {
     fn drop(&mut self) {
-        // What is left behind is in the system's folder for such files.
+        // An error leaves files only in the system's folder for temporary files.
         let _ = fs::remove_dir_all(&self.0);
     }
 }
 
-/// Compiles a C program of tests/c together with more C text, links the archive and runs it: it must
-/// find that nothing differs.
+/// Compiles a C program of tests/c together with more C text, links the archive and runs it. The program must find no
+/// difference.
 fn run_c(name: &str, more: &str) {
     if Command::new("cc").arg("--version").output().is_err() {
-        // Written past the test's capture: it is to be seen.
+        // Written past the test's capture, so that a person sees it.
         let _ = writeln!(
             io::stderr(),
             "skipped: no C compiler 'cc' on PATH, so {name}.c was not tried"
@@ -277,11 +277,11 @@ fn three_declarations_are_one() {
         "cableowl/src/replays",
     ];
     let sources = sources.map(|name| read(&format!("../../crates/{name}.rt")));
-    // A place in bytes has 64 bits on every processor that the archive is made for.
+    // An offset in bytes has 64 bits on every processor that the archive is made for.
     let ours = rust_structs(&sources.concat().replace(": usize,", ": u64,"));
     let fields: usize = ours.iter().map(|(_, fields)| fields.len()).sum();
     assert!(ours.len() >= 11 && fields >= 58, "they are read: {ours:?}");
-    // Saved settings and halves are words in the archive's own source, and records in C and Rust alone.
+    // Saved settings and halves are words in the archive's source, and records only in C and Rust.
     let [in_c, in_rust] = [c_structs(&header_text()), rust_structs(&sys_text())];
     assert_eq!(in_c, in_rust, "cableowl.h and cableowl-sys");
     let is_named =

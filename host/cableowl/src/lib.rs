@@ -114,12 +114,12 @@ pub use shared_loops::{LoopsFault, SharedLoops, Start, Theirs};
 pub use state::{Frame, RecentFrame, State, Wraps};
 pub use static_sound::{Processed, StaticSound, Usage};
 
-/// The examples of README.md, tried with the others.
+/// Tests the examples of README.md together with the others.
 #[cfg(doctest)]
 #[doc = include_str!("../../../README.md")]
 pub struct Readme;
 
-/// The examples of docs/guide/PLAYER.md, tried with the others.
+/// Tests the examples of docs/guide/PLAYER.md together with the others.
 #[cfg(doctest)]
 #[doc = include_str!("../../../docs/guide/PLAYER.md")]
 pub struct PlayerGuide;

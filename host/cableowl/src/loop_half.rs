@@ -35,7 +35,7 @@ impl LoopHalf {
     /// The bytes of a record.
     pub const SIZE: usize = 666;
 
-    /// Eight empty slots of a hall over a sound of so many frames, and no changes.
+    /// Eight empty slots of a hall over a sound of `num_frames` frames, without changes.
     #[must_use]
     pub fn new(hall: Hall, num_frames: u64) -> Self {
         Self {
@@ -126,7 +126,7 @@ impl LoopHalf {
         Ok(())
     }
 
-    /// After a change of a slot by its hall, which gives it this name.
+    /// The half after its hall has changed a slot, with this name for the slot.
     pub(crate) fn changed(
         &self,
         copy: &LoopCopy,
@@ -150,7 +150,7 @@ impl LoopHalf {
     }
 }
 
-/// The place of a slot among a hall's own.
+/// The index of a slot among its hall's slots.
 fn own(hall: Hall, slot: usize) -> Option<usize> {
     let place = match hall {
         Hall::A => slot,
@@ -159,7 +159,7 @@ fn own(hall: Hall, slot: usize) -> Option<usize> {
     (place < 8).then_some(place)
 }
 
-/// The name that a room in a record holds.
+/// The name in a record's field for a name.
 fn text(room: &[u8]) -> Option<String> {
     let length = room.iter().position(|byte| *byte == 0).unwrap_or(NAME);
     let (name, rest) = room.split_at(length);

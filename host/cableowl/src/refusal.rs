@@ -243,7 +243,7 @@ impl Refusal {
         lanes: ffi::Lanes,
     ) -> Result<(), Self> {
         match number {
-            11 => Err(first_unlawful(lanes)),
+            11 => Err(first_wrong_number(lanes)),
             12 => Err(Self::Advance {
                 frame: first_too_far(sample_rate, dt, lanes.rate),
             }),
@@ -362,14 +362,14 @@ impl fmt::Display for Refusal {
 impl Error for Refusal {}
 
 /// The first number to which refusal 11 applies.
-fn first_unlawful(lanes: ffi::Lanes) -> Refusal {
+fn first_wrong_number(lanes: ffi::Lanes) -> Refusal {
     let amplitudes = [
         (LaneName::Fade, lanes.fade),
         (LaneName::Volume, lanes.volume),
         (LaneName::Left, lanes.left),
         (LaneName::Right, lanes.right),
     ];
-    let unlawful = |frame: usize| {
+    let wrong = |frame: usize| {
         let amplitude = |(_, lane): &&(LaneName, &[f32])| {
             let at = lane.get(frame);
             at.is_some_and(|x| !x.is_finite() || x.is_sign_negative())
@@ -383,7 +383,7 @@ fn first_unlawful(lanes: ffi::Lanes) -> Refusal {
             }
         }
     };
-    let places = (0..lanes.rate.len()).find_map(|frame| Some((unlawful(frame)?, frame)));
+    let places = (0..lanes.rate.len()).find_map(|frame| Some((wrong(frame)?, frame)));
     // There is one: the library returns 11 exactly then.
     let (lane, frame) = places.unwrap_or((LaneName::Rate, 0));
     Refusal::Lane { lane, frame }

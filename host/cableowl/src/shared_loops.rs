@@ -360,7 +360,7 @@ impl LoopHalf {
     }
 }
 
-/// So many changes, in words.
+/// A number of changes in words.
 fn counted(changes: u64) -> String {
     let end = if changes == 1 { "" } else { "s" };
     format!("{changes} change{end}")

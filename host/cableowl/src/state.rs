@@ -68,7 +68,7 @@ pub struct State {
     pub loop_region: Option<(usize, usize)>,
     /// Whether the position still moves: it has not passed the sound's end.
     pub playing: bool,
-    /// The window of four, oldest first. The second entry is the one that is heard.
+    /// The window of four, oldest first. A reading at fraction 0 returns the second entry.
     pub window: [RecentFrame; 4],
     /// The window's count: how many more pushes without a frame until the window is empty.
     pub time_until_empty: u32,
@@ -77,7 +77,7 @@ pub struct State {
 }
 
 impl State {
-    /// Whether the position moves backward: if the held rate's sign bit is set; `reverse` turns it
+    /// Whether the position moves backward. It does if the held rate's sign bit is set; `reverse` turns the direction
     /// round.
     #[must_use]
     pub fn is_backward(&self) -> bool {

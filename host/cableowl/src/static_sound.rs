@@ -241,7 +241,8 @@ impl StaticSound {
     ) -> Result<Processed, Refusal> {
         let (still, frames) = (lanes.still(), lanes.count());
         let signals = signals.into();
-        // Constants need no lanes. Where the block is refused, lanes tell which lane and frame is wrong.
+        // Constants need no lanes. If the block is refused, it is tried with lanes, to find which lane and frame is
+        // wrong.
         if let Some(held) = lanes.held()
             && out.len().is_multiple_of(2)
             && out.len() / 2 == frames
@@ -420,7 +421,7 @@ impl StaticSound {
         }
     }
 
-    /// The voice of a state that the library has answered.
+    /// The voice of a state that the library has returned.
     pub(crate) fn from_raw(state: ffi::State) -> Self {
         Self { state }
     }

@@ -21,7 +21,7 @@ pub fn until_it_stops(
     if !voice.finished() || all.steps == 0 {
         return Ok((frames, all));
     }
-    // It stops after more than `low` frames, at most `high`.
+    // It stops after more than `low` frames and at most `high`.
     let (mut low, mut high, mut counts) = (0, frames, Processed::NONE);
     while high - low > 1 {
         let middle = low + (high - low) / 2;

@@ -60,21 +60,21 @@ pub(crate) use tape::Tape;
 
 use crate::Refusal;
 
-/// The most frames of a sound that a record holds itself: [`ShortSound`].
+/// The largest number of frames of a sound that a record can contain: [`ShortSound`].
 pub const MAX_SOUND_FRAMES: usize = 64;
 
-/// The most frames a recorded block has.
+/// The largest number of frames in a recorded block.
 pub const MAX_TRACED_FRAMES: usize = 1_024;
 
-/// The most bytes a record has; [`TraceVersion::max_record_bytes`] is the limit of a version.
+/// The length in bytes of the longest record; [`TraceVersion::max_record_bytes`] is the limit of a version.
 pub const MAX_RECORD_BYTES: usize = 24_598;
 
-/// A record that the reader refuses, and its first byte's place in the trace.
+/// A record that the reader refuses, and its offset in the trace.
 #[derive(Debug, Clone, Copy, PartialEq, Eq, Hash)]
 pub struct Refused {
     /// Why: refusals 15 to 18.
     pub refusal: Refusal,
-    /// The place of the record's first byte.
+    /// The offset of the record's first byte.
     pub at: u64,
 }
 
@@ -92,7 +92,7 @@ impl From<Refused> for Refusal {
     }
 }
 
-/// Reads the record at a place of the bytes, and returns it with the place after it.
+/// Reads the record at an offset of the bytes, and returns it with the offset after it.
 ///
 /// ```
 /// use cableowl::{Refusal, trace::read};
@@ -110,7 +110,7 @@ pub fn read(bytes: &[u8], at: usize) -> Result<(Record<'_>, usize), Refusal> {
     TraceVersion::Second.read(bytes, at)
 }
 
-/// Writes a record at a place of a buffer, and returns the place after it; every other byte stays.
+/// Writes a record at an offset of a buffer, and returns the offset after it. No other byte changes.
 ///
 /// ```
 /// use cableowl::{Commands, Refusal, trace::{Record, read, write}};
@@ -133,8 +133,7 @@ pub fn write(record: &Record<'_>, buffer: &mut [u8], at: usize) -> Result<usize,
     TraceVersion::Second.write(record, buffer, at)
 }
 
-/// The records of a trace, each with the place of its first byte. A record that is refused is the
-/// last.
+/// The records of a trace, each with the offset of its first byte. A refused record is the last one.
 ///
 /// ```
 /// use cableowl::{Refusal, trace::{Refused, Trace}};

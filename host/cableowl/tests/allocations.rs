@@ -1,5 +1,5 @@
-// No call of a voice allocates, and no block does, with kept lanes and with cloned ones; no call of a player does; nor does
-// recording, reading or playing a trace.
+// No call of a voice or a player allocates, with kept lanes or cloned ones. Recording, reading and replaying a trace do
+// not allocate either.
 
 use std::{
     alloc::{GlobalAlloc, Layout, System},
@@ -17,10 +17,10 @@ thread_local! {
     static ALLOCATIONS: Cell<usize> = const { Cell::new(0) };
 }
 
-/// The system's allocator, counted by thread.
+/// The system's allocator, with a count for each thread.
 struct Counting;
 
-// SAFETY: every call goes on to the system's allocator as it came.
+// SAFETY: every call is passed on unchanged to the system's allocator.
 unsafe impl GlobalAlloc for Counting {
     unsafe fn alloc(&self, layout: Layout) -> *mut u8 {
         ALLOCATIONS.set(ALLOCATIONS.get() + 1);
@@ -40,14 +40,14 @@ unsafe impl GlobalAlloc for Counting {
 #[global_allocator]
 static ALLOCATOR: Counting = Counting;
 
-/// What the call answers, and how often it allocated.
+/// The result of a call, and how often it allocated.
 fn counted<T>(call: impl FnOnce() -> T) -> (T, usize) {
     let before = ALLOCATIONS.get();
     let answer = call();
     (answer, ALLOCATIONS.get() - before)
 }
 
-/// Every call of a voice, accepted and refused, blocks of each size.
+/// Every call of a voice, accepted and refused, with blocks of each size.
 fn evening(sound: &[f32], lanes: &mut Lanes, out: &mut [f32]) -> Result<State, Refusal> {
     let settings = Settings::new(48_000)
         .loop_region(0.001..0.01)
@@ -76,10 +76,10 @@ fn evening(sound: &[f32], lanes: &mut Lanes, out: &mut [f32]) -> Result<State, R
                 .process_into(sound, too_fast, dt, signals, out, 0)
                 .is_err()
         );
-        let unlawful = lanes.frames(4_096).right(-0.0);
+        let refused_lanes = lanes.frames(4_096).right(-0.0);
         assert!(
             voice
-                .process_into(sound, unlawful, dt, signals, out, 0)
+                .process_into(sound, refused_lanes, dt, signals, out, 0)
                 .is_err()
         );
         let too_long = lanes.frames(usize::MAX).rate(0.1);
@@ -105,11 +105,11 @@ fn no_call_allocates() {
     let mut early = Lanes::new().clone();
     let (answer, allocations) = counted(|| evening(&sound, &mut early, &mut out));
     assert_eq!((answer.is_ok(), allocations), (true, 0));
-    // The count counts.
+    // The counter works.
     assert_eq!(counted(|| vec![0_u8; 100].len()).1, 1);
 }
 
-/// Every call of a player, accepted and refused, outputs of each size, every parameter in motion and at rest.
+/// Every call of a player, accepted and refused, with outputs of each size and every parameter moving and at rest.
 fn player_evening(player: &mut Player, sound: &[f32], out: &mut [f32]) -> Result<State, Refusal> {
     player.start_after(Duration::from_secs(1));
     player.start_at_tick(
@@ -172,7 +172,7 @@ fn no_call_of_a_player_allocates() {
     assert_eq!(answer.unwrap(), again.unwrap());
 }
 
-/// Every call of a recorder, recorded and not, then the trace salvaged, read and played again.
+/// Every call of a recorder, recorded and not; then the trace is salvaged, read and replayed.
 fn recorded(
     recorder: &mut Recorder<'_>,
     version: TraceVersion,
@@ -253,7 +253,7 @@ fn no_recording_allocates() {
     }
 }
 
-/// Without its sound a creation needs silence: the longest so far is kept.
+/// Without its sound a creation needs silence. The longest silence so far is kept.
 #[test]
 fn a_silent_replay_allocates_once() {
     let lessons = [600, 200, 600].map(|samples| Lesson::new(vec![0.25; samples]).unwrap());

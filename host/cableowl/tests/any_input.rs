@@ -1,4 +1,4 @@
-// No input makes a call panic; a refused one changes nothing, and what an accepted one leaves behind is well formed.
+// No input makes a call panic. A refused call changes nothing, and an accepted one leaves a well formed voice.
 
 use cableowl::{
     Commands, Frame, Frames, Lanes, LoopCommand, PlaybackPosition, PlaybackState, RecentFrame,
@@ -9,7 +9,7 @@ use random::Random;
 
 const SOUND: [f32; 24] = [0.25; 24];
 
-/// Often a lawful number, at times a limit, else any bits.
+/// Often a number that is accepted, sometimes a limit, otherwise any bits.
 fn float(random: &mut Random) -> f64 {
     match random.below(8) {
         0 => f64::from_bits(random.word()),
@@ -114,7 +114,7 @@ fn state(random: &mut Random) -> State {
     state
 }
 
-/// A state by its bits: any two NaNs that differ in their bits differ here.
+/// A state by its bits: two NaNs with different bits differ here.
 fn bits(voice: &StaticSound) -> String {
     let state = voice.state();
     let floats = [
@@ -127,7 +127,7 @@ fn bits(voice: &StaticSound) -> String {
     format!("{state:?} {floats:?} {frames:?}")
 }
 
-/// The sound, at times another.
+/// The sound, or sometimes another.
 fn sound(random: &mut Random) -> &'static [f32] {
     match random.one_in(16) {
         true => &SOUND[..whole(random).min(24)],
@@ -135,7 +135,7 @@ fn sound(random: &mut Random) -> &'static [f32] {
     }
 }
 
-/// One call of any kind, with any numbers. Where it is refused nothing may have changed, and where it is accepted the voice
+/// One call of any kind, with any numbers. If it is refused, nothing may have changed. If it is accepted, the voice
 /// must be well formed before and after.
 fn call(voice: &mut StaticSound, random: &mut Random, lanes: &mut Lanes) -> Result<(), Refusal> {
     let sound = sound(random);

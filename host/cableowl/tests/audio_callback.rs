@@ -1,4 +1,5 @@
-// The example of an audio callback, run with the other tests: it neither allocates nor lets its cuts be heard.
+// Runs the example of an audio callback with the other tests: it does not allocate, and its block sizes do not change
+// the output.
 
 #[path = "../examples/audio_callback.rs"]
 mod example;

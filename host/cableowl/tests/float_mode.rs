@@ -1,4 +1,4 @@
-// The host's float mode does not matter: in each one the same frames, the same refusals, and every call returns.
+// The host's float mode does not matter: in each mode the frames and refusals are the same, and every call returns.
 
 use cableowl::{Commands, Frames, Lanes, Refusal, Settings, Signals, State, StaticSound};
 
@@ -6,7 +6,7 @@ mod mode;
 
 use mode::Mode;
 
-/// Makes the call in each mode: the mode is there after it, and the answers are those of the plain one.
+/// Makes the call in each mode. The mode must be the same after it, and the result that of the plain mode.
 fn in_every_mode<T: PartialEq + std::fmt::Debug>(call: impl Fn() -> T) -> T {
     let before = Mode::now();
     let plain = call();
@@ -25,7 +25,7 @@ fn bits(samples: &[f32]) -> Vec<u32> {
     samples.iter().map(|sample| sample.to_bits()).collect()
 }
 
-/// Frames that lie among the subnormals, and some that do not.
+/// Frames with subnormal samples, and some without.
 fn small_sound() -> Vec<f32> {
     (1..=80_u32)
         .map(|i| match i % 3 {
@@ -36,7 +36,7 @@ fn small_sound() -> Vec<f32> {
         .collect()
 }
 
-/// Everything a voice says of itself, by bits.
+/// Everything that a voice reports, by bits.
 fn whole(state: &State) -> Vec<u8> {
     state.to_bytes()
 }
@@ -44,7 +44,7 @@ fn whole(state: &State) -> Vec<u8> {
 #[test]
 fn the_same_frames() {
     let sound = small_sound();
-    // Built in the plain mode: the host's own numbers are the host's.
+    // Built in the plain mode: the host computes its own numbers before the call.
     let rates: Vec<f64> = (0..200).map(|i| 0.1 + f64::from(i) / 70.0).collect();
     let fades: Vec<f32> = (0..200).map(|i| 1.0 / (1.0 + i as f32)).collect();
     let heard = in_every_mode(|| {
@@ -97,7 +97,7 @@ fn the_same_refusals() {
     let refused = in_every_mode(|| StaticSound::from_state(state, &sound).map(|_| ()));
     assert_eq!(refused, Err(Refusal::State));
 
-    // A time step that flushing takes for 0, and one advance that rounding up takes above 256.
+    // A time step that flushing turns into 0, and an advance that rounding up puts above 256.
     let just_256 = 256.0 / 3.0_f64.next_down();
     let answers = in_every_mode(|| {
         let mut voice = StaticSound::new(Settings::new(3), &sound).unwrap();

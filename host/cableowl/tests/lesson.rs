@@ -1,5 +1,5 @@
-// An evening of an hour over a real lesson, recorded in callbacks of several lengths: its trace, played again, prints the
-// same lines and sounds the same; what a trace takes; what recording costs.
+// An evening of an hour over a real lesson, recorded in callbacks of several lengths. Its trace replays to the same
+// lines and samples. Also: how large a trace is, and what recording costs.
 
 use std::{fs, hint::black_box, time::Instant};
 
@@ -20,13 +20,13 @@ use edges::common_edges;
 const LESSON_RATE: u32 = 44_100;
 const DEVICE_RATE: u32 = 48_000;
 
-/// As long as a sound of 44,100 Hz can be: 380 seconds are 16,758,000 frames.
+/// The longest sound at 44,100 Hz: 380 seconds are 16,758,000 frames.
 const LESSON: u32 = 380;
 
 /// An hour.
 const EVENING: u64 = 3_600;
 
-/// A lesson of so many seconds: any samples will do.
+/// A lesson of this many seconds, of any samples.
 fn lesson(seconds: u32) -> Lesson {
     let mut word = 0x9e37_79b9_7f4a_7c15_u64;
     let samples = (0..2 * seconds * LESSON_RATE).map(|_| {
@@ -89,12 +89,12 @@ fn script() -> Vec<(f64, Command)> {
             (at + 90.0, Command::ClearLoopRegion),
         ]);
     }
-    // To the end of the lesson, and off it.
+    // To the end of the lesson and past it.
     script.push((3_300.0, Command::SeekTo(180.0)));
     script
 }
 
-/// What a recorded evening came to.
+/// The result of a recorded evening.
 struct Kept {
     bytes: usize,
     kinds: [u64; 6],
@@ -103,9 +103,9 @@ struct Kept {
     counts: Processed,
 }
 
-/// Records the evening in callbacks of so many frames. Whenever the buffer is emptied, what it held is
-/// played again over the lesson: the lines must agree with the live ones wherever both have an edge, and
-/// the samples must be equal by their bits. Without the lesson the lines must be the same.
+/// Records the evening in callbacks of this many frames. Whenever the buffer is emptied, its records are replayed over
+/// the lesson: the lines must agree with the live ones wherever both end a block, and the samples must be equal by
+/// their bits. Without the lesson the lines must be the same.
 fn recorded(lesson: &Lesson, callback: usize, silent: bool) -> Kept {
     let mut buffer = vec![0; 4_000_000];
     let settings = Settings::new(LESSON_RATE);
@@ -193,8 +193,8 @@ fn an_hour_over_a_lesson() {
     }
 }
 
-/// A sound of ten minutes at 44,100 Hz has too many frames for a voice. Its creation is refused with 3,
-/// recorded, and refused with 3 when it is played again, with the sound and without it.
+/// A sound of ten minutes at 44,100 Hz has too many frames for a voice. Its creation is refused with 3, recorded, and
+/// refused with 3 in the replay, with the sound and without it.
 #[test]
 fn ten_minutes_are_too_long_and_recorded() {
     let lesson = Lesson::new(vec![0.0; 2 * 600 * LESSON_RATE as usize]).unwrap();
@@ -223,7 +223,7 @@ fn ten_minutes_are_too_long_and_recorded() {
     }
 }
 
-/// 26 comes before 2 to 7, has a line, leaves no voice, and the replay goes on.
+/// 26 comes before 2 to 7, has a line and leaves no voice, and the replay continues.
 #[test]
 fn another_sound_is_refused_with_26() {
     let [one, other] = [0.5, 0.25].map(|sample| Lesson::new(vec![sample; 40]).unwrap());
@@ -273,9 +273,9 @@ fn another_sound_is_refused_with_26() {
              block=4 frames=3 steps=3 state=0 position=6\n"
         )
     );
-    // An empty collection is given too: nothing fits.
+    // An empty collection is also given: no sound fits.
     assert!(printed(Replay::new().sounds(Sounds::new())).starts_with("creation=26 at=0\n"));
-    // The place is the trace's, also behind skipped bytes.
+    // The offset is that in the trace, also after skipped bytes.
     let mut damaged = vec![0xff; 7];
     damaged.extend_from_slice(&bytes[112..]);
     let mut reader = TraceReader::new(&damaged[..]);
@@ -346,7 +346,7 @@ fn silence_takes_no_memory() {
     assert!(grown < 8_000_000, "{grown}");
 }
 
-/// The least time of a call in nanoseconds, tried in turns.
+/// The shortest time of a call in nanoseconds. The calls are tried in turn.
 fn least<const N: usize>(mut calls: [&mut dyn FnMut(); N]) -> [f64; N] {
     let mut least = [f64::INFINITY; N];
     for _ in 0..300 {
@@ -420,7 +420,7 @@ fn what_recording_costs() {
     }
 }
 
-/// What a trace takes: docs/formats/TRACE.md has these figures.
+/// The size of a trace: docs/formats/TRACE.md has these figures.
 #[test]
 fn sizes_of_a_trace() {
     let lesson = lesson(30);
@@ -431,7 +431,7 @@ fn sizes_of_a_trace() {
             RecordedPlayer::with_version(settings, DEVICE_RATE, &lesson, &mut buffer, version)
                 .unwrap();
         let mut out = vec![0.0; 2 * callback];
-        // The first block says that no fade is under way.
+        // The first block says that no fade is active.
         player.process(&mut out, |_| {}).recorded.unwrap();
         let before = player.bytes().len();
         if let Some(command) = command {
@@ -465,7 +465,7 @@ fn sizes_of_a_trace() {
     }
 }
 
-/// Callbacks of every length are joined to records of at most 1,024 frames, whole callbacks each.
+/// Callbacks of every length are joined to records of at most 1,024 frames, each of whole callbacks.
 #[test]
 fn blocks_are_joined_up_to_1024_frames() {
     let lesson = Lesson::new(vec![0.5; 2_000]).unwrap();

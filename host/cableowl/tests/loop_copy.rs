@@ -1,11 +1,11 @@
-//! Copies of a loop table at two boxes: merged in any order, against one shared table.
+//! Copies of a loop table at two boxes, merged in any order, compared with one shared table.
 
 use cableowl::{Hall, LoopCopy, LoopTable, Refusal};
 use random::Random;
 
 const FRAMES: usize = 40;
 
-/// A write or a clear, by slot: the hall is the slot's own, or now and then the other.
+/// A write or a clear of a slot, mostly by the slot's own hall, sometimes by the other.
 fn change(
     random: &mut Random,
     hall: Hall,
@@ -42,7 +42,7 @@ fn two_boxes_come_to_hold_the_shared_table() {
             let hall = [Hall::A, Hall::B][at];
             match random.below(4) {
                 0 => sent.push(boxes[at]),
-                // Any copy that was ever sent, late or again, one's own too; most are lost.
+                // Any copy that was ever sent, late, repeated, or the box's own; most are lost.
                 1 if !sent.is_empty() => {
                     let copy: LoopCopy = sent[random.below(sent.len())];
                     let before = boxes[at];
@@ -90,10 +90,10 @@ fn one_number_for_two_halves_is_said() {
     theirs.write(Hall::A, 0, 1..4).unwrap();
     theirs.write(Hall::B, 9, 2..5).unwrap();
     let before = ours;
-    // Nothing of either half is taken, the other hall's newer one neither.
+    // Neither half is taken, not even the other hall's newer one.
     assert_eq!(ours.merge(&theirs), Err(Refusal::TwoHalves));
     assert_eq!(ours, before);
-    // A change that leaves the slots as they were counts, and then one half is the newer.
+    // A change that leaves the slots the same still counts, and then one half is the newer.
     theirs.clear(Hall::A, 1).unwrap();
     ours.merge(&theirs).unwrap();
     assert_eq!(ours, theirs);

@@ -1,11 +1,11 @@
-//! A hall's half as bytes: against docs/formats/LOOPS.md and a second implementation of it.
+//! A hall's half as bytes, compared with docs/formats/LOOPS.md and a second implementation of it.
 
 use cableowl::{Hall, LoopHalf, Refusal};
 use random::Random;
 
 const PAGE: &str = include_str!("../../../docs/formats/LOOPS.md");
 
-/// What a record says, by the page.
+/// The fields of a record, as the page has them.
 struct Fields {
     hall: u8,
     frames: u64,
@@ -24,7 +24,7 @@ fn crc(bytes: &[u8]) -> u32 {
 }
 
 impl Fields {
-    /// The record of these fields, lawful or not.
+    /// The record of these fields, well formed or not.
     fn record(&self) -> Vec<u8> {
         let mut bytes = vec![0xa7, 0x4c, 1, 0x95, 0x02, self.hall];
         bytes.extend(self.frames.to_le_bytes());
@@ -38,7 +38,7 @@ impl Fields {
         bytes
     }
 
-    fn is_lawful(&self) -> bool {
+    fn is_well_formed(&self) -> bool {
         let is_slot = |&(start, end): &(u64, u64)| {
             (start, end) == (0, 0) || start < end && end <= self.frames
         };
@@ -49,7 +49,7 @@ impl Fields {
         self.hall < 2 && self.slots.iter().all(is_slot) && self.names.iter().all(is_name)
     }
 
-    /// Fields of which now and then one is wrong.
+    /// Fields of which sometimes one is wrong.
     fn any(random: &mut Random) -> Self {
         let frames = [0, 1, 40, u64::MAX][random.below(4)];
         let number = |random: &mut Random| match random.below(9) {
@@ -92,12 +92,12 @@ fn records_are_the_second_implementation_s() {
         let fields = Fields::any(&mut random);
         let mut bytes = fields.record();
         let loaded = LoopHalf::load(&bytes);
-        if !fields.is_lawful() {
+        if !fields.is_well_formed() {
             assert_eq!(loaded, Err(Refusal::SavedField));
             continue;
         }
         accepted += 1;
-        let half = loaded.expect("a lawful record");
+        let half = loaded.expect("a well formed record");
         let hall = [Hall::A, Hall::B][usize::from(fields.hall)];
         let told = (half.hall(), half.num_frames(), half.changes());
         assert_eq!(told, (hall, fields.frames, fields.changes));

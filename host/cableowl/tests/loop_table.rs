@@ -1,4 +1,5 @@
-// Two halls at one table: the orders of refusals, a voice that takes a loop, and rows of calls in pairs that only one hall's calls tell apart.
+// Two halls at one table: the order of refusals, a voice that takes a loop, and pairs of call sequences that differ
+// only in one hall's calls.
 
 use std::ops::Range;
 
@@ -75,7 +76,7 @@ fn a_refused_take_changes_nothing() {
     for (sound, slot, refusal) in [
         (&sound[..], 16, Refusal::LoopSlot),
         (&sound, 1, Refusal::EmptySlot),
-        // Judged over all frames by the table, over the slice's by the voice.
+        // The table checks a loop against all frames, the voice against its slice.
         (&sound, 0, Refusal::LoopRegion),
         // The table's refusal comes first.
         (another, 1, Refusal::EmptySlot),
@@ -87,7 +88,7 @@ fn a_refused_take_changes_nothing() {
     }
 }
 
-/// A call of the row, by a hall or by a voice that takes one hall's loops.
+/// A call of the sequence, by a hall or by a voice that takes one hall's loops.
 #[derive(Debug, Clone)]
 enum Call {
     Write(Hall, usize, Range<u64>),
@@ -97,7 +98,7 @@ enum Call {
     Block(usize, f64),
 }
 
-/// What a call gave: its answer, and every sample and number of the voice.
+/// What a call returned, and every sample and number of the voice.
 #[derive(Debug, Clone, PartialEq)]
 enum Answer {
     Number(Result<(), Refusal>),
@@ -157,7 +158,7 @@ fn other(hall: Hall) -> Hall {
     }
 }
 
-/// A write, a clear or a read by a hall, of its own slots and at times of any.
+/// A write, a clear or a read by a hall, of its own slots and sometimes of any.
 fn any_change(random: &mut Random, hall: Hall) -> Call {
     let slot = match random.below(8) {
         0 => random.below(18),
@@ -182,7 +183,7 @@ fn any_own(random: &mut Random, hall: Hall) -> Call {
     }
 }
 
-/// Plays a row, the other hall's calls laid between as they come, and keeps the answers to the calls that concern the hall.
+/// Plays a sequence with the other hall's calls between, and keeps the results of the calls that concern the hall.
 fn run(random: &mut Random, hall: Hall, mine: &[Call], others: usize) -> (World, Vec<Answer>) {
     let sound = sound();
     let voice = StaticSound::new(Settings::new(1), &sound).unwrap();

@@ -20,7 +20,7 @@ fn voice_in(state: State) -> StaticSound {
     StaticSound::from_state(state, &SOUND).unwrap()
 }
 
-/// Gives a command set to a voice: a refused one must leave it as it was.
+/// Gives a command set to a voice. A refused one must not change it.
 fn commanded(commands: Commands) -> Result<f64, Refusal> {
     let mut voice = voice();
     let before = voice.state();
@@ -31,7 +31,7 @@ fn commanded(commands: Commands) -> Result<f64, Refusal> {
     answer
 }
 
-/// Plays a block of two frames by either entry: a refused one must leave voice and buffer as they were.
+/// Plays a block of two frames by either entry. A refused one must change neither the voice nor the buffer.
 fn played(
     state: State,
     lanes: impl for<'a> Fn(&'a mut Lanes) -> BlockLanes<'a>,

@@ -43,14 +43,14 @@ fn crc_32(bytes: &[u8]) -> u32 {
     })
 }
 
-/// The bytes with one changed, and the check made anew.
+/// The bytes with one changed, and a new check.
 fn with(at: usize, byte: u8) -> Vec<u8> {
     let mut bytes = state().to_bytes();
     bytes[at] = byte;
     checked(bytes)
 }
 
-/// The bytes with their last four made the check of the others.
+/// The bytes with the check of the others as their last four.
 fn checked(mut bytes: Vec<u8>) -> Vec<u8> {
     let body = bytes.len() - 4;
     let check = crc_32(&bytes[..body]).to_le_bytes();
@@ -156,7 +156,7 @@ fn other_lengths_and_values_are_refused() {
     for (at, byte) in [(5, 7), (6, 32), (7, 1)] {
         assert_eq!(State::from_bytes(&with(at, byte)), Err(Unreadable::Value));
     }
-    // No slice is given, and its numbers are there.
+    // No slice is given, but its numbers are not 0.
     assert_eq!(State::from_bytes(&with(6, 0b10111)), Err(Unreadable::Value));
 }
 

@@ -1,5 +1,5 @@
-//! Two boxes over one folder, or over two that a careless copier keeps in step: against one shared
-//! table. The boxes are processes: this program again, with what to do in its environment.
+//! Two boxes over one folder, or over two folders that an unreliable copier keeps in step, compared with one shared
+//! table. The boxes are processes: they run this program again, with their task in the environment.
 
 use std::{
     env, fs,
@@ -20,7 +20,7 @@ use random::Random;
 const FRAMES: u64 = 64;
 const FILES: [&str; 2] = ["hall-a.loops", "hall-b.loops"];
 
-/// A folder of its own in memory if there is one, which is removed in the end.
+/// A folder for one test, in memory if possible. It is removed at the end.
 struct Folder(PathBuf);
 
 impl Folder {
@@ -132,7 +132,7 @@ impl Voice {
 
 // ---- the processes
 
-/// What a process is asked to do; the test of this name runs nothing else in it.
+/// The task of a process. The test of this name runs nothing else in it.
 const ASKED: &str = "CABLEOWL_SHARED_LOOPS";
 
 fn process(folder: &Path, hall: Hall, seed: u64, edits: usize) -> Command {
@@ -180,7 +180,7 @@ fn told(table: &LoopTable, slot: usize) -> String {
         .map_or("-".into(), |held| format!("{}..{}", held.start, held.end))
 }
 
-/// A line that begins with a word, and what follows the word.
+/// The rest of a line that begins with this word.
 fn line(lines: &mut impl BufRead, begins: &str) -> String {
     let mut line = String::new();
     loop {
@@ -192,8 +192,8 @@ fn line(lines: &mut impl BufRead, begins: &str) -> String {
     }
 }
 
-/// Two processes that edit at once; `between` runs meanwhile and, a last time, when both have edited.
-/// Their digests, and the tables that they end with.
+/// Two processes that edit at the same time. `between` runs meanwhile, and a last time when both have finished. Returns
+/// their digests and their final tables.
 fn run(
     folders: [&Folder; 2],
     seeds: [u64; 2],
@@ -248,7 +248,7 @@ fn run(
     )
 }
 
-/// The table that one shared table would hold.
+/// What one shared table would contain.
 fn shared(seeds: [u64; 2], edits: usize) -> String {
     let mut table = LoopTable::new(FRAMES);
     for (hall, seed) in [Hall::A, Hall::B].into_iter().zip(seeds) {
@@ -274,7 +274,7 @@ fn over_one_folder(edits: usize) {
         assert_eq!(ends, [shared(seeds, edits), shared(seeds, edits)]);
         digests.push(played);
     }
-    // B's frames do not depend on what A does.
+    // B's frames do not depend on A's edits.
     assert_eq!(digests[0][1], digests[1][1]);
     assert_ne!(digests[0][0], digests[1][0]);
 }
@@ -291,7 +291,7 @@ fn over_copied_folders(edits: usize) {
                     continue;
                 };
                 kept.push(bytes);
-                // Lost, or an earlier one again; in the end the last.
+                // A copy is lost, or an earlier one comes again; at the end the last one comes.
                 let sent = match is_last {
                     true => kept.len() - 1,
                     false if random.below(3) == 0 => continue,
@@ -343,7 +343,7 @@ fn a_hundred_thousand_edits_each() {
 
 // ---- faults
 
-/// Kills a writer so many times. Its file is then whole, and holds what its number of edits gives.
+/// Kills a writer this many times. Its file must be whole each time, and contain what its number of edits says.
 fn kills(times: usize) {
     let folder = Folder::new();
     let mut random = Random::new(9);
@@ -358,7 +358,7 @@ fn kills(times: usize) {
             .expect("a writer");
         let begun = Instant::now();
         let before = fs::read(folder.file(Hall::A)).ok();
-        // It has begun to write; then at any moment.
+        // It has begun to write; it is killed at any moment after that.
         while fs::read(folder.file(Hall::A)).ok() == before && begun.elapsed().as_secs() < 10 {
             thread::yield_now();
         }
@@ -428,7 +428,7 @@ fn files_of_any_bytes_leave_the_last_good_table() {
         fs::write(folder.file(Hall::A), &bytes).unwrap();
         assert_eq!(refusal_of(at_b.refresh()), Some(refusal));
         assert_eq!(at_b.table(), good);
-        // The box of hall A does not read its own file, and its next write mends it.
+        // The box of hall A does not read its own file, and its next write repairs it.
     }
     at_a.write(1, 2..3, "two").unwrap();
     assert_eq!(at_b.refresh().unwrap(), Theirs::Newer { changes: 2 });
@@ -452,7 +452,7 @@ fn a_box_starts_with_the_newest_of_its_own_halves() {
     let mut at_b = folder.open(Hall::B);
     assert_eq!(at_b.half(Hall::A).changes(), 3);
 
-    // A backup is put back; a copy has the newer half.
+    // A backup is restored; a copy has the newer half.
     fs::write(folder.file(Hall::A), &old).unwrap();
     let again = open(&copies).unwrap();
     let path = backup.file(Hall::A);
@@ -475,7 +475,7 @@ fn a_box_starts_with_the_newest_of_its_own_halves() {
         fs::read(&path).unwrap()
     );
 
-    // No copy has it: the number starts again lower than B has seen, and B says so.
+    // No copy has it: the number starts again below what B has seen, and B says so.
     fs::write(folder.file(Hall::A), &old).unwrap();
     let mut again = open(&[]).unwrap();
     assert_eq!(*again.start(), Start::Own { changes: 1 });
@@ -483,7 +483,7 @@ fn a_box_starts_with_the_newest_of_its_own_halves() {
     assert_eq!(at_b.half(Hall::A).name(0), "new");
     again.write(0, 1..7, "again").unwrap();
     assert_eq!(at_b.refresh().unwrap(), Theirs::Back { seen: 3, now: 2 });
-    // One number for two halves is said, and nothing is chosen.
+    // Two halves with the same number are reported, and neither is chosen.
     again.clear(5).unwrap();
     assert_eq!(refusal_of(at_b.refresh()), Some(Refusal::TwoHalves));
     assert_eq!(at_b.half(Hall::A).name(0), "new");
@@ -491,7 +491,7 @@ fn a_box_starts_with_the_newest_of_its_own_halves() {
     assert_eq!(at_b.refresh().unwrap(), Theirs::Newer { changes: 4 });
     assert_eq!(at_b.half(Hall::A).name(0), "again");
 
-    // A damaged own file: a copy serves, and without one the box does not start.
+    // A damaged own file: a copy is used, and without one the box does not start.
     fs::write(folder.file(Hall::A), b"no loops").unwrap();
     assert_eq!(refusal_of(open(&[])), Some(Refusal::Mark));
     let start = Start::Copy {
@@ -525,7 +525,7 @@ fn names_have_64_bytes_at_most() {
     assert_eq!(folder.open(Hall::B).half(Hall::A).name(7), "");
 }
 
-/// A change that cannot be written: the sentence, and nothing of it in the table or the file.
+/// A change that cannot be written: the sentence says so, and neither the table nor the file changes.
 fn unwritten(loops: &mut SharedLoops, file: &Path) -> String {
     let (table, before) = (loops.table(), fs::read(file).unwrap());
     let fault = loops.write(3, 0..9, "lost").expect_err("a fault");
@@ -539,7 +539,8 @@ fn a_folder_that_cannot_be_written() {
     let folder = Folder::new();
     let mut loops = folder.open(Hall::A);
     loops.write(0, 1..5, "kept").unwrap();
-    // What is written beside cannot be a file; root may write a folder without permission.
+    // The file cannot be created beside its place, because a folder is there; root may write to a folder without
+    // permission.
     fs::create_dir(folder.0.join(".hall-a.loops.new")).unwrap();
     let says = unwritten(&mut loops, &folder.file(Hall::A));
     assert!(
@@ -548,7 +549,7 @@ fn a_folder_that_cannot_be_written() {
     );
 }
 
-/// This program again, with no room in any file: a write of it ends in an error, as on a full disk.
+/// Runs this program again with a file size limit of 0. A write fails, as on a full disk.
 #[test]
 fn a_full_disk() {
     const FOLDER: &str = "CABLEOWL_FULL";
@@ -575,7 +576,7 @@ fn a_full_disk() {
     assert!(ended.unwrap().success());
 }
 
-/// What a look at the other hall's file costs.
+/// What a read of the other hall's file costs.
 #[test]
 #[ignore = "a measurement"]
 fn a_refresh_takes() {

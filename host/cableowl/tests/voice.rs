@@ -1,4 +1,4 @@
-// What a voice does when its calls are accepted: the rules' examples through the API.
+// What a voice does when its calls are accepted: the examples of the rules, through the API.
 
 use cableowl::{
     Commands, Frames, Lanes, PlaybackState, Refusal, Settings, Signals, StartAnswer, StartSignal,
@@ -66,7 +66,7 @@ fn a_block_reports_the_lowest_count_it_read() {
     let voice = StaticSound::new(Settings::new(1), &one).unwrap();
     assert_eq!(voice.state().time_until_empty, 2);
     assert_eq!(lowest_counts(voice.clone(), &one, &[1, 1, 1]), [2, 1, 4]);
-    // Stopped by the cut: the smaller of the two is not the uncut answer.
+    // The voice had stopped by the cut, so the smaller of the two counts is not that of the uncut block.
     assert_eq!(lowest_counts(voice.clone(), &one, &[3]), [0]);
     assert_eq!(lowest_counts(voice.clone(), &one, &[2, 1]), [1, 4]);
     assert_eq!(lowest_counts(voice, &one, &[0, 3]), [4, 0]);
@@ -115,7 +115,7 @@ fn a_block_says_what_its_frames_were_spent_on() {
     assert_eq!(spent(none(), &rates, finished), ([0, 4, 0, 0], 0, 0));
     let turned = none().resume().set_playback_rate(-1.0);
     assert_eq!(spent(turned, &[1.0], finished), ([1, 0, 0, 0], 1, 0));
-    // It runs off in this block, and is silent in the next.
+    // It passes the end in this block, and is silent in the next.
     assert_eq!(spent(none(), &[30.0; 3], Signals::new()).0, [3, 0, 0, 0]);
     assert_eq!(spent(none(), &[30.0; 3], Signals::new()).0, [0, 0, 3, 0]);
 }
@@ -143,7 +143,7 @@ fn wraps_are_counted_by_direction() {
     let both = smallest.playback_rate(-1.0).reverse(true);
     assert_eq!(wraps(&StaticSound::new(both, &one).unwrap()), (3, 0));
 
-    // One a step, from outside the loop too, and however many lengths it goes back.
+    // One wrap a step, also from outside the loop, and however many loop lengths the step goes back.
     let sound = ramp(10);
     let far = Settings::new(1)
         .start_position(Frames(9))

@@ -1,6 +1,5 @@
-//! The whole story on one screen: a student's evening is played with four ways to cut time, recorded,
-//! played again from its trace without the lesson and with it, audited, damaged, salvaged, and reported on
-//! a page.
+//! Everything on one screen: a student's evening is played with four kinds of block sizes, recorded, replayed from its
+//! trace without the lesson and with it, audited, damaged, salvaged, and reported on a page.
 //!
 //! `evening FOLDER` leaves its files there: the lesson; four logs of the evening; its trace and the log of
 //! the box that recorded it; the log of a player that clears its fraction at block edges; a damaged trace
@@ -42,14 +41,14 @@ const NOTHING_HEARD: u64 = 0xcbf2_9ce4_8422_2325;
 /// The hole in the damaged trace, in bytes.
 const HOLE: usize = 2_000;
 
-/// The evening's acts, each with the frame it comes before, and its last frame.
+/// The evening's actions, each with the frame that it precedes, and the last frame.
 fn acts() -> impl Iterator<Item = (u64, Option<&'static Act>)> {
     let frame = |seconds: u32| u64::from(seconds) * u64::from(DEVICE_RATE);
     let acts = SCRIPT.iter().map(move |(at, act)| (frame(*at), Some(act)));
     acts.chain([(frame(EVENING), None)])
 }
 
-/// What an evening of the lesson came to.
+/// The result of an evening of the lesson.
 #[derive(PartialEq)]
 struct Outcome {
     steps: u64,
@@ -57,7 +56,7 @@ struct Outcome {
     digest: u64,
 }
 
-/// Plays the lesson's evening, and logs it. A slip clears the fraction after each block.
+/// Plays the lesson's evening and logs it. If `slip` is set, it clears the fraction after each block.
 fn play(
     sound: &[f32],
     mut blocks: Blocks,
@@ -115,8 +114,8 @@ fn play(
     })
 }
 
-/// Plays the evening on a player that is recorded, in blocks of 512 frames: the bytes of its trace and the digest of
-/// what was heard. The buffer is emptied in time, so that nothing is lost.
+/// Plays the evening on a recorded player, in blocks of 512 frames. Returns the bytes of its trace and the digest of
+/// the output. The buffer is emptied in time, so that nothing is lost.
 fn record(
     lesson: &Lesson,
     trace: &mut dyn Write,
@@ -163,7 +162,7 @@ fn digest_of(name: &str) -> io::Result<u64> {
     Ok(samples.fold(NOTHING_HEARD, |digest, sample| digested(digest, &sample)))
 }
 
-/// The ways to cut time, by the names of their logs.
+/// The kinds of block sizes, by the names of their logs.
 fn cuts() -> [(&'static str, Blocks); 4] {
     [
         ("64", Blocks::Of(64)),

@@ -1,5 +1,5 @@
-//! `cableowl audit`: did this box play as proved? The trace is played again by the rule, and the
-//! box's own log is compared with it wherever both have an edge.
+//! `cableowl audit`: did this box play as proved? The trace is replayed by the rules, and the box's log is compared
+//! with it wherever both end a block.
 
 mod align;
 mod evenings;
@@ -25,10 +25,10 @@ use crate::{
 use align::{Pair, Part, Segment, What, Why};
 use words::{put_text, sentence};
 
-/// How many places that differ are listed.
+/// How many differences are listed.
 const LISTED: usize = 5;
 
-/// A place where the box differs from the rule.
+/// A point where the box differs from the rules.
 #[derive(Debug, Clone, Copy, PartialEq)]
 struct Differs {
     segment: Segment,
@@ -38,12 +38,12 @@ struct Differs {
     at: f64,
 }
 
-/// How far the box was from the rule.
+/// How far the box was from the rules.
 #[derive(Debug, Clone, Copy, PartialEq, Eq, Default)]
 struct Gap {
-    /// Frames of the sound that it is behind, by the steps; below 0 it is ahead.
+    /// The frames of the sound that the box is behind, by its steps; below 0 it is ahead.
     creep: Option<i128>,
-    /// The places' difference.
+    /// The difference of the positions.
     place: Option<i128>,
 }
 
@@ -54,7 +54,7 @@ impl Join for Gap {
     }
 }
 
-/// A place from which on nothing is said of the box.
+/// A point from which the audit cannot say anything about the box.
 #[derive(Debug, Clone, PartialEq, Eq)]
 struct Stop {
     why: Why,
@@ -62,7 +62,7 @@ struct Stop {
     after: u64,
     /// The bytes of a hole in the trace.
     hole: Option<Range<u64>>,
-    /// The line of the log from which on the audit goes on, or why it does not.
+    /// The line of the log at which the audit continues, or why it does not.
     resumed: Option<std::result::Result<u64, &'static str>>,
 }
 
@@ -95,7 +95,7 @@ struct Found {
     trace: String,
     log: String,
     form: Form,
-    /// Places that were compared, and the blocks and lines up to them.
+    /// The points that were compared, and the blocks and lines up to them.
     places: u64,
     blocks: u64,
     lines: u64,
@@ -106,7 +106,7 @@ struct Found {
     differing: u64,
     first: Vec<Differs>,
     creep: i128,
-    /// Whether nothing but steps, places and turns differs.
+    /// Whether only steps, positions and wraps differ.
     only_moves: bool,
     /// Whether the steps are those of a player that clears its fraction after each line.
     clears: bool,
@@ -158,7 +158,7 @@ impl Found {
         }
     }
 
-    /// One place more: whether the box is there where the rule puts it.
+    /// Adds a point: compares the box with the rules there.
     fn compare(&mut self, segment: &Segment) -> bool {
         let (rule, said) = (&segment.rule, &segment.said);
         let begin = self.frames;
@@ -170,8 +170,7 @@ impl Found {
         self.seconds += segment.seconds;
         self.sample_rate = segment.sample_rate;
         self.looped |= segment.looped;
-        // A voice that has stopped does not creep, and the steps of the block in which it stops depend on
-        // the cut.
+        // A stopped voice does not creep. The steps of the block in which it stops depend on the block's length.
         let stopped = rule.last.is_some_and(|block| block.state == 6);
         if !(stopped || rule.ran_off || said.ran_off) {
             let lost = i128::from(rule.steps) - i128::from(said.steps);
@@ -215,8 +214,8 @@ impl Found {
     }
 }
 
-/// Whether the box made the steps of a player that begins each line at fraction 0: the whole frames of
-/// the advance. A millionth of a frame is left for the rounding of the sums.
+/// Whether the box made the steps of a player that starts each line at fraction 0: the whole frames of the advance. A
+/// millionth of a frame is allowed for rounding of the sums.
 fn is_cleared(segment: &Segment) -> bool {
     let whole = |frames: f64| (frames.max(0.0)).floor() as u64;
     let advance = segment.advance;
@@ -225,8 +224,8 @@ fn is_cleared(segment: &Segment) -> bool {
     fits && (segment.said.lines == 1 || advance == 0.0)
 }
 
-/// Audits a log by its trace: whether they agree. Where nothing can be said it is a fault. A sound that the
-/// trace names and that is in none of the places is told by `complain`; it does not change the verdict.
+/// Audits a log against its trace and returns whether they agree. If nothing can be said, that is a fault. `complain`
+/// gets a sentence for each sound that the trace names and that was not found; this does not change the verdict.
 pub fn audit(
     trace: &Path,
     log: &Path,
@@ -275,7 +274,7 @@ pub fn audit(
     }
 }
 
-/// The trace and the log, each of its own kind as far as their first bytes tell.
+/// The trace and the log, told apart by their first bytes.
 fn opened(trace: &Path, log: &Path, of_many: bool) -> Result<(Input, Log)> {
     let open = |path| Ok(Input::open(path)?.without_progress(of_many));
     let mut files = (open(trace)?, open(log)?);
@@ -303,7 +302,7 @@ fn found(
 ) -> Result<Found> {
     let mut found = Found::new(&input, &log);
     let mut pair = Pair::new(input, log, sounds);
-    // What was found before a hole, where the audit goes on behind it.
+    // What was found before a hole, if the audit continues after it.
     let mut before_hole: Option<Found> = None;
     loop {
         match pair.next() {
@@ -315,7 +314,7 @@ fn found(
             Err(why @ Why::TraceDamaged(_)) if before_hole.is_none() => {
                 found.stop(why);
                 let hole = pair.skip().unwrap_or_default();
-                // Rows that were written cannot be taken back: a table ends at the hole.
+                // Rows that were written cannot be taken back, so a table ends at the hole.
                 let resumed = match csv {
                     true => None,
                     false => Some(pair.resume()),

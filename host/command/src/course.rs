@@ -1,26 +1,26 @@
-//! The course of an evening, for the plots: at most so many stretches of time, whatever its length.
+//! The course of an evening, for the plots, in at most a fixed number of intervals of time, whatever its length.
 
 use crate::figures::{REFUSALS, Told};
 
-/// How many stretches are enough for one evening on a page.
+/// How many intervals are enough for one evening on a page.
 pub const STRETCHES: usize = 480;
 
-/// The refusals' rows: each of `REFUSALS`, and all others.
+/// The rows of refusals: one for each of `REFUSALS`, and one for all others.
 pub const ROWS: usize = REFUSALS.len() + 1;
 
-/// Numbers over stretches of equal length, which double as time goes on.
+/// Values over intervals of equal length. The length doubles when there are too many.
 #[derive(Debug, Clone)]
 pub struct Series<T> {
-    /// The frames of a stretch.
+    /// The frames of an interval.
     pub width: u64,
-    /// The stretches.
+    /// The intervals.
     pub held: Vec<T>,
-    /// How many are held; where there are more, neighbours are joined.
+    /// The largest number of intervals. If there are more, neighbours are joined.
     most: usize,
 }
 
 impl<T: Default + Join> Series<T> {
-    /// Begins with stretches of so many frames, and holds at most so many.
+    /// Starts with intervals of `width` frames, and keeps at most `most` of them.
     pub fn new(width: u64, most: usize) -> Self {
         Self {
             width: width.max(1),
@@ -29,7 +29,7 @@ impl<T: Default + Join> Series<T> {
         }
     }
 
-    /// The stretch of this frame.
+    /// The interval of this frame.
     pub fn at(&mut self, clock: u64) -> Option<&mut T> {
         while clock / self.width >= self.most as u64 {
             self.halve();
@@ -55,18 +55,18 @@ impl<T: Default + Join> Series<T> {
     }
 }
 
-/// Two neighbours become one.
+/// Joins two neighbours.
 pub trait Join {
-    /// Takes in what comes after it.
+    /// Adds the interval that follows it.
     fn join(&mut self, later: Self);
 }
 
-/// What is drawn of a stretch.
+/// What is drawn of an interval.
 #[derive(Debug, Clone, Copy, PartialEq, Eq, Default)]
 pub struct Stretch {
-    /// The lowest place, the highest and the last, where there was one.
+    /// The lowest, the highest and the last position, if there was one.
     pub places: Option<(u64, u64, u64)>,
-    /// Whether the place leapt: round a loop, by a seek, with a new voice.
+    /// Whether the position jumped: by a wrap, a seek or a new voice.
     pub leapt: bool,
     /// Frames that were paused.
     pub paused: u64,
@@ -113,40 +113,40 @@ fn lower(one: Option<u8>, other: Option<u8>) -> Option<u8> {
     }
 }
 
-/// A loop that was gone round.
+/// A loop that was wrapped.
 #[derive(Debug, Clone, Copy, PartialEq, Eq)]
 pub struct Loop {
-    /// The frame at which the block of its first turn begins.
+    /// The frame at which the block of its first wrap begins.
     pub from: u64,
-    /// The frame after the block of its last turn.
+    /// The frame after the block of its last wrap.
     pub until: u64,
-    /// The highest place that was told at its turns.
+    /// The highest position logged at its wraps.
     pub high: u64,
     /// Its length in frames of the sound.
     pub length: u64,
-    /// Times round.
+    /// Its wraps.
     pub rounds: u64,
 }
 
 /// The course so far.
 #[derive(Debug, Clone)]
 pub struct Course {
-    /// The stretches.
+    /// The intervals.
     pub stretches: Series<Stretch>,
-    /// Times round, minute by minute.
+    /// The wraps of each minute.
     pub rounds: Series<u64>,
-    /// The loops, in their order; the first of them alone where there are very many.
+    /// The loops in their order; only the first ones if there are very many.
     pub loops: Vec<Loop>,
     /// The frames so far.
     pub frames: u64,
-    /// The highest place.
+    /// The highest position.
     pub highest: u64,
     last: Option<u64>,
     most_loops: usize,
 }
 
 impl Course {
-    /// Nothing yet; a box of so many frames a second, and at most so many stretches.
+    /// An empty course for a box with `rate` frames per second, with at most `stretches` intervals.
     pub fn new(rate: u32, stretches: usize) -> Self {
         Self {
             stretches: Series::new(1, stretches),
@@ -159,7 +159,7 @@ impl Course {
         }
     }
 
-    /// One line more.
+    /// Adds a line.
     pub fn add(&mut self, told: &Told) {
         let leapt = told.jumped || told.rounds > 0 || told.seeks > 0;
         if let Some(stretch) = self.stretches.at(told.clock) {
@@ -188,13 +188,13 @@ impl Course {
         self.last = Some(place);
     }
 
-    /// A turn belongs to the loop before it where the length is the same.
+    /// A wrap belongs to the loop before it if the length is the same.
     fn turn(&mut self, told: &Told, place: u64) {
         let high = self.last.unwrap_or_default().max(place);
         if let Some(last) = self.loops.last_mut()
             && told.length.is_none_or(|length| length == last.length)
         {
-            // The first turn may come from beyond the loop.
+            // The first wrap may come from outside the loop.
             last.high = if last.rounds == 1 {
                 high
             } else {

@@ -1,4 +1,4 @@
-//! The figures of an evening, taken from its log line by line; docs/guide/TOOLS.md says how each is told.
+//! The figures of an evening, computed from its log line by line. docs/guide/TOOLS.md says how each is computed.
 
 use cableowl::Usage;
 
@@ -7,10 +7,10 @@ use crate::log::{Before, Block, Form, Line};
 /// The refusals that a block may have, each with a column of its own.
 pub const REFUSALS: [u8; 5] = [1, 9, 10, 11, 12];
 
-/// The figures of one log, or of several together. What the lines cannot tell is `None`.
+/// The figures of one log, or of several together. `None` means that the lines do not contain a figure.
 #[derive(Debug, Clone, Copy, PartialEq, Eq, Default)]
 pub struct Figures {
-    /// Blocks, the refused ones too.
+    /// Blocks, including refused ones.
     pub blocks: u64,
     /// Frames of the accepted blocks.
     pub frames: u64,
@@ -20,30 +20,30 @@ pub struct Figures {
     pub paused: u64,
     /// Frames that were silent: not started, or stopped.
     pub silent: u64,
-    /// Of the played frames, those at a rate of 0; form 3 alone.
+    /// Of the played frames, those at rate 0; only in form 3.
     pub still: Option<u64>,
     /// Frames of the sound that were stepped over.
     pub steps: u64,
-    /// Blocks in which the place moved further than their steps; form 1 alone, since the number depends
-    /// on the block size.
+    /// Blocks in which the position moved further than their steps; only in form 1, since the number depends on the
+    /// block size.
     pub jumps: Option<u64>,
-    /// Times round the loop, forward and backward.
+    /// Wraps, forward and backward.
     pub rounds: Option<u64>,
     /// Seeks.
     pub seeks: Option<u64>,
     /// Restarts by hand.
     pub restarts: Option<u64>,
-    /// Pauses; form 3 alone.
+    /// Pauses; only in form 3.
     pub pauses: Option<u64>,
-    /// 1 where a voice has reached an end of its sound, else 0; form 3 alone.
+    /// 1 if a voice has reached an end of its sound, otherwise 0; only in form 3.
     pub ended: Option<u64>,
-    /// Lines whose steps, turns and places do not fit; form 3 alone.
+    /// Lines whose steps, wraps and positions do not fit together; only in form 3.
     pub misfits: Option<u64>,
     /// The first of them, by its block's number.
     pub first_misfit: Option<u64>,
     /// The lowest window count.
     pub lowest: Option<u64>,
-    /// Refused blocks: one count for each of `REFUSALS`.
+    /// Refused blocks, counted for each of `REFUSALS`.
     pub refused: [u64; REFUSALS.len()],
     /// Blocks that were refused with another number.
     pub refused_otherwise: u64,
@@ -68,15 +68,15 @@ pub struct Told {
     pub clock: u64,
     /// The frames of this line.
     pub frames: u64,
-    /// The place after it, if it moved.
+    /// The position after it, if it moved.
     pub position: Option<u64>,
-    /// What its frames were spent on.
+    /// How its frames were spent.
     pub usage: Usage,
-    /// Times round the loop.
+    /// Its wraps.
     pub rounds: u64,
-    /// The loop's length, where a round tells it.
+    /// The loop's length, if a wrap shows it.
     pub length: Option<u64>,
-    /// Whether the place moved further than the steps.
+    /// Whether the position moved further than the steps.
     pub jumped: bool,
     /// Seeks before it.
     pub seeks: u64,
@@ -92,7 +92,7 @@ pub struct Count {
     figures: Figures,
     position: Option<u64>,
     turns: Option<(u32, u32)>,
-    /// The last block of the voice, where nothing but playing has moved it since.
+    /// The last block of the voice, if the voice has only played since then.
     before: Option<Block>,
 }
 
@@ -124,7 +124,7 @@ impl Count {
         self.figures
     }
 
-    /// One line more.
+    /// Adds a line.
     pub fn add(&mut self, line: &Line) -> Option<Told> {
         match *line {
             Line::Broken { refusal, at } => {
@@ -208,7 +208,7 @@ impl Count {
         }
     }
 
-    /// What was done before a line; the seeks of it.
+    /// Counts what was done before a line, and returns its seeks.
     fn before(&mut self, before: Option<Before>) -> u64 {
         let Some(before) = before else {
             return 0;
@@ -226,8 +226,8 @@ impl Count {
         before.seeks
     }
 
-    /// The turns of a block, forward and backward. A voice that is older than the log brings the
-    /// turns of its first line; of a count that stands at its limit nothing is told.
+    /// The wraps of a block, forward and backward. If a voice is older than the log, the wraps of its first line
+    /// include earlier ones. A count at its limit says nothing.
     fn rounds(&mut self, block: &Block) -> Option<(u64, u64)> {
         let more = block.more?;
         let (forward, backward) = self.turns.unwrap_or((more.forward, more.backward));
@@ -240,8 +240,8 @@ impl Count {
         Some((forward, backward))
     }
 
-    /// The loop's length: a voice that plays in its loop of L frames goes from p to p + steps - L *
-    /// turns, and backward to p - steps + L * turns.
+    /// The loop's length. A voice that plays in its loop of L frames moves from p to p + steps - L * wraps, and
+    /// backward to p - steps + L * wraps.
     fn length(&self, block: &Block, rounds: Option<(u64, u64)>) -> Option<u64> {
         let from = self.position?;
         let (way, turns) = match rounds? {
@@ -260,8 +260,8 @@ impl Count {
     }
 }
 
-/// What the frames of an accepted block were spent on: docs/guide/TOOLS.md, "How each figure is computed". The
-/// forms 1 and 2 count a block whole, by the state at its end.
+/// How the frames of an accepted block were spent: docs/guide/TOOLS.md, "How each figure is computed". Forms 1 and 2
+/// count a whole block by the state at its end.
 fn usage(block: &Block) -> Usage {
     if let Some(third) = block.more.and_then(|more| more.third) {
         return third.usage;
@@ -277,8 +277,8 @@ fn usage(block: &Block) -> Usage {
     usage
 }
 
-/// Whether a block fits the one before it: a voice that plays inside a loop of L frames goes from p to
-/// p + steps - L * turns, and backward the other way. Where the lines do not say enough, it fits.
+/// Whether a block fits the one before it: a voice that plays inside a loop of L frames moves from p to p + steps - L *
+/// wraps, and backward the other way. If the lines do not say enough, it fits.
 fn fits(before: &Block, block: &Block) -> bool {
     let third = |block: &Block| Some((block.more?, block.more?.third?));
     let (Some((was, from)), Some((is, to))) = (third(before), third(block)) else {
@@ -305,7 +305,7 @@ fn raise(sum: &mut u64, more: u64) {
     *sum = sum.saturating_add(more);
 }
 
-/// The five quantiles that are told, by their names: each in hundredths.
+/// The five quantiles that are reported, with their names, in hundredths.
 pub const QUANTILES: [(&str, usize); 5] = [
     ("lowest", 0),
     ("quarter", 25),
@@ -314,15 +314,15 @@ pub const QUANTILES: [(&str, usize); 5] = [
     ("highest", 100),
 ];
 
-/// A quantile by the nearest rank: the smallest of the numbers that at least so many hundredths of
-/// them do not exceed. It is always one of them; of none there is none.
+/// A quantile by the nearest rank: the smallest of the numbers such that at least this many hundredths of them do not
+/// exceed it. It is always one of the numbers. Without numbers there is none.
 pub fn quantile(numbers: &[u64], hundredths: usize) -> Option<u64> {
     let mut sorted = numbers.to_vec();
     sorted.sort_unstable();
     sorted.get(rank(sorted.len(), hundredths)).copied()
 }
 
-/// Where among so many sorted numbers the quantile stands.
+/// The index of the quantile among `count` sorted numbers.
 pub fn rank(count: usize, hundredths: usize) -> usize {
     (count * hundredths).div_ceil(100).max(1) - 1
 }

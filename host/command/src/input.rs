@@ -1,5 +1,5 @@
-//! What a run reads: a file, or standard input for `-`; what it is by its first bytes, and how far
-//! the reading is.
+//! What a run reads: a file, or standard input for `-`. Also what the file is, by its first bytes, and the progress of
+//! reading.
 
 use std::{
     fs::{File, Metadata},
@@ -37,7 +37,7 @@ pub enum FileKind {
     Unknown,
 }
 
-/// As many bytes as tell one kind from another.
+/// Enough bytes to tell one kind from another.
 const FIRST: u64 = 8;
 
 impl FileKind {
@@ -61,7 +61,7 @@ impl FileKind {
         }
     }
 
-    /// What is said of a file of this kind where another was wanted: what it is, and what reads it.
+    /// The sentence for a file of this kind if another was wanted: what it is, and what reads it.
     fn says(self, wanted: &str, name: &str) -> Option<String> {
         let file = if name == STANDARD_INPUT { "-" } else { name };
         let (is, reads) = match self {
@@ -96,7 +96,7 @@ pub struct Input {
     name: String,
     kind: FileKind,
     from: Box<dyn Read>,
-    /// A file, and what was known of it when it was opened.
+    /// A file, and its length and date when it was opened.
     file: Option<(File, Metadata)>,
     read: u64,
     progress: Progress,
@@ -143,7 +143,7 @@ impl Input {
         self.file.as_ref().map(|(_, metadata)| metadata.len())
     }
 
-    /// Whether the file, of which so many bytes were read, was changed since it was opened.
+    /// Whether the file was changed since it was opened; `read` bytes of it were read.
     pub fn has_changed(&self, read: u64) -> bool {
         let Some((file, before)) = &self.file else {
             return false;
@@ -155,19 +155,19 @@ impl Input {
         !file.metadata().is_ok_and(same)
     }
 
-    /// Says nothing of how far the reading is, where it is one of many files.
+    /// Turns the progress off, for one of many files.
     pub fn without_progress(mut self, one_of_many: bool) -> Self {
         self.progress.terminal &= !one_of_many;
         self
     }
 
-    /// Looks at its first bytes, and says what it is; nothing is taken from it.
+    /// Looks at its first bytes, and returns what it is. It consumes nothing.
     pub fn kind(&mut self) -> Result<FileKind> {
         self.kind = FileKind::of(&self.first()?);
         Ok(self.kind)
     }
 
-    /// Its first bytes; nothing is taken from it.
+    /// Its first bytes. It consumes nothing.
     pub fn first(&mut self) -> Result<Vec<u8>> {
         let mut first = Vec::new();
         let looked = (&mut self.from).take(FIRST).read_to_end(&mut first);
@@ -177,7 +177,7 @@ impl Input {
         Ok(first)
     }
 
-    /// Refuses it if its first bytes say that it is none of these.
+    /// Refuses it if its first bytes show that it is none of these.
     pub fn must_be(&self, kinds: &[FileKind], wanted: &str) -> Result<()> {
         match self.kind.says(wanted, &self.name) {
             Some(says) if !kinds.contains(&self.kind) => Err(self.wrong(says)),
@@ -185,7 +185,7 @@ impl Input {
         }
     }
 
-    /// Its name, as it may be told.
+    /// Its name for messages.
     pub fn name(&self) -> &str {
         &self.name
     }
@@ -224,7 +224,7 @@ impl Read for Input {
     }
 }
 
-/// Says on a terminal how far a long reading is.
+/// Shows the progress of a long reading on a terminal.
 struct Progress {
     terminal: bool,
     began: Instant,
@@ -252,7 +252,7 @@ impl Progress {
             Some(length) if length > 0 => format!("{} %", read.saturating_mul(100) / length),
             _ => format!("{} MB read", read / 1_000_000),
         };
-        // Who does not hear it misses nothing.
+        // The progress is not important, so an error is ignored.
         let _ = write!(io::stderr(), "\r\x1b[K{name}: {far}");
     }
 }
@@ -265,7 +265,7 @@ impl Drop for Progress {
     }
 }
 
-/// Does work that takes its time without reading, and says on a terminal how long it has been at it.
+/// Does long work that reads nothing, and shows on a terminal how long it has taken.
 pub fn working<T>(name: &str, work: impl FnOnce() -> T) -> T {
     if !io::stderr().is_terminal() {
         return work();

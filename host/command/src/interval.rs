@@ -1,14 +1,14 @@
-//! Shares of sessions with an interval of 95 percent, and the difference of two: Wilson's score
-//! interval (1927), and for a difference the one that is made of two of Wilson's (R. G. Newcombe,
-//! Statistics in Medicine 17, 1998: 857 to 872 for one share, 873 to 890 for a difference, method 10).
+//! Shares of sessions with a 95 percent interval, and the difference of two shares: Wilson's score interval (1927), and
+//! for a difference the interval built from two of Wilson's (R. G. Newcombe, Statistics in Medicine 17, 1998: 857 to
+//! 872 for one share, 873 to 890 for a difference, method 10).
 
 /// The two-sided 95 percent point of the normal distribution.
 const Z: f64 = 1.959_964;
 
-/// So many of so many.
+/// A count out of a total.
 #[derive(Debug, Clone, Copy, PartialEq, Eq, Default)]
 pub struct Share {
-    /// How many have it.
+    /// How many have the property.
     pub of: u64,
     /// How many there are.
     pub all: u64,
@@ -33,7 +33,7 @@ impl Estimate {
 }
 
 impl Share {
-    /// The share with Wilson's interval; of nothing there is none.
+    /// The share with Wilson's interval; `None` without sessions.
     pub fn estimate(self) -> Option<Estimate> {
         if self.all == 0 {
             return None;
@@ -45,7 +45,7 @@ impl Share {
         let bound = |end: f64| (end / (all + z2)).clamp(0.0, 1.0);
         Some(Estimate {
             value,
-            // Of none the lower end is 0 and of all the upper is 1, without rounding.
+            // If the count is 0 the lower end is exactly 0, and if it is the total the upper end is exactly 1.
             low: if self.of == 0 {
                 0.0
             } else {
@@ -90,8 +90,8 @@ mod tests {
         (format!("{low:.4}"), format!("{high:.4}"))
     }
 
-    /// The numbers were worked out with exact fractions in two ways: by the closed form, its root to 40
-    /// digits, and by halving down to the roots.
+    /// The expected numbers were computed with exact fractions in two ways: by the closed form with its root to 40
+    /// digits, and by bisection.
     #[test]
     fn wilson_s_intervals_are_those_of_two_other_computations() {
         for (of, all, low, high) in [

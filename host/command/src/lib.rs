@@ -1,5 +1,4 @@
-//! What people run: the command `cableowl`, over the library (docs/guide/TOOLS.md has a page for each of
-//! them).
+//! The command `cableowl` that people run, over the library (docs/guide/TOOLS.md has a section for each verb).
 #![forbid(unsafe_code)]
 #![warn(missing_docs)]
 
@@ -38,8 +37,8 @@ use out::Out;
 use verbs::VERBS;
 use words::Asked;
 
-/// Does what the words ask for, and tells the exit status: 0; 1 where a file was refused or an audit
-/// found a difference; 2 where the words mean nothing; 3 where an audit can say nothing of the box.
+/// Does what the words ask for, and returns the exit status: 0; 1 if a file was refused or an audit found a difference;
+/// 2 if the words mean nothing; 3 if an audit cannot say anything about the box.
 pub fn run(
     words: impl IntoIterator<Item = OsString>,
     out: impl Write,
@@ -52,7 +51,7 @@ pub fn run(
     };
     let mut out = Out::new(out);
     let mut complain = |fault: &Fault| {
-        // There is nowhere to say that it could not be said.
+        // There is nowhere to report that the message could not be written.
         let _ = match fault {
             Fault::Closed | Fault::Unsaid => Ok(()),
             Fault::Refused(_) | Fault::Unknown(_) => writeln!(complaints, "cableowl: {fault}"),

@@ -38,7 +38,7 @@ pub enum Line {
     Refused {
         /// Its number.
         number: u64,
-        /// The refusal's.
+        /// The refusal's number.
         refusal: u8,
         /// What came before it; form 1 does not contain it.
         before: Option<Before>,
@@ -298,7 +298,7 @@ impl Words<'_> {
     }
 }
 
-/// A log that is being read; it holds one line at a time.
+/// A log that is being read. It keeps one line at a time.
 pub struct Log {
     input: Input,
     form: Form,
@@ -312,7 +312,7 @@ pub struct Log {
     blocks: u64,
     broken: bool,
     counts: Option<(u32, u32)>,
-    /// The line and the byte where the log was cut inside a line.
+    /// The line and the byte at which the log ends inside a line.
     cut: Option<(u64, u64)>,
 }
 
@@ -347,7 +347,7 @@ impl Log {
         Ok(log)
     }
 
-    /// Where the log was cut inside a line, in words; once its last complete line has been read.
+    /// Where the log ends inside a line, in words; known once its last complete line has been read.
     pub fn cut(&self) -> Option<String> {
         let (line, place) = self.cut?;
         Some(format!("line {line} (byte {place}) breaks off"))

@@ -20,11 +20,11 @@ pub struct Change {
     pub hall: Hall,
     /// The slot.
     pub slot: usize,
-    /// The loop that it gets; none to empty it.
+    /// The loop that it gets; `None` to empty it.
     pub loops: Option<Loop>,
-    /// Frames of the sound, where they are given.
+    /// Frames of the sound, if they are given.
     pub frames: Option<u64>,
-    /// Frames a second of the sound.
+    /// Frames per second of the sound.
     pub rate: u32,
 }
 
@@ -157,7 +157,7 @@ fn recorded(folder: &Path) -> Result<u64> {
     )))
 }
 
-/// What is said of each hall, and the slots that hold a loop.
+/// A line for each hall, and the slots with a loop.
 fn put(halves: &[(Hall, String, Option<LoopHalf>)], rate: u32, out: &mut Out<'_>) -> Result<()> {
     let seconds = |frames: u64| format!("{:.3} s", frames as f64 / f64::from(rate));
     let both = |frames: u64| format!("{} ({})", grouped(frames), seconds(frames));

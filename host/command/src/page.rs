@@ -1,18 +1,18 @@
-//! What all pages have: one file, nothing fetched, in light, in dark and in print. A page can be read
-//! without its script, which sorts tables and opens a row's plots below it.
+//! What all pages share: one file that fetches nothing, for light, dark and print. A page can be read without its
+//! script, which sorts tables and opens a row's plots below it.
 
 use crate::{fault::Result, out::PAGE_MARK, plot::escaped, table::spaced};
 
-/// How the pages look. A plot is drawn 1,440 units wide and scaled to the page, so its text is larger
-/// where the page is narrower: none is under 11 px.
+/// The style of the pages. A plot is drawn 1,440 units wide and scaled to the page, so its text is enlarged on a narrow
+/// page: no text is below 11 px.
 const STYLE: &str = include_str!("page/style.css");
 
 const SCRIPT: &str = include_str!("page/script.js");
 
-/// The columns of a table that are shown before all are asked for, the first one too.
+/// The number of columns that a table shows before all are asked for, including the first.
 pub const FEW: usize = 11;
 
-/// Where a page's text goes.
+/// Where a page's text is written.
 pub type Sink<'a> = dyn FnMut(&str) -> Result<()> + 'a;
 
 /// A page's beginning.
@@ -38,15 +38,15 @@ pub fn note(says: &str) -> String {
 
 /// A table that can be sorted, and saved as comma separated values.
 pub struct Table<'a> {
-    /// Its name, and its file's without `.csv`.
+    /// Its name, which is also its file's name without `.csv`.
     pub id: &'a str,
-    /// Classes besides.
+    /// More classes.
     pub class: &'a str,
-    /// The columns: the name in comma separated values, and the words for people.
+    /// The columns: the name in comma separated values, and the heading for people.
     pub columns: Vec<(&'a str, &'a str)>,
     /// The rows that are sorted.
     pub rows: Vec<Row>,
-    /// Rows over all of them.
+    /// Rows for all of them together.
     pub over: Vec<Row>,
     /// The same figures as comma separated values.
     pub csv: String,
@@ -56,7 +56,7 @@ pub struct Table<'a> {
 pub struct Row {
     /// The number of the section that it opens.
     pub opens: Option<usize>,
-    /// Its cells as the comma separated values have them; none is not told.
+    /// Its cells as in the comma separated values; `None` if the log does not contain the figure.
     pub cells: Vec<Option<String>>,
 }
 
@@ -121,8 +121,8 @@ impl Row {
     }
 }
 
-/// A section that a row opens; where it is alone on its page it is always open. Where there is a script,
-/// a browser takes what is inside `noscript` for text, and does not draw it before it is asked for.
+/// A section that a row opens. A section that is alone on its page is always open. With a script, a browser takes what
+/// is inside `noscript` as text, and does not draw it until it is asked for.
 pub fn section(number: usize, alone: bool, title: &str, body: &str) -> String {
     let title = escaped(title);
     let section = |class| {

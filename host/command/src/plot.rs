@@ -1,23 +1,23 @@
-//! Plots as SVG, drawn by hand: panels one above the other over one axis of time. All numbers are whole
-//! and a line is written by its steps, so that hundreds of plots fit on a page.
+//! Plots as SVG, written directly: panels one above the other over one axis of time. All numbers are whole, and a line
+//! is written by its steps, so that hundreds of plots fit on a page.
 
 use std::fmt::{self, Write as _};
 
-/// A plot's width in its own units, and what is left free left and right of the panels, above each for
-/// its caption, and below all for the time.
+/// A plot's width in its own units, and the margins: left and right of the panels, above each for its caption, and
+/// below all for the time.
 const WIDTH: i64 = 1_440;
 const LEFT: i64 = 160;
 const RIGHT: i64 = 32;
 const CAPTION: i64 = 84;
 const BOTTOM: i64 = 76;
 
-/// No axis has more marks.
+/// The largest number of marks on an axis.
 const MARKS: u32 = 40;
 
 /// Panels over one axis of time.
 pub struct Plot {
     seconds: f64,
-    /// The current panel: its upper and its lower edge, and the numbers there.
+    /// The current panel: its upper and its lower edge, and the values there.
     top: i64,
     base: i64,
     until: f64,
@@ -26,7 +26,7 @@ pub struct Plot {
 }
 
 impl Plot {
-    /// A plot of so many seconds, without a panel.
+    /// A plot of this many seconds, without a panel.
     pub fn new(seconds: f64) -> Self {
         Self {
             seconds: match seconds.is_finite() && seconds > 0.0 {
@@ -41,7 +41,7 @@ impl Plot {
         }
     }
 
-    /// A panel below the last one, with numbers from one to another.
+    /// Adds a panel below the last one, with values from `from` to `until`.
     pub fn panel(&mut self, caption: &str, height: i64, from: f64, until: f64) {
         self.top = self.base + CAPTION;
         self.base = self.top + height;
@@ -52,13 +52,13 @@ impl Plot {
         ));
     }
 
-    /// Where a time stands.
+    /// The x coordinate of a time.
     pub fn x(&self, seconds: f64) -> i64 {
         let part = (seconds / self.seconds).clamp(0.0, 1.0);
         LEFT + ((WIDTH - LEFT - RIGHT) as f64 * part).round() as i64
     }
 
-    /// Where a number stands.
+    /// The y coordinate of a value.
     pub fn y(&self, number: f64) -> i64 {
         let part = ((number - self.from) / (self.until - self.from)).clamp(0.0, 1.0);
         self.base - ((self.base - self.top) as f64 * part).round() as i64
@@ -69,7 +69,7 @@ impl Plot {
         self.drawn.push('\n');
     }
 
-    /// A filled part with a name.
+    /// A filled area with a name.
     pub fn area(&mut self, class: &str, (times, numbers): Area, says: &str) {
         let (x, y, width, height) = self.sides(times, numbers);
         let title = title(says);
@@ -78,7 +78,7 @@ impl Plot {
         ));
     }
 
-    /// Filled parts of one kind without names.
+    /// Filled areas of one kind without names.
     pub fn areas(&mut self, class: &str, areas: &[Area]) {
         let mut pen = Pen::default();
         for (times, numbers) in areas {
@@ -102,7 +102,7 @@ impl Plot {
         (x, y, (right - x).max(2), (bottom - y).max(2))
     }
 
-    /// Dots of one size: the class has the width of its stroke.
+    /// Dots of one size. The class sets the width of the stroke.
     pub fn dots(&mut self, class: &str, dots: &[(f64, f64)]) {
         let mut pen = Pen::default();
         for (seconds, number) in dots {
@@ -118,13 +118,13 @@ impl Plot {
         }
     }
 
-    /// A label at a time and a number.
+    /// A label at a time and a value.
     pub fn label(&mut self, seconds: f64, number: f64, says: &str) {
         let (x, y, says) = (self.x(seconds) + 10, self.y(number) - 10, escaped(says));
         self.put(&format!("<text class=label x={x} y={y}>{says}</text>"));
     }
 
-    /// A line upward at a time.
+    /// A vertical line at a time.
     pub fn mark(&mut self, class: &str, seconds: f64, says: &str) {
         let (x, top, base, title) = (self.x(seconds), self.top, self.base, title(says));
         self.put(&format!(
@@ -132,7 +132,7 @@ impl Plot {
         ));
     }
 
-    /// The numbers' axis: lines at round numbers.
+    /// The axis of values, with lines at round values.
     pub fn numbers(&mut self) {
         let step = round_step(self.until - self.from, self.marks(), 1.0);
         let first = (self.from / step).ceil();
@@ -144,7 +144,7 @@ impl Plot {
         self.rows(&marks);
     }
 
-    /// The numbers' axis in seconds, where so many are a second.
+    /// The axis of values in seconds, of which each has `rate` values.
     pub fn seconds(&mut self, rate: f64) {
         let (from, until) = (self.from / rate, self.until / rate);
         let step = time_step(until - from).max(round_step(until - from, self.marks(), 0.0));
@@ -161,12 +161,12 @@ impl Plot {
         self.rows(&marks);
     }
 
-    /// About so many marks fit beside the panel.
+    /// About how many marks fit beside the panel.
     fn marks(&self) -> f64 {
         (self.base - self.top) as f64 / 80.0
     }
 
-    /// Lines across at some numbers, with their names on the left.
+    /// Horizontal lines at some values, with their names on the left.
     pub fn rows(&mut self, marks: &[(f64, String)]) {
         let (mut lines, mut names) = (String::new(), String::new());
         for (number, name) in marks {
@@ -176,7 +176,7 @@ impl Plot {
             let _ = write!(names, "<text y={below}>{name}</text>");
         }
         self.put(&format!("<path class=grid d=\"{lines}\"/>"));
-        // The style has their place across: left of the panels.
+        // The style sets their x coordinate, left of the panels.
         self.put(&format!("<g class=y>{names}</g>"));
     }
 
@@ -207,17 +207,17 @@ impl Plot {
     }
 }
 
-/// A part of a panel: from time to time, from number to number.
+/// An area of a panel: two times and two values.
 pub type Area = ((f64, f64), (f64, f64));
 
-/// Lines, each written by the steps from where the last one ended.
+/// Lines, each written as a step from the end of the previous one.
 #[derive(Default)]
 pub struct Pen {
     drawn: String,
     at: (i64, i64),
-    /// Where the next line begins, if it is not where the last one ended.
+    /// Where the next line begins, if that is not the end of the previous one.
     begin: Option<(i64, i64)>,
-    /// Where in the text the last line is written, if it is level, and its length.
+    /// Where the previous line is in the text, if it is horizontal, and its length.
     level: Option<(usize, i64)>,
 }
 
@@ -227,7 +227,7 @@ impl Pen {
         self.begin = Some((x, y));
     }
 
-    /// A line to here.
+    /// Draws a line to this point.
     pub fn draw(&mut self, x: i64, y: i64) {
         if let Some(begin) = self.begin.take()
             && (self.drawn.is_empty() || begin != self.at)
@@ -245,7 +245,7 @@ impl Pen {
         self.level = None;
     }
 
-    /// A level line to the right; one after another is one line.
+    /// Draws a horizontal line to the right. Successive ones become one line.
     fn level(&mut self, length: i64) {
         let (from, before) = self.level.unwrap_or((self.drawn.len(), 0));
         self.drawn.truncate(from);
@@ -253,7 +253,7 @@ impl Pen {
         let _ = write!(self.drawn, "h{}", before + length);
     }
 
-    /// A dot here: a line of no length, whose round ends are drawn.
+    /// Draws a dot: a line of length 0, whose round ends are visible.
     pub fn dot(&mut self, x: i64, y: i64) {
         self.go(x, y);
         self.draw(x, y);
@@ -272,7 +272,7 @@ impl fmt::Display for Pen {
     }
 }
 
-/// A second number of a pair: a minus sign parts it from the first.
+/// The second number of a pair. A minus sign separates it from the first.
 fn signed(number: i64) -> String {
     match number < 0 {
         true => number.to_string(),
@@ -287,7 +287,7 @@ fn title(says: &str) -> String {
     }
 }
 
-/// A round step: 1, 2 or 5 times a power of ten, so that about so many fit.
+/// A round step, 1, 2 or 5 times a power of ten, such that about `many` of them fit.
 pub fn round_step(range: f64, many: f64, least: f64) -> f64 {
     let rough = (range / many).max(f64::MIN_POSITIVE);
     let power = 10f64.powf(rough.log10().floor());
@@ -298,7 +298,7 @@ pub fn round_step(range: f64, many: f64, least: f64) -> f64 {
         .max(least)
 }
 
-/// A step of time that people count by.
+/// A step of time that people use.
 fn time_step(seconds: f64) -> f64 {
     let steps = [
         1.0, 2.0, 5.0, 10.0, 15.0, 30.0, 60.0, 120.0, 300.0, 600.0, 900.0, 1_800.0, 3_600.0,
@@ -313,7 +313,7 @@ fn time_step(seconds: f64) -> f64 {
     }
 }
 
-/// A time, told as finely as its step.
+/// A time, as precise as its step.
 pub fn time(seconds: f64, step: f64) -> String {
     if step < 1.0 {
         let digits = (-step.log10().floor()).clamp(1.0, 9.0) as usize;
@@ -340,7 +340,7 @@ pub fn grouped(number: u64) -> String {
     text
 }
 
-/// So many of a thing: `1 block`, `2 blocks`.
+/// A count with its noun: `1 block`, `2 blocks`.
 pub fn counted(number: u64, thing: &str) -> String {
     let end = if number == 1 { "" } else { "s" };
     format!("{} {thing}{end}", grouped(number))
@@ -348,7 +348,7 @@ pub fn counted(number: u64, thing: &str) -> String {
 
 /// A time of the evening, to a thousandth of a second: `1:15.000`.
 pub fn clock(seconds: f64) -> String {
-    // Beyond 2^64 thousandths the cast stays at its limit.
+    // Above 2^64 thousandths the cast saturates.
     let thousandths = (seconds * 1_000.0).round() as u64;
     let (whole, rest) = (thousandths / 1_000, thousandths % 1_000);
     format!("{}.{rest:03}", time(whole as f64, 1.0))
@@ -359,7 +359,7 @@ fn grouped_signed(number: f64) -> String {
     format!("{sign}{}", grouped(number.abs().round() as u64))
 }
 
-/// Text that means itself in a page.
+/// Text escaped for a page.
 pub fn escaped(text: &str) -> String {
     let mut safe = String::with_capacity(text.len());
     for letter in text.chars() {

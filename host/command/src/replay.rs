@@ -1,4 +1,4 @@
-//! `cableowl replay`: plays a trace again, one line per block.
+//! `cableowl replay`: replays a trace, one line per block.
 
 use std::{mem, path::Path};
 
@@ -18,7 +18,7 @@ use crate::{
     sounds::{Places, Sounds, named},
 };
 
-/// A trace's run: what each record did, and for each block the line of form 3.
+/// The replay of a trace: what each record did, and for each block the line of form 3.
 pub struct Run<'a> {
     replay: Replay,
     log: Log,
@@ -116,8 +116,8 @@ pub fn fault(input: &Input, error: &TraceError) -> Fault {
     }
 }
 
-/// Plays a trace again, over the sounds of these places: whether none was missing. The frames heard go to a
-/// new file, if one is named.
+/// Replays a trace over the given sounds, and returns whether none was missing. If a file is named, the output is
+/// written to it.
 pub fn replay(
     trace: &Path,
     form: Form,
@@ -171,7 +171,7 @@ pub fn replay(
     }
 }
 
-/// The lines of form 1 without sounds; what ended the trace too early.
+/// The lines of form 1 without sounds. Returns what ended the trace too early.
 fn first(input: &mut Input, out: &mut Out<'_>) -> Result<Option<TraceError>> {
     let (mut reader, mut replay) = (TraceReader::new(input), Replay::new());
     while let Some(step) = reader.step(&mut replay) {
@@ -187,7 +187,7 @@ fn first(input: &mut Input, out: &mut Out<'_>) -> Result<Option<TraceError>> {
     Ok(None)
 }
 
-/// The lines of a form, record by record, and what is heard; what ended the trace too early.
+/// The lines of a form, record by record, and the output. Returns what ended the trace too early.
 fn each(
     input: &mut Input,
     form: Form,
@@ -231,7 +231,7 @@ fn each(
             let bytes = run.heard().iter().flat_map(|sample| sample.to_le_bytes());
             file.put(&bytes.collect::<Vec<u8>>())?;
         }
-        // The file is written to its end, whoever reads the lines.
+        // The file is written completely, even if nobody reads the lines any more.
         if out.closed() && file.is_none() {
             return Err(Fault::Closed);
         }

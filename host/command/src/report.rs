@@ -1,4 +1,4 @@
-//! `cableowl report`: the figures of evenings, one row a log, and all of them together; or of groups of
+//! `cableowl report`: the figures of evenings, one row for each log, and all of them together; or of groups of
 //! evenings.
 
 mod evening;
@@ -32,13 +32,13 @@ use page::Drawn;
 pub struct Request {
     /// Logs and traces, or folders of logs.
     pub files: Vec<PathBuf>,
-    /// Frames a second.
+    /// Frames per second.
     pub rates: Rates,
     /// How the evenings are grouped, if they are.
     pub by: Option<Asked>,
-    /// Whether it is told as comma separated values.
+    /// Whether to print comma separated values.
     pub csv: bool,
-    /// Where the page goes.
+    /// Where the page is written.
     pub page: Option<PathBuf>,
 }
 
@@ -49,8 +49,8 @@ struct Session {
     group: Option<String>,
 }
 
-/// Reports on logs and traces. One that is refused or has no group is told by `complain` and left out;
-/// one that is given twice is told too.
+/// Reports on logs and traces. A file that is refused or has no group is left out, and `complain` gets a sentence. A
+/// file that is given twice gets a sentence too.
 pub fn report(
     request: &Request,
     out: &mut Out<'_>,
@@ -103,7 +103,7 @@ pub fn report(
     Ok(all_read)
 }
 
-/// Reads a file, and draws its plots where they are asked for.
+/// Reads a file, and draws its plots if they are asked for.
 fn session(
     file: &Path,
     request: &Request,

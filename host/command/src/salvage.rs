@@ -11,8 +11,8 @@ use crate::{
     plot::counted,
 };
 
-/// Copies the complete records of a version. The new file gets its name only when it is complete, and it replaces no other file. So
-/// the trace itself cannot be overwritten, whatever name leads to it.
+/// Copies the complete records of a version. The new file gets its name only when it is complete, and it replaces no
+/// other file. So the trace itself cannot be overwritten, whatever name it is given by.
 pub fn salvage(version: TraceVersion, trace: &Path, to: &Path, out: &mut Out<'_>) -> Result<()> {
     free(to)?;
     let mut input = Input::open(trace)?;

@@ -25,10 +25,10 @@ pub const MOST: u64 = 16_777_216;
 /// How much of a sound is read at once, in bytes: whole frames.
 const PIECE: usize = 64 * 1_024;
 
-/// A sound that is open: its length is known and is one that a sound can have, unless it is no file.
+/// An open sound. Its length is known and possible for a sound, unless it is standard input.
 pub struct Sound {
     input: Input,
-    /// Its frames by the file's length; standard input has none.
+    /// Its frames by the file's length; `None` for standard input.
     frames: Option<u64>,
 }
 
@@ -37,7 +37,7 @@ impl Sound {
     pub fn open(path: &Path) -> Result<Self> {
         let mut input = Input::open(path)?;
         let kind = input.kind()?;
-        // A sample may begin as a trace or settings do, but not as the head of a record.
+        // A sample may begin like a trace or settings, but not like the head of a record.
         if let FileKind::Log | FileKind::Page | FileKind::Encoded(_) = kind {
             input.must_be(&[], "raw samples")?;
         }
@@ -76,7 +76,7 @@ impl Sound {
             length += got as u64;
             let whole = got - got % FRAME as usize;
             take(&piece[..whole]);
-            // The rest of what is too long is not read.
+            // If it is too long, the rest is not read.
             if got < piece.len() || length > FRAME * MOST {
                 break;
             }
@@ -104,14 +104,14 @@ fn fill(input: &mut Input, piece: &mut [u8]) -> Result<usize> {
     Ok(got)
 }
 
-/// Whether the first bytes are the head of a record of a trace: the payload alone is missing.
+/// Whether the first bytes are the head of a record of a trace and only the payload is missing.
 fn is_head(input: &mut Input) -> Result<bool> {
     let first = input.first()?;
     let head = first.get(..5).unwrap_or(&first);
     Ok(trace::read(head, 0) == Err(Refusal::Truncated))
 }
 
-/// The frames of a sound of so many bytes.
+/// The frames of a sound of this many bytes.
 fn frames_of(input: &Input, length: u64) -> Result<u64> {
     let frames = length / FRAME;
     match (frames, length % FRAME) {
@@ -168,7 +168,7 @@ impl Figures {
         }
     }
 
-    /// The samples that are no numbers, in words.
+    /// The samples that are not numbers, in words.
     fn not_finite(&self) -> String {
         let Some(first) = self.first else {
             return "none".into();
@@ -192,7 +192,7 @@ pub fn samples(bytes: &[u8]) -> impl Iterator<Item = f32> {
     samples.iter().map(|sample| f32::from_le_bytes(*sample))
 }
 
-/// Shows what is in each sound, at so many frames a second: whether all could be read.
+/// Shows what is in each sound, at this many frames per second, and returns whether all could be read.
 pub fn show(
     files: &[PathBuf],
     rate: u32,

@@ -1,4 +1,4 @@
-//! The sounds that a run is given: files, of which each creation takes the one that it names.
+//! The sounds that a run is given: files. Each creation takes the one that it names.
 
 use std::{
     fs,
@@ -31,11 +31,11 @@ pub struct Places {
 /// What was read of a file, or why nothing was.
 type Once<T> = OnceLock<std::result::Result<T, String>>;
 
-/// A file that was given as a sound. It is read when a creation names a sound of its length, and once.
+/// A file that was given as a sound. It is read once, when a creation names a sound of its length.
 struct Offered {
     name: String,
     path: PathBuf,
-    /// Its frames by its length, or why it is no sound.
+    /// Its frames by its length, or why it is not a sound.
     frames: std::result::Result<u64, String>,
     id: Once<SoundId>,
     lesson: Once<Lesson>,
@@ -53,7 +53,7 @@ impl Offered {
         }
     }
 
-    /// Whether it has so many frames.
+    /// Whether it has this many frames.
     fn has(&self, frames: u32) -> bool {
         self.frames == Ok(frames.into())
     }
@@ -73,7 +73,7 @@ impl Offered {
         })
     }
 
-    /// Its samples, and the same.
+    /// Its samples, with its frames and its digest.
     fn lesson(&self) -> &std::result::Result<Lesson, String> {
         self.lesson.get_or_init(|| {
             let mut all: Vec<f32> = Vec::new();
@@ -95,7 +95,7 @@ impl Offered {
         Ok(Sound::open(&self.path)?.without_progress(true))
     }
 
-    /// What it is beside the wanted sound, in words. One of another length was not read.
+    /// How it differs from the wanted sound, in words. A file of another length was not read.
     fn words(&self, wanted: &SoundId) -> String {
         let read = match (self.lesson.get(), self.id.get()) {
             (Some(lesson), _) => lesson.as_ref().map(Lesson::id),
@@ -115,7 +115,7 @@ impl Offered {
 
 /// The frames of a sound by the length of its file.
 fn length(path: &Path) -> Result<u64> {
-    // A pipe can be read once, and opening it may wait.
+    // A pipe can be read only once, and opening it may wait.
     let is_file = fs::metadata(path).map_or(true, |file| file.is_file() || file.is_dir());
     let frames = match is_file {
         true => Sound::open(path)?.frames(),
@@ -136,8 +136,8 @@ pub struct Sounds {
 }
 
 impl Sounds {
-    /// The sounds of these places; none where there are no places. A file that is named itself must be a
-    /// sound. In a folder, one that is not is passed over.
+    /// The sounds of these places; `None` if there are no places. A file that is named must be a sound. A file in a
+    /// folder that is not a sound is skipped.
     pub fn given(places: &Places) -> Result<Option<Self>> {
         if *places == Places::default() {
             return Ok(None);
@@ -167,7 +167,7 @@ impl Sounds {
         may.any(|file| file.id().as_ref() == Ok(wanted))
     }
 
-    /// Which sound is wanted by the creation at a byte, and what was given.
+    /// The sound that the creation at this byte wants, and what was given.
     pub fn missing(&self, at: u64, wanted: &SoundId) -> String {
         let given = self
             .offered

@@ -17,7 +17,7 @@ use crate::{
     sounds::{Places, Sounds},
 };
 
-/// Prints what happened in a trace, over the sounds of these places: whether none was missing.
+/// Prints what happened in a trace, over the given sounds, and returns whether none was missing.
 pub fn summary(
     trace: &Path,
     places: &Places,
@@ -112,7 +112,7 @@ impl<'a> Teller<'a> {
         match (step, record) {
             (Step::Block(line), Record::Block(block)) => self.block(block, line, out)?,
             (Step::Block(line), Record::LanedBlock(laned)) => {
-                // The speed of its last frame: one that changes is printed when it has settled.
+                // The speed of its last frame. A changing speed is printed when it stays the same.
                 let rate = laned.numbers().last().map_or(1.0, |numbers| numbers.rate);
                 let block = Block::new(laned.frames(), laned.time_step);
                 self.block(&Block { rate, ..block }, line, out)?;

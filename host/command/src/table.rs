@@ -2,7 +2,7 @@
 
 use crate::plot::grouped;
 
-/// The lines of a table: the first column to the left, the others to the right.
+/// The lines of a table: the first column is left aligned, the others right aligned.
 pub fn laid_out(table: &[Vec<String>]) -> Vec<String> {
     let columns = table.iter().map(Vec::len).max().unwrap_or(0);
     let width = |column: usize| {

@@ -461,7 +461,7 @@ pub const VERBS: &[Verb] = &[
         name: "report",
         says: "the figures of one evening or of many, and a page with plots",
         about: &[
-            "Reads logs and traces: minutes played, paused and silent, wraps, seeks, refused blocks. With several files it prints one row for each, the total and five quantiles. A folder stands for its files NAME.log.",
+            "Reads logs and traces: minutes played, paused and silent, wraps, seeks, refused blocks. With several files it prints one row for each, the total and five quantiles. A folder means its files NAME.log.",
             "A damaged file is named on standard error and left out. A file that is given twice is named there too, and counts twice.",
             "With --by or --groups it prints the figures of groups instead, and what changed from one group to the next, with intervals of 95 percent.",
         ],
@@ -494,7 +494,7 @@ pub const VERBS: &[Verb] = &[
             Opt {
                 name: "--name",
                 value: Some(("PATTERN", Kind::Pattern)),
-                says: "How a name says its box and its day, {box}_{date} if not given. {any} stands for anything. A date is written 2026-11-15 or 20261115.",
+                says: "How a name contains its box and its day, {box}_{date} if not given. {any} matches anything. A date is written 2026-11-15 or 20261115.",
             },
             Opt {
                 name: "--groups",

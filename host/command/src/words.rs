@@ -1,4 +1,4 @@
-//! The words of the command line, read by the table of verbs.
+//! Reads the words of the command line by the table of verbs.
 
 use std::{
     ffi::{OsStr, OsString},
@@ -27,17 +27,17 @@ use crate::{
 /// What is asked for.
 #[derive(Debug, PartialEq)]
 pub enum Asked {
-    /// How it is used, or how a verb is.
+    /// How the command or a verb is used.
     Help(Option<&'static str>),
-    /// Which version this is.
+    /// The version.
     Version,
     /// A man page.
     Man(Option<&'static str>),
     /// Completions.
     Completions(Shell),
-    /// What numbers and states mean; all of them where none is named.
+    /// What numbers and states mean; all of them if none is named.
     Explain(Vec<Meaning>),
-    /// A trace played again.
+    /// Replays a trace.
     Replay {
         /// The trace.
         trace: PathBuf,
@@ -45,91 +45,91 @@ pub enum Asked {
         form: Form,
         /// The sounds that it is given.
         sounds: Places,
-        /// Where the frames heard go.
+        /// Where the output is written.
         heard: Option<PathBuf>,
     },
-    /// A trace played again, and told in words.
+    /// Replays a trace and describes it in words.
     Summary {
         /// The trace.
         trace: PathBuf,
         /// The sounds that it is given.
         sounds: Places,
     },
-    /// What is left of a damaged trace.
+    /// Salvages a damaged trace.
     Salvage {
         /// The trace.
         trace: PathBuf,
-        /// Where its records go.
+        /// Where its records are written.
         to: PathBuf,
         /// The version of its records.
         version: TraceVersion,
     },
-    /// What is in sounds.
+    /// Shows what is in sounds.
     ShowSounds {
         /// Their files.
         files: Vec<PathBuf>,
-        /// Frames a second.
+        /// Frames per second.
         rate: u32,
     },
-    /// Saved settings shown.
+    /// Shows saved settings.
     ShowSettings {
         /// Their file.
         file: PathBuf,
-        /// Frames a second of the sound.
+        /// Frames per second of the sound.
         rate: u32,
     },
-    /// Settings saved.
+    /// Saves settings.
     SaveSettings {
         /// What to save.
         save: Save,
-        /// Where they go.
+        /// Where they are written.
         to: PathBuf,
     },
-    /// The loops of a folder shown.
+    /// Shows the loops of a folder.
     ShowLoops {
         /// The folder.
         folder: PathBuf,
-        /// Frames a second of the sound.
+        /// Frames per second of the sound.
         rate: u32,
     },
-    /// A slot of a folder's loops changed.
+    /// Changes a slot of a folder's loops.
     ChangeLoops(Change),
-    /// Copies of loops merged.
+    /// Merges copies of loops.
     MergeLoops {
         /// Their folders.
         copies: Vec<PathBuf>,
-        /// Frames a second of the sound.
+        /// Frames per second of the sound.
         rate: u32,
     },
     /// The figures of evenings, or of groups of them.
     Report(Request),
-    /// Every log in some folders compared with its trace.
+    /// Compares every log in some folders with its trace.
     AuditFolders {
         /// The folders.
         folders: Vec<PathBuf>,
-        /// Told as comma separated values, a row for each evening.
+        /// Whether to print comma separated values, a row for each evening.
         csv: bool,
-        /// Where the page goes.
+        /// Where the page is written.
         page: Option<PathBuf>,
         /// The sounds that are given.
         sounds: Places,
     },
-    /// A log held to its trace.
+    /// Compares a log with its trace.
     Audit {
         /// The trace.
         trace: PathBuf,
         /// The log.
         log: PathBuf,
-        /// Told as comma separated values, a row for each block.
+        /// Whether to print comma separated values, a row for each block.
         csv: bool,
-        /// Where the page goes.
+        /// Where the page is written.
         page: Option<PathBuf>,
         /// The sounds that are given.
         sounds: Places,
     },
 }
 
-/// The frames a second that are taken where none are given.
+/// The frames per second if none are given.
 const RATE: u32 = 48_000;
 
 /// What the words ask for.
@@ -150,7 +150,7 @@ pub fn asked(words: &[OsString]) -> Result<Asked> {
     given.asked()
 }
 
-/// The words begin with no verb.
+/// The fault for words that begin with no verb.
 fn no_verb(words: &[OsString]) -> Fault {
     let all = list(&verbs::first_words(), "or");
     let Some(first) = words.first() else {
@@ -241,7 +241,7 @@ impl Given {
         self.value(name).and_then(OsStr::to_str)
     }
 
-    /// Each word with the kind that it must be of, and the name of what it is.
+    /// Each word with its kind and the name of its argument.
     fn judge(&self) -> Result<()> {
         let mut inputs = 0;
         for (option, value) in &self.options {
@@ -264,13 +264,13 @@ impl Given {
         }
     }
 
-    /// Whether the words are folders, which the verb takes in place of its other words.
+    /// Whether the words are folders, which the verb accepts in place of its other words.
     fn are_folders(&self) -> bool {
         let all = self.words.iter().all(|word| Path::new(word).is_dir());
         self.verb.folders.is_some() && !self.words.is_empty() && all
     }
 
-    /// The words that the verb takes.
+    /// The words that the verb accepts.
     fn arguments(&self) -> &'static [Argument] {
         match &self.verb.folders {
             Some(folders) if self.are_folders() => slice::from_ref(folders),
@@ -278,7 +278,7 @@ impl Given {
         }
     }
 
-    /// As many words as the verb takes.
+    /// Checks that there are as many words as the verb accepts.
     fn count(&self) -> Result<()> {
         let arguments = self.arguments();
         if let Some(missing) = arguments.get(self.words.len())
@@ -320,7 +320,7 @@ impl Given {
         self.number(name).and_then(|rate| u32::try_from(rate).ok())
     }
 
-    /// What a judged line asks for.
+    /// What a checked line asks for.
     fn asked(self) -> Result<Asked> {
         let page = || self.value("--html").map(PathBuf::from);
         let rate = self.rate("--rate").unwrap_or(RATE);
@@ -440,7 +440,7 @@ impl Given {
         }
     }
 
-    /// How files are to be grouped, if they are.
+    /// How to group files, if they are grouped.
     fn group_by(&self) -> Result<Option<grouping::Asked>> {
         let by = match self.value("--by").and_then(OsStr::to_str) {
             None => None,
@@ -463,7 +463,7 @@ impl Given {
         Ok(Some(asked))
     }
 
-    /// The loop that a slot is to get.
+    /// The loop for a slot.
     fn given(&self) -> Option<Loop> {
         let place = |index: usize| Place::read(self.words.get(index)?.to_str()?);
         Some(Loop {
@@ -518,11 +518,11 @@ fn decimal(text: &str) -> Option<f64> {
     text.parse().ok().filter(|number: &f64| number.is_finite())
 }
 
-/// A word is of its kind.
+/// Checks that a word is of its kind.
 fn is_of(kind: Kind, name: &str, word: &OsStr) -> Result<()> {
     let text = word.to_str();
     let good = match kind {
-        // What is wrong with a pattern is said where it is read.
+        // A pattern is checked where it is read.
         Kind::File | Kind::Folder | Kind::Verb | Kind::Pattern => true,
         Kind::Sound if word == "-" => {
             return Err(Fault::usage(format!(

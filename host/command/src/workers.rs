@@ -1,4 +1,4 @@
-//! Work on many files, on all processors. What comes of it is in the files' order, whoever did it.
+//! Works on many files, on all processors. The results are in the files' order, whichever processor made them.
 
 use std::{
     io::{self, IsTerminal, Write},
@@ -12,7 +12,7 @@ use std::{
 
 use crate::plot::grouped;
 
-/// The letters of a full bar, and how often it is drawn.
+/// The width of a full bar in letters, and how often it is drawn.
 const BAR: usize = 30;
 const EVERY: Duration = Duration::from_millis(100);
 
@@ -22,7 +22,7 @@ pub fn each<I: Sync, T: Send>(items: &[I], done: &str, work: impl Fn(&I) -> T + 
     on(processors, items, done, work)
 }
 
-/// The same, on so many processors.
+/// The same, on this many processors.
 fn on<I: Sync, T: Send>(
     processors: usize,
     items: &[I],
@@ -55,7 +55,7 @@ fn on<I: Sync, T: Send>(
     worked.into_iter().map(|(_, work)| work).collect()
 }
 
-/// A bar on a terminal, where there is more than one item.
+/// A bar on a terminal, if there is more than one item.
 struct Progress<'a> {
     all: usize,
     done: &'a str,
@@ -76,7 +76,7 @@ impl<'a> Progress<'a> {
 
     fn one_more(&self) {
         let so_far = self.so_far.fetch_add(1, Ordering::Relaxed) + 1;
-        // Who finds it being drawn need not draw it.
+        // If another thread is drawing it, this one need not.
         let Some(Ok(mut drawn)) = self.drawn.as_ref().map(Mutex::try_lock) else {
             return;
         };

@@ -1,5 +1,5 @@
-// Writes the two files that cannot be included as they stand: the edited sound.rs, and the file
-// its `mod resampler;` looks for. host/judges/timed is built by it too, as it is to be timed.
+// Writes the two files that cannot be included unchanged: the edited sound.rs, and the file that its `mod resampler;`
+// looks for. It also builds host/judges/timed, the variant for the benchmark.
 
 use std::{env, error::Error, fs, path::Path};
 

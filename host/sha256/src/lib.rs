@@ -82,7 +82,7 @@ const START: [u32; 8] = [
     0x5be0_cd19,
 ];
 
-/// A digest under way.
+/// A digest that is being computed.
 #[derive(Debug, Clone)]
 pub struct Sha256 {
     state: [u32; 8],
@@ -110,7 +110,7 @@ impl Sha256 {
 
     /// Adds bytes. How they are cut into calls changes nothing.
     pub fn update(&mut self, bytes: &[u8]) {
-        // Up to the end of the block under way, then whole blocks, then the rest.
+        // Up to the end of the current block, then whole blocks, then the rest.
         let begun = (self.length % 64) as usize;
         let (first, rest) = bytes.split_at(bytes.len().min((64 - begun) % 64));
         let (blocks, last) = rest.as_chunks();
@@ -268,7 +268,7 @@ mod tests {
         std::fs::remove_file(&path).unwrap();
     }
 
-    /// Every length around the padding's edges, cut in two at every place, is as at once.
+    /// Every length around the limits of the padding, cut in two at every byte, has the same digest.
     #[test]
     fn pieces_are_as_the_whole() {
         let bytes: Vec<u8> = (0..200_u8).collect();

@@ -1,6 +1,6 @@
-//! The C interface of the proved archive, as `host/include/cableowl.h` has it: records of numbers by value, slices as a
+//! The C interface of the proved archive, as in `host/include/cableowl.h`: records of numbers by value, slices as a
 //! pointer and a length. The build script links the archive. A function without `cableowl_` in its name calls the entry
-//! of its name with slices, and is safe.
+//! of that name with slices, and is safe.
 //!
 //! Programs use the crate `cableowl`, which is built on this one.
 
@@ -41,7 +41,7 @@ pub struct State {
     pub backward_wraps: u32,
 }
 
-/// A place in a sound: kind 0 seconds, 1 samples, and for an end 2 the end of audio.
+/// A position in a sound: kind 0 seconds, 1 samples, and for an end 2 the end of audio.
 #[repr(C)]
 #[derive(Debug, Clone, Copy, Default)]
 pub struct Place {
@@ -58,7 +58,7 @@ pub struct Region {
     pub end: Place,
 }
 
-/// What creation is told.
+/// The settings of a creation.
 #[repr(C)]
 #[derive(Debug, Clone, Copy, Default)]
 pub struct Settings {
@@ -101,7 +101,7 @@ pub struct Signals {
     pub now: u32,
 }
 
-/// What creation answers.
+/// What a creation returns.
 #[repr(C)]
 #[derive(Debug, Clone, Copy, Default)]
 pub struct Created {
@@ -109,7 +109,7 @@ pub struct Created {
     pub refusal: u32,
 }
 
-/// What a command set answers.
+/// What a command set returns.
 #[repr(C)]
 #[derive(Debug, Clone, Copy, Default)]
 pub struct Commanded {
@@ -118,7 +118,7 @@ pub struct Commanded {
     pub refusal: u32,
 }
 
-/// What a block answers.
+/// What a block returns.
 #[repr(C)]
 #[derive(Debug, Clone, Copy, Default)]
 pub struct Processed {
@@ -128,7 +128,7 @@ pub struct Processed {
     pub lowest_count: u32,
 }
 
-/// A part of the lent samples.
+/// A part of the sound's samples.
 #[repr(C)]
 #[derive(Debug, Clone, Copy, Default, PartialEq, Eq)]
 pub struct Part {
@@ -152,7 +152,7 @@ pub struct LoopTable {
     pub slots: [LoopSlot; 16],
 }
 
-/// What a write or a clear answers.
+/// What a write or a clear returns.
 #[repr(C)]
 #[derive(Debug, Clone, Copy)]
 pub struct LoopChanged {
@@ -160,7 +160,7 @@ pub struct LoopChanged {
     pub refusal: u32,
 }
 
-/// What a read answers.
+/// What a read returns.
 #[repr(C)]
 #[derive(Debug, Clone, Copy)]
 pub struct LoopFound {
@@ -177,7 +177,7 @@ pub struct LoopCopy {
     pub changes_b: u64,
 }
 
-/// What a write, a clear or a merge of a copy answers.
+/// What a write, a clear or a merge of a copy returns.
 #[repr(C)]
 #[derive(Debug, Clone, Copy)]
 pub struct CopyChanged {
@@ -185,7 +185,7 @@ pub struct CopyChanged {
     pub refusal: u32,
 }
 
-/// The lanes of one block, lent.
+/// The borrowed lanes of one block.
 #[derive(Debug, Clone, Copy)]
 pub struct Lanes<'a> {
     pub fade: &'a [f32],
@@ -195,7 +195,7 @@ pub struct Lanes<'a> {
     pub rate: &'a [f64],
 }
 
-/// The five numbers of a block whose frames all have the same.
+/// The five numbers that apply to every frame of a block.
 #[derive(Debug, Clone, Copy)]
 pub struct Held {
     pub fade: f32,
@@ -329,9 +329,9 @@ unsafe extern "C" {
     ) -> Commanded;
 }
 
-// SAFETY, for every call below: each pointer goes with the length of the same slice, lent for the
-// call; the archive keeps no pointer, reads within those lengths and writes within what it is lent
-// as `&mut` alone, which nothing else borrows. Every number is accepted as input.
+// SAFETY, for every call below: each pointer comes with the length of the same slice, which is borrowed for the call.
+// The archive keeps no pointer, reads only within those lengths, and writes only within `&mut` slices, which nothing
+// else borrows. Every number is accepted as input.
 
 #[inline]
 pub fn version() -> u32 {
@@ -523,7 +523,7 @@ pub fn take_loop(table: LoopTable, slot: u64, state: State, sound: &[f32]) -> Co
     unsafe { cableowl_take_loop(table, slot, state, sound.as_ptr(), sound.len()) }
 }
 
-// Levels and fades: plain numbers and one lent lane.
+// Levels and fades: plain numbers and one borrowed lane.
 unsafe extern "C" {
     pub fn cableowl_amplitude(level: u32, to: *mut f32) -> u32;
 
@@ -635,7 +635,7 @@ pub struct Record {
     pub values: [u64; 80],
 }
 
-/// What a write of a record answers.
+/// What a write of a record returns.
 #[repr(C)]
 #[derive(Debug, Clone, Copy, Default, PartialEq, Eq)]
 pub struct Sent {
@@ -643,7 +643,7 @@ pub struct Sent {
     pub next: u64,
 }
 
-/// What salvage answers.
+/// What a salvage returns.
 #[repr(C)]
 #[derive(Debug, Clone, Copy, Default, PartialEq, Eq)]
 pub struct Saved {
@@ -706,8 +706,8 @@ pub fn salvage(bytes: &[u8], out: &mut [u8]) -> Saved {
     unsafe { cableowl_salvage(bytes.as_ptr(), bytes.len(), out.as_mut_ptr(), out.len()) }
 }
 
-/// A record of version 2. The lanes of a kind 5 stay in the bytes, the `24 * frames` before the last four of the
-/// record.
+/// A record of version 2. The lanes of a laned block stay in the bytes: the `24 * frames` bytes before the last four of
+/// the record.
 #[inline]
 pub fn read_record_v2(bytes: &[u8], at: u64) -> Record {
     unsafe { cableowl_read_record_v2(bytes.as_ptr(), bytes.len(), at) }
@@ -740,7 +740,7 @@ pub fn salvage_v2(bytes: &[u8], out: &mut [u8]) -> Saved {
     unsafe { cableowl_salvage_v2(bytes.as_ptr(), bytes.len(), out.as_mut_ptr(), out.len()) }
 }
 
-/// A replay of a trace: the voice, the samples of its sound, the blocks counted, the next record's place.
+/// A replay of a trace: the voice, the samples of its sound, the blocks counted, the next record's offset.
 #[repr(C)]
 #[derive(Debug, Clone, Copy)]
 pub struct Replay {

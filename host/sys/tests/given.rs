@@ -1,4 +1,4 @@
-//! An archive that was made before is linked only where it is what its note says and what this crate expects.
+//! An archive that was made before is linked only if it matches its note and what this crate expects.
 
 use std::{
     env::temp_dir,

@@ -1,4 +1,4 @@
-//! The evening of `listening_box`, recorded, and played again from its trace: what support does.
+//! The evening of `listening_box`, recorded, and replayed from its trace as support does.
 
 use cableowl::{
     Command, Level, RecordedPlayer, Refusal, Region, Settings, Tween,
@@ -8,7 +8,7 @@ use cableowl::{
 /// Frames of a call.
 const CALL: u64 = 512;
 
-/// The bytes that the buffer has. It is emptied before it is full.
+/// The size of the buffer in bytes. It is emptied before it is full.
 const ROOM: usize = 256 * 1_024;
 
 /// More than a call needs: its frames at 42 bytes each.
@@ -36,7 +36,7 @@ fn script() -> [(u64, Command); 9] {
     ]
 }
 
-/// An evening, live or from its trace: a line for each block, and a digest of what was heard.
+/// An evening, live or from its trace: a line for each block, and a digest of the output.
 pub struct Evening {
     pub lines: Vec<Line>,
     pub digest: u64,
@@ -58,7 +58,7 @@ impl Evening {
     }
 }
 
-/// Plays the evening over a lesson of so many frames a second, on a device of so many, and records it.
+/// Plays and records the evening over a lesson with `lesson_rate` frames a second, on a device with `device_rate`.
 pub fn live(
     lesson: &Lesson,
     lesson_rate: u32,

@@ -40,8 +40,8 @@ pub struct Presses {
 /// - A loop command sets the loop, which only seeks and frames read. So only the last loop command
 ///   between two seeks counts.
 /// - A pause, resume or stop sets the state and the fade, unless the voice has stopped. A seek only
-///   asks whether the state advances, which it does after any of the three. So the last of them at the
-///   place of the first gives the same outcome.
+///   asks whether the state advances, which it does after any of the three. So the last of them at
+///   the position of the first has the same outcome.
 ///
 /// This leaves at most 64 seeks, 65 loop commands and one of pause, resume and stop. The tests compare
 /// it with applying each command by itself (`tests/player/order.rs`).

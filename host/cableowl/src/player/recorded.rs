@@ -170,8 +170,8 @@ impl<'a> RecordedPlayer<'a> {
         &self.lesson
     }
 
-    /// Ends the recording and returns the player. All records are in the buffer then;
-    /// [`RecordedPlayer::bytes`] says before how many bytes they have.
+    /// Ends the recording and returns the player. The buffer then contains all records. Call [`RecordedPlayer::bytes`]
+    /// first to get their number of bytes.
     #[must_use]
     pub fn into_player(mut self) -> Player {
         self.tape.bytes();

@@ -156,8 +156,8 @@ impl Player {
 
 /// A level as a parameter's number.
 fn level(number: u64) -> Option<u16> {
-    let lawful = |tenths: &u16| Level::new(u32::from(*tenths)).is_ok();
-    u16::try_from(number).ok().filter(lawful)
+    let is_level = |tenths: &u16| Level::new(u32::from(*tenths)).is_ok();
+    u16::try_from(number).ok().filter(is_level)
 }
 
 fn put_easing(bytes: &mut Vec<u8>, easing: Easing) {

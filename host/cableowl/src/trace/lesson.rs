@@ -127,8 +127,8 @@ impl Lesson {
         self.id
     }
 
-    /// Whether these are its samples: a short sound by their bits, a longer one only if they are at the
-    /// same place in memory.
+    /// Whether these are its samples. A short sound is compared by its bits, a longer one only by its address in
+    /// memory.
     pub(super) fn is(&self, samples: &[f32]) -> bool {
         let same = |(one, other): (&f32, &f32)| one.to_bits() == other.to_bits();
         let is_short = self.samples.len() <= 2 * MAX_SOUND_FRAMES;
@@ -138,7 +138,7 @@ impl Lesson {
     }
 }
 
-/// Its samples are many.
+/// Its many samples are not printed.
 impl fmt::Debug for Lesson {
     fn fmt(&self, f: &mut fmt::Formatter<'_>) -> fmt::Result {
         f.debug_tuple("Lesson").field(&self.id).finish()
@@ -216,7 +216,7 @@ impl From<Lesson> for Sounds {
 /// ```
 #[derive(Debug, Clone, Copy, PartialEq, Eq, Hash)]
 pub struct OtherSound {
-    /// The place of the record's first byte.
+    /// The offset of the record's first byte.
     pub at: u64,
     /// The sound that the record names.
     pub wanted: SoundId,

@@ -5,8 +5,7 @@ use std::fmt;
 use super::{OtherSound, Refused};
 use crate::{PlaybackState, Processed, Refusal, StaticSound};
 
-/// The line of a block, or of a record that is refused. `Display` writes it without the line feed that ends it
-/// in a log.
+/// The line of a block or of a refused record. `Display` writes it without the line feed that ends it in a log.
 ///
 /// ```
 /// use cableowl::{Lanes, Refusal, Settings, Signals, StaticSound, trace::Line};

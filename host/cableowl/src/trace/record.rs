@@ -1,4 +1,4 @@
-//! A record: what a host did, once.
+//! A record: one thing that a host did.
 
 use std::ops::Range;
 
@@ -303,7 +303,7 @@ impl<'a> LanedBlock<'a> {
     }
 }
 
-/// A sound of at most [`MAX_SOUND_FRAMES`] frames, held by value.
+/// A sound of at most [`MAX_SOUND_FRAMES`] frames, stored by value.
 #[derive(Clone, Copy)]
 pub struct ShortSound {
     frames: u8,

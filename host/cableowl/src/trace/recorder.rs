@@ -197,8 +197,8 @@ impl<'a> Recorder<'a> {
         self.voice.as_ref()
     }
 
-    /// Ends the recording and returns the voice. All records are in the buffer then; [`Recorder::bytes`]
-    /// says before how many bytes they have.
+    /// Ends the recording and returns the voice. The buffer then contains all records. Call [`Recorder::bytes`] first
+    /// to get their number of bytes.
     #[must_use]
     pub fn into_voice(mut self) -> Option<StaticSound> {
         self.tape.bytes();

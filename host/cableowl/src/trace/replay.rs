@@ -1,5 +1,5 @@
-//! A trace played again. The proved archive reads and plays each record; this module holds the
-//! buffers for it and gives names to its numbers.
+//! Replays a trace. The proved archive reads and plays each record; this module owns the buffers for it and turns its
+//! numbers into Rust types.
 
 use std::{
     io::{self, Read, Write},
@@ -56,10 +56,10 @@ impl Step {
 /// refused creation or command set has no line, unless the creation is refused with 26. The counter
 /// counts refused blocks, and no creation resets it.
 ///
-/// **A replay needs no sound.** A creation of kind 4 names its sound and does not hold it. Without it
-/// the replay plays silence of the same length, and every line, state, count and position is the same.
-/// Its memory is only read, so it costs none where the system gives out zero pages when they are used
-/// first. To hear the samples, give the sounds ([`Replay::sounds`]).
+/// **A replay needs no sound.** A creation of kind 4 names its sound and does not contain it. Without it the replay
+/// plays silence of the same length, and every line, state, count and position is the same. The silence is only read,
+/// so it uses no memory if the system hands out zero pages at first use. To hear the samples, give the sounds
+/// ([`Replay::sounds`]).
 ///
 /// Only [`Replay::new`] allocates, and a creation over silence if it is longer than those before it.
 ///
@@ -204,7 +204,7 @@ impl Replay {
             }
             (1, _) => Step::More,
             (2, _) => Step::End,
-            // Only a refused record is left: these buffers and this replay are never refused.
+            // Only a refused record remains: these buffers and this replay are never refused.
             _ => Step::Refused(Refused {
                 refusal: answer.err().unwrap_or(Refusal::State),
                 at: did.replay.offset,
@@ -215,7 +215,7 @@ impl Replay {
 
     /// The sound that the record at the beginning of the bytes names, if it is a creation of kind 4.
     fn names(&self, bytes: &[u8]) -> Option<SoundId> {
-        // Only a kind 4 is read twice.
+        // Only a record of kind 4 is read twice.
         if bytes.get(2) != Some(&4) {
             return None;
         }
@@ -299,7 +299,7 @@ struct Given {
     sounds: Option<Sounds>,
     /// The sound of the last creation, if it was given.
     lesson: Option<Lesson>,
-    /// Zeros, which nobody writes; kept for later creations.
+    /// Zeros that nobody writes to. They are kept for later creations.
     silence: Arc<Vec<f32>>,
     /// How many of them the last creation plays.
     samples: usize,
@@ -334,7 +334,7 @@ impl Given {
     }
 }
 
-/// The block that was played last: its bytes, the replay before it, and what the step answered.
+/// The block that was played last: its bytes, the replay before it, and what the step returned.
 #[derive(Debug, Clone)]
 struct LastBlock {
     version: TraceVersion,
@@ -410,7 +410,7 @@ impl<'a> AnyBlock<'a> {
             rates[frame] = numbers.rate;
         };
         let (frames, time_step) = match self {
-            // Its first frame is as bad as the others.
+            // Its first frame is as wrong as the others.
             Self::Constant(block) => {
                 put(0, block.numbers());
                 (1, block.time_step)
@@ -477,7 +477,7 @@ impl LastBlock {
                 block,
                 frames: did.frames,
                 steps: did.steps,
-                // The library answers with 0 to 6 alone.
+                // The library returns only 0 to 6.
                 state: PlaybackState::from_number(replay.voice.state)
                     .unwrap_or(PlaybackState::Stopped),
                 position: replay.voice.position,
@@ -489,7 +489,7 @@ impl LastBlock {
         }
     }
 
-    /// Why the block was refused: the lane of a refusal 11 is looked for in its numbers.
+    /// Why the block was refused. For refusal 11 the lane is found from its numbers.
     fn refusal(&self, number: u64) -> Refusal {
         let number = u32::try_from(number).unwrap_or(u32::MAX);
         match self.block() {
@@ -520,7 +520,7 @@ impl LastBlock {
         let stops = until_it_stops(&mut voice, block.frames(), |part, voice| {
             self.part(block.part(part), voice, given, &mut room)
         });
-        // Not refused: the whole block was not.
+        // It is not refused, because the whole block was not.
         stops.map_or(counts, |(frames, mut counts)| {
             counts.usage.silent = (block.frames() - frames) as u64;
             counts
@@ -557,7 +557,7 @@ impl LastBlock {
     }
 }
 
-/// What a step is lent.
+/// The buffers that a step borrows.
 struct Room {
     sound: [f32; 2 * MAX_SOUND_FRAMES],
     bytes: [u8; MAX_RECORD_BYTES],
@@ -571,15 +571,14 @@ fn counts_of(did: &ffi::Replayed, block: &AnyBlock<'_>) -> Processed {
     Processed::of_block(&did.replay.voice, did.frames, still, did.steps, lowest)
 }
 
-/// The lines of a trace, played again: see [`lines`].
+/// The lines of a replayed trace: see [`lines`].
 #[derive(Debug, Clone)]
 pub struct Lines<'a> {
     bytes: &'a [u8],
     replay: Replay,
 }
 
-/// The lines of a trace, without its sounds: one for each block, and one for a record that is refused,
-/// which is the last.
+/// The lines of a trace, without its sounds: one for each block, and one for a refused record, which is the last.
 ///
 /// ```
 /// use cableowl::trace::lines;
@@ -640,7 +639,7 @@ impl Iterator for Lines<'_> {
 ///
 /// # Errors
 ///
-/// What reading or writing gives.
+/// Errors of reading or writing.
 pub fn replay(trace: impl Read, to: impl Write) -> io::Result<Option<Refused>> {
     Replay::new().print(trace, to)
 }

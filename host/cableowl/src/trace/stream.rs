@@ -10,10 +10,10 @@ use std::{
 use super::{OtherSound, Record, Refused, Replay, Step, TraceVersion, values};
 use crate::{Refusal, ffi};
 
-/// How much of a trace is held.
+/// The size of the buffer for a trace.
 const ROOM: usize = 64 * 1_024;
 
-/// Why a trace's reading ended before the trace did.
+/// Why reading a trace ended before the trace did.
 #[derive(Debug)]
 #[non_exhaustive]
 pub enum TraceError {
@@ -41,9 +41,9 @@ impl Error for TraceError {
     }
 }
 
-/// Reads a trace record by record: the same records as [`Trace`](super::Trace), in memory that does not
-/// grow with the trace. A record that is refused, or an error in reading, is the last, unless the reader
-/// skips what is damaged ([`TraceReader::skip_damage`]).
+/// Reads a trace record by record: the same records as [`Trace`](super::Trace), in memory that does not grow with the
+/// trace. A refused record or a read error is the last result, unless the reader skips what is damaged
+/// ([`TraceReader::skip_damage`]).
 ///
 /// ```
 /// use cableowl::{Commands, trace::{Record, TraceReader, write}};
@@ -65,7 +65,7 @@ pub struct TraceReader<R> {
     held: Box<[u8]>,
     at: usize,
     end: usize,
-    /// The place in the trace of the first byte held.
+    /// The offset in the trace of the first byte in the buffer.
     base: u64,
     /// Whether nothing is left to read.
     ended: bool,
@@ -101,7 +101,7 @@ impl<R: Read> TraceReader<R> {
         }
     }
 
-    /// Reads on until a whole record is held, or the trace's end.
+    /// Reads until the buffer contains a whole record, or to the trace's end.
     fn fill(&mut self) -> io::Result<()> {
         match self.ended || self.end - self.at >= self.version.max_record_bytes() {
             true => Ok(()),
@@ -109,7 +109,7 @@ impl<R: Read> TraceReader<R> {
         }
     }
 
-    /// Moves what is left to the front, and reads as much behind it as there is room for.
+    /// Moves the remaining bytes to the front, and fills the space behind them.
     fn read_on(&mut self) -> io::Result<()> {
         (self.last, self.found) = (0, None);
         self.held.copy_within(self.at..self.end, 0);
@@ -126,9 +126,8 @@ impl<R: Read> TraceReader<R> {
         Ok(())
     }
 
-    /// Skips a record that was refused, one byte at a time as [`salvage`](super::salvage()) does, up to
-    /// the next complete record or the trace's end: the records go on from there. Returns the places
-    /// skipped; none where no record was refused.
+    /// Skips a refused record, one byte at a time as [`salvage`](super::salvage()) does, up to the next complete record
+    /// or the trace's end. Reading continues there. Returns the skipped offsets, or `None` if no record was refused.
     ///
     /// ```
     /// use cableowl::{Commands, trace::{Record, TraceReader, write}};
@@ -145,7 +144,7 @@ impl<R: Read> TraceReader<R> {
     ///
     /// # Errors
     ///
-    /// What reading gives.
+    /// Errors of reading.
     pub fn skip_damage(&mut self) -> io::Result<Option<Range<u64>>> {
         if !self.refused {
             return Ok(None);
@@ -164,8 +163,8 @@ impl<R: Read> TraceReader<R> {
         }
     }
 
-    /// Reads the next record and returns the place of its first byte; `None` at the trace's end. A
-    /// record that is refused, or an error in reading, is the last.
+    /// Reads the next record and returns the offset of its first byte; `None` at the trace's end. A refused record or a
+    /// read error is the last result.
     pub fn read_next(&mut self) -> Option<Result<u64, TraceError>> {
         if self.refused {
             return None;
@@ -192,7 +191,7 @@ impl<R: Read> TraceReader<R> {
         }
     }
 
-    /// The record that [`TraceReader::read_next`] read last; none after a refused one and at the end.
+    /// The record that [`TraceReader::read_next`] read last; `None` after a refused one and at the end.
     #[must_use]
     pub fn record(&self) -> Option<Record<'_>> {
         let found = self.found.as_ref()?;
@@ -205,8 +204,8 @@ impl<R: Read> TraceReader<R> {
         &self.held[self.at - self.last..self.at]
     }
 
-    /// Reads the next record, plays it, and says what it did; `None` at the trace's end. The replay
-    /// reads it in its own version. A record that is refused, or an error in reading, is the last.
+    /// Reads the next record, plays it, and returns what it did; `None` at the trace's end. The replay reads it in its
+    /// own version. A refused record or a read error is the last result.
     ///
     /// ```
     /// use cableowl::{Commands, Refusal, trace::{Record, Replay, Step, TraceReader, write}};
@@ -247,14 +246,14 @@ impl<R: Read> TraceReader<R> {
         }
     }
 
-    /// Nothing more is read.
+    /// Nothing more will be read.
     fn broken(&mut self, error: io::Error) -> TraceError {
         (self.ended, self.at) = (true, self.end);
         (self.last, self.found) = (0, None);
         TraceError::Io(error)
     }
 
-    /// The place in the trace of the next record.
+    /// The offset in the trace of the next record.
     fn place(&self) -> u64 {
         self.base.wrapping_add(self.at as u64)
     }

@@ -17,8 +17,8 @@ pub struct Tape<'a> {
     buffer: &'a mut [u8],
     held: usize,
     open: Option<Block>,
-    /// The last open block that was written, and its bytes. At rest the next one is the same, and copying
-    /// them takes less time than writing it.
+    /// The last open block that was written, and its bytes. While nothing changes, the next one is the same, and
+    /// copying the bytes takes less time than writing the block.
     written: Option<(Block, [u8; Block::BYTES])>,
     ended: Option<Refusal>,
     blocks: u64,
@@ -90,7 +90,7 @@ impl<'a> Tape<'a> {
         }
         let before = (self.held, self.open);
         let kept = match (self.version, answer) {
-            // A recorded block has its own output.
+            // A recorded block has an output of its own.
             (_, Err(Refusal::Block)) => Err(Refusal::Record),
             (TraceVersion::First, _) => {
                 let block = lanes.block(time_step, signals);
@@ -234,7 +234,7 @@ impl<'a> Tape<'a> {
         self.ended.map_or(Ok(()), Err)
     }
 
-    /// The number of the next block, from 1 on.
+    /// The number of the next block, counted from 1.
     pub fn next_block(&mut self) -> u64 {
         self.blocks = self.blocks.saturating_add(1);
         self.blocks

@@ -27,7 +27,7 @@ pub enum TraceVersion {
 }
 
 impl TraceVersion {
-    /// The most bytes a record has, and so how many bytes of a trace are enough to read one.
+    /// The length in bytes of the longest record. That many bytes of a trace are enough to read one.
     ///
     /// ```
     /// use cableowl::trace::TraceVersion;
@@ -55,7 +55,7 @@ impl TraceVersion {
         Ok((values::record(&found, record), next))
     }
 
-    /// The kind and the numbers of the record at a place.
+    /// The kind and the numbers of the record at an offset.
     pub(super) fn found(self, bytes: &[u8], at: usize) -> Result<ffi::Record, Refusal> {
         let found = float_mode::plain(|| match self {
             Self::First => ffi::read_record(bytes, at as u64),

@@ -1,4 +1,4 @@
-/* Calls each entry of cableowl.h once, on the rules' three frames, and says what differs. */
+/* Calls each entry of cableowl.h once, on the three frames of the rules' example, and prints what differs. */
 #include <stdio.h>
 #include <string.h>
 

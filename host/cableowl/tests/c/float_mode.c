@@ -1,4 +1,4 @@
-/* What cableowl.h says of the float mode: in any mode a call returns, and with the mode held it answers as ever. */
+/* What cableowl.h says about the float mode: a call returns in any mode, and with cableowl_float_mode_hold its result is the usual one. */
 #include <stdio.h>
 #include <string.h>
 
@@ -17,7 +17,7 @@ static void expect(int holds, const char *what) {
 /* Flushing first; then rounding down, up and to zero. */
 static const unsigned int modes[] = {0x9fc0, 0x3f80, 0x5f80, 0x7f80};
 static void set(unsigned int mode) { _mm_setcsr(mode); }
-/* Without the flags of what has happened. */
+/* Without the flags of past exceptions. */
 static unsigned int now(void) { return _mm_getcsr() & ~0x3fu; }
 #else
 static const unsigned int modes[] = {1u << 24, 2u << 22, 1u << 22, 3u << 22};
@@ -54,7 +54,7 @@ static CableowlProcessed subnormal_block(float *out) {
                             FRAMES, 1.0, none, out, 2 * FRAMES);
 }
 
-/* The call that once went on for ever when rounding up. */
+/* The call that once never returned when rounding up. */
 static uint32_t far_advance(void) {
     const float sound[2] = {0.5f, 0.5f};
     const double most_negative[1] = {-1.7976931348623157e308};

@@ -1,4 +1,4 @@
-/* How long salvage of version 2 takes of bytes that hold no record, and of a trace of the longest records. The seconds are of
+/* How long a salvage of version 2 takes for bytes without a record, and for a trace of the longest records, in seconds of
  * the processor. cc -O1 -I host/include heads.c libcableowl.a; heads [MEGABYTES] */
 #include <stdio.h>
 #include <stdlib.h>
@@ -38,7 +38,7 @@ int main(int count, char **words) {
     }
     salvage("blocks of 1,024 frames with lanes");
 
-    /* A head of such a block, its frames, a time step of 0 and no signals, in each 18 bytes: none can stand closer. */
+    /* A head of such a block, its frames, a time step of 0 and no signals, every 18 bytes: they cannot be closer. */
     const uint8_t head[18] = {0xa5, 0x1d, 5, 0x11, 0x60, 0, 4};
     for (size_t i = 0; i < length; i += 1) bytes[i] = head[i % 18];
     salvage("heads of such blocks, one in each 18 bytes");

@@ -1,11 +1,11 @@
-/* The sentences of the refusals, beside those of the Rust crate. */
+/* Compares the sentences of the refusals with those of the Rust crate. */
 
 #include <stdio.h>
 #include <string.h>
 
 #include "cableowl.h"
 
-/* What the Rust crate says of 0 to 39. */
+/* The Rust crate's sentences for 0 to 39. */
 extern const char *const TEXTS[40];
 
 int main(void) {
@@ -16,7 +16,7 @@ int main(void) {
             differ++;
         }
     }
-    /* Any number has a text, one above 32 bits too. */
+    /* Any number has a text, also one above 32 bits. */
     if (strcmp(cableowl_refusal_text(UINT64_C(4294967297)), TEXTS[39]) != 0) differ++;
     printf("%d differ\n", differ);
     return differ != 0;

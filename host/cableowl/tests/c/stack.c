@@ -1,4 +1,4 @@
-/* How much stack each entry uses, at most: a thread's stack is painted before a call and looked at after it. The figures go
+/* How much stack each entry uses at most: a thread's stack is filled with a pattern before a call and read after it. The figures go
  * to standard error; one above its limit is a difference. cc -pthread -I host/include stack.c libcableowl.a */
 #define _GNU_SOURCE
 #include <pthread.h>
@@ -77,7 +77,7 @@ static float lent[128], heard[2048];
 static void replay_step(void) {
     refusal = (uint32_t)cableowl_replay_step(replay, trace, sizeof trace, 1, lent, 128, heard, 2048).refusal;
 }
-/* The longest block with a value for each frame, sealed by its checksum. */
+/* The longest laned block, with its checksum. */
 static CableowlReplay replay_v2;
 static uint8_t laned[5 + 24593];
 static void seal_laned(void) {
@@ -110,7 +110,7 @@ static void *run(void *call) {
     return NULL;
 }
 
-/* The bytes that a thread which makes this call leaves painted over. */
+/* The bytes of the pattern that a thread with this call overwrites. */
 static size_t used(void (*entry)(void)) {
     unsigned char *stack = aligned_alloc(4096, STACK);
     pthread_attr_t attributes;
@@ -197,10 +197,10 @@ int main(void) {
         printf("differs: the longest record of version 2\n");
         faults += 1;
     }
-    used(nothing); /* once before, so that what the linker does at a first thread is not counted */
+    used(nothing); /* once before, so that the linker's work for the first thread is not counted */
     const size_t thread = used(nothing);
     for (size_t i = 0; i < sizeof calls / sizeof calls[0]; i += 1) {
-        used(calls[i].entry); /* once before, so that what the linker does at a first call is not counted */
+        used(calls[i].entry); /* once before, so that the linker's work for the first call is not counted */
         const size_t all = used(calls[i].entry);
         const size_t bytes = all > thread ? all - thread : 0;
         fprintf(stderr, "%-26s %6zu bytes of stack\n", calls[i].name, bytes);

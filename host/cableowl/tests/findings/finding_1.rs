@@ -2,7 +2,7 @@
 
 use cableowl::{PlaybackState, Player, Refusal, Settings, Tween};
 
-/// A sound of 200 frames and a player at its frame 100, both at 1 frame a second: seconds are frames.
+/// A sound of 200 frames and a player at its frame 100, both at 1 frame a second, so that seconds are frames.
 fn player() -> (Vec<f32>, Player) {
     let sound: Vec<f32> = (0..200).flat_map(|i| [i as f32, -i as f32]).collect();
     let settings = Settings::new(1).start_position(100.0);
@@ -10,7 +10,7 @@ fn player() -> (Vec<f32>, Player) {
     (sound, player)
 }
 
-/// How many frames ahead of 100 it reads.
+/// How many frames after frame 100 it reads.
 const AHEAD: usize = 3;
 
 fn position(player: &Player) -> usize {
@@ -67,12 +67,12 @@ fn a_seek_is_judged_over_what_is_queued_before_it() {
         "from the last frame"
     );
     player.process(&sound, &mut [0.0; 2]).unwrap();
-    // It is there now: a seek by one is refused, until one goes back before it.
+    // It is at the last frame now: a seek by one is refused until another seek goes back.
     assert_eq!(player.seek_by(1.0), Err(Refusal::Seek));
     player.seek_to(3.0).unwrap();
     assert_eq!(player.seek_by(1.0), Ok(()), "from frame 3");
     player.process(&sound, &mut [0.0; 2]).unwrap();
-    // A loop in the queue wraps the far place, so a step on from it is accepted.
+    // A loop in the queue wraps the far position, so a step forward from it is accepted.
     player.set_loop_region(2.0..6.0).unwrap();
     player.seek_to(last).unwrap();
     assert_eq!(player.seek_by(1.0), Ok(()), "from inside the loop");

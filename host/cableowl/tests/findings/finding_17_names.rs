@@ -2,7 +2,7 @@
 
 use std::{fs, path::Path};
 
-/// What kira's users look for: names of its static sound and of what goes with it.
+/// What kira's users look for: names of its static sound and what belongs to it.
 const NAMES: [&str; 67] = [
     "AudioManager",
     "ClockTime",
@@ -104,7 +104,7 @@ fn each_name_of_kira_leads_to_ours() {
             ]
             .iter()
             .find_map(|word| line.strip_prefix(word))
-            // A variant stands alone in its line.
+            // A variant has a line of its own.
             .unwrap_or(if line.ends_with(',') { line } else { "" });
             let rest = item.strip_prefix(*name);
             line == alias

@@ -15,8 +15,8 @@ fn state_after(commands: Commands, sound: &[f32]) -> State {
     voice.state()
 }
 
-/// The left samples of the ten frames after this state was given to a player, which was paused before or not; and the state
-/// then. 10 milliseconds are 10 frames: the tenth ends the fade.
+/// The left samples of the ten frames after this state was given to a player, which was paused before or not; and the
+/// state after them. 10 milliseconds are 10 frames, so the tenth frame ends the fade.
 fn heard(commands: Commands, paused: bool) -> (Vec<f32>, PlaybackState) {
     let sound = [1.0; 200];
     let mut player = player(&sound);

@@ -1,6 +1,6 @@
 //! What five users ran into: one module per finding, by the numbers of docs/assurance/FINDINGS.md.
 //!
-//! Each module stands by itself, so that it can be tried on the text in which the users found it (`tools/findings`).
+//! Each module is self-contained, so that it can be run on the version in which the users found it (`tools/findings`).
 
 mod finding_1;
 mod finding_11;

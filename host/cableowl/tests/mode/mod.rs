@@ -31,17 +31,17 @@ mod word {
             let mut word = 0_u32;
             // SAFETY: stores MXCSR into `word`.
             unsafe { asm!("stmxcsr [{}]", in(reg) &raw mut word, options(nostack)) };
-            // The flags of what has happened are no part of the mode.
+            // The flags of past exceptions are not part of the mode.
             Self(word & !0x3f)
         }
 
-        /// Whether an exception passes silently.
+        /// Whether an exception is masked.
         pub fn masks(self) -> bool {
             self.0 & 0x1f80 == 0x1f80
         }
 
         pub fn set(self) {
-            // SAFETY: what the thread computes in this mode is not looked at.
+            // SAFETY: nobody reads what the thread computes in this mode.
             unsafe { asm!("ldmxcsr [{}]", in(reg) &raw const self.0, options(nostack)) };
         }
     }
@@ -76,13 +76,13 @@ mod word {
             Self(word)
         }
 
-        /// Whether an exception passes silently.
+        /// Whether an exception is masked.
         pub fn masks(self) -> bool {
             self.0 & 0x9f00 == 0
         }
 
         pub fn set(self) {
-            // SAFETY: what the thread computes in this mode is not looked at.
+            // SAFETY: nobody reads what the thread computes in this mode.
             unsafe { asm!("msr fpcr, {}", in(reg) self.0, options(nostack)) };
         }
     }

@@ -1,23 +1,23 @@
-// The same commands at the same frames give the same samples, states and counts, bit for bit, for any cutting of time.
+// The same commands at the same frames have the same samples, states and counts, bit for bit, for all block sizes.
 
 use cableowl::Player;
 use random::Random;
 
 use crate::evening::{Evening, Outcome, bits, seeds, shrunk};
 
-/// As few blocks as there can be.
+/// As few blocks as possible.
 fn whole(evening: &Evening) -> Outcome {
     evening.played(&mut evening.player(), &mut || usize::MAX)
 }
 
-/// A random schedule: blocks of 0 frames, of one, and of more than a voice's block may have.
+/// Random block sizes: blocks of 0 frames, of one, and of more than a voice's block may have.
 fn schedule(seed: u64) -> impl FnMut() -> usize {
     let mut random = Random::new(seed);
     let most = [1, 3, 17, 200, 5_000][random.below(5)];
     move || random.below(most + 1)
 }
 
-/// Where two cuttings of an evening differ, if they do.
+/// Where two ways to cut an evening differ, if they do.
 fn difference(evening: &Evening, seed: u64) -> Option<&'static str> {
     let whole = whole(evening);
     let ones = evening.played(&mut evening.player(), &mut || 1);

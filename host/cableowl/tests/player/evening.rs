@@ -1,4 +1,4 @@
-// A random evening of a player: a sound, and commands at frames; and what it comes to, cut this way or that.
+// A random evening of a player: a sound, and commands at frames; and its result for a way to cut time.
 
 use std::{env, sync::OnceLock, time::Duration};
 
@@ -8,11 +8,11 @@ use cableowl::{
 };
 use random::Random;
 
-/// Someone who plays an evening.
+/// Something that plays an evening.
 pub trait Plays {
     fn command(&mut self, command: Command) -> Result<(), Refusal>;
     fn process(&mut self, sound: &[f32], out: &mut [f32]) -> Result<Processed, Refusal>;
-    /// All that it says of itself, by bits.
+    /// Everything that it reports, by bits.
     fn told(&self) -> Vec<u8>;
 }
 
@@ -44,7 +44,7 @@ impl Plays for Player {
     }
 }
 
-/// What is played, and what is done when.
+/// What is played, and which command comes when.
 #[derive(Debug, Clone, PartialEq)]
 pub struct Evening {
     pub sound: Vec<f32>,
@@ -56,20 +56,20 @@ pub struct Evening {
     pub frames: usize,
 }
 
-/// What an evening came to.
+/// The result of an evening.
 #[derive(Debug, Clone, PartialEq)]
 pub struct Outcome {
     pub samples: Vec<u32>,
     pub answers: Vec<Result<(), Refusal>>,
-    /// What it says of itself before each command's frame and at the end.
+    /// What the player reports before each command's frame and at the end.
     pub told: Vec<Vec<u8>>,
     pub counts: Processed,
 }
 
-/// How a host cuts time: the next block's frames.
+/// How a host cuts time: returns the next block's frames.
 pub type Cut<'a> = &'a mut dyn FnMut() -> usize;
 
-/// The seeds of so many evenings; PLAYER_SEED and PLAYER_ROUNDS say others, and how many.
+/// The seeds of the evenings. PLAYER_SEED and PLAYER_ROUNDS change the first one and how many there are.
 pub fn seeds(rounds: u64) -> impl Iterator<Item = u64> {
     let number = |name, otherwise| {
         let word = env::var(name);
@@ -101,7 +101,7 @@ impl Evening {
         }
     }
 
-    /// Plays it, each command at its frame, and all between cut as the host cuts.
+    /// Plays the evening with each command at its frame, in the host's block sizes.
     pub fn played(&self, player: &mut dyn Plays, cut: Cut) -> Outcome {
         let mut samples = vec![f32::NAN; 2 * self.frames];
         let mut outcome = Outcome {
@@ -144,7 +144,7 @@ impl Evening {
         let frames_of_sound = 1 + random.below(most);
         let rates = [48_000, 44_100, 8_000, 1_000, 7, 1];
         let sample_rate = rates[random.below(6)];
-        // As fast as the sound or nearly, so that it is heard to move.
+        // Nearly as fast as the sound, so that the output changes.
         let output_rate = match random.below(3) {
             0 => sample_rate,
             1 => (sample_rate / 2).max(1),
@@ -173,7 +173,7 @@ impl Evening {
         if random.one_in(4) {
             evening.fade_in = Some(evening.any_tween(random));
         }
-        // Few commands at frames of their own, or many before the same frame: more than can wait.
+        // Few commands at different frames, or more before one frame than can wait.
         let (commands, together) = match random.below(12) {
             0 => (random.below(150), 60),
             1 | 2 => (random.below(20), 5),
@@ -196,7 +196,7 @@ impl Evening {
         evening
     }
 
-    /// What a shrunk evening has less of.
+    /// What a smaller evening leaves out.
     fn size(&self) -> usize {
         let settings = [
             self.fade_in.is_some(),
@@ -208,7 +208,7 @@ impl Evening {
         self.frames + frames + settings.into_iter().filter(|set| *set).count()
     }
 
-    /// A tween of about so many frames as the evening has, or few, or none.
+    /// A tween of about as many frames as the evening has, or of few, or of none.
     fn any_tween(&self, random: &mut Random) -> Tween {
         let most = [1, 4, 50, self.frames + 1][random.below(4)];
         let frames = random.below(most + 1) as u64;
@@ -223,7 +223,7 @@ impl Evening {
         }
     }
 
-    /// A duration of so many frames.
+    /// A duration of this many frames.
     fn duration_of(&self, frames: u64) -> Duration {
         Duration::from_nanos(frames * 1_000_000_000 / u64::from(self.output_rate))
     }
@@ -308,7 +308,7 @@ fn any_range(random: &mut Random, frames: usize) -> std::ops::Range<Frames> {
     Frames(start)..Frames(start + 1 + random.below(frames - start))
 }
 
-/// What is refused.
+/// A command that is refused.
 fn any_bad(random: &mut Random, tween: Tween) -> Command {
     let number = [f64::NAN, f64::INFINITY, f64::NEG_INFINITY, 1.0e300][random.below(4)];
     match random.below(5) {
@@ -322,14 +322,14 @@ fn any_bad(random: &mut Random, tween: Tween) -> Command {
     }
 }
 
-/// A smaller evening that still fails, as far as taking something away leads.
+/// A smaller evening that still fails, found by leaving out one thing after the other.
 pub fn shrunk(mut evening: Evening, fails: impl Fn(&Evening) -> bool) -> Evening {
     let smaller = |evening: &Evening| {
         let mut smaller = Vec::new();
         let mut with = |change: &dyn Fn(&mut Evening)| {
             let mut other = evening.clone();
             change(&mut other);
-            // By its size: a NaN in a command is not even equal to itself.
+            // Compared by size, because a NaN in a command is not equal to itself.
             if other.size() < evening.size() && other.frames > 0 {
                 smaller.push(other);
             }
@@ -341,7 +341,7 @@ pub fn shrunk(mut evening: Evening, fails: impl Fn(&Evening) -> bool) -> Evening
             });
         }
         let count = evening.commands.len();
-        // Many at once first: one by one takes minutes where there are many.
+        // Leaves out many at once first: one by one takes minutes if there are many.
         for length in [count / 2, count / 4, count / 8] {
             for start in (0..count).step_by(length.max(1)).filter(|_| length > 1) {
                 with(&|other| {

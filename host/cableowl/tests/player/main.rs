@@ -1,4 +1,4 @@
-// The player: its words, what it refuses, and that no cutting of time changes what it does.
+// The player: its commands, what it refuses, and that block sizes do not change what it does.
 
 mod cuts;
 mod evening;

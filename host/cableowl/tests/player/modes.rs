@@ -12,7 +12,7 @@ fn the_same_evening_in_every_float_mode() {
     let before = Mode::now();
     for seed in 0..60 {
         let mut evening = Evening::any(&mut Random::new(seed));
-        // Some samples among the subnormals.
+        // Some subnormal samples.
         for sample in evening.sound.iter_mut().step_by(3) {
             *sample *= f32::MIN_POSITIVE;
         }

@@ -1,4 +1,4 @@
-// Commands are obeyed in the order in which they were given, all of them, with the next frame.
+// All commands take effect with the next frame, in the order in which they were given.
 
 use cableowl::{
     Command, Frames, Level, PlaybackState, Player, RecordedPlayer, Refusal, Settings, Tween,
@@ -16,7 +16,7 @@ fn millis(millis: u64) -> Tween {
     Tween::from_millis(millis)
 }
 
-/// A sound of 40 frames at 1,000 frames a second, of the output too.
+/// A sound of 40 frames at 1,000 frames a second, which is also the output rate.
 fn evening(commands: Vec<(usize, Command)>) -> Evening {
     Evening {
         sound: (0..40).flat_map(|i| [i as f32, -i as f32]).collect(),
@@ -89,7 +89,7 @@ fn sixty_four_seeks_wait_and_one_more_is_refused() {
         said,
         "refusal 29: 64 seeks wait for the next frame already: play a frame, then seek again"
     );
-    // Nothing else is refused for room, however often.
+    // Nothing else is refused for lack of space, however often it comes.
     for _ in 0..1_000 {
         player.set_loop_region(Frames(1)..Frames(40)).unwrap();
         player.clear_loop_region();
@@ -107,7 +107,7 @@ fn sixty_four_seeks_wait_and_one_more_is_refused() {
     assert_eq!(player.seek_by(back), Ok(()), "a frame was played");
 }
 
-/// What is pressed.
+/// What the student presses.
 fn words() -> [Command; 7] {
     [
         Command::Pause(millis(3)),
@@ -120,7 +120,7 @@ fn words() -> [Command; 7] {
     ]
 }
 
-/// Every row of so many commands, in turn.
+/// Every sequence of this many commands, one after the other.
 fn rows(length: u32) -> impl Iterator<Item = Vec<Command>> {
     let words = words();
     (0..words.len().pow(length)).map(move |number| {
@@ -129,7 +129,8 @@ fn rows(length: u32) -> impl Iterator<Item = Vec<Command>> {
     })
 }
 
-/// What the row finds: every state, a voice that has not started, one that has run off its sound.
+/// The situations in which a sequence starts: every playback state, a voice that has not started, one past the end of
+/// its sound.
 fn situations() -> Vec<Evening> {
     let paused = (1, Command::Pause(Tween::AT_ONCE));
     let commands = [
@@ -174,7 +175,7 @@ fn every_short_row_is_obeyed_as_each_command_by_itself() {
     assert_eq!(tried, 9 * (1 + 7 + 49 + 343 + 2_401));
 }
 
-/// Five frames in callbacks that end at these frames too, the presses before the callbacks at their frames.
+/// Five frames in callbacks that also end at these frames; the presses come before the callbacks at their frames.
 fn in_callbacks(evening: &Evening, ends: u32) -> (Vec<u32>, Vec<u8>) {
     let (mut player, mut out) = (evening.player(), [0.0; 10]);
     let mut from = 0;
@@ -216,7 +217,7 @@ fn three_presses_end_alike_in_callbacks_of_every_length() {
     assert_eq!(tried, 343 * 20 * 31);
 }
 
-/// kira's own text, told the same presses before one frame.
+/// kira's own text, with the same presses before one frame.
 #[test]
 fn kira_keeps_the_last_of_each_kind_in_an_order_of_its_own() {
     let ends = |row: &[Command]| {

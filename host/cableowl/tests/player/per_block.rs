@@ -1,5 +1,5 @@
-// kira's way with parameters, one update a block and a straight line across it, over kira's own text: it differs by how time
-// is cut, and the player is what it comes to with blocks of one frame and commands in order.
+// Parameters as kira handles them, updated once a block with a straight line across it, over kira's own text. The
+// result depends on block sizes. With blocks of one frame and commands in order it equals the player's.
 
 use std::time::Duration;
 
@@ -20,7 +20,7 @@ struct Parameter {
     frames: u64,
     waits: u64,
     easing: Easing,
-    /// The value before the block, and at its end.
+    /// The values before the block and at its end.
     previous: f64,
     value: f64,
     is_level: bool,
@@ -46,7 +46,7 @@ impl Parameter {
         (self.frames, self.waits, self.easing) = (over.frames, over.delay, over.easing);
     }
 
-    /// Says whether its tween has ended with this block.
+    /// Returns whether its tween has ended with this block.
     fn update(&mut self, frames: u64) -> bool {
         self.previous = self.value;
         let waited = self.waits.min(frames);
@@ -69,7 +69,7 @@ impl Parameter {
             (false, _) => {
                 let value = self.from + (self.to - self.from) * way;
                 let ends = [self.from, self.to];
-                // As the player has it: never past an end.
+                // As in the player: never past an end.
                 match ends[0] <= ends[1] {
                     true if value < ends[0] => ends[0],
                     true if value > ends[1] => ends[1],
@@ -114,7 +114,7 @@ pub struct Numbers {
     rate: Vec<f64>,
 }
 
-/// A voice below the parameters: ours, or kira's own text.
+/// The voice that gets the parameters: ours, or kira's own text.
 pub trait Voice {
     fn create(evening: &Evening) -> Self;
     fn held_rate(&self) -> f64;
@@ -131,7 +131,7 @@ pub trait Voice {
     fn place(&self) -> Place;
 }
 
-/// Where a voice is: the state's number, the position, the fraction by its bits, the wraps forward and backward.
+/// Where a voice is: the number of its state, the position, the fraction by its bits, the wraps forward and backward.
 pub type Place = (u32, usize, u64, u64, u64);
 
 pub fn our_place(voice: &StaticSound) -> Place {
@@ -142,7 +142,7 @@ pub fn our_place(voice: &StaticSound) -> Place {
     (number, state.position, fraction, wraps.0, wraps.1)
 }
 
-/// Ours, with room for its lanes.
+/// Our voice, with buffers for its lanes.
 pub struct Ours(pub StaticSound, Lanes);
 
 impl Voice for Ours {
@@ -290,19 +290,19 @@ struct Over {
     easing: Easing,
 }
 
-/// A command as the voice is told it, and the fade that goes with it.
+/// A command as the voice gets it, and its fade.
 type Told = (Commands, Option<(f64, Over)>);
 
-/// How the commands before one frame are obeyed.
+/// How the commands before one frame are applied.
 #[derive(Debug, Clone, Copy, PartialEq)]
 pub enum Obeys {
-    /// Each by itself, in the order in which they were given.
+    /// Each separately, in the order in which they were given.
     InOrder,
     /// As kira reads them: the last of each kind, in the order of a command set.
     LikeKira,
 }
 
-/// A player as kira's `sound.rs` shows it: `update` for the whole block, then `interpolated_value` of each frame.
+/// A player like kira's `sound.rs`: `update` for the whole block, then `interpolated_value` for each frame.
 pub struct PerBlock<V> {
     pub voice: V,
     obeys: Obeys,
@@ -346,7 +346,7 @@ fn over(tween: Tween, output_rate: u32) -> Over {
     }
 }
 
-/// The last command of each kind; of the fades that of the last in the order of a set.
+/// The last command of each kind. Of the fades, the one that comes last in a command set.
 fn like_kira(row: &[Told]) -> Told {
     let mut set = Commands::new();
     let mut fades = [None; 3];
@@ -463,14 +463,14 @@ fn one_command(command: Command, frames: usize) -> Evening {
     }
 }
 
-/// Whether one block plays another evening than blocks of one frame, by these two.
+/// Whether one block plays something else than blocks of one frame, for these two voices.
 fn differs(evening: &Evening, new: impl Fn() -> Box<dyn Plays>) -> bool {
     let one = evening.played(new().as_mut(), &mut || usize::MAX);
     let ones = evening.played(new().as_mut(), &mut || 1);
     (one.samples, one.told.last()) != (ones.samples, ones.told.last())
 }
 
-/// Every evening of one command, few frames first, then short tweens.
+/// Every evening of one command, those with few frames and short tweens first.
 fn small_evenings() -> impl Iterator<Item = Evening> {
     (1..=4).flat_map(|frames| {
         (0..=4).flat_map(move |millis| {
@@ -513,16 +513,17 @@ fn the_smallest_evenings_that_tell_a_parameter_updated_once_a_block() {
     assert_eq!(rate, (two, Command::SetPlaybackRate(0.5, at_once)));
     let panning = first_of(|command| matches!(command, Command::SetPanning(..)));
     assert_eq!(panning, (two, Command::SetPanning(-1.0, at_once)));
-    // A pause over two frames: in one block kira has ended it before its first frame, so nothing of the fade is heard.
+    // A pause over two frames: in one block kira has ended it before the first frame, so nothing of the fade is
+    // audible.
     let pause = first_of(|command| matches!(command, Command::Pause(..)));
     assert_eq!(pause, (two, Command::Pause(Tween::from_millis(2))));
-    // The player keeps them all.
+    // The player does not depend on block sizes in any of these.
     for evening in small_evenings() {
         assert!(!differs(&evening, || Box::new(evening.player())));
     }
 }
 
-/// A random evening without starts and refusals, which the variant does not have.
+/// A random evening without starts and refusals, which this variant does not have.
 fn plain(random: &mut Random) -> Evening {
     let mut evening = Evening::any(random);
     evening.settings.start_waits = false;
@@ -534,7 +535,7 @@ fn plain(random: &mut Random) -> Evening {
     evening
 }
 
-/// Random evenings, all as the player plays them when the other has blocks of one frame.
+/// Random evenings: with blocks of one frame, the other player plays all of them as ours does.
 fn limit_of<V: Voice>(seeds: impl Iterator<Item = u64>) {
     let (mut rounds, mut differ, mut frames) = (0, 0, 0);
     for seed in seeds {

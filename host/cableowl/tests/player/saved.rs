@@ -1,4 +1,4 @@
-// A whole player as bytes. A voice's state given to a player: ../findings/finding_9.rs.
+// A whole player as bytes. ../findings/finding_9.rs tests a voice's state that is given to a player.
 
 use cableowl::{Command, Easing, Frames, Player, Settings, SharedPlayer, Tween, Unreadable};
 use random::Random;
@@ -14,7 +14,7 @@ fn check(bytes: &[u8]) -> [u8; 4] {
     (!crc).to_le_bytes()
 }
 
-/// The bytes with their length and check made anew.
+/// The bytes with a new length and check.
 fn mended(mut bytes: Vec<u8>) -> Vec<u8> {
     if let (length, Some(field)) = (bytes.len() as u32, bytes.get_mut(5..9)) {
         field.copy_from_slice(&length.to_le_bytes());
@@ -40,7 +40,7 @@ fn a_player_made_from_its_bytes_goes_on_bit_for_bit() {
         for (number, (frame, command)) in evening.commands.iter().chain(&last).enumerate() {
             let next = *frame;
             if number == saved_at {
-                // In the middle of a stretch, or before the first frame of it: with a queue.
+                // Between two commands, or right after one, with a queue.
                 let some = clock + random.below(next - clock + 1) * random.below(2);
                 player
                     .process(&evening.sound, &mut out[2 * clock..2 * some])

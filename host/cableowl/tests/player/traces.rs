@@ -1,4 +1,4 @@
-// A recorded player plays as an unrecorded one, and its trace, played again, prints its lines and sounds the same.
+// A recorded player plays like an unrecorded one, and its trace replays to the same lines and samples.
 
 use cableowl::{
     Command, RecordedPlayer, Refusal, Settings, Tween,
@@ -14,7 +14,7 @@ use crate::{
     evening::{Evening, bits, seeds},
 };
 
-/// A random evening over a sound that a record of the version can hold.
+/// A random evening over a sound that fits a record of the version.
 fn recordable(random: &mut Random, version: TraceVersion) -> Evening {
     loop {
         let evening = Evening::any(random);
@@ -128,8 +128,8 @@ fn a_trace_prints_the_lines_of_the_evening() {
     }
 }
 
-/// The trace with neighbouring blocks joined, as far as `may` allows: the last block, whether the voice
-/// ran off its sound in it, and the next one.
+/// The trace with neighbouring blocks joined wherever `may` allows it. `may` gets the last block, whether the voice
+/// reached the end of its sound in it, and the next block.
 fn joined(trace: &[u8], may: fn(&Block, bool, &Block) -> bool) -> Vec<u8> {
     let (mut records, mut replay): (Vec<Record<'_>>, _) = (Vec::new(), Replay::new());
     let mut ran_off = false;
@@ -171,9 +171,8 @@ fn fits(last: &Block, next: &Block) -> bool {
     *last == same && no_signals && last.frames + next.frames <= MAX_TRACED_FRAMES
 }
 
-/// Recorders that join too much are found: the lines of their traces are not those of the evening. The
-/// right one joins nothing that is left to join, but for the records between which the host emptied its
-/// buffer.
+/// Recorders that join too much are found: the lines of their traces are not those of the evening. The right recorder
+/// leaves nothing to join, except between records where the host emptied its buffer.
 #[test]
 fn a_recorder_that_joins_too_much_is_found() {
     type May = fn(&Block, bool, &Block) -> bool;

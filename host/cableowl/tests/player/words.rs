@@ -1,4 +1,4 @@
-// What each word does, frame by frame; what is refused, and that it is what the voice would refuse.
+// What each command does, frame by frame; and that the player refuses what the voice would refuse.
 
 use std::time::Duration;
 
@@ -10,7 +10,7 @@ use random::Random;
 
 use crate::evening::bits;
 
-/// A player at 1,000 frames a second, of the sound and of the output, over frames of their own number.
+/// A player at 1,000 frames a second, of the sound and of the output. The samples of a frame are its number.
 fn counting(frames: usize, settings: impl FnOnce(Settings) -> Settings) -> (Vec<f32>, Player) {
     let sound: Vec<f32> = (0..frames).flat_map(|i| [i as f32; 2]).collect();
     let player = Player::play(settings(Settings::new(1_000)), 1_000, &sound).unwrap();
@@ -21,7 +21,7 @@ fn frames(millis: u64) -> Tween {
     Tween::from_millis(millis)
 }
 
-/// The left samples of so many frames.
+/// The left samples of this many frames.
 fn heard(player: &mut Player, sound: &[f32], frames: usize) -> Vec<f32> {
     let mut out = vec![9.0; 2 * frames];
     player.process(sound, &mut out).unwrap();
@@ -52,7 +52,7 @@ fn pause_and_resume_change_state_where_their_fade_ends() {
         [14.0 * amplitude(300), 15.0, 16.0]
     );
     assert_eq!(player.state(), PlaybackState::Playing);
-    // Turned round half way: from where it is.
+    // Turned round half way: the fade goes on from its level.
     player.pause(frames(601));
     heard(&mut player, &sound, 7);
     player.resume(Tween::AT_ONCE);
@@ -142,7 +142,7 @@ fn position_and_counts() {
     assert_eq!(told(&player), (0.003, 4));
     heard(&mut player, &sound, 1);
     assert_eq!(told(&player), (0.004, 3));
-    // It stops in its sixth frame; what comes after that is no step of it.
+    // It stops in its sixth frame. What comes after that is no step.
     let (sound, mut player) = counting(5, |settings| settings);
     heard(&mut player, &sound, 1_000_000);
     assert_eq!(player.counts().steps, 6);
@@ -215,7 +215,7 @@ fn any_place(random: &mut Random, frames: usize) -> PlaybackPosition {
         0 => PlaybackPosition::Samples([frames, frames + 1, usize::MAX][random.below(3)]),
         1 => PlaybackPosition::Samples(random.below(frames + 2)),
         2 => PlaybackPosition::Seconds(odd[random.below(7)]),
-        // Halves of a frame too.
+        // Also half frames.
         _ => PlaybackPosition::Seconds((seconds * 4.0).round() / 4.0),
     }
 }
@@ -238,7 +238,7 @@ fn what_a_player_refuses_is_what_its_voice_would() {
         player
             .process(&sound, &mut vec![0.0; 2 * random.below(9)])
             .unwrap();
-        // A row of commands before one frame; the voice is told each by itself.
+        // Several commands before one frame; the voice gets each separately.
         let mut voice = player.voice().clone();
         let mut told = |commands| voice.on_start_processing(&sound, commands).map(|_| ());
         for _ in 0..1 + random.below(4) {
@@ -269,7 +269,7 @@ fn what_a_player_refuses_is_what_its_voice_would() {
             counts[kind] += 1;
             refused[kind] += usize::from(answer.is_err());
         }
-        // What was accepted is not refused later.
+        // An accepted command is not refused later.
         player.process(&sound, &mut [0.0; 2]).unwrap();
     }
     println!("{refused:?} of {counts:?} loops and seeks are refused");
@@ -323,7 +323,7 @@ fn a_start_comes_at_the_frame_that_the_voice_would_start_at() {
     assert!(came > 500 && waits > 500, "{came} came, {waits} wait");
 }
 
-/// Only what may go to another thread.
+/// Only types that can be sent to another thread.
 fn sent<T: Send + 'static>() {}
 
 #[test]

@@ -1,6 +1,6 @@
-//! A trace played again beside a log: blocks and lines, joined where both have an edge. A log may be
-//! cut otherwise than its trace: a cut changes nothing that is played, so the sums must agree at every
-//! frame where a block of the trace and a line of the log end together.
+//! Replays a trace beside a log, and joins blocks and lines up to each frame where both end. A log may have other block
+//! sizes than its trace. Block sizes change nothing that is played, so the sums must agree at every frame where a block
+//! of the trace and a line of the log end together.
 
 use std::{fmt, ops::Range};
 
@@ -17,7 +17,7 @@ use crate::{
     sounds::Sounds,
 };
 
-/// Some blocks of the trace or some lines of the log, one after the other.
+/// Some successive blocks of the trace or lines of the log.
 #[derive(Debug, Clone, Copy, PartialEq, Default)]
 pub struct Part {
     /// How many there are.
@@ -29,9 +29,9 @@ pub struct Part {
     pub frames: u128,
     /// Their steps.
     pub steps: u64,
-    /// The lowest window count; form 1 does not say it.
+    /// The lowest window count; form 1 does not contain it.
     pub lowest: Option<u8>,
-    /// What the frames were spent on, and the steps backward; form 3 alone.
+    /// How the frames were spent, and the steps backward; only in form 3.
     pub spent: Option<(Usage, u64)>,
     /// The last accepted one.
     pub last: Option<Block>,
@@ -39,7 +39,7 @@ pub struct Part {
     pub refusal: Option<u8>,
     /// All refusals in their order, in one number.
     refusals: u64,
-    /// Whether the voice ran off its sound: the steps then depend on where the block was cut.
+    /// Whether the voice passed the end of its sound. Then the steps depend on where the block ends.
     pub ran_off: bool,
 }
 
@@ -55,7 +55,7 @@ impl Part {
             Line::Block(block) => self.accepted(block),
             Line::Refused { refusal, .. } => {
                 self.refusal = Some(refusal);
-                // No record holds a call that is refused with 9, so it is none of the trace's.
+                // No record contains a call that is refused with 9, so the trace does not have it.
                 if refusal != 9 {
                     let digest = self.refusals.wrapping_mul(257);
                     self.refusals = digest.wrapping_add(u64::from(refusal) + 1);
@@ -65,7 +65,7 @@ impl Part {
         }
     }
 
-    /// Whether it has refused blocks alone.
+    /// Whether it has only refused blocks.
     fn only_refused(&self) -> bool {
         self.refusals != 0 && self.last.is_none()
     }
@@ -93,41 +93,41 @@ impl Part {
     }
 }
 
-/// What the rule gives and what the box said, from one edge of both to the next.
+/// What the rules say and what the box logged, between two successive frames at which both end a block.
 #[derive(Debug, Clone, Copy, PartialEq, Default)]
 pub struct Segment {
-    /// What the rule gives.
+    /// What the rules say.
     pub rule: Part,
-    /// What the box said.
+    /// What the box logged.
     pub said: Part,
     /// The seconds of its frames.
     pub seconds: f64,
-    /// How far the rule goes in the sound, in frames and parts of them.
+    /// How far the voice advances in the sound by the rules, in frames with a fraction.
     pub advance: f64,
-    /// The sound's frames a second.
+    /// The sound's frames per second.
     pub sample_rate: u32,
     /// Whether the voice has a loop.
     pub looped: bool,
 }
 
-/// What of a segment differs first.
+/// The first difference of a segment.
 #[derive(Debug, Clone, Copy, PartialEq, Eq)]
 pub enum What {
     /// The refusals.
     Refusals,
     /// The state.
     State,
-    /// The place in the sound.
+    /// The position in the sound.
     Position,
     /// The steps.
     Steps,
-    /// Times round the loop.
+    /// The wraps.
     Turns,
     /// The lowest window count.
     Lowest,
     /// The start, the loop, the direction or the end of the sound.
     Voice,
-    /// What the frames were spent on.
+    /// How the frames were spent.
     Usage,
 }
 
@@ -148,8 +148,8 @@ impl What {
 }
 
 impl Segment {
-    /// What differs, if anything. What was done before a block is the host's to count, and over a
-    /// block in which the voice runs off its sound the sums depend on the cut.
+    /// The first difference, if there is one. The host counts what it did before a block, so that is not compared. In a
+    /// block in which the voice passes the end of its sound, the sums depend on the block's length.
     pub fn differs(&self) -> Option<What> {
         let (rule, said) = (&self.rule, &self.said);
         if rule.refusals != said.refusals {
@@ -185,22 +185,22 @@ impl Segment {
     }
 }
 
-/// Why nothing is said of the box from some place on.
+/// Why nothing can be said of the box from some point on.
 #[derive(Debug, Clone, PartialEq, Eq)]
 pub enum Why {
     /// Both have ended together.
     Done,
-    /// A record of the trace is damaged: its first byte.
+    /// A record of the trace is damaged: the offset of its first byte.
     TraceDamaged(u64),
-    /// A file could not be read, or a line of the log is none.
+    /// A file could not be read, or a line is not a line of a log.
     Unread(String),
-    /// The log was cut inside a line.
+    /// The log ends inside a line.
     LogCut(String),
-    /// The log has ended, and the trace goes on.
+    /// The log has ended, and the trace continues.
     LogEnds,
-    /// The trace has ended, and the log goes on.
+    /// The trace has ended, and the log continues.
     TraceEnds,
-    /// No further frame is an edge of both.
+    /// No later frame is the end of both a block and a line.
     NoEdge,
 }
 
@@ -229,8 +229,8 @@ pub struct Pair<'a> {
 }
 
 impl<'a> Pair<'a> {
-    /// Before their first block and line. If sounds are given, those that the trace names are looked for
-    /// among them.
+    /// A pair before its first block and line. If sounds are given, those that the trace names are looked up among
+    /// them.
     pub fn new(trace: Input, log: Log, sounds: Option<&'a Sounds>) -> Self {
         let form = log.form();
         Self {
@@ -252,7 +252,7 @@ impl<'a> Pair<'a> {
         }
     }
 
-    /// Both up to the next frame where both have an edge.
+    /// Reads both up to the next frame at which both end a block.
     pub fn next(&mut self) -> Next<Segment> {
         let mut segment = Segment::default();
         self.first(&mut segment)?;
@@ -276,8 +276,7 @@ impl<'a> Pair<'a> {
         Ok(segment)
     }
 
-    /// The first block and the first line. Blocks of no frames that only one of them has at the end
-    /// are passed over.
+    /// The first block and the first line. Blocks of no frames at the end that only one of them has are skipped.
     fn first(&mut self, segment: &mut Segment) -> Next<()> {
         let empty = |line: &Line| matches!(line, Line::Block(block) if block.frames == 0);
         let Some(played) = self.rule.next()? else {
@@ -311,8 +310,8 @@ impl<'a> Pair<'a> {
         Ok(skipped.unwrap_or_default())
     }
 
-    /// Goes on behind a hole, where a voice is created on both sides: the number of the log's line. The
-    /// words say why it cannot.
+    /// Continues after a hole, where both sides create a voice. Returns the number of the log's line, or the reason why
+    /// it cannot.
     pub fn resume(&mut self) -> std::result::Result<u64, &'static str> {
         if self.said.log.form() == Form::First {
             return Err("a log of form 1 does not say where a voice was created");
@@ -324,8 +323,8 @@ impl<'a> Pair<'a> {
         line.ok_or("the log says of no voice created behind it")
     }
 
-    /// Reads both to their ends: whether the log says of as many voices created behind the hole as the
-    /// trace has. If it does not, some of them were in the hole, and nothing can be aligned.
+    /// Reads both to their ends, and returns whether the log reports as many creations after the hole as the trace has.
+    /// If it does not, some of them were in the hole, and the two cannot be aligned.
     pub fn as_many_created(&mut self) -> bool {
         let whole = loop {
             match self.rule.next() {
@@ -340,7 +339,7 @@ impl<'a> Pair<'a> {
 }
 
 impl Pair<'_> {
-    /// Reads the trace to its end: a sentence for each sound that it names and that was not given.
+    /// Reads the trace to its end. Returns a sentence for each sound that it names and that was not given.
     pub fn missing(&mut self) -> Vec<String> {
         let Some(sounds) = self.rule.sounds else {
             return Vec::new();
@@ -369,11 +368,11 @@ impl Segment {
     }
 }
 
-/// The trace, played again.
+/// The replayed trace.
 struct Rule<'a> {
     name: String,
     reader: TraceReader<Input>,
-    /// Without sounds: lines do not depend on the samples.
+    /// Without sounds, because lines do not depend on the samples.
     run: Run<'static>,
     /// The log's form.
     form: Form,
@@ -383,7 +382,7 @@ struct Rule<'a> {
     missing: Missing,
 }
 
-/// A block that was played again.
+/// A replayed block.
 struct Played {
     line: Line,
     seconds: f64,
@@ -397,7 +396,7 @@ impl Rule<'_> {
         Why::Unread(format!("{}: cannot be read: {}", self.name, reason(error)))
     }
 
-    /// Reads the next record: whether there is one.
+    /// Reads the next record, and returns whether there is one.
     fn read(&mut self) -> Next<bool> {
         match self.reader.read_next() {
             None => Ok(false),
@@ -448,7 +447,7 @@ impl Rule<'_> {
         Ok(None)
     }
 
-    /// A block of so many seconds, and what its frames advance on average in seconds of the sound.
+    /// Adds a block of this many seconds, and the average advance of its frames in seconds of the sound.
     fn played(&self, bare: &Proved, full: &LogLine, seconds: f64, advance: f64) -> Played {
         let accepted = matches!(bare, Proved::Block { .. });
         let advance = f64::from(self.sample_rate) * advance;
@@ -461,7 +460,7 @@ impl Rule<'_> {
         }
     }
 
-    /// Passes over records up to a creation that is accepted, and forgets what was before it.
+    /// Skips records up to an accepted creation, and forgets what was before it.
     fn creation(&mut self) -> bool {
         (self.run, self.created) = (Run::new(), 0);
         loop {
@@ -514,7 +513,7 @@ impl Said {
         }
     }
 
-    /// Passes over lines up to the first of a new voice: its number.
+    /// Skips lines up to the first one of a new voice, and returns its number.
     fn creation(&mut self) -> Option<u64> {
         loop {
             self.created = 0;
@@ -532,7 +531,7 @@ impl Said {
     }
 }
 
-/// The voices that a log says were created before a line.
+/// How many voices were created before a line, as the log says.
 fn created(line: &Line) -> u64 {
     let before = match line {
         Line::Block(Block { more: Some(m), .. }) => Some(m.before),
@@ -542,8 +541,8 @@ fn created(line: &Line) -> u64 {
     before.map_or(0, |before| before.created)
 }
 
-/// A block that was played again, as a log of this form has it. Over a block in which the voice runs
-/// off its sound, form 3 counts up to the frame in which it stopped.
+/// A replayed block as a log of this form contains it. For a block in which the voice passes the end of its sound, form
+/// 3 counts up to the frame in which it stopped.
 fn as_said(bare: &Proved, full: &LogLine, form: Form) -> Line {
     let before = Some(Before {
         created: full.since.created,
@@ -589,7 +588,7 @@ fn as_said(bare: &Proved, full: &LogLine, form: Form) -> Line {
             refusal: number(refusal),
             before,
         },
-        // No sound is given, so that no creation is refused for it.
+        // No sound is given, so no creation is refused for its sound.
         Proved::OtherSound(other) => Line::Broken {
             refusal: number(Refusal::OtherSound),
             at: other.at,

@@ -1,5 +1,4 @@
-//! What the audit of many evenings found: a row for each, the share that differs, and the creep's
-//! distribution.
+//! The results of auditing many evenings: a row for each, the share that differs, and the distribution of the creep.
 
 use super::words::{an_hour, span};
 use crate::{
@@ -13,7 +12,7 @@ use crate::{
     table::{csv_line, laid_out},
 };
 
-/// What was found of an evening.
+/// The result for an evening.
 #[derive(Debug, Clone, Copy, PartialEq, Eq, PartialOrd, Ord)]
 pub enum Outcome {
     Differs,
@@ -39,17 +38,17 @@ pub struct Evening {
     pub name: String,
     /// What was found.
     pub outcome: Outcome,
-    /// The line of the log at which it differs first.
+    /// The first line of the log that differs.
     pub block: Option<u64>,
-    /// How many seconds later the sound is after an hour, where it differs.
+    /// How many seconds late the sound is after an hour, if it differs.
     pub creep: Option<f64>,
     /// The seconds compared.
     pub seconds: f64,
-    /// The same in a sentence.
+    /// The result in a sentence.
     pub says: String,
     /// A sentence for each sound that its trace names and that was not given.
     pub missing: Vec<String>,
-    /// The plot of its creep, where a page is asked for.
+    /// The plot of its creep, if a page was asked for.
     pub plot: String,
 }
 
@@ -80,7 +79,7 @@ fn counts(evenings: &[Evening]) -> String {
     )
 }
 
-/// Of the evenings that agree or differ, those that differ.
+/// Those that differ, of the evenings that agree or differ.
 fn differing(evenings: &[Evening]) -> Share {
     let differ = count(evenings, Outcome::Differs);
     Share {
@@ -273,7 +272,7 @@ impl Evenings {
         text
     }
 
-    /// The page: the evenings that creep most first, then what else differs, is unknown or agrees. A row
+    /// The page: first the evenings that creep most, then other differences, then unknown, then those that agree. A row
     /// that differs opens the plot of its creep.
     pub fn page(&self, put: &mut Sink<'_>) -> Result<()> {
         let evenings = &self.rows;

@@ -27,8 +27,8 @@ struct Files {
     log: Option<PathBuf>,
 }
 
-/// Audits every pair in the folders: whether all agree. A row says which sounds of a trace are in none of the
-/// places, if any are given.
+/// Audits every pair in the folders, and returns whether all agree. If sounds are given, a row says which sounds of a
+/// trace were not found.
 pub fn audit(
     folders: &[PathBuf],
     places: &Places,
@@ -103,7 +103,7 @@ fn files(folders: &[PathBuf]) -> Result<Vec<Files>> {
     Ok(named.into_values().collect())
 }
 
-/// An evening's row, with its plot where it differs and a page is asked for.
+/// An evening's row, with its plot if it differs and a page was asked for.
 fn audited(files: &Files, sounds: Option<&Sounds>, draws: bool) -> Evening {
     let evening = |outcome, says: String| Evening {
         name: files.name.clone(),

@@ -35,7 +35,7 @@ pub fn page(found: &Found, put: &mut Sink<'_>) -> Result<()> {
         ("Places that differ", grouped(found.differing)),
         ("Time", span(found.seconds)),
         ("At the end", behind(found)),
-        ("Creep", hourly(found).map_or("not told".into(), an_hour)),
+        ("Creep", hourly(found).map_or("not known".into(), an_hour)),
     ];
     for (name, says) in facts {
         put(&format!("<div><dt>{name}</dt><dd>{says}</dd></div>\n"))?;
@@ -59,7 +59,7 @@ pub fn page(found: &Found, put: &mut Sink<'_>) -> Result<()> {
     foot(put)
 }
 
-/// The creep over time; where the steps agree and the places do not, the places' difference.
+/// The creep over time; if the steps agree and the positions do not, the difference of the positions.
 pub fn creep_plot(found: &Found) -> String {
     let steps_differ = found
         .gaps

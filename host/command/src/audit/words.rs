@@ -11,7 +11,7 @@ use crate::{
     plot::{counted, grouped},
 };
 
-/// A part as it is shown beside another: the words of a log's line.
+/// A part of a comparison as it is shown beside the other: the words of a log's line.
 pub fn shown(part: &Part, form: Form) -> String {
     let (number, frames) = (part.number, part.frames);
     let Some(last) = part.last else {
@@ -131,7 +131,7 @@ fn compared(found: &Found) -> String {
     }
 }
 
-/// The difference, as a person at the desk would say it.
+/// The difference in everyday words.
 fn difference(found: &Found, first: &Differs) -> String {
     let block = grouped(first.segment.said.first);
     let place = format!(

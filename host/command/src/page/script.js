@@ -1,15 +1,15 @@
-/* Sorts tables, opens a row's plots below it, and saves figures. Without it the tables stand as they are
-   written, and a row's link shows its plots below the table. */
+/* Sorts tables, opens a row's plots below it, and saves figures. Without it the tables stay
+   unsorted, and a row's link shows its plots below the table. */
 'use strict';
 document.documentElement.classList.add('script');
 
-/* What a column is sorted by; what is not told comes last in both directions. */
+/* The sort key of a column; figures that the log does not contain come last in both directions. */
 function keys(rows, column) {
   const keyed = rows.map(row => {
     const text = row.cells[column].textContent.replaceAll(',', '');
-    return { row, text, number: column > 0 ? parseFloat(text) : NaN, told: text !== '–' };
+    return { row, text, number: column > 0 ? parseFloat(text) : NaN, known: text !== '–' };
   });
-  const numbers = keyed.every(key => !key.told || !Number.isNaN(key.number));
+  const numbers = keyed.every(key => !key.known || !Number.isNaN(key.number));
   const order = (a, b) => numbers ? a.number - b.number : a.text.localeCompare(b.text, 'en', { numeric: true });
   return { keyed, order };
 }
@@ -23,7 +23,7 @@ function sortBy(table, head) {
   for (const row of body.querySelectorAll('tr.open')) close(row);
   const { keyed, order } = keys([...body.rows], head.cellIndex);
   keyed.sort((a, b) => {
-    if (!a.told || !b.told) return b.told - a.told;
+    if (!a.known || !b.known) return b.known - a.known;
     return falls ? order(b, a) : order(a, b);
   });
   body.append(...keyed.map(key => key.row));

@@ -14,12 +14,12 @@ use crate::{
     replay::{Run, fault, number},
 };
 
-/// Frames a second.
+/// Frames per second.
 #[derive(Debug, Clone, Copy, PartialEq, Eq)]
 pub struct Rates {
     /// Of the box.
     pub device: u32,
-    /// Of the sound, where they are given.
+    /// Of the sound, if they are given.
     pub sound: Option<u32>,
 }
 
@@ -27,39 +27,39 @@ pub struct Rates {
 pub struct Evening {
     /// The file's name.
     pub name: String,
-    /// Its form; a trace is told as form 3.
+    /// Its form; a trace counts as form 3.
     pub form: Form,
     /// Whether it is a trace.
     pub trace: bool,
-    /// The sound's frames a second, where they are known.
+    /// The sound's frames per second, if they are known.
     pub sound_rate: Option<u32>,
     /// Whether the same file was given before it.
     pub again: bool,
     /// Its figures.
     pub figures: Figures,
-    /// Where the log was cut inside a line, in words.
+    /// Where the log ends inside a line, in words.
     pub cut: Option<String>,
 }
 
-/// What reading a file to its end, or to its damage, gave.
+/// The result of reading a file to its end or to its damage.
 pub struct Read {
     /// Its figures.
     pub evening: Evening,
     /// Its course, for the plots.
     pub course: Course,
-    /// Where a trace could not be read on.
+    /// Where reading a trace stopped.
     pub damage: Option<Damage>,
 }
 
-/// Where a trace could not be read on.
+/// Where reading a trace stopped.
 pub struct Damage {
     fault: Fault,
-    /// Whether it only ends too early, as where a box loses power.
+    /// Whether the file only ends too early, as after a power loss.
     cut_short: bool,
 }
 
-/// Reads a log or a trace to its end; the course is held in at most so many stretches. A trace that
-/// is damaged is told up to the damage, which comes with it.
+/// Reads a log or a trace to its end. The course has at most `stretches` intervals. A damaged trace is read up to the
+/// damage, which is returned too.
 pub fn read(mut input: Input, rates: Rates, stretches: usize) -> Result<Read> {
     let kind = input.kind()?;
     input.must_be(&[FileKind::Log, FileKind::Trace], "a log or a trace")?;
@@ -107,7 +107,7 @@ fn read_trace(mut input: Input, rates: Rates, mut course: Course) -> Result<Read
     while let Some(at) = reader.read_next() {
         match (at, reader.record()) {
             (Ok(_), Some(record)) => {
-                // As its log says it.
+                // As its log would contain it.
                 if let Step::Block(line) = run.play(&record, reader.bytes())
                     && let Ok(line) = parse(run.line(&line).to_string().as_bytes(), Form::Third)
                 {

@@ -12,8 +12,8 @@ use crate::{
     out::{same, shown},
 };
 
-/// The files of the words: a folder stands for its files NAME.log, by name. A folder without one is
-/// told by `complain`.
+/// The files that the words name. A folder means its files NAME.log, sorted by name. `complain` gets a sentence for a
+/// folder without any.
 pub fn logs_in(paths: &[PathBuf], complain: &mut dyn FnMut(&Fault)) -> Vec<PathBuf> {
     let mut logs = Vec::new();
     for path in paths {
@@ -36,7 +36,7 @@ pub fn logs_in(paths: &[PathBuf], complain: &mut dyn FnMut(&Fault)) -> Vec<PathB
     logs
 }
 
-/// For each path, whether one before it leads to the same file.
+/// For each path, whether an earlier one is the same file.
 pub fn again(paths: &[PathBuf]) -> Vec<bool> {
     let mut seen = BTreeSet::new();
     let mut is_again = |path: &PathBuf| {
@@ -46,7 +46,7 @@ pub fn again(paths: &[PathBuf]) -> Vec<bool> {
     paths.iter().map(&mut is_again).collect()
 }
 
-/// A page does not take the place of what it is made from.
+/// A page must not replace a file that it is made from.
 pub fn not_an_input(page: &Path, inputs: &[PathBuf]) -> Result<()> {
     let Ok(there) = fs::metadata(page) else {
         return Ok(());

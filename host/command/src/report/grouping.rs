@@ -1,4 +1,4 @@
-//! Which logs belong together: by what their names say, or by a table.
+//! Which logs belong together: by their names, or by a table.
 
 use std::{
     collections::BTreeMap,
@@ -12,10 +12,10 @@ use crate::{
     out::shown,
 };
 
-/// How logs and traces are grouped, as it was asked for.
+/// How to group logs and traces, as the user asked.
 #[derive(Debug, PartialEq, Eq)]
 pub enum Asked {
-    /// By what their names say.
+    /// By their names.
     Named(By, Pattern),
     /// By a file of lines `file,group`.
     Table(PathBuf),
@@ -110,7 +110,7 @@ impl Date {
         of_years + (153 * month + 2) / 5 + self.day - 1 + 2
     }
 
-    /// The year and the number of its week: the week belongs to the year of its Thursday.
+    /// The year and the number of its week: a week belongs to the year of its Thursday.
     pub fn week(self) -> (i64, i64) {
         let thursday = self.days().div_euclid(7) * 7 + 3;
         let first = |year| Self {
@@ -126,7 +126,7 @@ impl Date {
     }
 }
 
-/// How a file's name says its box and its day: `{box}_{date}`. `{any}` stands for anything.
+/// How a file's name contains its box and its day: `{box}_{date}`. `{any}` matches anything.
 #[derive(Debug, Clone, PartialEq, Eq)]
 pub struct Pattern {
     parts: Vec<Part>,
@@ -140,7 +140,7 @@ enum Part {
     Any,
 }
 
-/// What a name says.
+/// What a name contains.
 #[derive(Debug, Clone, PartialEq, Eq, Default)]
 pub struct Named {
     /// The box.
@@ -161,7 +161,7 @@ impl fmt::Display for Pattern {
 }
 
 impl Pattern {
-    /// Reads a pattern; the words say what is wrong with it.
+    /// Reads a pattern. The error says what is wrong with it.
     pub fn read(text: &str) -> std::result::Result<Self, String> {
         let mut parts = Vec::new();
         let mut rest = text;
@@ -196,7 +196,7 @@ impl Pattern {
         Ok(Self { parts })
     }
 
-    /// What a name says that fits; none where it does not fit.
+    /// What a name contains, if it fits the pattern.
     pub fn fit(&self, name: &str) -> Option<Named> {
         fit(&self.parts, name)
     }
@@ -214,7 +214,7 @@ fn fit(parts: &[Part], name: &str) -> Option<Named> {
             named.date.get_or_insert(date);
             Some(named)
         }),
-        // The longest that lets the rest fit.
+        // The longest match with which the rest fits.
         Part::Box | Part::Any => {
             let ends = name
                 .char_indices()
@@ -242,7 +242,7 @@ pub enum Grouping {
 }
 
 impl Grouping {
-    /// What was asked for, with its table read.
+    /// What the user asked for, with its table read.
     pub fn read(asked: &Asked) -> Result<Self> {
         match asked {
             Asked::Named(by, pattern) => Ok(Self::Named(*by, pattern.clone())),
@@ -262,8 +262,7 @@ impl Grouping {
         group.map_err(|words| Fault::refused(format!("{}: {words}", shown(file))))
     }
 
-    /// The group of a file of this name, without its folder and `.log` or `.trace`; the words say why
-    /// it has none.
+    /// The group of a file with this name, without its folder and `.log` or `.trace`. The error says why it has none.
     fn of(&self, name: &str) -> std::result::Result<String, String> {
         match self {
             Self::Table(table) => {
@@ -293,7 +292,7 @@ impl Grouping {
         }
     }
 
-    /// A table of lines `file,group`; the words say what is wrong with it.
+    /// A table of lines `file,group`. The error says what is wrong with it.
     fn table(text: &str) -> std::result::Result<Self, String> {
         let mut table = BTreeMap::new();
         for (index, line) in text.lines().enumerate() {

@@ -20,7 +20,7 @@ pub struct Groups {
     groups: BTreeMap<String, Group>,
 }
 
-/// The figures of a group. A share is of the logs that say it.
+/// The figures of a group. A share is of the logs that contain it.
 #[derive(Debug, Clone, Copy, PartialEq, Eq, Default)]
 struct Group {
     sessions: u64,
@@ -28,17 +28,17 @@ struct Group {
     played: u64,
     /// Sessions with a restart by hand.
     restarted: Share,
-    /// Times round the loop, and the frames played in the logs that say them.
+    /// Wraps, and the frames played in the logs that contain them.
     rounds: u64,
     rounds_in: u64,
     seeks: u64,
     pauses: u64,
     refused: u64,
-    /// Lines that do not fit.
+    /// Lines that do not fit together.
     misfits: u64,
     /// Sessions that reached the sound's end.
     ended: Share,
-    /// Sessions with a tail: a window count below 4 says that the silence was the sound's end.
+    /// Sessions with a tail: a window count below 4 means that the silence was the sound's end.
     tails: Share,
 }
 
@@ -97,8 +97,8 @@ impl Group {
     }
 }
 
-/// The columns of the comma separated values and of the page, after the group's name: the name, and
-/// the words for people.
+/// The columns of the comma separated values and of the page, after the group's name: the name, and the heading for
+/// people.
 const COLUMNS: [(&str, &str); 17] = [
     ("sessions", "Sessions"),
     ("minutes", "Minutes"),
@@ -119,13 +119,13 @@ const COLUMNS: [(&str, &str); 17] = [
     ("misfits", "Lines that do not fit"),
 ];
 
-/// A share of 100, and the ends of its interval.
+/// A share in percent, and the ends of its interval.
 fn ends(estimate: Option<Estimate>) -> [Option<String>; 3] {
     let number = |of: fn(Estimate) -> f64| Some(format!("{:.4}", 100.0 * of(estimate?)));
     [number(|e| e.value), number(|e| e.low), number(|e| e.high)]
 }
 
-/// A share in a hundred, with its interval, for people.
+/// A share in percent, with its interval, for people.
 pub fn per_100(estimate: Option<Estimate>) -> (String, String) {
     let Some(Estimate { value, low, high }) = estimate else {
         return ("-".into(), "-".into());
@@ -143,12 +143,12 @@ impl Groups {
         }
     }
 
-    /// An evening more in a group.
+    /// Adds an evening to a group.
     pub fn add(&mut self, group: String, figures: &Figures) {
         self.groups.entry(group).or_default().add(figures);
     }
 
-    /// Each group and the one after it, with what changed.
+    /// Each group and the next one, with what changed.
     fn changes(&self) -> impl Iterator<Item = (&String, &String, Option<Estimate>)> {
         let pairs = self.groups.iter().zip(self.groups.iter().skip(1));
         pairs.map(|((from, earlier), (to, later))| {
@@ -156,7 +156,7 @@ impl Groups {
         })
     }
 
-    /// What changed, a sentence for each two neighbours.
+    /// What changed, a sentence for each pair of neighbours.
     fn sentences(&self) -> Vec<String> {
         let sentence = |(from, to, rise): (&String, &String, Option<Estimate>)| {
             let rise = rise?;
@@ -177,7 +177,7 @@ impl Groups {
     pub fn put_text(&self, rate: u32, out: &mut Out<'_>) -> Result<()> {
         let sessions = self.groups.values().map(|group| group.sessions).sum();
         out.put(format!(
-            "{} sessions by {}, read at {} frames a second; of 100 sessions so many, with an interval of 95 percent\n",
+            "{} sessions by {}, read at {} frames a second; shares in percent, with a 95 percent interval\n",
             grouped(sessions),
             self.by,
             grouped(rate.into())

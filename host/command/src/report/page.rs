@@ -18,7 +18,7 @@ use crate::{
     table::spaced,
 };
 
-/// An evening on the page: its figures, and its plots as they are drawn.
+/// An evening on the page: its figures and its drawn plots.
 pub struct Drawn {
     /// Its figures.
     pub evening: Evening,
@@ -115,7 +115,7 @@ fn table(
     };
     table.put(put)?;
     put(&note(
-        "– is not told: the log's lines do not say it. Logs of the forms 2 and 3 say wraps, seeks, restarts by hand and window counts; form 3 also says the rest.",
+        "– means that the log does not contain the figure. Logs of forms 2 and 3 contain wraps, seeks, restarts by hand and window counts; form 3 also contains the rest.",
     ))?;
     for sentence in lacking(rows, &FIRST.map(|column| (column, words_of(column)))) {
         put(&note(&sentence))?;
@@ -137,13 +137,13 @@ fn cells(told: &Told, shown: &[&str], folder: &str) -> Vec<Option<String>> {
         .collect()
 }
 
-/// A column's words for people.
+/// The heading of a column.
 fn words_of(column: &str) -> &'static str {
     let named = COLUMNS.iter().find(|(name, _)| *name == column);
     named.map_or("", |(_, words)| words)
 }
 
-/// The folder that all logs lie in, up to its slash; empty where they lie in several.
+/// The folder that contains all logs, up to its slash; empty if they are in several.
 fn shared_folder(evenings: &[Drawn]) -> &str {
     let folder = |drawn: &'_ Drawn| drawn.evening.name.rfind('/').map_or(0, |slash| slash + 1);
     let Some(first) = evenings.first() else {
@@ -157,7 +157,7 @@ fn shared_folder(evenings: &[Drawn]) -> &str {
     }
 }
 
-/// What is said of an evening above its plots.
+/// The text above an evening's plots.
 fn facts(evening: &Evening, rate: u32) -> String {
     let figures = &evening.figures;
     let time = |frames| spaced(&minutes(frames, rate));
@@ -198,7 +198,7 @@ fn reading(evenings: &[Drawn], rates: Rates) -> String {
     let mut text = String::from("<h2 id=\"reading\">How to read the plots</h2>\n");
     text += "<p class=\"note\"><span class=\"key place\"></span>the position<span class=\"key paused\"></span>paused<span class=\"key silent\"></span>silent (stopped, or not started)<span class=\"key loop\"></span>a loop that was gone round<span class=\"key seek\"></span>a seek</p>\n";
     text += &note(&format!(
-        "Across: the evening's time. Where in the sound: upward, the position in seconds of the sound{}. The line rises while the sound plays, falls back where the student goes round or seeks, and is level while nothing moves. In a log of form 1 loops and seeks look alike, and window counts are not told.",
+        "Across: the evening's time. Where in the sound: upward, the position in seconds of the sound{}. The line rises while the sound plays, falls back at a wrap or a seek, and is level while nothing moves. In a log of form 1 wraps and seeks look alike, and there are no window counts.",
         sound_rates(evenings, rates)
     ));
     text += &note(
@@ -220,7 +220,7 @@ fn reading(evenings: &[Drawn], rates: Rates) -> String {
     text
 }
 
-/// Where the seconds of the sound are not known.
+/// The text for an evening whose seconds of the sound are not known.
 fn sound_rates(evenings: &[Drawn], rates: Rates) -> String {
     let unknown = evenings
         .iter()

@@ -1,5 +1,5 @@
-//! The plots of an evening: where in the sound, times round the loop, window counts, refusals, one above
-//! the other over the evening's time.
+//! The plots of an evening: position in the sound, wraps, window counts and refusals, one above the other over the
+//! evening's time.
 
 use super::evening::Evening;
 use crate::{
@@ -8,8 +8,8 @@ use crate::{
     plot::{Pen, Plot, counted},
 };
 
-/// The stretches of each evening where so many are on one page: so few that hundreds of evenings stay
-/// below 2 MB.
+/// The number of intervals of each evening, by how many evenings are on the page. It is so small that a page with
+/// hundreds of evenings stays below 2 MB.
 pub fn stretches(evenings: usize) -> usize {
     (STRETCHES * 60 / evenings.max(1)).clamp(48, STRETCHES)
 }
@@ -26,24 +26,24 @@ pub fn drawn(evening: &Evening, course: &Course, rate: u32) -> String {
     plot.done("the plots of the evening")
 }
 
-/// The seconds of a frame's number.
+/// A frame's number in seconds.
 fn seconds(clock: u64, rate: f64) -> f64 {
     clock as f64 / rate
 }
 
-/// The stretches, each with the time at which it begins.
+/// The intervals, each with the time at which it begins.
 fn timed(course: &Course, rate: f64) -> impl Iterator<Item = (f64, &Stretch)> {
     let width = course.stretches.width;
     let stretches = course.stretches.held.iter().enumerate();
     stretches.map(move |(index, stretch)| (seconds(index as u64 * width, rate), stretch))
 }
 
-/// Runs of neighbouring stretches for which this holds, as times.
+/// Groups of neighbouring intervals for which this holds, as times.
 fn runs(course: &Course, rate: f64, holds: impl Fn(&Stretch) -> bool) -> Vec<(f64, f64)> {
     let mut runs: Vec<(f64, f64)> = Vec::new();
     let mut open = false;
     for (from, stretch) in timed(course, rate) {
-        // Between two long blocks there may be stretches in which no block begins.
+        // Between two long blocks there may be intervals in which no block begins.
         if stretch.frames == 0 {
             continue;
         }
@@ -61,9 +61,9 @@ fn runs(course: &Course, rate: f64, holds: impl Fn(&Stretch) -> bool) -> Vec<(f6
     runs
 }
 
-/// Where in the sound the voice was.
+/// The voice's position in the sound.
 fn places(course: &Course, rate: f64, sound_rate: f64, plot: &mut Plot) {
-    // Room for a loop's label above the highest place.
+    // Space for a loop's label above the highest position.
     let top = course.highest as f64 * 1.1;
     plot.panel("Where in the sound", 380, 0.0, top);
     for (class, of) in [
@@ -84,7 +84,7 @@ fn places(course: &Course, rate: f64, sound_rate: f64, plot: &mut Plot) {
     plot.dots("seek", &seeks.collect::<Vec<_>>());
 }
 
-/// The loops that were gone round; those that are wide enough have names.
+/// The loops that were wrapped. Those that are wide enough have names.
 fn loops(course: &Course, rate: f64, sound_rate: f64, plot: &mut Plot) {
     let mut narrow = Vec::new();
     for round in &course.loops {
@@ -110,7 +110,7 @@ fn loops(course: &Course, rate: f64, sound_rate: f64, plot: &mut Plot) {
     plot.areas("loop", &narrow);
 }
 
-/// The line of places, and the leaps in it.
+/// The line of positions, and its jumps.
 fn lines(course: &Course, plot: &Plot, rate: f64) -> (Pen, Pen) {
     let (mut line, mut leaps) = (Pen::default(), Pen::default());
     let mut drawn = false;
@@ -132,7 +132,7 @@ fn lines(course: &Course, plot: &Plot, rate: f64) -> (Pen, Pen) {
     (line, leaps)
 }
 
-/// Times round the loop, minute by minute.
+/// Wraps, minute by minute.
 fn rounds(course: &Course, rate: f64, plot: &mut Plot) {
     let width = course.rounds.width;
     let bar = |(index, rounds): (usize, &u64)| {

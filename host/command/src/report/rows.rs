@@ -1,5 +1,4 @@
-//! The rows of a report: one for each log; where there are several, all of them together, and the
-//! quantiles.
+//! The rows of a report: one for each log. If there are several, one for all of them together, and the quantiles.
 
 use super::evening::Evening;
 use crate::{
@@ -9,7 +8,7 @@ use crate::{
     table::csv_line,
 };
 
-/// A row of the report, by what it is.
+/// The kind of a row of the report.
 #[derive(Debug, Clone, Copy, PartialEq, Eq)]
 pub enum Row {
     /// One log.
@@ -18,7 +17,7 @@ pub enum Row {
     Total,
     /// Over all of them.
     Quantile,
-    /// How many of them tell each figure.
+    /// How many of them contain each figure.
     Logs,
 }
 
@@ -34,7 +33,7 @@ impl Row {
     }
 }
 
-/// The columns: the name in a table, and the words for people.
+/// The columns: the name in a table, and the heading for people.
 pub const COLUMNS: [(&str, &str); 24] = [
     ("blocks", "Blocks"),
     ("frames", "Frames"),
@@ -62,7 +61,7 @@ pub const COLUMNS: [(&str, &str); 24] = [
     ("broken", "Broken records"),
 ];
 
-/// The figures of a row, one for each column; `None` is not told.
+/// The figures of a row, one for each column; `None` if the log does not contain it.
 type Cells = [Option<u64>; COLUMNS.len()];
 
 fn cells(figures: &Figures) -> Cells {
@@ -95,7 +94,7 @@ fn cells(figures: &Figures) -> Cells {
     ]
 }
 
-/// A row as it is written: what it is, its name, its form, its figures.
+/// A row as it is printed: its kind, its name, its form, its figures.
 pub struct Told {
     /// What it is.
     pub row: Row,
@@ -103,7 +102,7 @@ pub struct Told {
     pub name: String,
     /// The form of its log.
     pub form: Option<Form>,
-    /// Its figures as text, minutes with three digits; `None` is not told.
+    /// Its figures as text, minutes with three digits; `None` if the log does not contain it.
     pub cells: [Option<String>; COLUMNS.len()],
 }
 
@@ -134,14 +133,14 @@ impl Told {
     }
 }
 
-/// Minutes of so many frames, to a thousandth.
+/// Minutes of this many frames, to a thousandth.
 pub fn minutes(frames: u64, rate: u32) -> String {
     let whole = 60 * u128::from(rate);
     let thousandths = (u128::from(frames) * 1_000 + whole / 2) / whole;
     format!("{}.{:03}", thousandths / 1_000, thousandths % 1_000)
 }
 
-/// The rows: one for each log; where there are several, all of them together, and the quantiles.
+/// The rows: one for each log. If there are several, one for all of them together, and the quantiles.
 pub fn rows<'a>(evenings: impl Iterator<Item = &'a Evening>, rate: u32) -> Vec<Told> {
     let (mut all, mut rows) = (Vec::new(), Vec::new());
     for evening in evenings {
@@ -167,7 +166,7 @@ pub fn rows<'a>(evenings: impl Iterator<Item = &'a Evening>, rate: u32) -> Vec<T
     rows
 }
 
-/// The figures of each column, of the logs that tell it.
+/// The figures of each column, from the logs that contain it.
 type Columns = [Vec<u64>; COLUMNS.len()];
 
 fn columns_of(all: &[Cells]) -> Columns {
@@ -190,8 +189,8 @@ fn over(columns: &Columns, figure: impl Fn(&str, &[u64]) -> Option<u64>) -> Cell
     cells
 }
 
-/// Which totals and quantiles lack a log: a sentence for each number of logs. The columns are given
-/// with the names that they are shown by.
+/// Which totals and quantiles lack a log: a sentence for each number of logs. The columns have the names under which
+/// they are shown.
 pub fn lacking(rows: &[Told], columns: &[(&str, &str)]) -> Vec<String> {
     let logs = rows.iter().filter(|told| told.row == Row::Log).count();
     let Some(counts) = rows.iter().find(|told| told.row == Row::Logs) else {

@@ -12,12 +12,12 @@ use crate::{
     table::{laid_out, spaced},
 };
 
-const NOT_TOLD: &str = "not told";
+const NOT_LOGGED: &str = "not in the log";
 
 /// One log, a line for each figure.
 pub fn put_one(evening: &Evening, rate: u32, out: &mut Out<'_>) -> Result<()> {
     let figures = &evening.figures;
-    let told = |number: Option<u64>| number.map_or(NOT_TOLD.into(), grouped);
+    let told = |number: Option<u64>| number.map_or(NOT_LOGGED.into(), grouped);
     let time = |frames| format!("{} minutes", minutes(frames, rate));
     let source = match evening.trace {
         true => "a trace".into(),
@@ -70,7 +70,7 @@ pub fn put_one(evening: &Evening, rate: u32, out: &mut Out<'_>) -> Result<()> {
     Ok(())
 }
 
-/// How many lines do not fit, and the first of them.
+/// How many lines do not fit together, and the first of them.
 pub fn misfits(figures: &Figures) -> Option<String> {
     let (misfits, first) = (figures.misfits?, grouped(figures.first_misfit?));
     let lines = match misfits {
@@ -82,7 +82,7 @@ pub fn misfits(figures: &Figures) -> Option<String> {
     ))
 }
 
-/// The logs with lines that do not fit, a sentence each.
+/// The logs with lines that do not fit together, a sentence each.
 pub fn put_misfits<'a>(
     evenings: impl Iterator<Item = &'a Evening>,
     out: &mut Out<'_>,
@@ -95,7 +95,7 @@ pub fn put_misfits<'a>(
     Ok(())
 }
 
-/// Steps, and the seconds of the sound that they are.
+/// Steps, also as seconds of the sound.
 fn steps(steps: u64, sound_rate: Option<u32>) -> String {
     let seconds = |rate: u32| steps as f64 / f64::from(rate);
     match sound_rate {
@@ -120,7 +120,7 @@ pub fn refused(figures: &Figures) -> String {
     }
 }
 
-/// The columns of the table that a terminal has room for.
+/// The columns that fit on a terminal.
 const SHORT: [(&str, &str); 11] = [
     ("blocks", "blocks"),
     ("minutes", "minutes"),
@@ -139,7 +139,7 @@ const SHORT: [(&str, &str); 11] = [
 pub fn put_table(rows: &[Told], rate: u32, out: &mut Out<'_>) -> Result<()> {
     let logs = rows.iter().filter(|told| told.row == Row::Log).count();
     out.put(format!(
-        "{} logs, read at {} frames a second; - is not told\n",
+        "{} logs, read at {} frames a second; - means that the log does not contain it\n",
         grouped(logs as u64),
         grouped(rate.into())
     ))?;

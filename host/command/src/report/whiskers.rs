@@ -7,16 +7,16 @@ use crate::{
     plot::{Pen, escaped, round_step},
 };
 
-/// The width in the plot's own units, what is left free for the names, and the height of a row.
+/// The width in the plot's own units, the space for the names, and the height of a row.
 const WIDTH: i64 = 1_440;
 const LEFT: i64 = 330;
 const RIGHT: i64 = 60;
 const ROW: i64 = 56;
 
-/// More rows than these are not drawn.
+/// The largest number of rows that is drawn.
 const MOST: usize = 60;
 
-/// The plot of shares, or of differences, in hundredths; nothing where there is none, or too many.
+/// The plot of shares or of differences, in hundredths; nothing if there are none or too many.
 pub fn whiskers(caption: &str, rows: &[(String, Estimate)]) -> String {
     if rows.is_empty() || rows.len() > MOST {
         return String::new();

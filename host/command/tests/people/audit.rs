@@ -26,7 +26,7 @@ pub fn evening(blocks: usize) -> Vec<Record<'static>> {
         .collect()
 }
 
-/// What a box says that clears its fraction at block edges: the plausible slip.
+/// The log of a box that clears its fraction at block edges: the plausible slip.
 pub fn creeping(records: &[Record]) -> String {
     let mut told = String::new();
     let (mut lanes, mut out) = (Lanes::new(), [0.0; 2_048]);
@@ -148,7 +148,7 @@ fn the_creep_is_told_in_seconds_an_hour_with_its_likely_cause() {
             "  the box   block=2 frames=1024 steps=940 state=playing position=27",
         ]
     );
-    // 0.8 of a frame a block at rate 1, and 658.56 steps cut to 658 at rate 0.7.
+    // 0.8 of a frame per block at rate 1, and 658.56 steps cut to 658 at rate 0.7.
     let last = ran.out.lines().last();
     assert_eq!(
         last,
@@ -174,7 +174,7 @@ fn the_creep_is_told_in_seconds_an_hour_with_its_likely_cause() {
     assert_eq!((creeps[0], creeps[1], creeps[399]), (0, 1, 271));
     assert_eq!(cell(&rows[0], "same"), "1");
     assert_eq!(cell(&rows[1], "same"), "0");
-    // A box that drops a frame now and then creeps too, and no cause is named.
+    // A box that drops a frame sometimes creeps too, and no cause is named.
     let log = room.run(&["replay", "a.trace"]).out;
     let lines = log.lines().map(|line| match line.contains("block=7 ") {
         true => format!("{}\n", line.replace("steps=941", "steps=940")),
@@ -190,8 +190,8 @@ fn the_creep_is_told_in_seconds_an_hour_with_its_likely_cause() {
     );
 }
 
-/// The lines of a log with each so many of them joined into one, as a host writes them that logs a
-/// line for several blocks; form 1.
+/// The lines of a log with every `each` of them joined into one, as written by a host that logs a line for several
+/// blocks; form 1.
 fn joined(log: &str, each: usize) -> String {
     let lines: Vec<&str> = log.lines().collect();
     let number = |line: &str, word: &str| -> u64 {
@@ -235,7 +235,7 @@ fn a_creeping_box_is_found_though_its_log_is_cut_otherwise() {
 fn a_log_that_cannot_be_aligned_says_nothing_of_the_box() {
     let room = Room::new("audit-unaligned");
     room.put("a.trace", looped());
-    // Frames 5, 9, 12, 14 and 15 are the trace's edges.
+    // Blocks of the trace end at frames 5, 9, 12, 14 and 15.
     room.put("other.log", "block=1 frames=4 steps=9 state=3 position=1\nblock=2 frames=7 steps=1 state=0 position=1\n");
     let ran = room.run(&["audit", "a.trace", "other.log"]);
     assert_eq!((ran.status, &*ran.err), (3, ""));
@@ -302,7 +302,7 @@ fn what_differs_is_told() {
         let plain = told.replace("DIFFERS: ", "");
         assert!(room.read("page.html").contains(&plain), "{plain}");
     }
-    // What was asked of the voice is the host's to count, and no trace holds a call refused with 9.
+    // The host counts what it asked of the voice, and no trace contains a call refused with 9.
     for said in [
         third.replace("seeks=1", "seeks=2"),
         log.replace("block=6", "block=7")
@@ -365,7 +365,7 @@ fn a_damaged_trace_is_not_the_box_s_fault() {
     room.put("a.trace", &whole);
     let log = room.run(&["replay", "a.trace"]).out;
     room.put("live.log", &log);
-    // Cut at every byte: never a difference, and agreement only where a record ends.
+    // Cut at every byte: never a difference, and agreement only if a record ends there.
     let (mut agreed, mut unknown) = (0, 0);
     for length in 0..whole.len() {
         room.put("cut.trace", &whole[..length]);
@@ -392,7 +392,7 @@ fn a_damaged_trace_is_not_the_box_s_fault() {
         assert_eq!(ran.out, format!("UNKNOWN: {told}\n"));
         assert!(room.read("page.html").contains("class=\"lede bad\""));
     }
-    // What differs before the damage is told all the same.
+    // A difference before the damage is reported all the same.
     room.put(
         "live.log",
         log.replace("state=0 position=5", "state=0 position=4"),
@@ -440,19 +440,19 @@ fn behind_a_hole_the_audit_goes_on_only_with_a_new_voice() {
         assert_eq!(ran.err, "");
         (ran.status, ran.out)
     };
-    // The second block of the first student: behind the hole the second student is compared.
+    // The hole is in the second block of the first student. After the hole the second student is compared.
     let at = starts[2];
     let told = format!(
         "UNKNOWN: a.trace and a.log: the trace is damaged at byte {at}, a hole of 42 bytes: nothing is said of the box after block 1 and before block 4, where a voice is created behind the hole; what was compared agrees, at all 4 frames where a block of the one and a line of the other end together (4 blocks, 6 lines, 0.0083 s)\n"
     );
     assert_eq!(damaged(2), (3, told));
-    // The second student's creation: nobody is created behind it.
+    // The hole is in the second student's creation. No voice is created after it.
     let (at, length) = (starts[4], starts[5] - starts[4]);
     let told = format!(
         "UNKNOWN: a.trace and a.log: the trace is damaged at byte {at}, a hole of {length} bytes: nothing is said of the box after block 3, not even behind the hole: the trace creates no voice behind it; what was compared agrees, block by block: 3 blocks, 0.0063 s\n"
     );
     assert_eq!(damaged(4), (3, told));
-    // A box that is wrong behind the hole is found.
+    // A box that is wrong after the hole is found.
     let last = log.lines().last().unwrap();
     room.put(
         "a.log",
@@ -464,7 +464,7 @@ fn behind_a_hole_the_audit_goes_on_only_with_a_new_voice() {
         out.contains("creeps") && out.contains("first at block 6"),
         "{out}"
     );
-    // A log that says of more voices than the trace still has cannot be aligned behind the hole.
+    // A log that reports more voices than the trace still has cannot be aligned after the hole.
     room.put("a.log", log.replacen("created=0", "created=1", 2));
     let (status, out) = damaged(2);
     assert_eq!(status, 3, "{out}");
@@ -477,8 +477,7 @@ fn behind_a_hole_the_audit_goes_on_only_with_a_new_voice() {
 #[test]
 fn running_off_the_sound_is_compared_by_state_and_position() {
     let room = Room::new("audit-ends");
-    // 64 frames at 44,100 a second are over within 70 frames; what is left of the block depends on
-    // where it is cut.
+    // 64 frames at 44,100 a second end within 70 frames. What the rest of the block counts depends on where it is cut.
     let voice = creation(Settings::new(44_100), 64);
     let block = |frames| Record::Block(Block::new(frames, 1.0 / 44_100.0));
     let cut = |frames: &[usize]| {

@@ -1,4 +1,4 @@
-//! The page in a real browser: what it shows is what the comma separated values say.
+//! The page in a real browser: it shows what the comma separated values contain.
 
 use std::{
     fs,
@@ -11,7 +11,7 @@ use crate::{
     room::{Room, looped, three},
 };
 
-/// A browser of the system's packages, or nothing, said loudly.
+/// A browser from the system's packages, or none, with a loud message.
 fn browser() -> Option<&'static str> {
     let names = ["chromium", "chromium-browser", "google-chrome"];
     let is_there = |name: &&&str| {
@@ -29,7 +29,7 @@ fn browser() -> Option<&'static str> {
     found
 }
 
-/// The page's elements after the browser has read it.
+/// The page's elements after the browser has loaded it.
 fn opened(browser: &str, room: &Room, page: &str, words: &[&str]) -> String {
     let profile = room.0.join("profile");
     let output = Command::new(browser)
@@ -50,7 +50,7 @@ fn opened(browser: &str, room: &Room, page: &str, words: &[&str]) -> String {
     dom
 }
 
-/// The rows of the table of this name as a browser holds them: each column's name and its text.
+/// The rows of the table with this name in the browser: each column's name and its text.
 fn rows(dom: &str, id: &str) -> Vec<Vec<(String, String)>> {
     let table = dom.split(&format!("<table id=\"{id}\"")).nth(1);
     let table = table.and_then(|rest| rest.split("</table>").next());
@@ -81,7 +81,7 @@ fn rows(dom: &str, id: &str) -> Vec<Vec<(String, String)>> {
     body.split("<tr").skip(1).map(row).collect()
 }
 
-/// Each figure of a page's table is that of the comma separated values; how many there are.
+/// Compares each figure of a page's table with the comma separated values. Returns how many there are.
 fn same_figures(values: &[Vec<(String, String)>], shown: &[Vec<(String, String)>]) -> usize {
     assert_eq!(values.len(), shown.len());
     let mut compared = 0;
@@ -100,7 +100,7 @@ fn same_figures(values: &[Vec<(String, String)>], shown: &[Vec<(String, String)>
     compared
 }
 
-/// Three evenings, one of a form that tells less.
+/// Three evenings, one in a form that contains fewer figures.
 fn three_logs(room: &Room) {
     for (name, trace, form) in [
         ("a", looped(), "3"),
@@ -152,7 +152,7 @@ fn the_page_shows_the_figures_of_the_values() {
     eprintln!("{compared} figures of three pages are those of the values");
 }
 
-/// Put at the end of a copy of a page: does things, and says in the page's title what came of them.
+/// A script at the end of a copy of a page. It does things, and puts the results in the page's title.
 fn with_script(room: &Room, page: &str, script: &str) {
     let text = room.read(page);
     let end = format!("<script>{script}</script></body>");
@@ -196,7 +196,7 @@ fn tables_are_sorted_rows_open_their_plots_and_figures_are_saved() {
         });",
     );
     let dom = opened(browser, &room, "page.html", &["--virtual-time-budget=3000"]);
-    // By name both ways; by seeks, which c does not tell; by minutes, of which b has fewest.
+    // By name in both directions; by seeks, which c does not contain; by minutes, of which b has fewest.
     assert_eq!(title(&dom), "abc abc cba abc bac acb 0 1 opened 1 0 3");
     let saved = dom
         .split("<pre id=\"saved\">")
@@ -222,7 +222,7 @@ fn a_page_of_300_evenings_opens_without_drawing_them() {
         document.title = elements + Math.round(performance.now()) + ' ms';",
     );
     let title = title(&opened(browser, &room, "page.html", &[]));
-    // The time depends on what else the machine does; the elements do not.
+    // The time depends on the machine's load; the elements do not.
     eprintln!("300 evenings are opened and laid out: {title}");
     let elements = title
         .split(' ')
@@ -231,7 +231,7 @@ fn a_page_of_300_evenings_opens_without_drawing_them() {
     assert!(elements.is_some_and(|count| count < 12_000), "{title}");
 }
 
-/// Says the smallest text as it is drawn, and whether the colours are dark.
+/// Returns the smallest text as it is drawn, and whether the colours are dark.
 const MEASURES: &str = "
 for (const link of document.querySelectorAll('td a')) link.click();
 let smallest = 1000;

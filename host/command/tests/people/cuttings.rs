@@ -1,5 +1,5 @@
-//! One evening, cut into callbacks in five ways: every figure of its report is the same, and no audit
-//! accuses the box.
+//! One evening, cut into callbacks in five ways: every figure of its report is the same, and no audit finds a
+//! difference.
 
 use cableowl::{
     Command, RecordedPlayer, Region, Settings, Ticks, Tween,
@@ -12,15 +12,15 @@ use crate::{
     room::Room,
 };
 
-/// Frames a second of the sound, which has 64, and of the box.
+/// Frames per second of the sound, which has 64 frames, and of the box.
 const SOUND_RATE: u32 = 16;
 const RATE: u32 = 4_000;
 
 /// The frames of the evening.
 const EVENING: usize = 90_000;
 
-/// What the student does, before which frame: a loop with a pause or a resume every 4,096 frames, a
-/// rate that falls to 0 and turns round, a step back, a start over, and the sound to its end.
+/// What the student does, and before which frame: a loop with a pause or a resume every 4,096 frames, a rate that falls
+/// to 0 and turns round, a step back, a restart, and the sound to its end.
 fn script() -> Vec<(usize, Command)> {
     let fade = Tween::from_millis(250);
     let ticks = Ticks {
@@ -48,7 +48,7 @@ fn script() -> Vec<(usize, Command)> {
     script
 }
 
-/// What a box keeps of the evening: its trace, its log of form 3, and one of form 1.
+/// What a box keeps of the evening: its trace, its log of form 3, and a log of form 1.
 struct Kept {
     trace: Vec<u8>,
     third: String,
@@ -120,7 +120,7 @@ fn the_same_evening_has_the_same_figures_for_every_block_size() {
     for (cut, kept) in five() {
         room.put(&format!("{cut}.log"), kept.third);
         names.push(format!("{cut}.log"));
-        // Its trace, played again: the recorder cuts once more, wherever a lane changes.
+        // Its replayed trace: the recorder cuts once more, wherever a lane changes.
         let replayed = room.run_on(&["replay", "--log", "3", "-"], &kept.trace);
         assert_eq!((replayed.status, &*replayed.err), (0, ""));
         room.put(&format!("{cut}.replayed"), replayed.out);
@@ -139,7 +139,7 @@ fn the_same_evening_has_the_same_figures_for_every_block_size() {
             }
         }
     }
-    // At 1 frame a second a minute is 60 frames, so the thousandths tell every frame.
+    // At 1 frame per second a minute is 60 frames, so the thousandths show every frame.
     let frames = |column: &str| {
         let minutes: f64 = cell(first, column).parse().unwrap();
         (60.0 * minutes).round() as usize
@@ -147,7 +147,7 @@ fn the_same_evening_has_the_same_figures_for_every_block_size() {
     let [played, paused, silent, still] =
         ["played", "paused", "silent", "still"].map(|name| frames(&format!("minutes_{name}")));
     assert_eq!(played + paused + silent, EVENING);
-    // Five pauses: the frame that reaches the end of a fade of 1,000 is the first paused one.
+    // Five pauses. The frame that reaches the end of a fade of 1,000 frames is the first paused one.
     assert_eq!(paused, 5 * (4_096 - 999));
     // From the end of the tween down to 0 to the first frame of the next tween.
     assert_eq!(still, 51_000 - (46_000 + 300) + 1);

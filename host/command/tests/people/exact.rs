@@ -1,4 +1,4 @@
-//! Wilson's and Newcombe's intervals a second time, in whole numbers: Wilson's ends are found by halving,
+//! Wilson's and Newcombe's intervals computed a second time, in whole numbers. Wilson's ends are found by bisection,
 //! since they are the roots of (p - of/all)^2 = z^2 p (1 - p) / all, with z = 1.959964.
 
 /// Shares are in thousand millionths.
@@ -7,7 +7,7 @@ pub const ONE: i128 = 1_000_000_000;
 /// z^2 in millionths of millionths.
 const Z2: i128 = 1_959_964 * 1_959_964;
 
-/// So many of so many, at most 1,000.
+/// A count out of a total of at most 1,000.
 pub type Share = (u64, u64);
 
 /// The ends of Wilson's interval, to a thousand millionth.

@@ -1,5 +1,4 @@
-//! `cableowl explain` and `cableowl replay --summary`: what a person reads has states by name and
-//! times in seconds.
+//! `cableowl explain` and `cableowl replay --summary`: people see states by name and times in seconds.
 
 use cableowl::{
     Commands, PlaybackState, Refusal, Settings,
@@ -43,7 +42,7 @@ fn every_refusal_is_explained_by_the_library_s_sentence() {
         explained += "\n";
     }
     assert_eq!(all.out, explained.trim_end().to_owned() + "\n");
-    // A bare number may be either.
+    // A bare number may mean either.
     let both = room.run(&["explain", "2"]).out;
     assert!(
         both.contains("refusal 2: ") && both.contains("state 2: paused"),
@@ -84,7 +83,7 @@ fn a_summary_has_states_by_name_and_speeds_once() {
     let records = [
         creation(Settings::new(2), 60),
         block(1.0),
-        // A slow change is told when it is over.
+        // A slow change is printed when it is over.
         block(0.9),
         block(0.8),
         block(0.7),

@@ -1,4 +1,4 @@
-//! Files that cannot be read or written, wrong words, a reader that goes.
+//! Files that cannot be read or written, wrong words, and a reader that closes the pipe.
 
 use std::{
     fs::{self, File, OpenOptions},
@@ -82,7 +82,7 @@ const NOBODY: u32 = 65_534;
 
 #[test]
 fn a_file_without_permission() {
-    // Root reads everything, so a copy of the command is run as nobody, from where nobody comes.
+    // Root can read everything, so a copy of the command is run as nobody, from a folder that nobody can enter.
     let folder = std::env::temp_dir().join(format!("cableowl-forbidden-{}", std::process::id()));
     let _ = fs::remove_dir_all(&folder);
     fs::create_dir(&folder).unwrap();
@@ -137,15 +137,18 @@ fn a_disk_that_is_full() {
     }
 }
 
-#[test]
-fn a_reader_that_goes() {
-    let room = Room::new("closed");
-    let block = three()[55..].to_vec();
+/// A trace with three records and this many blocks more.
+fn long_trace(blocks: usize) -> Vec<u8> {
     let mut trace = three();
-    trace.extend(block.repeat(100_000));
-    room.put("long.trace", trace);
+    let block = trace[55..].to_vec();
+    trace.extend(block.repeat(blocks));
+    trace
+}
+
+/// Runs the command for a reader that closes the pipe after ten bytes. Returns the status and the length of the messages.
+fn run_for_ten_bytes(room: &Room, words: &[&str]) -> (Option<i32>, usize) {
     let mut child = room
-        .command(&["replay", "long.trace"])
+        .command(words)
         .stdout(Stdio::piped())
         .stderr(Stdio::piped())
         .spawn()
@@ -153,30 +156,27 @@ fn a_reader_that_goes() {
     let mut some = [0; 10];
     child.stdout.take().unwrap().read_exact(&mut some).unwrap();
     let output = child.wait_with_output().unwrap();
-    assert_eq!((output.status.code(), output.stderr.len()), (Some(0), 0));
+    (output.status.code(), output.stderr.len())
+}
+
+#[test]
+fn a_reader_that_goes() {
+    let room = Room::new("closed");
+    room.put("long.trace", long_trace(100_000));
+    let ended = run_for_ten_bytes(&room, &["replay", "long.trace"]);
+    assert_eq!(ended, (Some(0), 0));
 }
 
 #[test]
 fn an_audit_keeps_its_verdict_when_its_reader_goes() {
     let room = Room::new("closed-audit");
-    let block = three()[55..].to_vec();
-    let mut trace = three();
-    trace.extend(block.repeat(20_000));
-    room.put("long.trace", trace);
+    room.put("long.trace", long_trace(20_000));
     let mut log = room.run(&["replay", "long.trace"]).out;
     let last = log.trim_end().rfind('\n').unwrap();
     log.replace_range(last + 1.., "block=20001 refused=1\n");
     room.put("long.log", log);
-    let mut child = room
-        .command(&["audit", "--csv", "long.trace", "long.log"])
-        .stdout(Stdio::piped())
-        .stderr(Stdio::piped())
-        .spawn()
-        .unwrap();
-    let mut some = [0; 10];
-    child.stdout.take().unwrap().read_exact(&mut some).unwrap();
-    let output = child.wait_with_output().unwrap();
-    assert_eq!((output.status.code(), output.stderr.len()), (Some(1), 0));
+    let ended = run_for_ten_bytes(&room, &["audit", "--csv", "long.trace", "long.log"]);
+    assert_eq!(ended, (Some(1), 0));
 }
 
 #[test]

@@ -1,5 +1,5 @@
-//! What five users ran into, by the numbers of docs/assurance/FINDINGS.md. These tests use only what the command and the
-//! library's traces already had then, so that the same file fails on the text in which the users found it
+//! What five users ran into, by the numbers of docs/assurance/FINDINGS.md. These tests use only what the command and
+//! the library's traces already had then, so that the same file fails on the version in which the users found it
 //! (`tools/findings`). The library's findings are in host/cableowl/tests/findings.
 
 use cableowl::{
@@ -19,7 +19,8 @@ const SECOND: &str = "log=2\nblock=1 frames=6 steps=6 state=6 position=3 lowest=
 /// One of form 1.
 const FIRST: &str = "block=1 frames=6 steps=6 state=6 position=3\n";
 
-/// A box's log of one evening, with a pause or a resume every 4,096 frames and one line a callback of this many frames.
+/// A box's log of one evening, with a pause or a resume every 4,096 frames and one line for each callback of this many
+/// frames.
 fn paused_and_resumed(callback: usize) -> String {
     let sound: Vec<f32> = (0..2_000).map(|i| i as f32 / 2_000.0).collect();
     let looped = Settings::new(1_000).loop_region(..);
@@ -58,7 +59,7 @@ fn finding_2_minutes_do_not_depend_on_block_size() {
     });
     assert_eq!(minutes[0], minutes[1], "callbacks of 64 and of 512");
     assert_eq!(minutes[0], minutes[2], "callbacks of 64 and of 4,096");
-    // Ten pauses of 4,096 frames, each from the end of its fade of 1,000 frames on.
+    // Ten pauses of 4,096 frames, each from the end of its fade of 1,000 frames.
     assert_eq!(minutes[0][1], "0.129");
 }
 
@@ -149,7 +150,7 @@ fn finding_3_the_audit_names_the_hole_and_goes_on_behind_a_creation() {
         "{}",
         ran.out
     );
-    // Without the second student nothing is compared behind the hole.
+    // Without the second student nothing is compared after the hole.
     let mut recorded = blocks(&[100; 3]);
     let log = room.run_on(&["replay", "--log", "3", "-"], &recorded).out;
     recorded[at] = 0;
@@ -348,7 +349,7 @@ fn page(room: &Room, files: &[&str]) -> (String, Ran) {
     (room.read("page.html"), ran)
 }
 
-/// The number behind this word.
+/// The number after this word.
 fn number(text: &str, word: &str) -> Option<f64> {
     let (_, rest) = text.split_once(word)?;
     let digits = rest.split(|letter: char| !letter.is_ascii_digit()).next()?;
@@ -360,7 +361,7 @@ fn finding_15_no_text_of_a_plot_is_under_11_px_at_500_px() {
     let room = Room::new("finding-15-sizes");
     room.put("a.log", replayed(&room, &looped()));
     let (page, _) = page(&room, &["a.log"]);
-    // The page's width of 500 px less 1.25 rem, 20 px, on each side; a drawing is as wide as that.
+    // The page's width of 500 px minus 1.25 rem, 20 px, on each side; a drawing has this width.
     let drawn = number(&page, "viewBox=\"0 0 ").expect("a drawing");
     let scale = (500.0 - 2.0 * 20.0) / drawn;
     let mut size = number(&page, "svg text{font:").expect("its text");

@@ -23,7 +23,7 @@ use crate::{
 const LESSON_RATE: u32 = 44_100;
 const DEVICE_RATE: u32 = 48_000;
 
-/// A lesson of so many seconds: any samples will do.
+/// A lesson of this many seconds, of any samples.
 fn lesson_of(seconds: u32) -> Lesson {
     let mut random = Random::new(seconds.into());
     let samples = (0..2 * seconds * LESSON_RATE).map(|_| random.word() as i32 as f32 / 2.2e9);
@@ -36,8 +36,8 @@ fn lesson() -> &'static Lesson {
     LESSON.get_or_init(|| lesson_of(30))
 }
 
-/// What a student does, at which second: a sentence looped, slowed over two seconds, paused, stepped
-/// back in, played backward, started over; then the lesson to its end.
+/// What a student does, and at which second: loops a sentence, slows it over two seconds, pauses, steps back in it,
+/// plays it backward, restarts it; then the lesson plays to its end.
 fn script(evening: u32) -> Vec<(u32, Command)> {
     let fade = Tween::from_millis(250);
     let rate = |rate, millis| Command::SetPlaybackRate(rate, Tween::from_millis(millis));
@@ -71,11 +71,11 @@ struct Evening {
     trace: Vec<u8>,
     /// What the box logs, in form 1.
     log: String,
-    /// The samples that the student heard, as bytes, if they were kept.
+    /// The samples of the output as bytes, if they were kept.
     heard: Vec<u8>,
 }
 
-/// Plays an evening of so many seconds in callbacks of so many frames, and records it.
+/// Plays an evening of this many seconds in callbacks of this many frames, and records it.
 fn evening(lesson: &Lesson, seconds: u32, callback: usize, hears: bool) -> Evening {
     let mut buffer = vec![0; 1 << 20];
     let settings = Settings::new(LESSON_RATE);
@@ -157,7 +157,7 @@ fn edges(log: &str) -> Vec<(u64, u64, u64, u64)> {
     log.lines().map(edge).collect()
 }
 
-/// Wherever both logs have an edge, the steps so far, the state and the position are the same; they end together.
+/// Compares the steps so far, the state and the position wherever both logs end a block. They must end together.
 fn agree(live: &str, replayed: &str) -> usize {
     let (live, replayed) = (edges(live), edges(replayed));
     assert_eq!(live.last(), replayed.last());
@@ -165,7 +165,7 @@ fn agree(live: &str, replayed: &str) -> usize {
     let mut at = live.iter().peekable();
     for edge in &replayed {
         while at.next_if(|line| line.0 < edge.0).is_some() {}
-        // A block without frames can be beside one with frames: the last of an edge counts.
+        // A block without frames can be beside one with frames: the last one at a frame counts.
         if let Some(line) = at.peek().filter(|line| line.0 == edge.0) {
             assert_eq!(*line, edge);
             common += 1;
@@ -174,7 +174,7 @@ fn agree(live: &str, replayed: &str) -> usize {
     common
 }
 
-/// The processor seconds of the processes that this one has waited for, if Linux says them.
+/// The processor seconds of the child processes that have ended, if Linux reports them.
 fn children_seconds() -> f64 {
     let stat = fs::read_to_string("/proc/self/stat").unwrap_or_default();
     // The fields after the name, which is in brackets.
@@ -223,7 +223,7 @@ fn an_hour_over_a_real_lesson() {
     }
 }
 
-/// A room with the lesson, an evening of a minute over it, and its log.
+/// A folder with the lesson, an evening of a minute over it, and its log.
 fn minute(name: &str) -> (Room, Evening) {
     let room = Room::new(name);
     let evening = evening(lesson(), 60, 512, true);
@@ -272,7 +272,7 @@ fn without_the_lesson_and_with_it() {
         let sound = &["--sound", "lesson.f32", "evening.trace"];
         assert_eq!(room.run(&[&["replay"], form, &sound[..]].concat()), without);
     }
-    // A trace of version 1 holds its sound.
+    // A trace of version 1 contains its sound.
     room.put("three.trace", three());
     room.run(&["replay", "--out", "three.f32", "three.trace"])
         .says("block=1 frames=6 steps=6 state=6 position=3\n");
@@ -346,7 +346,7 @@ fn another_sound_than_the_recorded_one() {
     assert_eq!(summary.status, 1);
     let begins = "    0:00.000  no voice is created: refusal 26: ";
     assert!(summary.out.starts_with(begins), "{}", summary.out);
-    // An audit does not need the sound: it says that it is missing, and keeps its verdict.
+    // An audit does not need the sound. It says that the sound is missing, and keeps its verdict.
     let ran = room.run(&[&["audit"], &sounds[..], &["evening.trace", "evening.log"]].concat());
     assert!(ran.out.starts_with("AGREES: "), "{}", ran.out);
     assert_eq!(
@@ -361,7 +361,7 @@ fn another_sound_than_the_recorded_one() {
         "evening.log",
     ]);
     assert_eq!((ran.status, &*ran.err), (0, ""));
-    // A folder without a sound is given all the same.
+    // A folder without a sound also counts as given.
     fs::create_dir(room.0.join("empty")).unwrap();
     let ran = room.run(&["replay", "--sounds", "empty", "evening.trace"]);
     assert!(ran.out.starts_with("creation=26 at=0\n"));
@@ -419,7 +419,7 @@ fn a_hole_is_salvaged_and_replayed() {
         "mended.trace",
     ];
     room.run(&words).says(&mended.out);
-    // What was heard up to the hole is in both.
+    // The output up to the hole is in both.
     let whole = room.run(&["replay", "evening.trace"]).out;
     let same = whole
         .lines()
@@ -430,7 +430,7 @@ fn a_hole_is_salvaged_and_replayed() {
         .map_or(0, |edge| edge.0 as usize);
     let heard = fs::read(room.0.join("heard.f32")).unwrap();
     assert!(frames > 100_000 && heard[..8 * frames] == evening.heard[..8 * frames]);
-    // Version 1 knows no record over a given sound, nor one with lanes.
+    // Version 1 has no record over a given sound, and none with lanes.
     let ran = room.run(&["salvage", "--version", "1", "evening.trace", "first.trace"]);
     assert_eq!((ran.status, &*ran.err), (0, ""));
     assert!(
@@ -440,7 +440,7 @@ fn a_hole_is_salvaged_and_replayed() {
     );
     let first = fs::read(room.0.join("first.trace")).unwrap();
     assert!(!first.is_empty() && first.len() < evening.trace.len());
-    // Old files are salvaged as before, by both.
+    // Both salvage old files as before.
     let mut old = looped();
     old[200] ^= 0xff;
     room.put("old.trace", &old);
@@ -455,7 +455,7 @@ fn a_hole_is_salvaged_and_replayed() {
     assert_eq!(both[0], both[1]);
 }
 
-/// A folder is audited with its sounds by digest: on any processors, in any order of files.
+/// A folder is audited with its sounds by digest, on any number of processors and in any order of files.
 #[test]
 fn a_week_with_its_sounds() {
     let room = Room::new("lesson-week");
@@ -526,7 +526,7 @@ fn a_week_with_its_sounds() {
     assert!(!ran.out.contains("missing_sounds") && !ran.out.contains("not given"));
 }
 
-/// The longest sound, which the replay does not have: its memory is not used.
+/// The longest sound, without its samples: the replay does not use their memory.
 #[test]
 fn the_longest_sound_needs_no_memory() {
     let sound = SoundId {
@@ -549,7 +549,7 @@ fn the_longest_sound_needs_no_memory() {
         let mut printed = String::new();
         output.read_to_string(&mut printed).map(|_| printed)
     });
-    // When all is written, it has played all but the last that the pipe holds, and waits for the end.
+    // When everything is written, it has played all but the last part that the pipe contains, and waits for the end.
     input.write_all(&trace(&records)).unwrap();
     let status = fs::read_to_string(format!("/proc/{}/status", child.id()));
     drop(input);
@@ -572,7 +572,7 @@ fn the_longest_sound_needs_no_memory() {
     );
 }
 
-/// A log with lines of refused creations is read; other lines of the kind are not.
+/// A log with lines of refused creations is read. Similar lines are refused.
 #[test]
 fn lines_of_refused_creations() {
     let room = Room::new("lesson-lines");

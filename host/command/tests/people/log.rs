@@ -143,7 +143,7 @@ fn an_empty_log_is_an_evening_without_blocks() {
     }
 }
 
-/// Any bytes, mostly near a log: changed, cut, repeated.
+/// Any bytes, mostly similar to a log: changed, cut, repeated.
 fn any(random: &mut Random) -> Vec<u8> {
     let logs = [
         FIRST,

@@ -6,7 +6,7 @@ use cableowl::{Hall, Refusal, SharedLoops};
 
 use crate::room::Room;
 
-/// A room with folders of loops over a sound of 100 frames.
+/// A folder for the test with folders of loops over a sound of 100 frames.
 fn room(name: &str, folders: &[&str]) -> Room {
     let room = Room::new(name);
     for folder in folders {
@@ -53,7 +53,7 @@ fn a_loop_past_the_sound_changes_nothing() {
     room.run(&["loops", "set", "--hall", "A", "loops", "0", "1f", "101f"])
         .refuses(&Refusal::LoopRegion.to_string());
     assert_eq!(fs::read(room.0.join("loops/hall-a.loops")).unwrap(), before);
-    // Other frames than the file records are another sound's.
+    // Another frame count than the file's means another sound.
     room.run(&[
         "loops", "clear", "--hall", "A", "--frames", "99", "loops", "0",
     ])

@@ -102,12 +102,12 @@ fn a_damaged_trace_is_told_by_its_place_and_number() {
     }
 }
 
-/// The proved program, or nothing, said loudly.
+/// The proved program, or none, with a loud message.
 fn program() -> Option<Program> {
     let program = Program::find();
     if program.is_none() {
         eprintln!(
-            "SKIPPED: no target/bin/replay or no kit here, so the command was not held to the proved program"
+            "SKIPPED: no target/bin/replay or no kit here, so the command was not compared with the proved program"
         );
     }
     program

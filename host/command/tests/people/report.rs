@@ -1,4 +1,4 @@
-//! `cableowl report`: figures by a second count, quantiles, the three ways to tell them.
+//! `cableowl report`: its figures compared with a second count, the quantiles, and the three kinds of output.
 
 use std::{
     collections::BTreeMap,
@@ -34,7 +34,7 @@ fn one_evening_in_words() {
     );
     let log = room.run_on(&["replay", "-"], &looped()).out;
     let ran = room.run_on(&["report", "-"], log.as_bytes());
-    assert_eq!(ran.out.matches("not told").count(), 5, "{}", ran.out);
+    assert_eq!(ran.out.matches("not in the log").count(), 5, "{}", ran.out);
     assert!(
         ran.out.contains("\n  jumps                2\n"),
         "{}",
@@ -42,14 +42,14 @@ fn one_evening_in_words() {
     );
 }
 
-/// An evening as numbers: its log in the three forms, and its figures counted in another way, by the
-/// names of the columns.
+/// An evening as numbers: its log in the three forms, and its figures counted in another way, by the names of the
+/// columns.
 #[derive(Default)]
 struct Made {
     logs: [Vec<String>; 3],
-    /// What all forms say that say it at all.
+    /// What all forms contain that contain it at all.
     all: Sums,
-    /// What each form says by itself.
+    /// What only one form contains.
     each: [Sums; 3],
 }
 
@@ -69,7 +69,7 @@ fn counts_as(started: bool, state: usize, steps: u64) -> &'static str {
     }
 }
 
-/// A random evening: rows of blocks in a state, with what a report must tell of them.
+/// A random evening: blocks in a state, and what a report must say about them.
 fn made(random: &mut Random) -> Made {
     let mut made = Made::default();
     made.logs[1].push("log=2".into());
@@ -220,7 +220,7 @@ fn is_told(row: &[(String, String)], column: &str, number: u64) {
     }
 }
 
-/// What the forms before this one do not say.
+/// What earlier forms do not contain.
 fn unsaid(form: usize) -> &'static [&'static str] {
     match form {
         1 => &[
@@ -273,7 +273,7 @@ fn figures_are_those_of_a_second_count() {
     }
 }
 
-/// The total, the quantiles, and how many logs say each figure.
+/// The total, the quantiles, and how many logs contain each figure.
 fn over_all(rows: &[Vec<(String, String)>], evenings: &[Made], form: usize) {
     let total = &rows[0];
     assert_eq!(
@@ -314,7 +314,7 @@ fn a_line_whose_steps_turns_and_places_disagree_is_named() {
         block(1, 3, 0, "created=1 seeks=0"),
         block(2, 5, 1, still),
         block(3, 7, 2, still),
-        // After a seek, and from outside the loop, the lines do not say enough.
+        // After a seek, and from outside the loop, the lines do not contain enough.
         block(4, 1, 2, "created=0 seeks=1"),
         block(5, 9, 9, still),
     ];
@@ -333,7 +333,7 @@ fn a_line_whose_steps_turns_and_places_disagree_is_named() {
     let mut wrong = fits.clone();
     wrong[3] = block(3, 6, 2, still);
     assert_eq!(told(wrong[..4].concat()), says);
-    // Among several, and by groups, it is named too.
+    // With several logs, and with groups, it is named too.
     room.put("hall_2026-11-09.log", wrong[..4].concat());
     room.put("hall_2026-11-10.log", fits.concat());
     let files = ["hall_2026-11-09.log", "hall_2026-11-10.log"];
@@ -373,7 +373,7 @@ fn a_total_over_part_of_the_logs_says_over_how_many() {
             .map(str::to_owned)
             .collect::<Vec<_>>()
     };
-    // Three times round, two seeks and two restarts in each of the three logs that say it.
+    // Three wraps, two seeks and two restarts in each of the three logs that contain them.
     assert_eq!(line("total")[7..], ["9", "6", "6", "4", "4"]);
     assert_eq!(line("median")[7..], ["3", "2", "2", "1", "4"]);
     let says = "wraps, seeks, restarts, lowest: over 3 of 4 logs, since the others do not say it";
@@ -405,7 +405,7 @@ fn a_damaged_log_among_others_is_named_and_left_out() {
     assert_eq!(ran.status, 1);
     assert_eq!(
         ran.out,
-        "2 logs, read at 48,000 frames a second; - is not told\n\
+        "2 logs, read at 48,000 frames a second; - means that the log does not contain it\n\
          log             blocks  minutes  played  paused  silent  steps  wraps  seeks  restarts  refused  lowest\n\
          a.log                1    0.000   0.000   0.000   0.000      6      -      -         -        0       -\n\
          c.log                1    0.000   0.000   0.000   0.000      0      -      -         -        1       -\n\
@@ -496,8 +496,8 @@ fn a_folder_stands_for_its_logs() {
     assert_eq!(of_folder.out, of_files.out);
 }
 
-/// So many logs of a busy evening, 400 blocks: in each of them the student goes round, seeks, pauses or is
-/// refused; their names.
+/// This many logs of a busy evening of 400 blocks. In each, the student wraps, seeks, pauses or is refused. Returns
+/// their names.
 pub fn busy(room: &Room, logs: usize) -> Vec<String> {
     let mut random = Random::new(300);
     let mut log = String::from("log=3\n");

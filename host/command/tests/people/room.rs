@@ -16,7 +16,7 @@ use cableowl::{
 /// The command itself.
 pub const CABLEOWL: &str = env!("CARGO_BIN_EXE_cableowl");
 
-/// A folder of its own, removed at the end.
+/// A folder for one test, removed at the end.
 pub struct Room(pub PathBuf);
 
 impl Room {
@@ -45,7 +45,7 @@ impl Room {
         names
     }
 
-    /// The command with these words, to be run in the room.
+    /// The command with these words, to run in the folder.
     pub fn command(&self, words: &[&str]) -> Command {
         let mut command = Command::new(CABLEOWL);
         command.args(words).current_dir(&self.0);
@@ -62,7 +62,7 @@ impl Room {
         Ran::of(self.command(words), input)
     }
 
-    /// Has another program run it.
+    /// Runs it through another program.
     pub fn run_by(&self, program: &str, words: &[&str]) -> Ran {
         let mut command = Command::new(program);
         command.args(words).current_dir(&self.0);
@@ -103,13 +103,13 @@ impl Ran {
         }
     }
 
-    /// It ended well, saying this.
+    /// It must end well and print this.
     #[track_caller]
     pub fn says(&self, out: &str) {
         assert_eq!((self.status, &*self.err, &*self.out), (0, "", out));
     }
 
-    /// It refused, with this one sentence.
+    /// It must refuse with this one sentence.
     #[track_caller]
     pub fn refuses(&self, sentence: &str) {
         let told = format!("cableowl: {sentence}\n");
@@ -121,7 +121,7 @@ impl Ran {
         );
     }
 
-    /// The words are not understood, told in one line that names the verb's help.
+    /// It must not understand the words, and say so in one line that names the verb's help.
     #[track_caller]
     pub fn is_no_use(&self, sentence: &str, verb: &str) {
         let help = format!("cableowl help {verb}");
@@ -141,7 +141,7 @@ pub fn trace(records: &[Record]) -> Vec<u8> {
     bytes
 }
 
-/// A creation over so many frames at 1 Hz.
+/// A creation over this many frames at 1 Hz.
 pub fn creation(settings: Settings, frames: usize) -> Record<'static> {
     let samples: Vec<f32> = (0..2 * frames).map(|i| (i / 2 + 1) as f32).collect();
     let sound = ShortSound::new(&samples).expect("a short sound");
@@ -156,8 +156,7 @@ pub fn three() -> Vec<u8> {
     ])
 }
 
-/// A loop of four frames in ten: three blocks, a seek back by hand, a step back, a refused block, a
-/// new voice.
+/// A loop of four frames in ten: three blocks, a restart by hand, a step back, a refused block, a new voice.
 pub fn looped() -> Vec<u8> {
     let block = |frames| Record::Block(Block::new(frames, 1.0));
     let looped = Settings::new(1).loop_region(Frames(2)..Frames(6));

@@ -53,7 +53,7 @@ fn both_versions_are_shown() {
     );
 }
 
-/// The way a voice goes that is created with these settings: the sign of its first move.
+/// The direction of a voice that is created with these settings: the sign of its first move.
 fn way(settings: SavedSettings) -> bool {
     let sound = [0.5; 40];
     let created = settings.settings(1).start_position(10.0);

@@ -19,7 +19,7 @@ pub fn raw(samples: &[f32]) -> Vec<u8> {
     samples.iter().flat_map(|s| s.to_le_bytes()).collect()
 }
 
-/// What `sha256sum` prints of a file of the room, if it is there.
+/// What `sha256sum` prints for a file of the folder, if the program is installed.
 fn sha256sum(room: &Room, name: &str) -> Option<String> {
     let output = Command::new("sha256sum").arg(room.0.join(name)).output();
     let Ok(output) = output else {
@@ -48,7 +48,7 @@ fn what_is_in_a_sound() {
     if let Some(expected) = sha256sum(&room, "three.f32") {
         assert_eq!(digest, expected);
     }
-    // Standard input has no length, and says the same.
+    // Standard input has no length, and the result is the same.
     let piped = room.run_on(
         &["sound", "--rate", "2", "-"],
         &raw(&[1.0, 1.0, 2.0, 2.0, -3.0, 3.0]),
@@ -107,7 +107,7 @@ fn digests_of_random_files_are_those_of_sha256sum() {
     }
 }
 
-/// Files that are no sounds: a sentence each, status 1, and the others are shown.
+/// Files that are not sounds: a sentence each, status 1, and the others are shown.
 #[test]
 fn bad_files() {
     let room = Room::new("sound-bad");
@@ -223,7 +223,7 @@ const NOBODY: u32 = 65_534;
 
 #[test]
 fn a_sound_without_permission() {
-    // Root reads everything, so a copy of the command is run as nobody, from where nobody comes.
+    // Root can read everything, so a copy of the command is run as nobody, from a folder that nobody can enter.
     let folder = std::env::temp_dir().join(format!("cableowl-secret-{}", std::process::id()));
     let _ = fs::remove_dir_all(&folder);
     fs::create_dir(&folder).unwrap();

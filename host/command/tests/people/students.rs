@@ -1,5 +1,5 @@
-//! A made week: students at listening boxes, of which it is known who starts over, whose blocks are
-//! refused, and which boxes clear their fraction.
+//! An invented week: students at listening boxes. The test knows who restarts the sound, whose blocks are refused, and
+//! which boxes clear their fraction.
 
 use cableowl::{
     Commands, Frames, Lanes, Settings, StaticSound,
@@ -9,7 +9,7 @@ use random::Random;
 
 use crate::room::{creation, trace};
 
-/// The box's seconds a frame, and its frames a second.
+/// The box's seconds per frame, and its frames per second.
 const TIME_STEP: f64 = 1.0 / 1_000.0;
 pub const RATE: &str = "1000";
 
@@ -117,8 +117,8 @@ pub struct Evening {
     pub known: Known,
 }
 
-/// A student loops a sentence, slows it, steps back and pauses; starts over so many times, by hand or
-/// with a new voice; has so many blocks refused; and listens to the end or not.
+/// A student loops a sentence, slows it, steps back and pauses; restarts it as often as `known` says, by hand or with a
+/// new voice; has as many blocks refused; and listens to the end or not.
 pub fn evening(random: &mut Random, clears: bool, known: Known) -> Evening {
     let mut listening = ListeningBox::new(clears);
     let looped = Commands::new().set_loop_region(Frames(20)..Frames(50));
@@ -131,7 +131,7 @@ pub fn evening(random: &mut Random, clears: bool, known: Known) -> Evening {
             match random.coin() {
                 true => {
                     let before = listening.voice.state().position;
-                    // In a loop a place before it is one inside it.
+                    // In a loop, a position before the loop is one inside it.
                     listening.command(Commands::new().clear_loop_region().seek_to(0.0));
                     let after = listening.voice.state().position;
                     assert!(
@@ -146,7 +146,7 @@ pub fn evening(random: &mut Random, clears: bool, known: Known) -> Evening {
             listening.command(looped);
         }
         let rate = [1.0, 0.7, 0.85][random.below(3)];
-        // So long that a step back does not lead to the start.
+        // Long enough that a step back does not reach the start.
         listening.play(random, 6, rate, false);
         if random.coin() {
             listening.command(Commands::new().seek_by(-0.125));
@@ -194,8 +194,8 @@ impl Session {
 /// The boxes that clear their fraction.
 pub const CREEPING: [usize; 3] = [3, 11, 24];
 
-/// Two weeks of five days, 30 boxes each day: 300 evenings. Of the first week's 150 students 3 start
-/// over, of the second's 14.
+/// Two weeks of five days, 30 boxes each day: 300 evenings. In the first week 3 of 150 students restart the sound, in
+/// the second 14.
 pub fn made() -> Vec<Session> {
     let days = [
         ("2026-11-09", "2026-W46"),
@@ -213,7 +213,7 @@ pub fn made() -> Vec<Session> {
     let mut sessions = Vec::new();
     for (index, (day, week)) in days.into_iter().enumerate() {
         for box_number in 0..30 {
-            // Each student of a week has another place in this row.
+            // Each student of a week has another index here.
             let place = (30 * (index % 5) + box_number) * 7 % 150;
             let restarting = if week == "2026-W46" { 3 } else { 14 };
             let known = Known {

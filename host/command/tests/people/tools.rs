@@ -1,4 +1,4 @@
-//! docs/guide/TOOLS.md: each example on it is run, and prints what it says.
+//! docs/guide/TOOLS.md: runs each example on it and compares what it prints.
 
 use std::fs;
 
@@ -55,14 +55,14 @@ impl Script {
         self.records.push(Record::Commands(commands));
     }
 
-    /// Blocks that no player takes: a time step of 0.
+    /// Blocks that no player accepts: a time step of 0.
     fn refused(&mut self, blocks: usize) {
         let block = Record::Block(Block::new(1_024, 0.0));
         self.records.extend((0..blocks).map(|_| block));
     }
 }
 
-/// A student loops a sentence, slows it, steps back, starts over, and lets the lesson end.
+/// A student loops a sentence, slows it, steps back, restarts it, and lets the lesson end.
 fn monday() -> Vec<u8> {
     let mut script = Script::new();
     script.until(3);
@@ -82,7 +82,7 @@ fn monday() -> Vec<u8> {
     trace(&script.records)
 }
 
-/// Another goes round more often and is called away.
+/// Another student wraps more often and leaves early.
 fn tuesday() -> Vec<u8> {
     let mut script = Script::new();
     script.command(Commands::new().set_loop_region(1.0..2.0));
@@ -191,7 +191,7 @@ fn examples() -> Vec<(String, String)> {
     found
 }
 
-/// What a shell does with the words: `| cableowl` sends the output on, `; echo $?` tells the status.
+/// What a shell does with the words: `| cableowl` passes the output on, `; echo $?` prints the status.
 fn shell(room: &Room, words: &str) -> String {
     let (words, tells) = match words.strip_suffix("; echo $?") {
         Some(words) => (words, true),
@@ -224,7 +224,7 @@ fn the_page_s_examples_print_what_it_says() {
     let mut wrong = String::new();
     for (words, says) in &examples {
         let said = shell(&room, words);
-        // Three dots stand for lines left out.
+        // Three dots mean lines that are left out.
         let same = match says.split_once("...\n") {
             Some((begins, ends)) => said.starts_with(begins) && said.ends_with(ends),
             None => said == *says,

@@ -10,7 +10,7 @@ use crate::{
     students::{CREEPING, Known, RATE, Session, made},
 };
 
-/// A log of form 3 with one block and so many restarts.
+/// A log of form 3 with one block and this many restarts.
 fn session(restarts: u64, ended: bool) -> String {
     format!(
         "log=3\nblock=1 frames=600 steps=500 state=0 position=9 lowest={} forward=7 backward=0 started=1 played=500 paused=100 silent=0 still=0 loop_start=0 loop_end=64 direction=0 steps_back=0 ended={} created=1 seeks={restarts} restarts={restarts} pauses=1\n",
@@ -32,7 +32,7 @@ fn two_to_nine_in_a_hundred_is_seen_as_a_change() {
     }
     let ran = room.run(&["report", "--by", "week", "--rate", "10", "logs"]);
     ran.says(
-        "200 sessions by week, read at 10 frames a second; of 100 sessions so many, with an interval of 95 percent\n\
+        "200 sessions by week, read at 10 frames a second; shares in percent, with a 95 percent interval\n\
          week      sessions  minutes  played  restarted   95 percent  reached the end  with a tail  wraps a minute  seeks  pauses  refused\n\
          2026-W46       100  100.000  83.333        2.0   0.6 to 7.0             25.0         25.0            8.40      6     100        0\n\
          2026-W47       100  100.000  83.333        9.0  4.8 to 16.2             25.0         25.0            8.40     27     100        0\n\
@@ -51,7 +51,7 @@ fn two_to_nine_in_a_hundred_is_seen_as_a_change() {
     );
     let rows = csv(&room.run(&["report", "--csv", "--by", "box", "logs"]).out);
     assert_eq!(rows.len(), 100 + 99);
-    // Two to three of thirty is not.
+    // A change from two to three of thirty is not.
     let mut table = String::new();
     for index in 0..30 {
         table += &format!("box{index:02}_2026-11-09.log,first\n");
@@ -88,7 +88,7 @@ fn a_trace_has_the_group_and_the_figures_of_its_log() {
     assert_eq!(of_trace, by_day("hall1_2026-11-09.log"));
 }
 
-/// The figures of a group of the made week, by what is known of its students.
+/// The figures of a group of the invented week, from what is known about its students.
 fn is_known(row: &[(String, String)], sessions: &[&Session]) {
     let group = cell(row, "group");
     let sum = |of: fn(&Known) -> u64| {
@@ -117,7 +117,7 @@ fn share_of(row: &[(String, String)]) -> exact::Share {
     (number("restarted"), number("restarted_of"))
 }
 
-/// The ends of an interval are those of the second computation, to what the values show of them.
+/// Compares the ends of an interval with the second computation, as precisely as the values show them.
 fn has_ends(row: &[(String, String)], ends: [(&str, i128); 3]) {
     for (column, end) in ends {
         let told: f64 = cell(row, column).parse().unwrap();
@@ -186,7 +186,7 @@ fn a_made_week_is_reported_as_it_was_made_and_only_the_creeping_boxes_differ() {
     exactly_the_creeping_boxes_differ(&room, &sessions);
 }
 
-/// Evening by evening, from the log and from the trace played again.
+/// Evening by evening, from the log and from the replayed trace.
 fn restarts_are_those_that_were_made(room: &Room, sessions: &[Session]) {
     let ran = room.run(&["report", "--csv", "--rate", RATE, "week"]);
     let rows = csv(&ran.out);
@@ -241,7 +241,7 @@ fn exactly_the_creeping_boxes_differ(room: &Room, sessions: &[Session]) {
         let verdict = if creeps { ",DIFFERS," } else { ",AGREES," };
         assert!(line.contains(verdict), "{line}");
         if creeps {
-            // One that runs off its sound at another time differs in its state too.
+            // A box that passes the end of its sound at another time differs in its state too.
             let ended = session.evening.known.ended;
             assert!(ended || line.contains("the loop creeps"), "{line}");
             found.insert(session.box_number);

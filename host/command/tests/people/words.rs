@@ -1,5 +1,5 @@
-//! The table of verbs: help, man pages and completions say the same of each verb, and each shell
-//! reads its completions.
+//! The table of verbs: help, man pages and completions contain the same for each verb, and each shell reads its
+//! completions.
 
 use std::{collections::BTreeSet, process::Command};
 
@@ -12,7 +12,7 @@ fn printed(words: &[&str]) -> String {
     String::from_utf8(output.stdout).unwrap()
 }
 
-/// The verbs, by the first help: the words up to an option or an argument.
+/// The verbs, from the first help: the words before an option or an argument.
 fn verbs() -> Vec<String> {
     let help = printed(&["help"]);
     let lines = help
@@ -129,7 +129,7 @@ fn help_man_pages_and_completions_come_from_one_table() {
         assert_eq!(names, bash_options(&shells[0], verb), "{verb}");
         assert_eq!(names, zsh_options(&shells[1], verb), "{verb}");
         assert_eq!(names, fish_options(&shells[2], verb), "{verb}");
-        // The lines before it are how it is called: options in brackets, words in capitals.
+        // The lines before it show how it is called: options in brackets, words in capitals.
         let says = help.lines().find(|line| {
             let has_words = line.chars().any(char::is_lowercase);
             line.starts_with("    ") && !line.contains('[') && has_words
@@ -176,7 +176,7 @@ fn help_of_one_verb() {
     assert!(long <= Some(78), "{long:?}");
 }
 
-/// A shell, or nothing, said loudly.
+/// A shell, or none, with a loud message.
 fn shell(name: &str) -> Option<Command> {
     let there = Command::new(name).args(["-c", "exit 0"]).output();
     if there.is_ok_and(|output| output.status.success()) {

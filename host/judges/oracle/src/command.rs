@@ -1,4 +1,4 @@
-// Stand-in for kira's command readers: a slot that holds at most one command.
+// Stand-in for kira's command readers: a slot for at most one command.
 
 /// One kind of command, read at most once.
 #[derive(Debug)]
@@ -21,7 +21,7 @@ impl<T> Default for CommandReader<T> {
     }
 }
 
-/// Of kira's three parameters only the rate is held here; volume and panning are lanes.
+/// Of kira's three parameters only the rate is stored here; volume and panning are lanes.
 macro_rules! read_commands_into_parameters {
     ($sound:ident, volume, playback_rate, panning) => {
         if let Some((value, tween)) = $sound.command_readers.set_playback_rate.read() {

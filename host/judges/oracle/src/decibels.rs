@@ -1,4 +1,4 @@
-// Stand-in for kira's Decibels: the lanes bring amplitudes, so nothing is converted.
+// Stand-in for kira's Decibels: the lanes contain amplitudes, so nothing is converted.
 
 /// An amplitude, where kira has a volume in decibels.
 #[derive(Debug, Clone, Copy, PartialEq)]

@@ -1,6 +1,6 @@
-// Stand-in for kira's Info: the signals a block brings.
+// Stand-in for kira's Info: the signals of a block.
 
-/// What a start that waits is told in a block.
+/// A block's answer to a start that waits.
 #[derive(Debug, Clone, Copy, PartialEq, Eq, Default)]
 pub enum Answer {
     /// Still waiting.
@@ -23,5 +23,5 @@ pub struct Signals {
     pub resume: Answer,
 }
 
-/// kira's name for what a block is told about the world.
+/// kira's name for what a block gets besides its lanes.
 pub type Info = Signals;

@@ -1,6 +1,6 @@
-// The lanes of a block, lent or owned.
+// The lanes of a block, borrowed or owned.
 
-/// The lanes of one block, lent: one entry per output frame in each.
+/// The borrowed lanes of one block: one entry per output frame in each.
 #[derive(Debug, Clone, Copy)]
 pub struct Lanes<'a> {
     /// Fade amplitudes.
@@ -15,7 +15,7 @@ pub struct Lanes<'a> {
     pub rate: &'a [f64],
 }
 
-/// Lanes that own their numbers, so that a block can take them without a copy.
+/// Lanes that own their numbers, so that a block can use them without a copy.
 #[derive(Debug, Clone, Default)]
 pub struct LaneBuffers {
     /// Fade amplitudes.
@@ -43,7 +43,7 @@ impl LaneBuffers {
         }
     }
 
-    /// These lanes, lent.
+    /// These lanes, borrowed.
     #[must_use]
     pub fn lend(&self) -> Lanes<'_> {
         Lanes {
@@ -55,7 +55,7 @@ impl LaneBuffers {
         }
     }
 
-    /// Takes over the numbers of lent lanes, in the room already held.
+    /// Copies the numbers of borrowed lanes into its own buffers.
     pub fn copy_from(&mut self, lanes: &Lanes) {
         refill(&mut self.fade, lanes.fade);
         refill(&mut self.volume, lanes.volume);
@@ -64,7 +64,7 @@ impl LaneBuffers {
         refill(&mut self.rate, lanes.rate);
     }
 
-    /// The frames every lane has.
+    /// The number of frames of every lane.
     pub(crate) fn shortest(&self) -> usize {
         [&self.fade, &self.volume, &self.left, &self.right]
             .iter()

@@ -1,4 +1,4 @@
-//! kira's small parts one by one, as plain functions over plain records.
+//! kira's small parts, as plain functions over plain records.
 
 use crate::{
     Entry, Frame, PlaybackPosition, PlaybackState, Region, Signals, StartTime, TooManyTurns, Tween,
@@ -72,7 +72,7 @@ pub fn set_loop_region(
 /// kira's `Transport::increment_position`.
 ///
 /// # Errors
-/// When its `while` would turn more than [`crate::MAX_TURNS`] times.
+/// If its `while` would make more than [`crate::MAX_TURNS`] iterations.
 pub fn increment_position(given: Transport, num_frames: usize) -> Result<Transport, TooManyTurns> {
     if given.playing {
         turns::allow(turns::increment_turns(given.position, given.loop_region))?;
@@ -83,7 +83,7 @@ pub fn increment_position(given: Transport, num_frames: usize) -> Result<Transpo
 /// kira's `Transport::decrement_position`.
 ///
 /// # Errors
-/// When its `while` would turn more than [`crate::MAX_TURNS`] times.
+/// If its `while` would make more than [`crate::MAX_TURNS`] iterations.
 pub fn decrement_position(given: Transport) -> Result<Transport, TooManyTurns> {
     if given.playing {
         turns::allow(turns::decrement_turns(given.position, given.loop_region))?;
@@ -94,7 +94,7 @@ pub fn decrement_position(given: Transport) -> Result<Transport, TooManyTurns> {
 /// kira's `Transport::seek_to`.
 ///
 /// # Errors
-/// When its `while` would turn more than [`crate::MAX_TURNS`] times.
+/// If its `while` would make more than [`crate::MAX_TURNS`] iterations.
 pub fn seek_to(
     given: Transport,
     target: usize,
@@ -109,12 +109,12 @@ pub fn seek_to(
 pub struct Window {
     /// The four entries, the oldest first.
     pub entries: [Entry; 4],
-    /// Pushes of nothing until it is empty.
+    /// How many more pushes without a frame until it is empty.
     pub count: usize,
 }
 
 impl Window {
-    /// Equal bit by bit, any NaN as any NaN.
+    /// Equal bit by bit; any NaN equals any NaN.
     #[must_use]
     pub fn same_bits(&self, other: &Self) -> bool {
         let mut pairs = self.entries.iter().zip(&other.entries);
@@ -160,7 +160,7 @@ pub fn mark_as_stopped(given: PlaybackState) -> PlaybackState {
     manage(given, PlaybackStateManager::mark_as_stopped).0
 }
 
-/// kira's `PlaybackStateManager::update`: the state after, and whether kira says it changed.
+/// kira's `PlaybackStateManager::update`: the state after it, and whether kira says that it changed.
 #[must_use]
 pub fn update(given: PlaybackState, signals: Signals) -> (PlaybackState, bool) {
     manage(given, |original| original.update(0.0, &signals))

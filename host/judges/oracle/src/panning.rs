@@ -1,4 +1,4 @@
-// Stand-in for kira's Panning: the lanes bring a gain per channel.
+// Stand-in for kira's Panning: the lanes contain a gain per channel.
 
 /// The left and the right gain, where kira has one number from -1 to 1.
 ///

@@ -1,11 +1,11 @@
-// Stand-in for kira's Parameter: a lane in place of a tween, and a held value beside it. For the
-// benchmark (host/judges/timed, cfg `timed`) it counts nothing and reads its lane without a bounds check.
+// Stand-in for kira's Parameter: a lane in place of a tween, and a held value. For the benchmark (host/judges/timed,
+// cfg `timed`) it counts nothing and reads its lane without a bounds check.
 
 use std::cell::Cell;
 
 use crate::{Decibels, Panning, PlaybackRate, Tween, Value, info::Info};
 
-/// What a lane can stand in for.
+/// A type whose parameter a lane can replace.
 pub trait Laned: Copy {
     /// The lane's numbers.
     type Store: Default;
@@ -26,8 +26,8 @@ fn entry<T: Copy>(lane: &[T], frame: usize) -> T {
 #[inline]
 fn entry<T: Copy>(lane: &[T], frame: usize) -> T {
     debug_assert!(frame < lane.len());
-    // SAFETY: kira asks once an output frame, and `Oracle::block_frames` has held every lane to at
-    // least as many.
+    // SAFETY: kira reads once per output frame, and `Oracle::block_frames` has checked that every lane has at least as
+    // many numbers.
     unsafe { *lane.get_unchecked(frame) }
 }
 
@@ -58,7 +58,7 @@ impl Laned for PlaybackRate {
     }
 }
 
-/// A held value, and the lane a block reads in its place.
+/// A held value, and the lane that a block reads instead.
 pub struct Parameter<T: Laned> {
     held: T,
     asked: Cell<u64>,
@@ -81,13 +81,13 @@ impl<T: Laned> Parameter<T> {
         self.held = held;
     }
 
-    /// Begins a block: the lane is read from its first frame; true when the fade has finished.
+    /// Begins a block: the lane is read from its first frame. Returns whether the fade has finished.
     pub fn update(&mut self, _dt: f64, info: &Info) -> bool {
         self.next_frame.set(0);
         info.finished
     }
 
-    /// The held value; each question is counted.
+    /// The held value. Each call is counted.
     #[inline]
     pub fn value(&self) -> T {
         if cfg!(not(timed)) {
@@ -96,7 +96,7 @@ impl<T: Laned> Parameter<T> {
         self.held
     }
 
-    /// The lane's value at the next output frame: kira asks once a frame, in order.
+    /// The lane's value at the next output frame: kira reads once per frame, in order.
     #[inline]
     pub fn interpolated_value(&self, _amount: f64) -> T {
         let frame = self.next_frame.get();
@@ -104,12 +104,12 @@ impl<T: Laned> Parameter<T> {
         T::at(&self.lane, frame)
     }
 
-    /// The held value, uncounted.
+    /// The held value, without counting.
     pub fn held(&self) -> T {
         self.held
     }
 
-    /// How often [`Parameter::value`] was asked since the last call.
+    /// How often [`Parameter::value`] was called since the last call of this function.
     pub fn take_asked(&self) -> u64 {
         self.asked.take()
     }

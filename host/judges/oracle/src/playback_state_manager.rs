@@ -1,9 +1,9 @@
-// kira's playback_state_manager.rs, unchanged, and below it the way into its private state.
+// kira's playback_state_manager.rs, unchanged, and access to its private state.
 #![allow(clippy::all, dead_code)]
 include!("../kira/src/playback_state_manager.rs");
 
 impl PlaybackStateManager {
-    /// A manager found in the given state; a waiting resume waits for the resume's own answer.
+    /// A manager in the given state. A waiting resume waits for the resume's own answer.
     pub(crate) fn in_state(state: PlaybackState) -> Self {
         let mut manager = Self::new(None);
         manager.state = match state {
@@ -21,7 +21,7 @@ impl PlaybackStateManager {
         manager
     }
 
-    /// The parameter the fade lane stands in for.
+    /// The parameter that the fade lane replaces.
     pub(crate) fn fade(&mut self) -> &mut Parameter<Decibels> {
         &mut self.volume_fade
     }

@@ -1,4 +1,4 @@
-// What a voice is asked: how it is created, and one set of commands.
+// The input of a voice: settings, and a command set.
 
 use crate::{PlaybackPosition, Region};
 
@@ -46,7 +46,7 @@ pub struct Commands {
     pub loop_region: Option<Option<Region>>,
     /// Pauses.
     pub pause: bool,
-    /// Resumes; true when the resume waits for an answer.
+    /// Resumes; true if the resume waits for an answer.
     pub resume: Option<bool>,
     /// Stops.
     pub stop: bool,

@@ -1,4 +1,4 @@
-// Stand-ins for what kira's sound module holds beside the two files that are kept.
+// Stand-ins for what kira's sound module contains besides the two files that are kept.
 
 use crate::{Frame, info::Info};
 
@@ -19,11 +19,11 @@ pub use playback_position::PlaybackPosition;
 pub enum EndPosition {
     /// The end of the audio: all frames for a slice, the slice's frames for a loop.
     EndOfAudio,
-    /// A given place.
+    /// A given position.
     Custom(PlaybackPosition),
 }
 
-/// A part of a sound, its end exclusive.
+/// A part of a sound; the end is exclusive.
 #[derive(Debug, Clone, Copy, PartialEq)]
 pub struct Region {
     /// Where it starts.
@@ -32,7 +32,7 @@ pub struct Region {
     pub end: EndPosition,
 }
 
-/// What kira's builders take for a region.
+/// What kira's builders accept as a region.
 pub trait IntoOptionalRegion {
     fn into_optional_region(self) -> Option<Region>;
 }
@@ -75,7 +75,7 @@ impl PlaybackState {
         Self::Stopped,
     ];
 
-    /// Whether a voice in this state moves on.
+    /// Whether a voice in this state advances.
     #[must_use]
     pub fn is_advancing(self) -> bool {
         matches!(
@@ -90,14 +90,14 @@ impl PlaybackState {
         self as u8
     }
 
-    /// The state with this number, if one has it.
+    /// The state with this number, if there is one.
     #[must_use]
     pub fn from_number(number: u8) -> Option<Self> {
         Self::ALL.get(usize::from(number)).copied()
     }
 }
 
-/// What kira's mixer asks of a sound.
+/// What kira's mixer calls on a sound.
 pub trait Sound: Send {
     fn on_start_processing(&mut self);
     fn process(&mut self, out: &mut [Frame], dt: f64, info: &Info);

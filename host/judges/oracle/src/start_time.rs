@@ -1,8 +1,8 @@
-// Stand-in for kira's StartTime: a start that waits hears its own answer in each block.
+// Stand-in for kira's StartTime: a start that waits gets its own answer from each block.
 
 use crate::{Answer, info::Info};
 
-/// When something starts. One that has come stays so.
+/// When something starts. A start that has come stays.
 #[derive(Debug, Clone, Copy, PartialEq, Eq, Default)]
 pub enum StartTime {
     #[default]
@@ -32,7 +32,7 @@ impl StartTime {
         }
     }
 
-    /// Takes this block's answer; true when the start will never come.
+    /// Applies this block's answer. Returns true if the start will never come.
     pub fn update(&mut self, _dt: f64, info: &Info) -> bool {
         let answer = match self {
             Self::Immediate => return false,

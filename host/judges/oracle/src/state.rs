@@ -2,22 +2,22 @@
 
 use crate::{PlaybackState, Wraps, leaves::Window};
 
-/// The largest position, window number and capped frame number: 2^32.
+/// The largest position and frame index: 2^32.
 pub const LIMIT: usize = 4_294_967_296;
 
-/// A window entry: a frame and the frame number beside it.
+/// A window entry: a frame and its frame index.
 #[derive(Debug, Clone, Copy, Default)]
 pub struct Entry {
     /// The left sample.
     pub left: f32,
     /// The right sample.
     pub right: f32,
-    /// The frame number.
+    /// The frame index.
     pub number: usize,
 }
 
 impl Entry {
-    /// Equal bit by bit, any NaN as any NaN.
+    /// Equal bit by bit; any NaN equals any NaN.
     #[must_use]
     pub fn same_bits(&self, other: &Self) -> bool {
         same_f32(self.left, other.left)
@@ -33,11 +33,11 @@ impl Entry {
 /// The state of a voice between two calls.
 #[derive(Debug, Clone, Copy)]
 pub struct State {
-    /// Frames a second in the sound.
+    /// The sound's frames per second.
     pub sample_rate: u32,
-    /// All frames of the sound, the slice aside.
+    /// All frames of the sound, with or without a slice.
     pub total_frames: usize,
-    /// The slice, its end exclusive.
+    /// The slice; the end is exclusive.
     pub slice: Option<(usize, usize)>,
     /// Whether the sound plays in reverse.
     pub reverse: bool,
@@ -51,7 +51,7 @@ pub struct State {
     pub fraction: f64,
     /// The transport's position.
     pub position: usize,
-    /// The transport's loop, its end exclusive.
+    /// The transport's loop; the end is exclusive.
     pub loop_region: Option<(usize, usize)>,
     /// Whether the transport is playing.
     pub playing: bool,
@@ -59,12 +59,37 @@ pub struct State {
     pub window: [Entry; 4],
     /// The window's count.
     pub count: usize,
-    /// The steps that took the wrap.
+    /// The steps that wrapped.
     pub wraps: Wraps,
 }
 
 impl State {
-    /// Equal bit by bit, any NaN as any NaN.
+    /// The blank voice, which a refused creation returns.
+    pub const BLANK: Self = Self {
+        sample_rate: 0,
+        total_frames: 0,
+        slice: None,
+        reverse: false,
+        rate: 0.0,
+        started: false,
+        playback: PlaybackState::Stopped,
+        fraction: 0.0,
+        position: 0,
+        loop_region: None,
+        playing: false,
+        window: [Entry {
+            left: 0.0,
+            right: 0.0,
+            number: 0,
+        }; 4],
+        count: 0,
+        wraps: Wraps {
+            forward: 0,
+            backward: 0,
+        },
+    };
+
+    /// Equal bit by bit; any NaN equals any NaN.
     #[must_use]
     pub fn same_bits(&self, other: &Self) -> bool {
         self.sample_rate == other.sample_rate
@@ -98,7 +123,7 @@ impl State {
         }
     }
 
-    /// The rules' "well formed".
+    /// Whether the state is well formed by the rules.
     #[must_use]
     pub fn is_well_formed(&self) -> bool {
         let region_fits = |region: Option<(usize, usize)>, frames| {
@@ -121,13 +146,13 @@ impl State {
     }
 }
 
-/// Equal bits, any NaN as any NaN.
+/// Equal bits; any NaN equals any NaN.
 #[must_use]
 pub fn same_f32(a: f32, b: f32) -> bool {
     a.to_bits() == b.to_bits() || a.is_nan() && b.is_nan()
 }
 
-/// Equal bits, any NaN as any NaN.
+/// Equal bits; any NaN equals any NaN.
 #[must_use]
 pub fn same_f64(a: f64, b: f64) -> bool {
     a.to_bits() == b.to_bits() || a.is_nan() && b.is_nan()

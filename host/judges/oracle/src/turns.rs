@@ -1,11 +1,11 @@
-// How often kira's `while` loops turn in the transport, worked out without turning them.
+// How many iterations kira's `while` loops in the transport would make, computed without running them.
 
 use std::{error, fmt};
 
-/// The most turns the oracle lets kira's text take in one call.
+/// The largest number of iterations that the oracle allows kira's text in one call.
 pub const MAX_TURNS: usize = 50_000_000;
 
-/// A call that was not made, because kira's text would turn this often (`usize::MAX`: for ever).
+/// A call that was not made, because kira's text would make this many iterations (`usize::MAX`: it would never end).
 #[derive(Debug, Clone, Copy, PartialEq, Eq)]
 pub struct TooManyTurns(pub usize);
 
@@ -17,7 +17,7 @@ impl fmt::Display for TooManyTurns {
 
 impl error::Error for TooManyTurns {}
 
-/// The turns of a seek from `position` to `target`.
+/// The iterations of a seek from `position` to `target`.
 #[must_use]
 pub fn seek_turns(position: usize, loop_region: Option<(usize, usize)>, target: usize) -> usize {
     match loop_region {
@@ -27,17 +27,17 @@ pub fn seek_turns(position: usize, loop_region: Option<(usize, usize)>, target: 
     }
 }
 
-/// The turns of a forward step.
+/// The iterations of a forward step.
 pub(crate) fn increment_turns(position: usize, loop_region: Option<(usize, usize)>) -> usize {
     loop_region.map_or(0, |(start, end)| down(position + 1, start, end))
 }
 
-/// The turns of a backward step.
+/// The iterations of a backward step.
 pub(crate) fn decrement_turns(position: usize, loop_region: Option<(usize, usize)>) -> usize {
     loop_region.map_or(0, |(start, end)| up(position, start + 1, end + 1))
 }
 
-/// Refuses more turns than [`MAX_TURNS`].
+/// Refuses more iterations than [`MAX_TURNS`].
 pub(crate) fn allow(turns: usize) -> Result<(), TooManyTurns> {
     if turns > MAX_TURNS {
         Err(TooManyTurns(turns))
@@ -46,17 +46,17 @@ pub(crate) fn allow(turns: usize) -> Result<(), TooManyTurns> {
     }
 }
 
-/// Turns until `from` has come below `end`.
+/// Iterations until `from` is below `end`.
 fn down(from: usize, start: usize, end: usize) -> usize {
     turns(from.saturating_add(1).saturating_sub(end), start, end)
 }
 
-/// Turns until `from` has reached `start`.
+/// Iterations until `from` has reached `start`.
 fn up(from: usize, start: usize, end: usize) -> usize {
     turns(start.saturating_sub(from), start, end)
 }
 
-/// Turns of one loop length each that cover a distance.
+/// Iterations of one loop length each that cover a distance.
 fn turns(distance: usize, start: usize, end: usize) -> usize {
     match end.checked_sub(start) {
         _ if distance == 0 => 0,

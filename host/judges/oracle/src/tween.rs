@@ -1,4 +1,4 @@
-// Stand-in for kira's tweens: the host computes them, so nothing is left of them here.
+// Stand-in for kira's tweens: the host computes them, so nothing remains of them here.
 
 /// A tween; the lanes have its values.
 #[derive(Debug, Clone, Copy, PartialEq, Default)]

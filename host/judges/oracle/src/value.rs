@@ -1,4 +1,4 @@
-// Stand-in for kira's Value: a value that is held, since the lanes have what moves.
+// Stand-in for kira's Value: a constant value, since the lanes contain what moves.
 
 /// A parameter's value.
 #[derive(Debug, Clone, Copy, PartialEq)]

@@ -1,4 +1,4 @@
-// The rules' marked examples, run on kira's own text.
+// The marked examples of the rules, run on kira's own text.
 
 mod common;
 

@@ -8,7 +8,7 @@ use oracle::{
     Signals, State,
 };
 
-/// A voice at rest at a position far enough from everything.
+/// A voice far away from every edge.
 fn at(sample_rate: u32, position: usize) -> Oracle {
     let samples = ramp(0, 100);
     let state = State {

@@ -1,4 +1,4 @@
-// kira's text is kira's: every file has its digest, and the compiled sound.rs differs in one line.
+// kira's text is unchanged: every file has its digest, and the compiled sound.rs differs in one line.
 
 use std::{fs, path::Path};
 
@@ -114,7 +114,7 @@ fn sum(words: &[u32]) -> u32 {
     words.iter().fold(0, |all, word| all.wrapping_add(*word))
 }
 
-/// The first 32 bits after the point of a prime's square or cube root.
+/// The first 32 bits of the fractional part of a prime's square or cube root.
 fn root_bits(prime: u32, degree: u32) -> u32 {
     let wanted = u128::from(prime) << (32 * degree);
     let (mut low, mut high) = (0u128, 1 << 40);

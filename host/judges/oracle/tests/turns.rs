@@ -1,4 +1,4 @@
-// The count of kira's `while` turns is right, and far seeks over short loops are refused.
+// The computed iterations of kira's `while` loops are right, and far seeks over short loops are refused.
 
 mod common;
 

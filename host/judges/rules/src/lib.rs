@@ -1,8 +1,8 @@
-//! The rules as docs/assurance/RULES.md has them (remainders, not `while`s), as a second opinion on kira's
-//! text and on ours.
+//! The rules of docs/assurance/RULES.md (with remainders, not `while` loops), as a second model to compare with kira's
+//! text and with ours.
 //!
-//! [`Rules`] has one method a rule; [`Document`] takes all of them as they stand, and a wrong
-//! player overrides one. [`Voice`] is a voice by such rules; [`refusals`] has the numbers 1 to 12.
+//! [`Rules`] has one method for each rule. [`Document`] implements all of them as written, and a wrong player overrides
+//! one. [`Voice`] is a voice that follows such rules; [`refusals`] has the numbers 1 to 12.
 #![forbid(unsafe_code)]
 #![warn(missing_docs)]
 

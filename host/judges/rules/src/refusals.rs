@@ -4,16 +4,16 @@ use oracle::{Commands, EndPosition, LIMIT, Lanes, PlaybackPosition, Region, Sett
 
 use crate::{Document, Rules};
 
-/// The most frames of a sound.
+/// The largest number of frames of a sound.
 pub const MOST_FRAMES: usize = 16_777_216;
 /// The highest sample rate.
 pub const MOST_HZ: u32 = 768_000;
-/// The most frames of a block.
+/// The largest number of frames of a block.
 pub const MOST_BLOCK: usize = 4_096;
 /// The largest advance.
 pub const MOST_ADVANCE: f64 = 256.0;
 
-/// Of a creation over so many samples.
+/// The refusal of a creation over this many samples.
 #[must_use]
 pub fn of_creation(settings: &Settings, samples: usize) -> u32 {
     let rate = settings.sample_rate;
@@ -46,7 +46,7 @@ pub fn of_creation(settings: &Settings, samples: usize) -> u32 {
     if settings.rate.is_finite() { 0 } else { 7 }
 }
 
-/// Of a command set in a state over so many samples.
+/// The refusal of a command set in a state over this many samples.
 #[must_use]
 pub fn of_commands(state: &State, samples: usize, commands: &Commands) -> u32 {
     if !is_ours(state, samples) {
@@ -72,7 +72,7 @@ pub fn of_commands(state: &State, samples: usize, commands: &Commands) -> u32 {
     }
 }
 
-/// Of a block in a state over so many samples; `placed` says whether its output holds it.
+/// The refusal of a block in a state over this many samples. `placed` says whether it fits into its output.
 #[must_use]
 pub fn of_block(state: &State, samples: usize, lanes: &Lanes, dt: f64, placed: bool) -> u32 {
     if !is_ours(state, samples) {
@@ -100,13 +100,13 @@ pub fn of_block(state: &State, samples: usize, lanes: &Lanes, dt: f64, placed: b
     0
 }
 
-/// Whether an output of so many samples is that of so many frames.
+/// Whether an output of this many samples is one of this many frames.
 #[must_use]
 pub fn holds(samples: usize, frames: usize) -> bool {
     samples.is_multiple_of(2) && samples / 2 == frames
 }
 
-/// Whether a mix of so many samples holds so many frames from the given one on.
+/// Whether a mix of this many samples has space for this many frames from the given one on.
 #[must_use]
 pub fn has_room(samples: usize, from: usize, frames: usize) -> bool {
     let end = from.checked_add(frames);

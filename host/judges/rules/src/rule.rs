@@ -38,8 +38,7 @@ pub trait Rules {
         }
     }
 
-    /// The counts after a step from `from`: one more for its direction where it takes the wrap, up to
-    /// the limit.
+    /// The counts after a step from `from`: one more for its direction if it wraps, up to the limit.
     fn counted(&self, given: Wraps, from: Transport, backward: bool) -> Wraps {
         let wrapped = match from.loop_region {
             Some((start, _)) if backward => from.playing && from.position <= start,
@@ -67,7 +66,7 @@ pub trait Rules {
         }
     }
 
-    /// The frame a seek's product names.
+    /// The frame that a seek's product names.
     fn target(&self, product: f64) -> usize {
         product.max(0.0) as usize
     }
@@ -100,12 +99,12 @@ pub trait Rules {
         ((c3 * f + c2) * f + c1) * f + b
     }
 
-    /// The fraction as a reading takes it.
+    /// The fraction that a reading uses.
     fn narrowed(&self, fraction: f64) -> f32 {
         fraction as f32
     }
 
-    /// The frame number of a place, for start, slice and loop.
+    /// The frame of a position, for start, slice and loop.
     fn to_frames(&self, position: PlaybackPosition, sample_rate: u32) -> usize {
         match position {
             PlaybackPosition::Samples(frames) => frames,
@@ -124,7 +123,7 @@ pub trait Rules {
         }
     }
 
-    /// The frame numbers of a region, where the audio ends after `all` frames.
+    /// The frames of a region, if the audio ends after `all` frames.
     fn to_region(&self, region: Region, sample_rate: u32, all: usize) -> (usize, usize) {
         let end = match region.end {
             EndPosition::EndOfAudio => all,
@@ -142,7 +141,7 @@ pub trait Rules {
         }
     }
 
-    /// A block's change of state: one of the seven to another.
+    /// How a block's signal changes the playback state.
     fn states(&self, given: PlaybackState, signals: Signals) -> PlaybackState {
         use PlaybackState::{
             Paused, Pausing, Playing, Resuming, Stopped, Stopping, WaitingToResume,
@@ -157,7 +156,7 @@ pub trait Rules {
         }
     }
 
-    /// The answer that a due tick gives: reached for half a turn from its own number on, wrap or not.
+    /// The answer for a due tick: reached from its own number on for half the range, with wrapping.
     fn ticked(&self, due: u32, now: u32) -> Answer {
         let since = (i64::from(now) - i64::from(due)).rem_euclid(1 << 32);
         if since < 1 << 31 {
@@ -167,7 +166,7 @@ pub trait Rules {
         }
     }
 
-    /// The sound's own start answer: whether it has started, and its state.
+    /// The answer for the sound's own start: whether it has started, and its state.
     fn start(&self, started: bool, given: PlaybackState, answer: Answer) -> (bool, PlaybackState) {
         match answer {
             _ if started => (true, given),
@@ -177,7 +176,7 @@ pub trait Rules {
         }
     }
 
-    /// Whether a voice moves on in this state.
+    /// Whether a voice advances in this state.
     fn is_advancing(&self, given: PlaybackState) -> bool {
         [0, 1, 4, 5].contains(&given.number())
     }
@@ -190,12 +189,12 @@ pub trait Rules {
         }
     }
 
-    /// The direction, from the held rate; the lane's rate is shown to it and does not count.
+    /// The direction, from the held rate. It also gets the lane's rate, which does not count.
     fn is_backward(&self, held: f64, _lane: Option<f64>, reverse: bool) -> bool {
         held.is_sign_negative() != reverse
     }
 
-    /// The fraction after a sum, once its whole part is taken off.
+    /// The fraction of a sum, after its whole part is subtracted.
     fn rest(&self, sum: f64) -> f64 {
         sum - sum.floor()
     }
@@ -210,13 +209,13 @@ pub trait Rules {
         self.is_advancing(given)
     }
 
-    /// The window's entry whose number is heard.
+    /// The window's entry whose frame index is the reported position.
     fn heard(&self, window: &[Entry; 4]) -> usize {
         window[1].number
     }
 }
 
-/// The rules as they stand.
+/// The rules as written.
 #[derive(Debug, Clone, Copy, Default)]
 pub struct Document;
 

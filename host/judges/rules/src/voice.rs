@@ -1,4 +1,4 @@
-// A voice by the rules: a state and the sound it plays. It is given accepted input only.
+// A voice that follows the rules: a state and its sound. It gets only accepted input.
 
 use oracle::{
     Commands, Entry, Frame, Lanes, PlaybackState, Reported, Settings, Signals, State, Wraps,
@@ -7,11 +7,11 @@ use oracle::{
 
 use crate::Rules;
 
-/// A voice by the rules: a state and the sound it plays.
+/// A voice that follows the rules: a state and its sound.
 pub struct Voice<'a, R> {
-    /// The rules it goes by.
+    /// The rules that it follows.
     pub rules: &'a R,
-    /// The state it is in.
+    /// Its state.
     pub state: State,
     /// The whole sound, left then right.
     pub sound: &'a [f32],
@@ -58,7 +58,7 @@ impl<'a, R: Rules> Voice<'a, R> {
         voice
     }
 
-    /// Applies a command set and returns the position reported.
+    /// Applies a command set and returns the reported position.
     pub fn command(&mut self, commands: &Commands) -> f64 {
         let rate = f64::from(self.state.sample_rate);
         let reported = self.rules.heard(&self.state.window) as f64 / rate;
@@ -89,8 +89,8 @@ impl<'a, R: Rules> Voice<'a, R> {
         reported
     }
 
-    /// Plays a block into interleaved samples and returns what it reports: a block that reads no
-    /// window has a lowest count of 4.
+    /// Plays a block into interleaved samples and returns what it reports. A block that reads no window has a lowest
+    /// count of 4.
     pub fn block(&mut self, lanes: &Lanes, dt: f64, told: Signals, out: &mut [f32]) -> Reported {
         let mut reported = Reported {
             steps: 0,

@@ -11,12 +11,12 @@ use rules::{Document, Rules};
 
 use crate::call::{Ask, Block, Call, Place, Sound};
 
-/// One of these.
+/// One of these values.
 pub fn one_of<T: Copy>(random: &mut Random, choices: &[T]) -> T {
     choices[random.below(choices.len())]
 }
 
-/// A sound: mostly short, at times long, with ordinary samples or any.
+/// A sound: mostly short, sometimes long, with ordinary samples or any.
 pub fn sound(random: &mut Random) -> Arc<Sound> {
     let most = one_of(random, &[3, 12, 12, 12, 300, 300, 20_000]);
     let frames = 1 + random.below(most);
@@ -62,7 +62,7 @@ pub fn rate(random: &mut Random) -> f64 {
     )
 }
 
-/// A place at or near a frame: in frames, or in seconds on or beside the rounding's edges.
+/// A position at or near a frame: in frames, or in seconds on or beside the limits of rounding.
 fn place(random: &mut Random, frame: usize, sample_rate: u32) -> PlaybackPosition {
     let hz = f64::from(sample_rate);
     let frame_at = frame as f64;
@@ -76,7 +76,7 @@ fn place(random: &mut Random, frame: usize, sample_rate: u32) -> PlaybackPositio
     }
 }
 
-/// A region that fits but for the rounding of seconds.
+/// A region that fits, except for the rounding of seconds.
 pub fn region(random: &mut Random, n: usize, sample_rate: u32) -> Region {
     let start = random.below(n);
     let end = start + 1 + random.below(n - start);
@@ -124,7 +124,7 @@ pub fn settings(random: &mut Random, total: usize) -> Settings {
     }
 }
 
-/// Settings that are accepted, all places in frames.
+/// Accepted settings with all positions in frames.
 pub fn accepted_settings(random: &mut Random, total: usize) -> Settings {
     let slice = random.one_in(3).then(|| exact_region(random, total));
     let n = slice.map_or(total, |region| {
@@ -142,7 +142,7 @@ pub fn accepted_settings(random: &mut Random, total: usize) -> Settings {
     }
 }
 
-/// Any well formed state over so many frames, reached or not.
+/// Any well formed state over this many frames, reachable or not.
 pub fn state(random: &mut Random, total: usize) -> State {
     let settings = accepted_settings(random, total);
     let to_range = |region, all| Document.to_region(region, settings.sample_rate, all);
@@ -184,7 +184,7 @@ pub fn state(random: &mut Random, total: usize) -> State {
     }
 }
 
-/// A count of wraps by a number that was drawn: small, or at its limit or a few below.
+/// A number of wraps from a random number: small, or at its limit or slightly below.
 fn wraps(number: usize) -> u32 {
     let few = (number / 3 % 4) as u32;
     if number.is_multiple_of(3) {
@@ -207,7 +207,7 @@ fn playback(random: &mut Random) -> PlaybackState {
 fn fraction(random: &mut Random) -> f64 {
     let any = random.unit();
     let small = random.with_exponent(-1_022..0);
-    // The nearest f32 of these is 1.
+    // These round to the f32 1.
     let near_one = 1.0 - random.with_exponent(-53..-24);
     one_of(
         random,
@@ -215,7 +215,7 @@ fn fraction(random: &mut Random) -> f64 {
     )
 }
 
-/// Mostly a small number, at times the largest.
+/// Mostly a small number, sometimes the largest.
 fn number(random: &mut Random, limit: usize) -> usize {
     if random.one_in(20) {
         LIMIT - random.below(2)
@@ -276,7 +276,7 @@ pub fn signals(random: &mut Random) -> Signals {
     }
 }
 
-/// A due tick and the tick now: on it, beside it, half a turn off, or anywhere.
+/// A due tick and the current tick: equal, neighbours, half the range apart, or any.
 pub fn tick(random: &mut Random) -> (u32, u32) {
     let (due, any) = (random.word() as u32, random.word() as u32);
     let half = 1u32 << 31;
@@ -288,7 +288,7 @@ pub fn tick(random: &mut Random) -> (u32, u32) {
     (due, due.wrapping_add(since))
 }
 
-/// A block's length: none, few, the usual ones, or the most.
+/// A block's length: 0, few, a usual one, or the largest.
 pub fn length(random: &mut Random) -> usize {
     let few = random.below(10);
     let some = random.below(200);
@@ -306,13 +306,13 @@ fn amplitude(random: &mut Random) -> f32 {
     one_of(random, &[0.0, 1.0, 1.0, unit, unit, unit, any, 1e-45])
 }
 
-/// An accepted block of so many frames in a state, written to an output of its own.
+/// An accepted block of this many frames in a state, with an output of its own.
 pub fn block(random: &mut Random, n: usize, state: &State) -> Block {
     let hz = f64::from(state.sample_rate);
     let most = one_of(random, &[1.0, 3.0, 3.0, 3.0, 17.0, 256.0]);
     let most = if n > 512 { f64::min(most, 3.0) } else { most };
     let exponent = one_of(random, &[0, 0, 0, 0, -200, 200]);
-    // The time step and a rate's scale, so that advances lie below the most.
+    // The time step and the scale of the rates, such that advances stay below the limit.
     let dt = (0.1 + random.unit()) / hz * 2f64.powi(exponent);
     let scale = most / (hz * dt);
     let steady = random.one_in(3).then(|| lane_rate(random, scale));
@@ -343,7 +343,7 @@ fn lane_rate(random: &mut Random, scale: f64) -> f64 {
     one_of(random, &[0.0, -0.0, any, any, any, any, small, -small])
 }
 
-/// A place for so many frames within a longer mix.
+/// A first frame for this many frames in a longer mix.
 pub fn mix(random: &mut Random, n: usize) -> Place {
     let (before, after) = (random.below(6), random.below(6));
     Place::Mix(2 * (before + n + after), before)

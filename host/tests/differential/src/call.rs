@@ -1,14 +1,11 @@
-// One call of a voice by value, and what it answers: all of it, so that two players can be compared.
+// One call of a voice by value, and everything that it returns, so that two players can be compared.
 
 use std::{
     ops::Range,
     sync::{Arc, OnceLock},
 };
 
-use oracle::{
-    Commands, Entry, Frame, LaneBuffers, Oracle, PlaybackState, Settings, Signals, State, Wraps,
-    same_f32, same_f64,
-};
+use oracle::{Commands, Frame, LaneBuffers, Oracle, Settings, Signals, State, same_f32, same_f64};
 use rules::Rules;
 
 /// A sound that calls share.
@@ -34,7 +31,7 @@ impl Sound {
         &self.samples
     }
 
-    /// Its whole frames.
+    /// Its number of whole frames.
     #[must_use]
     pub fn num_frames(&self) -> usize {
         self.samples.len() / 2
@@ -47,17 +44,17 @@ impl Sound {
     }
 }
 
-/// Where a block is written: into an output of its own, or into a mix from a frame on.
+/// Where a block is written: to an output of its own, or into a mix from a frame on.
 #[derive(Debug, Clone, Copy, PartialEq, Eq)]
 pub enum Place {
-    /// An output of so many samples.
+    /// An output of this many samples.
     Whole(usize),
-    /// A mix of so many samples, from the given frame on.
+    /// A mix of this many samples, from the given frame on.
     Mix(usize, usize),
 }
 
 impl Place {
-    /// The samples lent.
+    /// The number of samples of the buffer.
     #[must_use]
     pub fn samples(self) -> usize {
         match self {
@@ -65,7 +62,7 @@ impl Place {
         }
     }
 
-    /// The samples that a block of so many frames is to write.
+    /// The samples that a block of this many frames must write.
     #[must_use]
     pub fn written(self, frames: usize) -> Range<usize> {
         match self {
@@ -84,14 +81,14 @@ pub struct Block {
     pub dt: f64,
     /// The signals.
     pub signals: Signals,
-    /// The due tick and the tick now, where they stand in place of the start answer.
+    /// The due tick and the current tick, if they replace the start answer.
     pub tick: Option<(u32, u32)>,
     /// Where it is written.
     pub place: Place,
 }
 
 impl Block {
-    /// The signals with the answer that the tick gives by these rules.
+    /// The signals with the answer for the tick by these rules.
     #[must_use]
     pub fn told(&self, rules: &impl Rules) -> Signals {
         let start = self
@@ -104,7 +101,7 @@ impl Block {
     }
 }
 
-/// What is asked.
+/// What a call asks.
 #[derive(Debug, Clone)]
 pub enum Ask {
     /// A creation.
@@ -113,11 +110,11 @@ pub enum Ask {
     Command(State, Commands),
     /// A block, in a state.
     Block(State, Block),
-    /// The sound's own stretch.
+    /// The stretch of the voice.
     Stretch(State),
 }
 
-/// One call: what is asked, and the sound that is lent.
+/// One call: what it asks, and its sound.
 #[derive(Debug, Clone)]
 pub struct Call {
     /// What is asked.
@@ -126,27 +123,27 @@ pub struct Call {
     pub sound: Arc<Sound>,
 }
 
-/// Everything a call answers; what a kind of call does not answer keeps its value from [`Outcome::untouched`].
+/// Everything that a call returns. What a kind of call does not return has its value from [`Outcome::untouched`].
 #[derive(Debug, Clone)]
 pub struct Outcome {
     /// The refusal's number, 0 for none.
     pub refusal: u32,
-    /// The state after; none where its numbers are no lawful state.
+    /// The state after the call; `None` if its numbers are no well formed state.
     pub state: Option<State>,
-    /// The steps reported.
+    /// The reported steps.
     pub steps: u64,
-    /// The lowest count reported.
+    /// The reported lowest count.
     pub lowest_count: u32,
-    /// The position reported.
+    /// The reported position.
     pub position: f64,
-    /// The part of the samples a stretch answers: offset and length.
+    /// The part of the samples that a stretch returns: offset and length.
     pub part: (usize, usize),
-    /// The whole of the lent output or mix after the call.
+    /// The whole output or mix after the call.
     pub samples: Vec<f32>,
 }
 
 impl Call {
-    /// A call of this kind has given state, but for a creation.
+    /// The state that the call gets; a creation gets none.
     #[must_use]
     pub fn state(&self) -> Option<&State> {
         match &self.ask {
@@ -163,7 +160,7 @@ impl Call {
         }
     }
 
-    /// The block, where the call is one.
+    /// The block, if the call is one.
     #[must_use]
     pub fn block(&self) -> Option<&Block> {
         match &self.ask {
@@ -180,13 +177,13 @@ impl Call {
         }
     }
 
-    /// The output or mix as it is lent, a [`pattern`].
+    /// The output or mix before the call, a [`pattern`].
     #[must_use]
     pub fn lent(&self) -> Vec<f32> {
         pattern(self.block().map_or(0, |block| block.place.samples()))
     }
 
-    /// What this call answers when it is refused with the number.
+    /// What this call must return if it is refused with this number.
     #[must_use]
     pub fn refused(&self, number: u32) -> Outcome {
         Outcome {
@@ -197,12 +194,13 @@ impl Call {
 }
 
 impl Outcome {
-    /// Nothing has happened: the given state (for a creation the blank one), no steps, a lowest count of 4, the lent samples.
+    /// Nothing has happened: the given state (the blank one for a creation), no steps, a lowest count of 4, unchanged
+    /// samples.
     #[must_use]
     pub fn untouched(call: &Call) -> Self {
         Self {
             refusal: 0,
-            state: Some(call.state().copied().unwrap_or_else(blank)),
+            state: Some(call.state().copied().unwrap_or(State::BLANK)),
             steps: 0,
             lowest_count: 4,
             position: 0.0,
@@ -211,8 +209,8 @@ impl Outcome {
         }
     }
 
-    /// The first thing in which another outcome of the call differs, if any. What a block computes is
-    /// compared by bits with any NaN as any NaN; what must not change, by bits alone.
+    /// The first difference from another outcome of the call, if there is one. What a block computes is compared by
+    /// bits, with any NaN equal to any NaN. What must not change is compared by bits alone.
     #[must_use]
     pub fn difference(&self, other: &Self, call: &Call) -> Option<String> {
         if self.refusal != other.refusal {
@@ -268,33 +266,12 @@ impl Outcome {
     }
 }
 
-/// So many samples, each another, some of them NaN.
+/// This many samples, all different, some of them NaN.
 #[must_use]
 pub fn pattern(samples: usize) -> Vec<f32> {
     (0..samples as u32)
         .map(|i| f32::from_bits(0x7fa0_0000 ^ i.wrapping_mul(0x9e37_79b1)))
         .collect()
-}
-
-/// The blank state.
-#[must_use]
-pub fn blank() -> State {
-    State {
-        sample_rate: 0,
-        total_frames: 0,
-        slice: None,
-        reverse: false,
-        rate: 0.0,
-        started: false,
-        playback: PlaybackState::Stopped,
-        fraction: 0.0,
-        position: 0,
-        loop_region: None,
-        playing: false,
-        window: [Entry::default(); 4],
-        count: 0,
-        wraps: Wraps::default(),
-    }
 }
 
 /// The fields in which two states differ, each with both values.
@@ -318,7 +295,7 @@ fn other_fields(a: &State, b: &State) -> String {
     texts.collect::<Vec<_>>().join("; ")
 }
 
-/// Equal bit by bit, NaNs too.
+/// Equal bit by bit, also NaNs.
 #[must_use]
 pub fn is_identical(a: &State, b: &State) -> bool {
     let floats = |state: &State| {

@@ -1,4 +1,4 @@
-// Asks every player the same, compares, counts, and makes the first differences small.
+// Makes the same calls of every player, compares, counts, and shrinks the first differences.
 
 use oracle::{Entry, LaneBuffers, PlaybackState, Signals, State};
 
@@ -9,10 +9,10 @@ use crate::{
     tally::{Found, Kind, Tally},
 };
 
-/// How many differences of one player and kind are made small; the others are only counted.
+/// How many differences of one player and kind are shrunk. The others are only counted.
 const SHRUNK: u64 = 3;
 
-/// The rules' model as the judge, and the players it is compared with.
+/// The model of the rules, and the players that are compared with it.
 pub struct Harness<'a> {
     players: Vec<&'a dyn Player>,
     /// What has been counted so far.
@@ -31,7 +31,7 @@ impl<'a> Harness<'a> {
         }
     }
 
-    /// A harness that is content with one difference.
+    /// A harness that needs only one difference.
     #[must_use]
     pub fn until_first(player: &'a dyn Player) -> Self {
         Self {
@@ -46,20 +46,20 @@ impl<'a> Harness<'a> {
         self.stops_at_first && !self.tally.found.is_empty()
     }
 
-    /// Asks all; the judge's answer comes back.
+    /// Calls all players, and returns the outcome of the model.
     pub fn ask(&mut self, kind: Kind, call: &Call) -> Outcome {
         let expected = judged(call);
         self.compare(kind, call, &expected);
         expected
     }
 
-    /// Asks all, where the call must be refused with the number and leave everything as it was.
+    /// Calls all players. The call must be refused with this number and change nothing.
     pub fn expect_refused(&mut self, call: &Call, number: u32) {
         assert_eq!(refusal(call), number, "by construction:\n{call}");
         self.compare(Kind::Refusal, call, &call.refused(number));
     }
 
-    /// Asks all, where the call must be accepted.
+    /// Calls all players. The call must be accepted.
     pub fn expect_accepted(&mut self, call: &Call) {
         assert_eq!(refusal(call), 0, "by construction:\n{call}");
         self.ask(Kind::Edge, call);
@@ -86,7 +86,7 @@ impl<'a> Harness<'a> {
         }
     }
 
-    /// Cuts an accepted block into parts of these lengths, for each player by itself.
+    /// Cuts an accepted block into parts of these lengths, for each player separately.
     pub fn cut(&mut self, kind: Kind, call: &Call, parts: &[usize]) {
         for player in self.players.clone() {
             self.tally.calls[kind as usize] += 1;
@@ -101,7 +101,7 @@ impl<'a> Harness<'a> {
         }
     }
 
-    /// Counts a difference, and makes the first few small.
+    /// Counts a difference, and shrinks the first few.
     fn record(
         &mut self,
         kind: Kind,
@@ -133,7 +133,7 @@ impl<'a> Harness<'a> {
     }
 }
 
-/// What the rules' model answers.
+/// The outcome by the model of the rules.
 #[must_use]
 pub fn judged(call: &Call) -> Outcome {
     DOCUMENT
@@ -141,14 +141,14 @@ pub fn judged(call: &Call) -> Outcome {
         .expect("the model has an opinion on every call")
 }
 
-/// In what a player differs from the judge, if at all.
+/// How a player differs from the model, if it does.
 #[must_use]
 pub fn differs(player: &dyn Player, call: &Call) -> Option<String> {
     let got = player.answer(call)?;
     judged(call).difference(&got, call)
 }
 
-/// Whether some cut in two makes a player differ from itself.
+/// Whether a player differs from itself when the block is cut in two somewhere.
 fn some_cut_differs(player: &dyn Player, call: &Call) -> Option<String> {
     let n = call.block()?.lanes.rate.len();
     let cuts: Vec<usize> = if n <= 24 {
@@ -160,9 +160,8 @@ fn some_cut_differs(player: &dyn Player, call: &Call) -> Option<String> {
         .find_map(|k| cut_differs(player, call, &[k, n - k]))
 }
 
-/// In what a block cut into parts differs from the whole one: samples, steps, the lowest count and the
-/// state after. Once the voice has stopped by a cut, steps, lowest count, fraction and window numbers
-/// may differ.
+/// How a block cut into parts differs from the whole one: samples, steps, the lowest count and the state after it. If
+/// the voice has stopped by a cut, steps, lowest count, fraction and frame indices may differ.
 fn cut_differs(player: &dyn Player, call: &Call, parts: &[usize]) -> Option<String> {
     let Ask::Block(state, block) = &call.ask else {
         return None;
@@ -196,7 +195,7 @@ fn cut_differs(player: &dyn Player, call: &Call, parts: &[usize]) -> Option<Stri
         cut.steps += answer.steps;
         cut.lowest_count = cut.lowest_count.min(answer.lowest_count);
         cut.samples.extend(answer.samples);
-        // The first part alone is given the signals; the tick goes with each.
+        // Only the first part gets the signals. Each part gets the tick.
         signals = Signals::default();
         from += length;
     }
@@ -208,7 +207,7 @@ fn cut_differs(player: &dyn Player, call: &Call, parts: &[usize]) -> Option<Stri
     Some(format!("cut {parts:?}: {difference}"))
 }
 
-/// So many frames of a block, from one on.
+/// These frames of a block.
 fn part_of(block: &Block, from: usize, length: usize, signals: Signals) -> Block {
     let range = from..from + length;
     Block {
@@ -225,7 +224,7 @@ fn part_of(block: &Block, from: usize, length: usize, signals: Signals) -> Block
     }
 }
 
-/// An outcome without its steps, its lowest count, its fraction and its window's numbers.
+/// An outcome without its steps, lowest count, fraction and frame indices.
 fn bare(outcome: Outcome) -> Outcome {
     let state = outcome.state.map(|state| State {
         fraction: 0.0,

@@ -1,9 +1,9 @@
-//! Ours, kira's text and the rules on the same calls.
+//! Makes the same calls of the compiled library, kira's text and the rules.
 //!
-//! A [`Player`] answers a [`Call`]: a creation, a command set, a block into an output or a mix, or a
-//! stretch, each with the whole state given and handed back, so a difference is always one call.
-//! The [`Harness`] asks them all, holds each answer to that of the rules' model, and makes what
-//! differs small. [`runs`] makes the calls from a seed. [`wrong`] has players that must be found out.
+//! A [`Player`] answers a [`Call`]: a creation, a command set, a block into an output or a mix, or a stretch. Each call
+//! gets the whole state and returns it, so a difference is always one call. The [`Harness`] calls all players, compares
+//! each outcome with that of the model of the rules, and shrinks what differs. [`runs`] makes the calls from a seed.
+//! [`wrong`] has players that must be found.
 #![forbid(unsafe_code)]
 #![warn(missing_docs)]
 
@@ -18,7 +18,7 @@ mod tally;
 pub mod wrong;
 
 pub use any::tick;
-pub use call::{Ask, Block, Call, Outcome, Place, Sound, blank, is_identical, pattern};
+pub use call::{Ask, Block, Call, Outcome, Place, Sound, is_identical, pattern};
 pub use harness::{Harness, differs, judged};
 pub use player::{DOCUMENT, Kira, Model, Ours, OursHeld, Player, refusal};
 pub use tally::{Found, Kind, Tally};

@@ -1,7 +1,6 @@
-// Compares ours and kira's text with the rules:
-// `differential [--seed N] [--rounds N] [--long] [--held] [--without-ours] [--wrong]`; with --held the blocks whose numbers are
-// given once, and nothing else.
-// The same seed and rounds give the same table on every machine; progress and time go to standard error.
+// Compares the compiled library and kira's text with the rules: `differential [--seed N] [--rounds N] [--long] [--held]
+// [--without-ours] [--wrong]`. With --held it plays only blocks with held lanes. The same seed and rounds print the
+// same table on every machine. Progress and time go to standard error.
 
 use std::{
     env,
@@ -21,14 +20,14 @@ use random::Random;
 const USAGE: &str =
     "usage: differential [--seed N] [--rounds N] [--long] [--held] [--without-ours] [--wrong]";
 
-/// Random rounds, unless others are asked for.
+/// The number of random rounds if none is given.
 const ROUNDS: u64 = 10_000;
 const LONG_ROUNDS: u64 = 50_000;
 
 struct Options {
     seed: u64,
     rounds: Option<u64>,
-    /// Every tiny sound in full, and more rounds unless so many are asked for.
+    /// Every tiny sound in full, and more rounds unless a number is given.
     long: bool,
     held: bool,
     without_ours: bool,
@@ -94,14 +93,14 @@ fn options() -> Result<Options, String> {
     Ok(options)
 }
 
-/// What is left to do: the tiny sounds and the longest ones, then round after round.
+/// What is left to do: the tiny sounds and the longest ones, then one round after the other.
 struct Work {
     next: Mutex<u64>,
     rounds: u64,
     said: Mutex<Instant>,
 }
 
-/// One thing to do, alone.
+/// One task.
 enum Task {
     TinyCreations,
     TinySeeks,
@@ -133,7 +132,7 @@ impl Work {
         })
     }
 
-    /// Says how far it is, every two seconds.
+    /// Prints the progress every two seconds.
     fn say(&self, round: u64) {
         let mut said = self.said.lock().expect("no thread fails while it speaks");
         if said.elapsed() > Duration::from_secs(2) {
@@ -143,11 +142,11 @@ impl Work {
     }
 }
 
-/// All of it, on all cores: who does what changes nothing that is counted.
+/// Does everything on all cores. Which core does what changes no count.
 fn whole_run(options: &Options) -> Tally {
     let threads = thread::available_parallelism().map_or(1, usize::from);
     let work = Work {
-        // The first five are no rounds.
+        // The first five are not rounds.
         next: Mutex::new(if options.held { 5 } else { 0 }),
         rounds: options.rounds(),
         said: Mutex::new(Instant::now()),
@@ -185,7 +184,7 @@ fn one_thread(options: &Options, work: &Work) -> Tally {
             Task::TinyBlocks => runs::tiny_blocks(&mut harness, 8, extent),
             Task::Longest => Big::new().run(&mut harness),
             Task::Round(round) => {
-                // Each round has a seed of its own, so that a round can be run again by itself.
+                // Each round has a seed of its own, so that one round can be repeated.
                 let seed = options.seed.wrapping_mul(1 << 32).wrapping_add(round);
                 let random = &mut Random::new(seed);
                 if options.held {
@@ -193,7 +192,7 @@ fn one_thread(options: &Options, work: &Work) -> Tally {
                     continue;
                 }
                 runs::large(&mut harness, random);
-                runs::rides(&mut harness, random);
+                runs::scans(&mut harness, random);
                 runs::refusals(&mut harness, random);
                 runs::cuts(&mut harness, random);
             }
@@ -202,7 +201,7 @@ fn one_thread(options: &Options, work: &Work) -> Tally {
     harness.tally
 }
 
-/// How each wrong player is found out.
+/// How each wrong player is found.
 fn show_wrong(seed: u64) -> ExitCode {
     let mut missed = 0;
     for player in wrong::all() {

@@ -61,7 +61,7 @@ pub fn block(
     call(Ask::Block(state, block), sound)
 }
 
-/// The same block, its start due at a tick, with the tick now.
+/// The same block with its start due at a tick, and the current tick.
 #[must_use]
 pub fn ticked(mut call: Call, due: u32, now: u32) -> Call {
     if let Ask::Block(_, block) = &mut call.ask {
@@ -91,10 +91,10 @@ pub fn entry(left: f32, right: f32, number: usize) -> Entry {
     }
 }
 
-/// Ours and kira's text answer the call as the rules do.
+/// The compiled library and kira's text must answer the call as the rules do.
 ///
 /// # Panics
-/// When one of them does not.
+/// If one of them does not.
 pub fn agree(call: &Call) {
     let players: [&dyn Player; 2] = [&Kira, &Ours];
     for player in players {
@@ -155,7 +155,7 @@ fn double(x: f64) -> String {
     }
 }
 
-/// A list, the short way where all its entries are the same.
+/// A list, in the short form if all its entries are the same.
 fn list<T: Copy>(entries: &[T], text: impl Fn(T) -> String) -> String {
     let texts: Vec<String> = entries.iter().map(|&entry| text(entry)).collect();
     match texts.split_first() {

@@ -1,4 +1,4 @@
-// Who answers calls: ours through the C entries, kira's text, and a model of the rules.
+// The players: the compiled library through the C entries, kira's text, and a model of the rules.
 
 use oracle::{LaneBuffers, Oracle, State};
 use raw::convert;
@@ -6,16 +6,16 @@ use rules::{Document, Rules, Voice, refusals};
 
 use crate::call::{Ask, Block, Call, Outcome, Place};
 
-/// Someone who answers calls.
+/// Something that answers calls.
 pub trait Player: Sync {
     /// Its name.
     fn name(&self) -> &str;
 
-    /// What it answers, or nothing where it has no opinion.
+    /// The outcome, or `None` if it does not handle the call.
     fn answer(&self, call: &Call) -> Option<Outcome>;
 }
 
-/// Ours, through the C entries.
+/// The compiled library, through the C entries.
 pub struct Ours;
 
 impl Player for Ours {
@@ -49,7 +49,7 @@ impl Player for Ours {
             Ask::Stretch(state) => {
                 let part = raw::stretch(convert::state_in(state), sound);
                 outcome.part = (part.offset as usize, part.length as usize);
-                // It is refused with 1 only, shown by the empty part alone.
+                // A stretch can only be refused with 1, which shows only as the empty part.
                 outcome.refusal = u32::from(part.length == 0);
             }
         }
@@ -75,8 +75,8 @@ fn our_block(
     }
 }
 
-/// Ours, through the C entries that are given five numbers for a whole block; it has no opinion on
-/// other calls, and where a lane has two numbers.
+/// The compiled library, through the C entries with held lanes. It does not handle other calls, or lanes with two
+/// different numbers.
 pub struct OursHeld;
 
 impl Player for OursHeld {
@@ -113,8 +113,8 @@ impl Player for OursHeld {
     }
 }
 
-/// The numbers of a block's lanes, where all have one length and each one number. With no frames any
-/// will do, since none is judged: here none that would be accepted.
+/// The numbers of a block's lanes, if all have the same length and each has one number. With no frames none is checked,
+/// so numbers are returned that would be refused.
 fn held(lanes: &LaneBuffers) -> Option<raw::Held> {
     let frames = lanes.rate.len();
     let one = |lane: &[f32]| {
@@ -134,13 +134,13 @@ fn held(lanes: &LaneBuffers) -> Option<raw::Held> {
     })
 }
 
-/// A voice by rules, with the rules' refusals.
+/// A voice that follows rules, with the refusals of the rules.
 pub struct Model<R> {
     name: &'static str,
     rules: R,
 }
 
-/// The rules as they stand.
+/// The rules as written.
 pub const DOCUMENT: Model<Document> = Model {
     name: "the rules",
     rules: Document,
@@ -195,7 +195,7 @@ impl<R: Rules + Sync> Player for Model<R> {
     }
 }
 
-/// The number that the rules give a call, 0 for none.
+/// The refusal of a call by the rules, 0 for none.
 #[must_use]
 pub fn refusal(call: &Call) -> u32 {
     let samples = call.sound.samples().len();
@@ -214,8 +214,8 @@ pub fn refusal(call: &Call) -> u32 {
     }
 }
 
-/// kira's text, on accepted calls; it has no opinion on a refusal, on a stretch, and on a seek that
-/// would turn its `while` for minutes.
+/// kira's text, for accepted calls. It does not handle refusals, stretches, or a seek for which its `while` would run
+/// for minutes.
 pub struct Kira;
 
 impl Player for Kira {

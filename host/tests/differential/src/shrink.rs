@@ -27,7 +27,7 @@ pub fn shrink(call: &Call, fails: &dyn Fn(&Call) -> Option<String>) -> (Call, St
     }
 }
 
-/// How large a call is: its numbers in lists, then, where they are few, its text.
+/// How large a call is: the numbers in its lists, then, if they are few, its text.
 fn size_of(call: &Call) -> (usize, usize) {
     let lent = call.block().map_or(0, |block| {
         let lanes = &block.lanes;
@@ -44,7 +44,7 @@ fn size_of(call: &Call) -> (usize, usize) {
     (numbers, text)
 }
 
-/// The call with one thing simpler, the boldest first.
+/// The call with one thing simpler, the largest change first.
 fn candidates(call: &Call) -> Vec<Call> {
     let mut all = with_simpler_sounds(call);
     let mut with = |ask: Ask| {
@@ -84,7 +84,7 @@ fn candidates(call: &Call) -> Vec<Call> {
     all
 }
 
-/// Changes applied to a copy each.
+/// Applies each change to a copy.
 fn each<T: Clone>(given: &T, changes: &[&dyn Fn(&mut T)]) -> Vec<T> {
     let change = |change: &&dyn Fn(&mut T)| {
         let mut changed = given.clone();
@@ -107,7 +107,7 @@ fn with_simpler_sounds(call: &Call) -> Vec<Call> {
         .map(|samples| {
             let mut simpler = call.clone();
             if let Some(state) = simpler.state_mut() {
-                // A recorded length that was right stays so.
+                // If the recorded length was right, it stays right.
                 if state.total_frames == frames {
                     state.total_frames = samples.len() / 2;
                 }
@@ -252,7 +252,7 @@ fn simpler_blocks(given: &Block, sample_rate: u32) -> Vec<Block> {
     all
 }
 
-/// A block of fewer frames, whose lanes and output stay as right or wrong as they were.
+/// A block of fewer frames. Its lanes and output stay as right or as wrong as before.
 fn shortened(given: &Block, length: usize) -> Block {
     let fewer = given.lanes.rate.len() - length;
     let shorter = |lane: &[f32]| lane[..lane.len().saturating_sub(fewer)].to_vec();

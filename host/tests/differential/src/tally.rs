@@ -94,7 +94,7 @@ pub struct Tally {
     pub steps: u64,
     /// Refusals of each number; at 0 the calls accepted.
     pub refusals: [u64; 13],
-    /// Calls on which a player had no opinion.
+    /// Calls that a player did not handle.
     pub silent: u64,
     /// The differences, by player and kind.
     pub found: BTreeMap<(String, Kind), Found>,
@@ -107,7 +107,7 @@ impl Tally {
         self.found.values().map(|found| found.times).sum()
     }
 
-    /// Takes over what another run has counted.
+    /// Adds what another run has counted.
     pub fn add(&mut self, other: &Self) {
         let pairs = self.calls.iter_mut().zip(&other.calls);
         let more = self.refusals.iter_mut().zip(&other.refusals);

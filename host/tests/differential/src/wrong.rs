@@ -12,7 +12,7 @@ use crate::{
     player::{Model, Player},
 };
 
-/// A player that answers as the rules do, but for what it does to the call or to the answer.
+/// A player that answers as the rules do, except for one change to the call or to the outcome.
 struct Slip {
     name: &'static str,
     answer: fn(&Call) -> Outcome,

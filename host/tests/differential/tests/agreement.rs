@@ -1,5 +1,5 @@
-// Ours and kira's text agree with the rules: tiny sounds exhaustively, then random calls,
-// refusals, cuts. The program `differential` runs the same for longer.
+// The compiled library and kira's text agree with the rules: tiny sounds exhaustively, then random calls, refusals,
+// cuts. The program `differential` runs the same for longer.
 
 use differential::{
     Harness, Kind, Kira, Ours, OursHeld,
@@ -50,10 +50,10 @@ fn random_voices() {
 
 #[test]
 fn voices_that_play_on() {
-    rounds(10_000, runs::rides);
+    rounds(10_000, runs::scans);
 }
 
-/// The entries that are given each number once, against those with lanes, kira's text and the rules.
+/// The entries with held lanes, compared with the entries with lanes, kira's text and the rules.
 #[test]
 fn numbers_given_once() {
     let mut harness = Harness::new(vec![&Kira, &Ours, &OursHeld]);

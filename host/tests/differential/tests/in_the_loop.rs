@@ -1,4 +1,5 @@
-// Once in the loop, always in the loop: rows of 10,000 calls on the compiled library and on the model, and wrong players that leave.
+// A voice that plays inside its loop stays inside it: sequences of 10,000 calls on the compiled library and on the
+// model, and wrong players that leave the loop.
 
 use differential::{
     DOCUMENT, Ours, Player,

@@ -1,4 +1,5 @@
-// Two sounds of equal length and the same calls, on the compiled library and on the model; and wrong players whose answers follow the samples.
+// Two sounds of equal length and the same calls, on the compiled library and on the model; and wrong players whose
+// results depend on the samples.
 
 use differential::{
     DOCUMENT, Model, Ours, OursHeld, Player,
@@ -16,7 +17,7 @@ fn rows(player: &dyn Player, count: u64) -> Result<Alike, String> {
     Ok(seen)
 }
 
-/// Ours; a block whose lanes are constant goes through the entries that are given five numbers.
+/// The compiled library. A block with constant lanes goes through the entries with held lanes.
 struct OursBoth;
 
 impl Player for OursBoth {

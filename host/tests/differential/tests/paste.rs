@@ -1,4 +1,4 @@
-// What is printed of a call is Rust that makes the same call again.
+// A printed call is Rust text that makes the same call again.
 
 use differential::paste::*;
 

@@ -1,5 +1,5 @@
-// A start that is due at a tick: the compiled library against the rule, around every power of two and
-// on both sides of the wrap; then whole blocks against kira's text too, which has no ticks and is fed the answer.
+// A start that is due at a tick: the compiled library is compared with the rule, around every power of two and on both
+// sides of the wrap. Then whole blocks are compared with kira's text too, which has no ticks and gets the answer.
 
 use differential::{Harness, Kira, Ours, runs};
 use oracle::{Answer, LaneBuffers, Oracle, Settings};
@@ -9,7 +9,7 @@ use rules::{Document, Rules};
 
 const SOUND: [f32; 32] = [0.5; 32];
 
-/// The ticks at most so far from a power of two, 0 and the wrap among them.
+/// The ticks at most this far from a power of two, including 0 and the wrap.
 fn near_powers(far: u32) -> Vec<u32> {
     let powers = (0..32).map(|bit| 1u32 << bit).chain([0]);
     let mut all: Vec<u32> = powers
@@ -28,7 +28,7 @@ fn waiting() -> CableowlState {
     convert::state_in(&Oracle::create(&settings, &SOUND).state())
 }
 
-/// The state after a block of so many frames that brings this tick.
+/// The state after a block of this many frames with this tick.
 fn after(state: CableowlState, frames: usize, due: u32, now: u32) -> CableowlState {
     let signals = CableowlSignals {
         start: 3,

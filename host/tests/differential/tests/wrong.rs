@@ -1,4 +1,4 @@
-// The same harness finds every wrong player out, each by its own slip.
+// The same harness finds every wrong player, each by its own slip.
 
 use differential::{Harness, runs, wrong};
 use random::Random;

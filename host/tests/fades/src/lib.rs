@@ -1,4 +1,4 @@
-//! The rule of the decibel table in whole numbers of any size: nothing here comes from a table or from a float's power.
+//! The rule of the decibel table in whole numbers of any size. It uses no table and no power of floats.
 #![forbid(unsafe_code)]
 #![warn(missing_docs)]
 
@@ -102,7 +102,7 @@ pub fn fits(e: u32, t: u32) -> bool {
     e == 0 || Whole::one().times_power(10, t).times_power(e, 200) <= one
 }
 
-/// The largest e that fits, found by halving.
+/// The largest e that fits, found by bisection.
 #[must_use]
 pub fn largest(t: u32) -> u32 {
     let (mut fitting, mut too_large) = (0, (1 << 24) + 1);

@@ -1,4 +1,4 @@
-//! Ramps against the formula: every pair of levels for few frames, random pairs for many; and what is refused.
+//! Compares ramps with the formula: every pair of levels for few frames, random pairs for many; and what is refused.
 
 use cableowl::{Level, MAX_RAMP_FRAMES, Refusal, fade_ramp};
 use random::Random;
@@ -106,7 +106,7 @@ fn any_levels_and_counts() {
             () => 0,
         };
         lane.fill(7.0);
-        // SAFETY: the pointer goes with the room that the lane has.
+        // SAFETY: the pointer comes with the length of the lane.
         let refusal = unsafe { cableowl_fade_ramp(start, end, count, lane.as_mut_ptr(), room) };
         assert_eq!(refusal, expected, "{start} to {end}, {count} in {room}");
         let written = if refusal == 0 { room } else { 0 };

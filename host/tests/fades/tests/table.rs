@@ -1,4 +1,4 @@
-//! All 602 levels against the rule, and against the power that kira computes.
+//! Compares all 602 levels with the rule, and with the power that kira computes.
 
 use cableowl::Level;
 
@@ -41,7 +41,8 @@ fn values_worked_out_by_hand() {
     }
 }
 
-/// docs/DIFFERENCES.md has these figures. The power in f32 is the platform's, so a bound is asked, not the figure.
+/// docs/DIFFERENCES.md has these figures. The power in f32 is the platform's, so the test checks a bound and not the
+/// figure.
 #[test]
 fn how_far_from_a_computed_power() {
     let (mut furthest, mut at, mut differ) = (0.0, 0, 0);

@@ -1,4 +1,4 @@
-// One call of any bytes, its raw answer, and what is wrong with it.
+// One call of any bytes, its raw result, and what is wrong with it.
 
 use std::sync::Arc;
 
@@ -10,14 +10,14 @@ use raw::{
     CableowlSignals, CableowlState, Held, STATE_BYTES, StateBytes, convert,
 };
 
-/// What is asked, as the entries take it.
+/// The input as the entries get it.
 #[derive(Debug, Clone, Copy)]
 enum Kind {
     New(CableowlSettings),
     Commands(CableowlState, CableowlCommands),
     Process(CableowlState, CableowlSignals, f64),
     Into(CableowlState, CableowlSignals, f64, u64),
-    /// The lanes are the numbers, repeated.
+    /// A block with held lanes.
     Held(CableowlState, CableowlSignals, f64, Held),
     /// The same, from a frame on.
     HeldInto(CableowlState, CableowlSignals, f64, Held, u64),
@@ -34,7 +34,7 @@ pub struct Case {
     lent: usize,
 }
 
-/// A raw answer.
+/// A raw result.
 pub struct Answer {
     /// The refusal's number.
     pub refusal: u32,
@@ -77,7 +77,7 @@ impl Case {
         }
     }
 
-    /// A block's twin: the first frame's numbers, given once. With no frames they are any.
+    /// The same block with held lanes, which are the first frame's numbers. With no frames they are any.
     pub fn held(&self) -> Option<Self> {
         let lanes = self.lanes.lend();
         let first = |lane: &[f32]| lane.first().copied().unwrap_or(f32::NAN);
@@ -107,7 +107,7 @@ impl Case {
         })
     }
 
-    /// What the entry answers.
+    /// What the entry returns.
     pub fn answer(&self) -> Answer {
         let sound = self.sound.samples();
         let mut answer = Answer {
@@ -163,7 +163,7 @@ impl Case {
         answer
     }
 
-    /// What is wrong with an answer, if anything.
+    /// What is wrong with a result, if anything.
     pub fn fault(&self, answer: &Answer) -> Option<String> {
         let Some(call) = self.meaning() else {
             return self.fault_of_refused(answer, 1);
@@ -187,7 +187,7 @@ impl Case {
         judged(&call).difference(&outcome, &call)
     }
 
-    /// A refused call must leave every byte as it was.
+    /// A refused call must change no byte.
     fn fault_of_refused(&self, answer: &Answer, number: u32) -> Option<String> {
         let given = self.state().unwrap_or(CableowlState {
             state: 6,
@@ -221,7 +221,7 @@ impl Case {
         }
     }
 
-    /// What the bytes mean; none where the state is not lawful.
+    /// What the bytes mean; `None` if the state is not well formed.
     fn meaning(&self) -> Option<Call> {
         let held = |state| convert::state_out(state);
         let block = |signals, dt, place| {
@@ -255,7 +255,7 @@ impl Case {
         })
     }
 
-    /// The output as it is lent, the same as the model's where the call has one.
+    /// The output before the call, the same as the model's if the call has one.
     fn pattern(&self) -> Vec<f32> {
         match self.kind {
             Kind::Process(..) | Kind::Into(..) | Kind::Held(..) | Kind::HeldInto(..) => {
@@ -283,16 +283,16 @@ fn any_f64(random: &mut Random) -> f64 {
     }
 }
 
-/// A tag: mostly lawful, at times any.
-fn any_tag(random: &mut Random, lawful: usize) -> u32 {
+/// A tag: mostly a valid one, sometimes any.
+fn any_tag(random: &mut Random, valid: usize) -> u32 {
     match random.below(24) {
         0 => random.word() as u32,
-        1 => lawful as u32,
-        _ => random.below(lawful) as u32,
+        1 => valid as u32,
+        _ => random.below(valid) as u32,
     }
 }
 
-/// A number: mostly below the limit, at times any.
+/// A number: mostly below the limit, sometimes any.
 fn any_small(random: &mut Random, limit: usize) -> u64 {
     match random.below(30) {
         0 => random.word(),
@@ -358,13 +358,13 @@ fn well_formed(random: &mut Random, frames: u64) -> CableowlState {
     }
 }
 
-/// A count of wraps: small, or at its limit and a few below.
+/// A number of wraps: small, or at its limit or slightly below.
 fn any_count(random: &mut Random) -> u32 {
     let few = random.below(4) as u32;
     if random.coin() { few } else { u32::MAX - few }
 }
 
-/// No region, or one that fits so many frames.
+/// No region, or one within this many frames.
 fn region_in(random: &mut Random, frames: u64) -> Option<(u64, u64)> {
     let start = random.below(frames as usize) as u64;
     let end = start + 1 + random.below((frames - start) as usize) as u64;
@@ -417,7 +417,7 @@ fn commands(random: &mut Random, frames: u64) -> CableowlCommands {
 }
 
 fn signals(random: &mut Random) -> CableowlSignals {
-    // Drawn aside: a seed's other numbers stay as they are.
+    // Drawn separately, so that the seed's other numbers do not change.
     let (due, now) = tick(&mut random.clone());
     CableowlSignals {
         finished: any_tag(random, 2),
@@ -435,7 +435,7 @@ fn step(random: &mut Random) -> f64 {
     }
 }
 
-/// Lanes of so many frames; at times one number or one length is another.
+/// Lanes of this many frames; sometimes one number or one length differs.
 fn lanes(random: &mut Random, n: usize) -> LaneBuffers {
     let mut lane = || -> Vec<f32> {
         let length = if random.one_in(40) {

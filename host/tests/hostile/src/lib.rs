@@ -1,8 +1,8 @@
-//! Any bytes through the C entries.
+//! Passes any bytes to the C entries.
 //!
-//! States, tags, lengths and lanes are arbitrary or a few bits away from lawful ones. Each call must
-//! come back, with a refusal that leaves state and output byte for byte as they were, or with the
-//! answer of the rules' model to what the bytes mean, in a state that is well formed again.
+//! States, tags, lengths and lanes are arbitrary, or a few bits away from well formed ones. Each call must return,
+//! either with a refusal that changes no byte of state and output, or with the result of the model of the rules for
+//! what the bytes mean, in a state that is well formed again.
 #![forbid(unsafe_code)]
 #![warn(missing_docs)]
 
@@ -16,25 +16,25 @@ use std::{
 use bytes::Case;
 use random::Random;
 
-/// What a run has seen.
+/// What a run has counted.
 #[derive(Debug, Clone, Default)]
 pub struct Report {
-    /// Answers by number, at 0 the accepted calls.
+    /// Results by refusal; index 0 counts accepted calls.
     pub answers: [u64; 13],
-    /// The same of the blocks asked again, the first frame's numbers given once.
+    /// The same for the blocks that were repeated with held lanes.
     pub held: [u64; 13],
     /// The longest call.
     pub longest: Duration,
     /// How many calls went wrong.
     pub faults: u64,
-    /// What was wrong, the first few.
+    /// The first few faults.
     pub shown: Vec<String>,
 }
 
 /// How many faults are shown.
 const SHOWN: usize = 5;
 
-/// So many calls from a seed.
+/// Makes this many calls from a seed.
 #[must_use]
 pub fn run(seed: u64, calls: u64) -> Report {
     let mut random = Random::new(seed);
@@ -52,7 +52,7 @@ pub fn run(seed: u64, calls: u64) -> Report {
 }
 
 impl Report {
-    /// Asks, and notes what is wrong with the answer: its number comes back.
+    /// Makes the call, records what is wrong with the result, and returns its refusal.
     fn judge(&mut self, case: &Case) -> usize {
         let begun = Instant::now();
         let answer = case.answer();
@@ -68,7 +68,7 @@ impl Report {
     }
 }
 
-/// So many calls from a seed, of which only their return is told.
+/// Makes this many calls from a seed, and only checks that they return.
 #[must_use]
 pub fn unjudged(seed: u64, calls: u64) -> u64 {
     let mut random = Random::new(seed);

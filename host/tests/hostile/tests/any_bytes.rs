@@ -1,5 +1,4 @@
-// A million calls of any bytes; the program `hostile` makes more, and tools/hostile-valgrind under
-// valgrind.
+// A million calls of any bytes. The program `hostile` makes more, and tools/hostile-valgrind runs it under valgrind.
 
 #[test]
 fn any_bytes_are_refused_or_answered() {

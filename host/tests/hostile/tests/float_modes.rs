@@ -1,5 +1,5 @@
-// In every float mode with its exceptions masked each call returns, whatever its bytes: what it answers is judged in the plain
-// mode alone.
+// In every float mode with masked exceptions each call returns, whatever its bytes. Its result is checked only in the
+// plain mode.
 
 #[path = "../../../cableowl/tests/mode/mod.rs"]
 mod mode;

@@ -1,4 +1,5 @@
-// The loop table's C entries against a model of their own: every call over 1 to 4 frames, long rows of calls, any bytes.
+// Compares the C entries of the loop table with a model: every call over 1 to 4 frames, long sequences of calls, any
+// bytes.
 
 use random::Random;
 use raw::{
@@ -15,7 +16,7 @@ enum Call {
     Read(u64),
 }
 
-/// The answer to a call: its number, the table afterwards, and the loop returned.
+/// The result of a call: its refusal, the table after it, and the returned loop.
 type Answer = (u32, CableowlLoopTable, CableowlLoopSlot);
 
 fn answered(table: CableowlLoopTable, call: Call) -> Answer {
@@ -35,7 +36,7 @@ fn answered(table: CableowlLoopTable, call: Call) -> Answer {
     }
 }
 
-/// The request's text, in its own order of tests.
+/// The rules of the request, checked in its order.
 fn expected(table: CableowlLoopTable, call: Call) -> Answer {
     let is_loop = |start, end| start < end && end <= table.num_frames;
     let good = |slot: &CableowlLoopSlot| *slot == EMPTY || is_loop(slot.start, slot.end);
@@ -74,7 +75,7 @@ fn check(table: CableowlLoopTable, call: Call) -> CableowlLoopTable {
     ours.1
 }
 
-/// Every call over so many frames, halls and slots one past the last.
+/// Every call over this many frames, with halls and slots up to one past the last.
 fn calls(frames: u64) -> Vec<Call> {
     let mut all = Vec::new();
     for slot in 0..=16 {
@@ -192,7 +193,7 @@ fn a_take_is_a_read_and_a_command_set() {
         start: place(0),
         ..CableowlSettings::default()
     };
-    // Over a slice, a lawful slot may still be refused with 6.
+    // Over a slice, a slot that the table accepts may still be refused with 6.
     let sliced = CableowlSettings {
         has_slice: 1,
         slice: region(1, 4),
@@ -240,7 +241,7 @@ fn a_take_is_a_read_and_a_command_set() {
     assert!([0, 1, 6, 20, 22].iter().all(|k| numbers[*k] > 1_000));
 }
 
-/// A place in frames.
+/// A position in frames.
 fn place(samples: u64) -> CableowlPlace {
     CableowlPlace {
         kind: 1,

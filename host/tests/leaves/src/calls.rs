@@ -1,7 +1,7 @@
-// The exports as C sees them: the one place that is not safe Rust by itself.
+// The exports as C sees them: the only unsafe part.
 //
-// Each function is proved to be safe and to end for every input, and takes and gives plain numbers
-// alone, so each is declared `safe`.
+// Each function is proved to be safe and to end for every input. It gets and returns only plain numbers, so each is
+// declared `safe`.
 #![allow(unsafe_code)]
 
 #[repr(C)]
@@ -72,10 +72,10 @@ pub struct PlainWindow {
 }
 
 unsafe extern "C" {
-    /// The nearest f32 of a proper fraction; else positive zero.
+    /// The nearest f32 of a proper fraction; otherwise positive zero.
     pub safe fn cableowl_test_narrow(x: f64) -> f32;
     pub safe fn cableowl_test_advance_by(fraction: f64, advance: f64) -> Moved;
-    /// The nearest whole number, a half away from zero; 0 below 0, and 2^32 from there on.
+    /// The nearest whole number, with a half rounded away from zero; 0 below 0, and at most 2^32.
     pub safe fn cableowl_test_round_half_away(x: f64) -> u64;
     /// The whole number toward zero, in the same range.
     pub safe fn cableowl_test_cut(x: f64) -> u64;
@@ -140,7 +140,7 @@ unsafe extern "C" {
 
     /// The state's number.
     pub safe fn cableowl_test_number(state: u32) -> u32;
-    /// 1 if a voice in this state moves on, else 0.
+    /// 1 if a voice in this state advances, otherwise 0.
     pub safe fn cableowl_test_is_advancing(state: u32) -> u32;
     /// The state after a pause.
     pub safe fn cableowl_test_pause(state: u32) -> u32;

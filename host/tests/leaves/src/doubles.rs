@@ -1,4 +1,4 @@
-//! Random floats of every kind: where rounding ties, where numbers end, and what is no number.
+//! Random floats of every kind: ties of rounding, limits of the range, and values that are not numbers.
 
 use random::Random;
 

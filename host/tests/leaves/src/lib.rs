@@ -1,7 +1,7 @@
 //! The compiled leaves, over the oracle's own types, so that a test compares one call with another.
 //!
-//! The archive is that of `crates/test_exports`, which `build.rs` has `rt` prove and write. What a leaf
-//! asks for the export tests first; outside, its answer is all zeros.
+//! The archive is that of `crates/test_exports`; `build.rs` runs `rt` to prove and write it. The export checks what a
+//! leaf requires. If that does not hold, it returns all zeros.
 #![deny(unsafe_code)]
 #![warn(missing_docs)]
 

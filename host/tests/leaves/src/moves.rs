@@ -7,7 +7,7 @@ use crate::{
     places::{plain_range, range_of},
 };
 
-/// `Transport::new`; all zeros where the start is not below the frames.
+/// `Transport::new`; all zeros if the start is not below the frames.
 #[must_use]
 pub fn new_transport(
     start_position: usize,
@@ -33,7 +33,7 @@ pub fn set_loop_region(given: Transport, loop_region: Option<(usize, usize)>) ->
     ))
 }
 
-/// `Transport::increment_position`; all zeros where the transport is not well formed.
+/// `Transport::increment_position`; all zeros if the transport is not well formed.
 #[must_use]
 pub fn increment_position(given: Transport, num_frames: usize) -> Transport {
     transport_of(calls::cableowl_test_increment_position(
@@ -42,13 +42,13 @@ pub fn increment_position(given: Transport, num_frames: usize) -> Transport {
     ))
 }
 
-/// `Transport::decrement_position`; all zeros where the loop is empty.
+/// `Transport::decrement_position`; all zeros if the loop is empty.
 #[must_use]
 pub fn decrement_position(given: Transport) -> Transport {
     transport_of(calls::cableowl_test_decrement_position(plain(given)))
 }
 
-/// `Transport::seek_to`; all zeros where the loop is empty.
+/// `Transport::seek_to`; all zeros if the loop is empty.
 #[must_use]
 pub fn seek_to(given: Transport, position: usize, num_frames: usize) -> Transport {
     transport_of(calls::cableowl_test_seek_to(

@@ -1,4 +1,4 @@
-//! The numbers: fractions of a frame, seconds to frames, and the tests on floats.
+//! The numbers: fractions of a frame, seconds to frames, and the predicates on floats.
 
 use oracle::{LIMIT, same_f64};
 use random::Random;
@@ -10,44 +10,44 @@ pub use calls::{
     cableowl_test_round_half_away as round_half_away,
 };
 
-/// The steps and the rest of a fraction moved on by an advance.
+/// The steps and the remaining fraction after an advance.
 #[must_use]
 pub fn advance_by(fraction: f64, advance: f64) -> (u64, f64) {
     let calls::Moved { steps, rest } = calls::cableowl_test_advance_by(fraction, advance);
     (steps, rest)
 }
 
-/// Neither a NaN nor an infinity.
+/// Whether it is neither a NaN nor an infinity.
 #[must_use]
 pub fn is_finite(x: f64) -> bool {
     calls::cableowl_test_is_finite(x) != 0
 }
 
-/// Its sign bit is set; a NaN is not negative.
+/// Whether its sign bit is set; a NaN is not negative.
 #[must_use]
 pub fn is_negative(x: f64) -> bool {
     calls::cableowl_test_is_negative(x) != 0
 }
 
-/// At least 0, below 1, its sign bit clear.
+/// Whether it is at least 0 and below 1 with its sign bit clear.
 #[must_use]
 pub fn is_proper(x: f64) -> bool {
     calls::cableowl_test_is_proper(x) != 0
 }
 
-/// Finite, its sign bit clear.
+/// Whether it is finite with its sign bit clear.
 #[must_use]
 pub fn is_finite_clear(x: f32) -> bool {
     calls::cableowl_test_is_finite_clear(x) != 0
 }
 
-/// Exactly positive zero.
+/// Whether it is exactly positive zero.
 #[must_use]
 pub fn is_positive_zero(x: f32) -> bool {
     calls::cableowl_test_is_positive_zero(x) != 0
 }
 
-/// Compares every function with Rust's own on so many random doubles: a tally for each.
+/// Compares every function with Rust's own on this many random doubles. Returns a tally for each.
 #[must_use]
 pub fn compare(count: u64, seed: u64) -> [Tally; 6] {
     let mut random = Random::new(seed);
@@ -76,12 +76,12 @@ pub fn compare(count: u64, seed: u64) -> [Tally; 6] {
     [narrows, rounds, cuts, magnitudes, advances, tests]
 }
 
-/// Rust's saturating cast, and from 2^32 on 2^32.
+/// Rust's saturating cast, limited to 2^32.
 fn capped(x: f64) -> u64 {
     (x as u64).min(LIMIT as u64)
 }
 
-/// Of a proper fraction the bits of Rust's cast; else positive zero.
+/// The bits of Rust's cast of a proper fraction; otherwise positive zero.
 fn narrows_alike(x: f64) -> bool {
     let expected = if proper(x) { x as f32 } else { 0.0 };
     narrow(x).to_bits() == expected.to_bits()
@@ -91,7 +91,7 @@ fn proper(x: f64) -> bool {
     x.is_sign_positive() && x < 1.0
 }
 
-/// kira's own lines: add, then subtract 1 and count while it is there.
+/// kira's own lines: add, then subtract 1 and count while the sum is at least 1.
 fn advances_alike(fraction: f64, advance: f64) -> bool {
     let (mut steps, mut rest) = (0, fraction + advance);
     while rest >= 1.0 {

@@ -1,4 +1,4 @@
-//! Places in a sound, in seconds or in samples, as frame numbers.
+//! Positions in a sound, in seconds or in samples, as frame indices.
 
 use oracle::{EndPosition, PlaybackPosition, Region};
 
@@ -20,7 +20,7 @@ pub fn into_frames(region: Region, sample_rate: u32, num_frames: usize) -> Optio
 
 /// `Region::is_well_formed`.
 #[must_use]
-pub fn is_lawful(region: Region, sample_rate: u32, num_frames: usize) -> bool {
+pub fn is_well_formed(region: Region, sample_rate: u32, num_frames: usize) -> bool {
     calls::cableowl_test_is_lawful(plain_region(region), sample_rate, num_frames as u64) != 0
 }
 

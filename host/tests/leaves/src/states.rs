@@ -1,4 +1,4 @@
-//! The seven states, by their numbers. A number above 6 counts as 6, and an answer above 2 as 2.
+//! The seven states by their numbers. A number above 6 counts as 6, and an answer above 2 as 2.
 
 pub use crate::calls::{
     cableowl_test_is_advancing as is_advancing, cableowl_test_mark_as_stopped as mark_as_stopped,

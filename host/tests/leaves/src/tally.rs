@@ -32,10 +32,10 @@ impl Tally {
         }
     }
 
-    /// Prints the counts, past the capture of the test harness, and says whether none differed.
+    /// Prints the counts, past the capture of the test harness, and returns whether none differed.
     ///
     /// # Panics
-    /// When standard output cannot be written.
+    /// If standard output cannot be written.
     pub fn report(self) -> bool {
         let Self {
             subject,

@@ -1,4 +1,4 @@
-// The compiled places and kira's agree, kira's held to 2^32: random seconds, samples and regions.
+// The compiled positions and kira's agree, with kira's limited to 2^32: random seconds, samples and regions.
 
 use leaves::{Tally, doubles, moves, places};
 use oracle::{
@@ -41,7 +41,7 @@ fn any_region(random: &mut Random, rate: u32) -> Region {
     }
 }
 
-/// Of seconds kira saturates at 2^64 - 1, and we count 2^32; samples are never capped.
+/// For seconds kira saturates at 2^64 - 1, and we return 2^32; samples are never capped.
 fn capped(position: PlaybackPosition, frames: usize) -> usize {
     match position {
         Seconds(_) => frames.min(LIMIT),
@@ -76,12 +76,12 @@ fn places_agree_with_kira() {
 fn regions_agree_with_kira() {
     let mut random = Random::new(32);
     let mut frames = Tally::new("into_frames");
-    let mut lawful = Tally::new("is_lawful");
+    let mut well_formed = Tally::new("is_well_formed");
     for _ in 0..1_000_000 {
         let rate = any_rate(&mut random);
         let region = any_region(&mut random, rate);
         let num_frames = [12, 1 << 24, random.below(1 << 24)][random.below(3)];
-        // kira turns a region into frames where it sets a loop
+        // kira converts a region to frames when it sets a loop
         let blank = moves::new_transport(0, None, false, 1);
         let set = original::set_loop_region(blank, Some(region), rate, num_frames);
         let (start, end) = set.loop_region.unwrap();
@@ -95,11 +95,11 @@ fn regions_agree_with_kira() {
             format!("{region:?} at {rate} Hz of {num_frames}: {ours:?}")
         });
         let expected = is_finite(region.start) && end_is_finite && start < end && end <= num_frames;
-        let ours = places::is_lawful(region, rate, num_frames);
-        lawful.count(ours == expected, || {
+        let ours = places::is_well_formed(region, rate, num_frames);
+        well_formed.count(ours == expected, || {
             format!("{region:?} at {rate} Hz of {num_frames}: {ours}")
         });
     }
-    let alike = [frames.report(), lawful.report()];
+    let alike = [frames.report(), well_formed.report()];
     assert_eq!(alike, [true; 2]);
 }

@@ -12,8 +12,8 @@ use random::Random;
 
 type Loop = Option<(usize, usize)>;
 
-/// No loop, and every lawful one in so many frames.
-fn lawful_loops(num_frames: usize) -> Vec<Loop> {
+/// No loop, and every loop within this many frames.
+fn fitting_loops(num_frames: usize) -> Vec<Loop> {
     let pairs =
         (0..num_frames).flat_map(|start| (start + 1..=num_frames).map(move |end| (start, end)));
     std::iter::once(None).chain(pairs.map(Some)).collect()
@@ -26,7 +26,7 @@ fn region((start, end): (usize, usize)) -> Region {
     }
 }
 
-/// Playing at every place, and ended at every place up to twice the frames and at the last of all.
+/// Playing at every position, and ended at every position up to twice the frames and at the last of all.
 fn transports(num_frames: usize, loop_region: Loop) -> impl Iterator<Item = Transport> {
     let playing = (0..num_frames).map(|position| (position, true));
     let ended = (0..=2 * num_frames).chain([LIMIT]);
@@ -47,8 +47,8 @@ fn every_move_in_small_sounds_agrees_with_kira() {
     let mut loops = Tally::new("transport: loops set and cleared, 1 to 12 frames");
     let mut starts = Tally::new("transport: new, 1 to 12 frames");
     for n in 1..=12 {
-        let lawful = lawful_loops(n);
-        for &held in &lawful {
+        let fitting = fitting_loops(n);
+        for &held in &fitting {
             for given in transports(n, held) {
                 let theirs = original::increment_position(given, n).unwrap();
                 let ours = moves::increment_position(given, n);
@@ -63,7 +63,7 @@ fn every_move_in_small_sounds_agrees_with_kira() {
                         format!("{given:?} of {n} to {target}: {ours:?}")
                     });
                 }
-                for &next in &lawful {
+                for &next in &fitting {
                     let theirs = original::set_loop_region(given, next.map(region), 1, n);
                     let ours = moves::set_loop_region(given, next);
                     loops.count(ours == theirs, || format!("{given:?}, {next:?}: {ours:?}"));
@@ -92,7 +92,7 @@ fn far_moves_over_short_loops_agree_with_kira() {
         let last = FRAMES - length;
         for start in [0, 1, 5, 1_000, last / 2, last] {
             let loop_region = Some((start, start + length));
-            // kira turns millions of times to come up to a late loop
+            // kira's loop needs millions of iterations to reach a late loop
             let many = if start > 1_000 { 30 } else { 300 };
             let mut targets: Vec<usize> = (0..many).map(|_| random.below(200_000)).collect();
             targets.extend((0..4).map(|_| random.below(20_000_000 * length)));

@@ -1,4 +1,4 @@
-// The compiled window and kira's agree: random pushes and readings, NaNs and infinities among them.
+// The compiled window and kira's agree: random pushes and readings, including NaNs and infinities.
 
 use leaves::{Tally, doubles, window};
 use oracle::{Entry, Frame, LIMIT, leaves as original, leaves::Window, same_f32};
@@ -8,7 +8,7 @@ fn any_frame(random: &mut Random) -> Frame {
     Frame::new(doubles::any_f32(random), doubles::any_f32(random))
 }
 
-/// Mostly a fraction narrowed as the player does, at times any float.
+/// Mostly a fraction narrowed as the player does, sometimes any float.
 fn any_fraction(random: &mut Random) -> f32 {
     match random.below(8) {
         0 => [0.0, 1.0, 0.5][random.below(3)],

@@ -9,7 +9,7 @@ use std::fmt::Write;
 use oracle::{LIMIT, PlaybackPosition, leaves};
 use random::Random;
 
-/// Sample rates in use, the least and the greatest accepted, and some that divide nothing.
+/// Common sample rates, the smallest and the largest accepted, and some primes.
 const RATES: [u32; 12] = [
     1, 2, 3, 7, 8_000, 11_025, 44_100, 48_000, 65_537, 96_000, 192_000, 768_000,
 ];
@@ -51,7 +51,7 @@ fn with_neighbours(number: f64) -> [f64; 3] {
     [number.next_down(), number, number.next_up()]
 }
 
-/// Doubles of [0, 1): the places where narrowing ties, and what lies beside them.
+/// Doubles of [0, 1): ties of narrowing, and their neighbours.
 fn narrowings(random: &mut Random) -> Vec<f64> {
     let mut given = vec![0.0, f64::from_bits(1), f64::MIN_POSITIVE, 0.1, 1.0 / 3.0];
     for power in 1..160 {
@@ -75,7 +75,7 @@ fn narrowings(random: &mut Random) -> Vec<f64> {
     given
 }
 
-/// Seconds and sample rates: halves of a frame and what lies beside them, negatives, the cap.
+/// Seconds and sample rates: halves of a frame and their neighbours, negative seconds, the limit.
 fn seconds(random: &mut Random) -> Vec<(f64, u32)> {
     let mut given = Vec::new();
     let limit = LIMIT as f64;

@@ -1,4 +1,4 @@
-// The list of scenarios: sounds, and on each some calls with the oracle's answers.
+// The list of scenarios: sounds, and on each some calls with the oracle's results.
 //
 // A line is one number in lower-case hex. docs/formats/LISTS.md has the layout; `scene` writes it.
 

@@ -1,4 +1,4 @@
-// The committed list is the generated one, and its lines have the promised shape.
+// The committed list is the generated one, and its lines have the documented layout.
 
 use std::{collections::BTreeSet, fs};
 

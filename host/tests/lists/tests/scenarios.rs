@@ -1,4 +1,4 @@
-// The committed list of scenarios is the generated one, keeps its layout, and covers what it should.
+// The committed list of scenarios is the generated one, has its layout, and covers what it should.
 
 use std::{
     collections::{BTreeMap, BTreeSet},
@@ -71,12 +71,12 @@ fn every_state_and_length_is_there() {
     assert_eq!(seen.frames, (1..=16).collect());
 }
 
-/// What a list has in it, found by its layout alone (docs/formats/LISTS.md).
+/// What a list contains, found from its layout alone (docs/formats/LISTS.md).
 #[derive(Default)]
 struct Seen {
     scenarios: usize,
     stretches: usize,
-    /// How often an entry, by its kind, gave a number.
+    /// How often an entry returned each refusal.
     refusals: BTreeMap<(u64, u64), usize>,
     /// States after accepted calls.
     states: BTreeSet<u64>,

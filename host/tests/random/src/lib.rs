@@ -1,10 +1,10 @@
-//! Random words that are the same on every run and every machine.
+//! Inputs for tests: random words, the same on every run and every machine, and all inputs of at most three bytes.
 #![forbid(unsafe_code)]
 #![warn(missing_docs)]
 
-use std::ops::Range;
+use std::{ops::Range, thread};
 
-/// A xorshift generator: the same seed, the same words.
+/// A xorshift generator: the same seed produces the same words.
 #[derive(Debug, Clone)]
 pub struct Random(u64);
 
@@ -33,7 +33,7 @@ impl Random {
         self.below(2) == 1
     }
 
-    /// Yes, once in so many times.
+    /// Yes with a probability of 1 in `many`.
     pub fn one_in(&mut self, many: usize) -> bool {
         self.below(many) == 0
     }
@@ -49,4 +49,25 @@ impl Random {
         let exponent = i64::from(exponents.start) + self.below(width) as i64;
         f64::from_bits(((exponent + 1023) as u64) << 52 | self.word() >> 12)
     }
+}
+
+/// Calls `compare` with every input of at most three bytes, in four threads.
+pub fn short_inputs(compare: impl Fn(&[u8]) + Sync) {
+    compare(&[]);
+    let compare = &compare;
+    thread::scope(|scope| {
+        for quarter in 0..4_u8 {
+            scope.spawn(move || {
+                for first in (0..=255).filter(|byte| byte % 4 == quarter) {
+                    compare(&[first]);
+                    for second in 0..=255 {
+                        compare(&[first, second]);
+                        for third in 0..=255 {
+                            compare(&[first, second, third]);
+                        }
+                    }
+                }
+            });
+        }
+    });
 }

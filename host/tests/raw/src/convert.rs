@@ -1,4 +1,4 @@
-//! Between the structs of the C entries and the oracle's types, both ways, and what any tag means.
+//! Converts between the structs of the C entries and the oracle's types, and says what any tag means.
 
 use oracle::{
     Answer, Commands, EndPosition, Entry, PlaybackPosition, PlaybackState, Region, Settings,
@@ -10,7 +10,7 @@ use crate::{
     CableowlSignals, CableowlState,
 };
 
-/// A state as the entries take it.
+/// A state for the entries.
 #[must_use]
 pub fn state_in(given: &State) -> CableowlState {
     let (slice_start, slice_end) = given.slice.unwrap_or_default();
@@ -42,7 +42,7 @@ pub fn state_in(given: &State) -> CableowlState {
     }
 }
 
-/// A state as the oracle knows it, where it is lawful: tags in their range, absent numbers 0.
+/// A state for the oracle, if its tags are in their range and its absent numbers are 0.
 #[must_use]
 pub fn state_out(given: &CableowlState) -> Option<State> {
     Some(State {
@@ -86,7 +86,7 @@ fn pair(has: u32, start: u64, end: u64) -> Option<Option<(usize, usize)>> {
     }
 }
 
-/// Settings as the entries take them.
+/// Settings for the entries.
 #[must_use]
 pub fn settings_in(given: &Settings) -> CableowlSettings {
     CableowlSettings {
@@ -116,7 +116,7 @@ pub fn settings_out(given: &CableowlSettings) -> Settings {
     }
 }
 
-/// A command set as the entries take it.
+/// A command set for the entries.
 #[must_use]
 pub fn commands_in(given: &Commands) -> CableowlCommands {
     CableowlCommands {
@@ -169,7 +169,7 @@ pub fn commands_out(given: &CableowlCommands) -> Commands {
     }
 }
 
-/// Signals as the entries take them, with the due tick and the tick now in place of the start answer where given.
+/// Signals for the entries; the due tick and the current tick replace the start answer if they are given.
 #[must_use]
 pub fn signals_in(given: Signals, tick: Option<(u32, u32)>) -> CableowlSignals {
     let answer = |answer| match answer {
@@ -187,7 +187,7 @@ pub fn signals_in(given: Signals, tick: Option<(u32, u32)>) -> CableowlSignals {
     }
 }
 
-/// What signals of any bytes mean; the tick goes before the start answer.
+/// What signals of any bytes mean. A tick comes before the start answer.
 #[must_use]
 pub fn signals_out(given: &CableowlSignals) -> (Signals, Option<(u32, u32)>) {
     let answer = |tag| match tag {
@@ -204,7 +204,7 @@ pub fn signals_out(given: &CableowlSignals) -> (Signals, Option<(u32, u32)>) {
     (signals, tick)
 }
 
-/// A place that is refused, which is what an unknown kind means.
+/// A position that is refused, which is what an unknown kind means.
 const NO_PLACE: PlaybackPosition = PlaybackPosition::Seconds(f64::NAN);
 
 /// A region that is refused, which is what an unknown tag means.

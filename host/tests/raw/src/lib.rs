@@ -1,7 +1,7 @@
 //! The C entries for the tests: structs of numbers by value, borrowed slices, any bytes.
 //!
-//! `cableowl-sys` declares them; here they take the oracle's lanes. [`convert`] goes between the structs and the oracle's
-//! types.
+//! `cableowl-sys` declares them; here they get the oracle's lanes. [`convert`] converts between the structs and the
+//! oracle's types.
 #![warn(missing_docs)]
 
 mod bytes;
@@ -23,10 +23,10 @@ pub use cableowl_sys::{
     replay_step_v2, replay_v2, stretch, take_loop, version, write_loop,
 };
 
-/// The lanes of a block, lent; each may have a length of its own.
+/// The borrowed lanes of a block; each may have another length.
 pub use oracle::Lanes;
 
-/// The five numbers of a block that all its frames have.
+/// The held lanes of a block: five numbers for all its frames.
 #[derive(Debug, Clone, Copy)]
 pub struct Held {
     /// The fade's amplitude.
@@ -80,7 +80,7 @@ fn lent<'a>(lanes: &Lanes<'a>) -> cableowl_sys::Lanes<'a> {
     }
 }
 
-/// A block whose numbers are given once, into an output of its own.
+/// A block with held lanes, into an output of its own.
 #[must_use]
 pub fn process_held(
     state: CableowlState,
@@ -90,7 +90,7 @@ pub fn process_held(
     signals: CableowlSignals,
     out: &mut [f32],
 ) -> CableowlProcessed {
-    // SAFETY: pointers and lengths are those of lent slices; no other slice overlaps the output.
+    // SAFETY: pointers and lengths are those of borrowed slices; no other slice overlaps the output.
     unsafe {
         cableowl_sys::cableowl_process_held(
             state,
@@ -109,7 +109,7 @@ pub fn process_held(
     }
 }
 
-/// So many frames of it into the middle of a longer mix, from the given frame on.
+/// This many frames of it into the middle of a longer mix, from the given frame on.
 #[must_use]
 #[allow(clippy::too_many_arguments)]
 pub fn process_held_into(
@@ -122,7 +122,7 @@ pub fn process_held_into(
     from: u64,
     frames: u64,
 ) -> CableowlProcessed {
-    // SAFETY: pointers and lengths are those of lent slices; no other slice overlaps the mix.
+    // SAFETY: pointers and lengths are those of borrowed slices; no other slice overlaps the mix.
     unsafe {
         cableowl_sys::cableowl_process_held_into(
             state,

@@ -1,4 +1,4 @@
-// The C convention that host/archive/convention.rs makes of a crate's own text, as archives for Arm have it.
+// The C code that host/archive/convention.rs writes for a crate, as archives for Arm contain it.
 
 #[path = "../../../archive/convention.rs"]
 mod convention;
@@ -34,7 +34,7 @@ fn records_go_by_pointer_below_and_by_value_above() {
     ] {
         assert!(c.contains(line), "no `{line}` in\n{c}");
     }
-    // A record comes after those that it holds.
+    // A record comes after those that it contains.
     assert!(c.find("struct Half {") < c.find("struct Pair {"));
 }
 

@@ -1,4 +1,4 @@
-// A C program may lend an empty slice as a null pointer with the count 0.
+// A C program may pass an empty slice as a null pointer with the count 0.
 
 use std::ptr::{null, null_mut};
 
@@ -8,12 +8,12 @@ use raw::{CableowlSignals, StateBytes, convert};
 #[test]
 fn empty_slices_may_be_null() {
     let settings = Settings::new(1);
-    // SAFETY: a count of 0 lends nothing.
+    // SAFETY: a count of 0 means that nothing is read.
     let refused = unsafe { cableowl_sys::cableowl_new(convert::settings_in(&settings), null(), 0) };
     assert_eq!(refused.refusal, 3);
     let sound = [0.5; 8];
     let state = convert::state_in(&Oracle::create(&settings, &sound).state());
-    // SAFETY: the sound is lent whole, and of the other slices nothing.
+    // SAFETY: the whole sound is passed, and nothing of the other slices.
     let answer = unsafe {
         cableowl_sys::cableowl_process(
             state,

@@ -79,7 +79,7 @@ impl Host {
     }
 }
 
-/// What a step answers besides samples.
+/// What a step returns besides samples.
 fn numbers(did: &CableowlReplayed) -> [u64; 14] {
     let (replay, voice) = (&did.replay, &did.replay.voice);
     [
@@ -124,7 +124,7 @@ fn the_page_s_examples() {
         (2, 1, 140)
     );
 
-    // What the voice's own entries make of it.
+    // What the voice's own entries return.
     let lanes = Lanes {
         fade: &[1.0, 0.5],
         volume: &[1.0; 2],
@@ -158,7 +158,7 @@ fn without_a_sound_only_samples_differ() {
         let without = silent.step(&record, &[0.0; 6], 0);
         assert_eq!(numbers(&with), numbers(&without));
     }
-    // A longer buffer will do, a shorter one will not.
+    // A longer buffer is enough, a shorter one is not.
     let mut host = Host::new();
     let before = host.replay.to_bytes();
     let refused = host.step(&creation(), &[0.0; 5], 0);
@@ -192,7 +192,7 @@ fn another_sound_is_refused_with_26() {
         assert_eq!((refused.replay.given, refused.replay.samples), (1, 0));
         let blank = raw::replay_v2().voice.to_bytes();
         assert_eq!(refused.replay.voice.to_bytes(), blank);
-        // The replay goes on: a block is refused and counted, and a creation makes a voice.
+        // The replay continues: a block is refused and counted, and a creation makes a voice.
         let played = host.step(&block(), &[], 0);
         assert_eq!((played.what, played.kind, played.refusal), (PLAYED, 5, 1));
         assert_eq!((played.replay.blocks, played.frames), (1, 2));
@@ -202,7 +202,7 @@ fn another_sound_is_refused_with_26() {
 
 #[test]
 fn the_order_of_refusals() {
-    // 26 before 2; 2 before 3; 0 frames and too many are 3, whatever is given.
+    // 26 before 2; 2 before 3; 0 frames and too many frames are 3, whatever is given.
     for (at, value, given, sounds, refusal) in [
         (RATE, 0, &SOUND[..4], 1, 26),
         (RATE, 0, &SOUND[..], 1, 2),
@@ -244,7 +244,7 @@ fn a_shorter_sound_after_a_longer_one() {
     let mut host = Host::new();
     host.step(&creation_with(FRAMES, 9), &[0.0; 18], 1);
     assert_eq!(host.replay.samples, 18);
-    // The voice needs its sound, a creation does not.
+    // The voice needs its sound; a creation does not.
     let refused = host.step(&block(), &SOUND, 1);
     assert_eq!((refused.what, refused.refusal), (REFUSED, 1));
     assert_eq!(host.step(&creation(), &SOUND, 1).refusal, 0);

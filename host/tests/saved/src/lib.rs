@@ -1,7 +1,7 @@
-//! docs/formats/SETTINGS.md as Rust: what bytes load as, what words store as, and the rate that a pitch raises.
+//! docs/formats/SETTINGS.md as Rust: what bytes load as, what words are stored as, and the rate with a pitch.
 #![warn(missing_docs)]
 
-/// Saved settings as the C entries take them: eight words.
+/// Saved settings for the C entries: eight words.
 #[repr(C)]
 #[derive(Debug, Clone, Copy, Default, PartialEq, Eq)]
 pub struct Words {
@@ -37,11 +37,11 @@ unsafe extern "C" {
 pub fn store(words: &Words, buffer: &mut [u8]) -> u32 {
     // The library that links the archive.
     let _ = cableowl::version;
-    // SAFETY: words are eight words, and the buffer goes with its length.
+    // SAFETY: `words` is eight words, and the buffer comes with its length.
     unsafe { cableowl_store_settings(words, buffer.as_mut_ptr(), buffer.len()) }
 }
 
-/// The compiled load; the words before it are not zeros.
+/// The compiled load; the words are not zero before it.
 #[must_use]
 pub fn load(reader: u32, bytes: &[u8]) -> (u32, Words) {
     let mut words = Words {
@@ -50,13 +50,13 @@ pub fn load(reader: u32, bytes: &[u8]) -> (u32, Words) {
         pitch: 7,
         ..Words::default()
     };
-    // SAFETY: the bytes go with their length, and words are eight words.
+    // SAFETY: the bytes come with their length, and `words` is eight words.
     let refusal =
         unsafe { cableowl_load_settings(reader, bytes.as_ptr(), bytes.len(), &mut words) };
     (refusal, words)
 }
 
-/// What a load must answer.
+/// What a load must return.
 #[must_use]
 pub fn loaded(reader: u32, bytes: &[u8]) -> (u32, Words) {
     match parsed(reader, bytes) {
@@ -142,7 +142,7 @@ pub fn stored(words: &Words, room: usize) -> Result<Vec<u8>, u32> {
     Ok(bytes)
 }
 
-/// The largest e with e^12 at most 2^(n + 576), found by halving, in whole numbers of any size.
+/// The largest e with e^12 at most 2^(n + 576), found by bisection, in whole numbers of any size.
 #[must_use]
 pub fn semitone(n: u32) -> u64 {
     let limit = fades::Whole::power_of_two(n + 576);
@@ -159,7 +159,7 @@ pub fn semitone(n: u32) -> u64 {
     fitting
 }
 
-/// e * 2^(o - 48), which an f64 holds.
+/// e * 2^(o - 48), which an f64 represents exactly.
 #[must_use]
 pub fn ratio(pitch: i32) -> f64 {
     let (octave, n) = (pitch.div_euclid(12), pitch.rem_euclid(12));

@@ -1,4 +1,4 @@
-//! The rate that a pitch raises: the table by its rule, the product rounded once, and how far kira's power is.
+//! The rate with a pitch: the table by its rule, the product rounded once, and the distance to kira's power.
 
 use cableowl::{SavedSettings, StaticSound};
 use random::Random;
@@ -63,14 +63,14 @@ fn an_infinite_product_is_creation_s_to_refuse() {
     assert_eq!(refusal.number(), 7);
 }
 
-/// docs/DIFFERENCES.md has these figures. The power is the platform's, so a bound is asked, not the figure.
+/// docs/DIFFERENCES.md has these figures. The power is the platform's, so the test checks a bound and not the figure.
 #[test]
 fn how_far_from_a_computed_power() {
     let mut differ = Vec::new();
     for pitch in -24..=24_i8 {
         let power = 2.0_f64.powf(f64::from(pitch) / 12.0);
         let apart = raised(1.0, pitch).to_bits().abs_diff(power.to_bits());
-        // An entry has 49 digits, an f64 53.
+        // An entry has 49 bits, an f64 53.
         assert!(apart <= 16, "{pitch}: {apart}");
         if apart > 0 {
             differ.push((pitch, apart));

@@ -1,4 +1,5 @@
-//! Records loaded and stored, against the second implementation: short inputs exhaustively, then changed, cut and random ones.
+//! Records loaded and stored, compared with the second implementation: short inputs exhaustively, then changed, cut and
+//! random ones.
 
 use random::Random;
 use saved::{Words, load, loaded, store, stored};
@@ -13,7 +14,7 @@ fn compare(bytes: &[u8]) {
     }
 }
 
-/// Some that are right, of both versions.
+/// Some correct ones of both versions.
 fn good() -> Vec<Words> {
     let plain = Words {
         start: 44_100,
@@ -105,22 +106,7 @@ fn examples_of_the_page() {
 
 #[test]
 fn every_input_of_at_most_three_bytes() {
-    compare(&[]);
-    std::thread::scope(|scope| {
-        for quarter in 0..4_u8 {
-            scope.spawn(move || {
-                for first in (0..=255).filter(|byte| byte % 4 == quarter) {
-                    compare(&[first]);
-                    for second in 0..=255 {
-                        compare(&[first, second]);
-                        for third in 0..=255 {
-                            compare(&[first, second, third]);
-                        }
-                    }
-                }
-            });
-        }
-    });
+    random::short_inputs(compare);
 }
 
 #[test]
@@ -225,7 +211,7 @@ fn random_bytes_like_records() {
         }
         let version = 1 + random.below(2) as u8;
         bytes[..4].copy_from_slice(&[0x5e, 0x71, version, 20 + version]);
-        // Near what is right: small numbers, flags, finite rates.
+        // Almost correct: small numbers, flags, finite rates.
         if random.coin() {
             bytes[6..8].fill(0);
             bytes[10..12].fill(0);
@@ -248,7 +234,7 @@ fn random_bytes_like_records() {
         let bytes = &bytes[..length];
         compare(bytes);
         refusals[load(2, bytes).0 as usize] += 1;
-        // What loads stores as the same bytes.
+        // What is loaded is stored as the same bytes.
         let (refusal, words) = load(2, bytes);
         if refusal == 0 {
             let again = record(&words);

@@ -1,14 +1,14 @@
-//! Long runs against the page, the program against the library, and long traces.
+//! Long runs compared with the page, the program compared with the library, and long traces.
 //!
-//! - `traced reads|writes|salvages|steps|replays|prints [--seed N] [--count N]`: random ones, compared; the first three
-//!   with `--version 2` too
-//! - `traced given [--seed N] [--count N]`: replays of version 2 over sounds that are given or not, compared
+//! - `traced reads|writes|salvages|steps|replays|prints [--seed N] [--count N]`: compares random ones; the first three
+//!   also with `--version 2`
+//! - `traced given [--seed N] [--count N]`: compares replays of version 2 over sounds that are given or not
 //! - `traced cuts`: every cut of a short trace, and some changes of each byte, printed by the program and the library
-//! - `traced trace [--megabytes N] [--blocks N] [--frames N]`: a long trace on standard output, a creation before
-//!   so many blocks of so many frames, again and again
-//! - `traced print`: what the library prints of a trace on standard input
-//! - `traced recording`: what recording adds to a block
-//! - `traced holes|heads [--megabytes N]`: how long a salvage takes, of a long trace with holes and of what is none
+//! - `traced trace [--megabytes N] [--blocks N] [--frames N]`: writes a long trace to standard output: again and again
+//!   a creation and N blocks of N frames
+//! - `traced print`: prints a trace from standard input by the library
+//! - `traced recording`: how much time recording adds to a block
+//! - `traced holes|heads [--megabytes N]`: the time of a salvage, of a long trace with holes and of false records
 
 use std::{
     env, fs,
@@ -126,7 +126,7 @@ fn print() -> Result<String, String> {
     Ok(format!("{refused:?}, {seconds:.2} s of processor time"))
 }
 
-/// What a block of 64 frames takes, played, played and recorded, and played again from its record.
+/// The time of a block of 64 frames: played, played and recorded, and replayed from its record.
 fn recording() -> Result<String, Refusal> {
     const BLOCKS: u32 = 200_000;
     let (sound, mut lanes, mut out) = ([0.5; 128], Lanes::new(), [0.0; 128]);
@@ -165,7 +165,7 @@ fn recording() -> Result<String, Refusal> {
 /// An input by its name.
 type Input = (&'static str, Vec<u8>);
 
-/// A long trace with a hole in each 100,000 bytes, and what is nothing but holes.
+/// A long trace with a hole in each 100,000 bytes, and bytes without a record.
 fn holes(megabytes: usize) -> Vec<Input> {
     let length = megabytes * 1_000_000;
     let (mut damaged, mut chunk) = (Vec::new(), Vec::new());
@@ -194,7 +194,7 @@ fn heads(megabytes: usize) -> Vec<Input> {
     ]
 }
 
-/// The processor's seconds of this thread, where Linux tells them: others may be at work beside it.
+/// The processor seconds of this thread, if Linux reports them. Other threads do not count.
 fn processor_seconds() -> f64 {
     let told = fs::read_to_string("/proc/thread-self/schedstat").unwrap_or_default();
     let nanoseconds = told.split(' ').next().and_then(|word| word.parse().ok());

@@ -1,4 +1,4 @@
-//! Records and traces to try: lawful, a little off, damaged.
+//! Records and traces for the tests: well formed, slightly wrong, damaged.
 
 pub mod second;
 
@@ -27,7 +27,7 @@ fn single(random: &mut Random) -> u64 {
     single.to_bits().into()
 }
 
-/// A lane's constant: mostly one that the player takes.
+/// A lane's constant: mostly one that the player accepts.
 fn amplitude(random: &mut Random) -> u64 {
     match random.one_in(40) {
         true => single(random),
@@ -35,7 +35,7 @@ fn amplitude(random: &mut Random) -> u64 {
     }
 }
 
-/// A frame's number, or its seconds, at times any.
+/// A frame's number, or its seconds, sometimes any.
 fn place(random: &mut Random, is_frames: bool, frame: usize, sample_rate: u64) -> u64 {
     match (is_frames, random.one_in(16)) {
         (true, true) => random.word() >> random.below(64),
@@ -45,7 +45,7 @@ fn place(random: &mut Random, is_frames: bool, frame: usize, sample_rate: u64) -
     }
 }
 
-/// A region's three numbers, mostly within so many frames; `tag` is 0 to 6.
+/// A region's three numbers, mostly within this many frames; `tag` is 0 to 6.
 fn region(random: &mut Random, tag: u64, frames: usize, sample_rate: u64) -> [u64; 3] {
     let start = random.below(frames.max(1));
     let end = start + 1 + random.below(frames.saturating_sub(start).max(1));
@@ -74,7 +74,7 @@ fn creation(random: &mut Random) -> Values {
     }
     .into();
     let sample_rate = values[0];
-    // Seldom: most slices and loops of any numbers are refused.
+    // Rarely, because most slices and loops of any numbers are refused.
     let slice = if random.one_in(4) { random.below(7) } else { 0 };
     values[1..4].copy_from_slice(&region(random, slice as u64, frames, sample_rate));
     values[4] = random.below(2) as u64;
@@ -83,7 +83,7 @@ fn creation(random: &mut Random) -> Values {
         values[5] = place(random, values[4] == 0, frame, sample_rate);
     }
     let looped = if random.coin() { random.below(7) } else { 0 };
-    // Mostly within any slice there is.
+    // Mostly inside the slice.
     let within = if slice > 0 && !random.one_in(8) {
         1
     } else {
@@ -157,8 +157,8 @@ fn block(random: &mut Random) -> Values {
     values
 }
 
-/// A lawful record: its kind and numbers.
-pub fn lawful(random: &mut Random) -> (u64, Values) {
+/// A well formed record: its kind and numbers.
+pub fn well_formed(random: &mut Random) -> (u64, Values) {
     match random.below(6) {
         0 => (1, creation(random)),
         1 | 2 => (2, commands(random)),
@@ -166,9 +166,9 @@ pub fn lawful(random: &mut Random) -> (u64, Values) {
     }
 }
 
-/// A record, lawful or a number away from it.
+/// A record, well formed or with one wrong number.
 pub fn any(random: &mut Random) -> (u64, Values) {
-    let (mut kind, mut values) = lawful(random);
+    let (mut kind, mut values) = well_formed(random);
     if random.coin() {
         return (kind, values);
     }
@@ -185,25 +185,25 @@ pub fn any(random: &mut Random) -> (u64, Values) {
     (kind, values)
 }
 
-/// A lawful trace of so many records; its first is a creation, mostly.
+/// A well formed trace of this many records. The first is mostly a creation.
 ///
 /// # Panics
 ///
-/// Where the page's writer refuses a lawful record.
+/// If the page's writer refuses a well formed record.
 #[must_use]
 pub fn trace(random: &mut Random, records: usize) -> Vec<u8> {
     let mut bytes = Vec::new();
     for record in 0..records {
         let (kind, values) = match record == 0 && !random.one_in(10) {
             true => (1, creation(random)),
-            false => lawful(random),
+            false => well_formed(random),
         };
-        bytes.extend(page::bytes(kind, &values).expect("a lawful record"));
+        bytes.extend(page::bytes(kind, &values).expect("a well formed record"));
     }
     bytes
 }
 
-/// One fault of a trace: a flip, a hole, a stretch that is lost, a cut, a mark or a head put in.
+/// One fault of a trace: a flipped bit, a hole, lost bytes, a cut, an added mark or head.
 pub fn damage(random: &mut Random, bytes: &mut Vec<u8>) {
     let place = |random: &mut Random, bytes: &[u8]| random.below(bytes.len() + 1);
     let at = place(random, bytes);
@@ -228,7 +228,7 @@ pub fn damage(random: &mut Random, bytes: &mut Vec<u8>) {
     }
 }
 
-/// A trace with up to so many faults, and none at times.
+/// A trace with at most this many faults, sometimes none.
 #[must_use]
 pub fn damaged(random: &mut Random, records: usize, faults: usize) -> Vec<u8> {
     let records = random.below(records + 1);
@@ -244,7 +244,7 @@ pub fn damaged(random: &mut Random, records: usize, faults: usize) -> Vec<u8> {
 ///
 /// # Panics
 ///
-/// Where the page's writer refuses one of them.
+/// If the page's writer refuses one of them.
 #[must_use]
 pub fn all_kinds() -> Vec<u8> {
     let seconds = f64::to_bits;
@@ -283,17 +283,16 @@ pub fn all_kinds() -> Vec<u8> {
         let mut values = [0; 80];
         let numbers = numbers.concat();
         values[..numbers.len()].copy_from_slice(&numbers);
-        bytes.extend(page::bytes(kind, &values).expect("lawful"));
+        bytes.extend(page::bytes(kind, &values).expect("well formed"));
     }
     bytes
 }
 
-/// A part of a long trace: a creation of 64 frames that loop, a command set, and so many blocks of as many
-/// frames as are said.
+/// A part of a long trace: a creation over 64 looped frames, a command set, and `blocks` blocks of `frames` frames.
 ///
 /// # Panics
 ///
-/// Where the page's writer refuses one of them.
+/// If the page's writer refuses one of them.
 pub fn long(part: &mut Vec<u8>, blocks: u32, frames: u64) {
     part.clear();
     let one: u64 = 1.0_f32.to_bits().into();
@@ -301,7 +300,7 @@ pub fn long(part: &mut Vec<u8>, blocks: u32, frames: u64) {
     let mut record = |kind, numbers: &[u64]| {
         let mut values = [0; 80];
         values[..numbers.len()].copy_from_slice(numbers);
-        part.extend(page::bytes(kind, &values).expect("lawful"));
+        part.extend(page::bytes(kind, &values).expect("well formed"));
     };
     let double = f64::to_bits;
     let head = [48_000, 0, 0, 0, 0, 0, 1, 0, 0, 0, double(1.0), 0, 64];
@@ -314,13 +313,13 @@ pub fn long(part: &mut Vec<u8>, blocks: u32, frames: u64) {
     }
 }
 
-/// Creations of the greatest length, one in each 80 bytes, that are refused at their end alone: what a
-/// salvage needs longest for.
+/// Creations of the largest length, one in each 80 bytes, that are refused only at their end: a salvage takes longest
+/// for these.
 #[must_use]
 pub fn false_creations(length: usize) -> Vec<u8> {
     let mut bytes = vec![0; length / 80 * 80];
     for head in bytes.chunks_mut(80) {
-        // Every tag that follows is 0 but the count of frames.
+        // All following tags are 0, except the number of frames.
         head[..5].copy_from_slice(&[0xa5, 0x1d, 1, 0x3a, 2]);
         head[30] = 63;
     }

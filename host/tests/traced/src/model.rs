@@ -1,4 +1,4 @@
-//! A second player of records, over the voice's own calls: what a replay must answer.
+//! A second player of records, over the voice's own calls: what a replay must return.
 
 pub mod second;
 
@@ -7,7 +7,7 @@ use cableowl::{
     trace::{Line, MAX_TRACED_FRAMES, Record, Refused, ShortSound, Step, Trace, TraceVersion},
 };
 
-/// A run of a trace, by this page's own counting.
+/// A replay of a trace, with its own counts.
 #[derive(Debug, Clone)]
 pub struct Model {
     voice: Option<StaticSound>,
@@ -74,7 +74,7 @@ impl Model {
         }
     }
 
-    /// The samples of the last block; none where it was refused.
+    /// The samples of the last block; none if it was refused.
     #[must_use]
     pub fn heard(&self) -> &[f32] {
         &self.out[..self.heard]
@@ -93,7 +93,7 @@ impl Default for Model {
     }
 }
 
-/// What each record of a trace does, up to the end or to a record that is refused.
+/// What each record of a trace does, up to the end or to a refused record.
 #[must_use]
 pub fn steps(bytes: &[u8]) -> Vec<Step> {
     let mut model = Model::new();

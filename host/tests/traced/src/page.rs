@@ -18,74 +18,46 @@ pub fn is_length(kind: u8, length: u16) -> bool {
     }
 }
 
-/// The bytes from a record's first on, as far as they are read.
-struct Reader<'a> {
-    bytes: &'a [u8],
-    at: usize,
-    /// Where the payload ends.
-    end: usize,
-    values: Values,
-    count: usize,
-}
+/// The fields of each kind in their order, as a reader and a writer go through them. An error is a refusal.
+trait Fields {
+    /// A number of at most `most`, in `bytes` bytes with the lowest first.
+    fn number(&mut self, bytes: usize, most: u64) -> Result<u64, u64>;
 
-impl Reader<'_> {
-    fn byte(&mut self) -> Result<u8, u64> {
-        if self.at == self.end {
-            return Err(17);
-        }
-        let byte = *self.bytes.get(self.at).ok_or(18_u64)?;
-        self.at += 1;
-        Ok(byte)
+    /// A field that is absent: no bytes, and its value is 0.
+    fn absent(&mut self) -> Result<(), u64>;
+
+    fn tag(&mut self, most: u64) -> Result<u64, u64> {
+        self.number(1, most)
     }
 
-    fn hold(&mut self, value: u64) {
-        self.values[self.count] = value;
-        self.count += 1;
+    fn single(&mut self) -> Result<u64, u64> {
+        self.number(4, u32::MAX.into())
     }
 
-    /// A number of so many bytes, the lowest first.
-    fn number(&mut self, bytes: u32) -> Result<u64, u64> {
-        let mut value = 0;
-        for place in 0..bytes {
-            value |= u64::from(self.byte()?) << (8 * place);
-        }
-        self.hold(value);
-        Ok(value)
+    fn word(&mut self) -> Result<u64, u64> {
+        self.number(8, u64::MAX)
     }
 
-    /// A byte with a highest value.
-    fn tag(&mut self, most: u8) -> Result<u8, u64> {
-        let tag = self.byte()?;
-        if tag > most {
-            return Err(17);
+    fn word_if(&mut self, present: bool) -> Result<(), u64> {
+        match present {
+            true => self.word().map(|_| ()),
+            false => self.absent(),
         }
-        self.hold(tag.into());
-        Ok(tag)
-    }
-
-    /// Eight bytes where they stand, else none.
-    fn word_if(&mut self, stands: bool) -> Result<(), u64> {
-        if stands {
-            self.number(8)?;
-        } else {
-            self.hold(0);
-        }
-        Ok(())
     }
 
     /// The fields of a creation from the sample rate to "start waits".
     fn settings(&mut self) -> Result<(), u64> {
-        self.number(4)?;
+        self.single()?;
         let slice = self.tag(6)?;
         self.word_if(slice >= 1)?;
         self.word_if(slice >= 3)?;
         self.tag(1)?;
-        self.number(8)?;
+        self.word()?;
         let looped = self.tag(6)?;
         self.word_if(looped >= 1)?;
         self.word_if(looped >= 3)?;
         self.tag(1)?;
-        self.number(8)?;
+        self.word()?;
         self.tag(1)?;
         Ok(())
     }
@@ -93,9 +65,9 @@ impl Reader<'_> {
     fn creation(&mut self) -> Result<(), u64> {
         self.settings()?;
         let frames = self.tag(64)?;
-        for _ in 0..frames {
+        for frame in 0..64 {
             // The left sample's four bytes, then the right one's.
-            self.number(8)?;
+            self.word_if(frame < frames)?;
         }
         Ok(())
     }
@@ -116,15 +88,16 @@ impl Reader<'_> {
     }
 
     fn block(&mut self) -> Result<(), u64> {
-        if self.number(2)? > 1_024 {
-            return Err(17);
-        }
+        self.number(2, 1_024)?;
         for _ in 0..4 {
-            self.number(4)?;
+            self.single()?;
         }
-        for _ in 0..2 {
-            self.number(8)?;
-        }
+        self.word()?;
+        self.word()?;
+        self.signals()
+    }
+
+    fn signals(&mut self) -> Result<(), u64> {
         self.tag(1)?;
         self.tag(2)?;
         self.tag(2)?;
@@ -132,10 +105,51 @@ impl Reader<'_> {
     }
 }
 
-/// A record's kind, the place after it, and its numbers.
+/// Reads the fields of a record. `bytes` starts at the record's first byte.
+struct Reader<'a> {
+    bytes: &'a [u8],
+    at: usize,
+    /// Where the payload ends.
+    end: usize,
+    values: Values,
+    count: usize,
+}
+
+impl Reader<'_> {
+    fn byte(&mut self) -> Result<u8, u64> {
+        if self.at == self.end {
+            return Err(17);
+        }
+        let byte = *self.bytes.get(self.at).ok_or(18_u64)?;
+        self.at += 1;
+        Ok(byte)
+    }
+}
+
+impl Fields for Reader<'_> {
+    fn number(&mut self, bytes: usize, most: u64) -> Result<u64, u64> {
+        let mut value = 0;
+        for place in 0..bytes {
+            value |= u64::from(self.byte()?) << (8 * place);
+        }
+        if value > most {
+            return Err(17);
+        }
+        self.values[self.count] = value;
+        self.count += 1;
+        Ok(value)
+    }
+
+    fn absent(&mut self) -> Result<(), u64> {
+        self.count += 1;
+        Ok(())
+    }
+}
+
+/// A record's kind, the offset after it, and its numbers.
 type Found = Result<(u8, usize, Values), u64>;
 
-/// A record's kind and the place after it, by its head; only these kinds are known.
+/// A record's kind and the offset after it, from its head. Any other kind than `kinds` is refused.
 fn head(bytes: &[u8], kinds: &[u8], is_length: fn(u8, u16) -> bool) -> Result<(u8, usize), u64> {
     let byte = |at: usize| bytes.get(at).copied().ok_or(18_u64);
     for (at, mark) in [0xa5, 0x1d].into_iter().enumerate() {
@@ -174,7 +188,7 @@ fn record(bytes: &[u8]) -> Found {
     Ok((kind, end, reader.values))
 }
 
-/// What the reader must answer.
+/// What the reader must return.
 #[must_use]
 pub fn read(bytes: &[u8], at: u64) -> Read {
     read_by(record, bytes, at)
@@ -198,7 +212,7 @@ fn read_by(record: fn(&[u8]) -> Found, bytes: &[u8], at: u64) -> Read {
     }
 }
 
-/// A payload as it is written.
+/// Writes the fields of a payload.
 struct Writer<'a> {
     values: std::slice::Iter<'a, u64>,
     bytes: Vec<u8>,
@@ -208,8 +222,9 @@ impl Writer<'_> {
     fn value(&mut self) -> u64 {
         *self.values.next().expect("80 are enough")
     }
+}
 
-    /// A number of at most this value, in so many bytes.
+impl Fields for Writer<'_> {
     fn number(&mut self, bytes: usize, most: u64) -> Result<u64, u64> {
         let value = self.value();
         if value > most {
@@ -219,72 +234,11 @@ impl Writer<'_> {
         Ok(value)
     }
 
-    fn tag(&mut self, most: u64) -> Result<u64, u64> {
-        self.number(1, most)
-    }
-
-    fn word_if(&mut self, stands: bool) -> Result<(), u64> {
-        if stands {
-            self.number(8, u64::MAX)?;
-        } else if self.value() != 0 {
-            return Err(17);
+    fn absent(&mut self) -> Result<(), u64> {
+        match self.value() {
+            0 => Ok(()),
+            _ => Err(17),
         }
-        Ok(())
-    }
-
-    /// The fields of a creation from the sample rate to "start waits".
-    fn settings(&mut self) -> Result<(), u64> {
-        self.number(4, u32::MAX.into())?;
-        let slice = self.tag(6)?;
-        self.word_if(slice >= 1)?;
-        self.word_if(slice >= 3)?;
-        self.tag(1)?;
-        self.word_if(true)?;
-        let looped = self.tag(6)?;
-        self.word_if(looped >= 1)?;
-        self.word_if(looped >= 3)?;
-        self.tag(1)?;
-        self.word_if(true)?;
-        self.tag(1)?;
-        Ok(())
-    }
-
-    fn creation(&mut self) -> Result<(), u64> {
-        self.settings()?;
-        let frames = self.tag(64)?;
-        for frame in 0..64 {
-            self.word_if(frame < frames)?;
-        }
-        Ok(())
-    }
-
-    fn command_set(&mut self) -> Result<(), u64> {
-        let rate = self.tag(1)?;
-        self.word_if(rate == 1)?;
-        let looped = self.tag(7)?;
-        self.word_if(looped >= 2)?;
-        self.word_if(looped >= 4)?;
-        self.tag(1)?;
-        self.tag(2)?;
-        self.tag(1)?;
-        let seek_by = self.tag(1)?;
-        self.word_if(seek_by == 1)?;
-        let seek_to = self.tag(1)?;
-        self.word_if(seek_to == 1)
-    }
-
-    fn block(&mut self) -> Result<(), u64> {
-        self.number(2, 1_024)?;
-        for _ in 0..4 {
-            self.number(4, u32::MAX.into())?;
-        }
-        for _ in 0..2 {
-            self.word_if(true)?;
-        }
-        self.tag(1)?;
-        self.tag(2)?;
-        self.tag(2)?;
-        Ok(())
     }
 }
 
@@ -292,7 +246,7 @@ impl Writer<'_> {
 ///
 /// # Errors
 ///
-/// 16 for an unknown kind, 17 for a number that a field does not take.
+/// 16 for an unknown kind, 17 for a number that a field does not accept.
 pub fn bytes(kind: u64, values: &Values) -> Result<Vec<u8>, u64> {
     let mut writer = Writer {
         values: values.iter(),
@@ -325,12 +279,12 @@ fn put(buffer: &mut [u8], at: u64, bytes: Result<Vec<u8>, u64>) -> Sent {
         Ok(bytes) => bytes,
         Err(refusal) => return refused(refusal),
     };
-    let room = usize::try_from(at)
+    let space = usize::try_from(at)
         .ok()
         .and_then(|at| buffer.get_mut(at..)?.get_mut(..bytes.len()));
-    match room {
-        Some(room) => {
-            room.copy_from_slice(&bytes);
+    match space {
+        Some(space) => {
+            space.copy_from_slice(&bytes);
             Sent {
                 refusal: 0,
                 next: at + bytes.len() as u64,

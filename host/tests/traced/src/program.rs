@@ -1,4 +1,4 @@
-//! The program `replay` as the kit compiled it: for x86-64, on Arm under the kit's emulator.
+//! The program `replay` that the kit compiled for x86-64; on Arm it runs in the kit's emulator.
 
 use std::{
     env,
@@ -17,7 +17,7 @@ pub struct Program {
 }
 
 impl Program {
-    /// The program of this repository, if `rt` has compiled it and its kit is at hand.
+    /// The program of this repository, if `rt` has compiled it and its kit is available.
     #[must_use]
     pub fn find() -> Option<Self> {
         let root = Path::new(env!("CARGO_MANIFEST_DIR")).join("../../..");
@@ -45,7 +45,7 @@ impl Program {
     ///
     /// # Errors
     ///
-    /// What running it gives, and a status that is no success.
+    /// Errors of running it, and a status other than success.
     pub fn printed(&self, trace: &[u8]) -> io::Result<Vec<u8>> {
         let mut child = self.command().stdin(Stdio::piped()).spawn()?;
         let stdin = child.stdin.take();
@@ -60,11 +60,11 @@ impl Program {
         }
     }
 
-    /// Gives what it prints of a file to a reader.
+    /// Passes what it prints of a file to a reader.
     ///
     /// # Errors
     ///
-    /// What running it gives, and a status that is no success.
+    /// Errors of running it, and a status other than success.
     pub fn print_file<T>(
         &self,
         file: File,

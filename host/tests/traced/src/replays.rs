@@ -1,4 +1,5 @@
-//! The compiled step of a replay: traces in pieces against the model, and any bytes as the replay and as the trace.
+//! The compiled step of a replay: traces in pieces, compared with the model, and any bytes as the replay and as the
+//! trace.
 
 pub mod second;
 
@@ -13,7 +14,7 @@ use crate::{
     runs::{Run, Tally},
 };
 
-/// The samples by their bits; a NaN is one, whatever its bits.
+/// The samples by their bits; any NaN counts as the same.
 #[must_use]
 pub fn bits(samples: &[f32]) -> Vec<u32> {
     let bits = |sample: &f32| match sample.is_nan() {
@@ -23,8 +24,8 @@ pub fn bits(samples: &[f32]) -> Vec<u32> {
     samples.iter().map(bits).collect()
 }
 
-/// A trace, given to the library in pieces of any lengths, must do what the model does: the same steps, the same samples of each
-/// block, the same voice at its end.
+/// A trace that the library gets in pieces of any lengths must do what the model does: the same steps, the same samples
+/// of each block, the same voice at its end.
 ///
 /// # Errors
 ///
@@ -65,7 +66,7 @@ pub fn compare_steps(random: &mut Random, bytes: &[u8]) -> Result<Vec<Step>, Str
     }
 }
 
-/// Traces with faults and without, in pieces, against the model.
+/// Traces with faults and without, in pieces, compared with the model.
 ///
 /// # Errors
 ///
@@ -114,7 +115,7 @@ fn any_samples(random: &mut Random, length: usize) -> Box<[f32]> {
 
 impl Case {
     fn any(random: &mut Random) -> Self {
-        // Boxed: not an element more than they are, for a memory checker.
+        // Boxed, so that they have no spare element: a memory checker sees every access beyond them.
         let (frames, room) = (near(random, 128), near(random, 2_048));
         let (mut sound, mut out) = (any_samples(random, frames), any_samples(random, room));
         let mut replay = raw::replay();
@@ -134,7 +135,7 @@ impl Case {
             state.fill_with(|| random.word() as u8);
         }
         if random.coin() {
-            // The last two numbers as they must be: the rest is judged.
+            // The last two numbers are correct, so that the rest is checked.
             state[REPLAY_BYTES - 8..].copy_from_slice(&replay.to_bytes()[REPLAY_BYTES - 8..]);
         }
         let end = at + random.below(bytes.len() - at + 1);
@@ -147,7 +148,7 @@ impl Case {
         }
     }
 
-    /// What is wrong with the answer, if anything; and its refusal.
+    /// What is wrong with the result, if anything; and its refusal.
     fn fault(&mut self) -> Result<u64, String> {
         let (before, sound, out) = (self.replay, self.sound.clone(), self.out.clone());
         let did = raw::replay_step(
@@ -271,7 +272,8 @@ fn played(
     )
 }
 
-/// Any bytes as the replay and as the trace: refused calls change nothing, and every other answer is the page's and the voice's.
+/// Any bytes as the replay and as the trace: refused calls change nothing, and every other result is that of the page
+/// and the voice.
 ///
 /// # Errors
 ///

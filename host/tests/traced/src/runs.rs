@@ -1,6 +1,6 @@
-//! Random runs against the page: each gives a tally, or what differs first.
+//! Random runs compared with the page. Each returns a tally, or the first difference.
 
-use std::fmt;
+use std::{fmt, ops::RangeInclusive};
 
 use cableowl::trace::{Replay, Trace, TraceVersion};
 use random::Random;
@@ -19,12 +19,12 @@ pub struct Tally {
     pub calls: u64,
     /// The bytes compared.
     pub bytes: u64,
-    /// How many calls gave each refusal; 0 is none.
+    /// How many calls returned each refusal; 0 is none.
     pub refused: [u64; 30],
 }
 
 impl Tally {
-    /// One call more.
+    /// Counts a call.
     pub(crate) fn call(&mut self, refusal: u64, bytes: usize) {
         self.calls += 1;
         self.bytes += bytes as u64;
@@ -45,12 +45,12 @@ impl fmt::Display for Tally {
     }
 }
 
-/// A run's answer.
+/// The result of a run.
 pub type Run = Result<Tally, String>;
 
-/// Reads the record at a place.
+/// Reads the record at an offset.
 pub type Reader = fn(&[u8], u64) -> Read;
-/// Writes a record of a kind at a place; version 1 does not look at the lanes.
+/// Writes a record of a kind at an offset; version 1 ignores the lanes.
 pub type Writer = fn(&mut [u8], u64, u64, &Values, &[u8]) -> Sent;
 /// Copies complete records.
 pub type Salvage = fn(&[u8], &mut [u8]) -> Saved;
@@ -84,7 +84,7 @@ impl Version {
         }
     }
 
-    /// A trace with up to so many faults.
+    /// A trace with at most this many faults.
     fn damaged(self, random: &mut Random, records: usize, faults: usize) -> Vec<u8> {
         match self {
             Self::First => make::damaged(random, records, faults),
@@ -92,7 +92,7 @@ impl Version {
         }
     }
 
-    /// A record, lawful or not, and the bytes that it needs.
+    /// A record, well formed or not, and the number of bytes that it needs.
     fn any(self, random: &mut Random) -> (make::second::Made, usize) {
         let (made, bytes) = match self {
             Self::First => {
@@ -112,7 +112,7 @@ impl Version {
 /// A reader, a writer and a salvage.
 #[derive(Debug, Clone, Copy)]
 pub struct Codec {
-    /// The version that they know.
+    /// Their version.
     pub version: Version,
     /// The reader.
     pub read: Reader,
@@ -139,7 +139,7 @@ pub const COMPILED_V2: Codec = Codec {
 };
 
 impl Codec {
-    /// What is read at a place must be the page's answer. Tells the refusal.
+    /// Compares what is read at an offset with the page. Returns the refusal.
     ///
     /// # Errors
     ///
@@ -153,8 +153,8 @@ impl Codec {
         }
     }
 
-    /// A salvage must be the page's, byte for byte past the kept ones too. Tells the refusal, and the
-    /// kept bytes and records.
+    /// Compares a salvage with the page's, also the bytes after the kept ones. Returns the refusal, the kept bytes and
+    /// the number of records.
     ///
     /// # Errors
     ///
@@ -176,7 +176,7 @@ impl Codec {
         Ok((saved.refusal, ours, saved.records))
     }
 
-    /// The same; what is kept must be read to its end, and come out of a second salvage as it is.
+    /// The same. Also, what is kept must be readable to its end, and a second salvage must not change it.
     ///
     /// # Errors
     ///
@@ -197,6 +197,48 @@ impl Codec {
         }
     }
 
+    /// Compares the salvage of a trace with each of its bytes changed to each value, removed, or preceded by another;
+    /// and of the trace cut at each byte.
+    ///
+    /// # Errors
+    ///
+    /// What differs.
+    pub fn compare_faults(&self, trace: &[u8]) -> Result<(), String> {
+        self.compare_salvages(trace, trace.len())?;
+        for place in 0..trace.len() {
+            let mut damaged = trace.to_vec();
+            for byte in 0..=255 {
+                damaged[place] = byte;
+                self.compare_salvage(&damaged, damaged.len())?;
+            }
+            damaged.remove(place);
+            self.compare_salvages(&damaged, damaged.len())?;
+            for byte in [0, 0x1d, 0xa5] {
+                let mut damaged = trace.to_vec();
+                damaged.insert(place, byte);
+                self.compare_salvages(&damaged, damaged.len())?;
+            }
+            self.compare_salvage(&trace[..place], place)?;
+            self.compare_salvage(&trace[place..], trace.len())?;
+        }
+        Ok(())
+    }
+
+    /// Compares what is read of a head alone, for each of these kinds with every length.
+    ///
+    /// # Errors
+    ///
+    /// What differs.
+    pub fn compare_heads(&self, kinds: RangeInclusive<u8>) -> Result<(), String> {
+        for kind in kinds {
+            for length in 0..=u16::MAX {
+                let [low, high] = length.to_le_bytes();
+                self.compare_read(&[0xa5, 0x1d, kind, low, high], 0)?;
+            }
+        }
+        Ok(())
+    }
+
     /// How many records can be read from the first byte on.
     fn records(&self, bytes: &[u8]) -> u64 {
         if self.version == Version::First {
@@ -214,7 +256,7 @@ impl Codec {
         records
     }
 
-    /// Traces with faults, read at each record and at any places.
+    /// Traces with faults, read at each record and at any offsets.
     ///
     /// # Errors
     ///
@@ -222,7 +264,7 @@ impl Codec {
     pub fn reads(&self, seed: u64, count: u64) -> Run {
         let (mut random, mut tally) = (Random::new(seed), Tally::default());
         while tally.calls < count {
-            // Boxed: not a byte more than they are, for a memory checker.
+            // Boxed, so that they have no spare byte: a memory checker sees every access beyond them.
             let bytes = self.version.damaged(&mut random, 4, 3).into_boxed_slice();
             let mut at = 0;
             while at <= bytes.len() {
@@ -245,7 +287,7 @@ impl Codec {
         Ok(tally)
     }
 
-    /// Records, lawful or not, written at any place of a buffer with any room, and read back.
+    /// Records, well formed or not, written at any offset of a buffer of any length, and read back.
     ///
     /// # Errors
     ///
@@ -293,7 +335,7 @@ impl Codec {
         Ok(tally)
     }
 
-    /// Traces with faults, salvaged into outputs of any room.
+    /// Traces with faults, salvaged into outputs of any length.
     ///
     /// # Errors
     ///
@@ -312,7 +354,7 @@ impl Codec {
     }
 }
 
-/// The Rust crate reads as the page does, and its record is written as the bytes that it was read from.
+/// The Rust crate reads as the page does, and writes the record as the bytes from which it was read.
 ///
 /// # Errors
 ///
@@ -338,11 +380,11 @@ pub fn compare_record(bytes: &[u8], at: usize) -> Result<u64, String> {
     Ok(refusal)
 }
 
-/// What the library prints of a trace, at once and as it is read.
+/// What the library prints of a trace, at once and in pieces.
 ///
 /// # Errors
 ///
-/// Where the two differ.
+/// If the two differ.
 pub fn library_prints(bytes: &[u8]) -> Result<Vec<u8>, String> {
     let replay = || Replay::with_version(TraceVersion::First);
     let whole: String = replay()
@@ -386,8 +428,8 @@ pub fn compare_print(program: &Program, bytes: &[u8]) -> Result<Vec<u8>, String>
     }
 }
 
-/// Traces with faults and without, printed by the program and by the library; the refusals counted
-/// are those of records and of blocks, and the bytes are the printed ones.
+/// Traces with faults and without, printed by the program and by the library. The counted refusals are those of records
+/// and of blocks, and the bytes are the printed ones.
 ///
 /// # Errors
 ///
@@ -396,7 +438,7 @@ pub fn prints(program: &Program, seed: u64, count: u64) -> Run {
     let (mut random, mut tally) = (Random::new(seed), Tally::default());
     for trace in 0..count {
         let bytes = match trace % 4 {
-            // Long ones have many lines for one start of the program.
+            // Long traces have many lines for one start of the program.
             0 => make::trace(&mut random, 400),
             1 => make::damaged(&mut random, 400, 2),
             _ => make::damaged(&mut random, 40, 3),

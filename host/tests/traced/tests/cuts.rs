@@ -1,5 +1,6 @@
-//! A traced block cut in two records, the signals with the first: the last position and the samples stay, and the printed
-//! steps' sum unless the voice has stopped by the cut; and no record makes a replay panic.
+//! A traced block cut into two records, with the signals in the first: the last position and the samples stay the same,
+//! and so does the sum of the printed steps, unless the voice has stopped by the cut. Also, no record makes a replay
+//! panic.
 
 use cableowl::{
     PlaybackState, Settings, StartAnswer,
@@ -12,7 +13,7 @@ fn bits(samples: &[f32]) -> Vec<u32> {
     samples.iter().map(|sample| sample.to_bits()).collect()
 }
 
-/// The block's part before a frame, and the rest.
+/// The part of the block before a frame, and the rest.
 fn cut(block: Block, at: usize) -> [Record<'static>; 2] {
     let first = Block {
         frames: at,
@@ -99,7 +100,7 @@ fn a_voice_that_has_stopped_by_the_cut_makes_fewer_steps() {
     }
 }
 
-/// A record made by hand may say what no trace holds.
+/// A record that was made by hand may contain what no trace can.
 #[test]
 fn no_record_makes_a_replay_panic() {
     let mut replay = Replay::new();

@@ -1,5 +1,5 @@
-//! The evening of `make`, recorded. In version 1, on a short sound, its trace prints the live lines, by the library and by the
-//! program. In version 2 it prints them after joining, with the lesson and without it.
+//! The evening of `make`, recorded. In version 1, on a short sound, its trace prints the live lines, by the library and
+//! by the program. In version 2 it prints them after joining, with the lesson and without it.
 
 use std::io::Write;
 
@@ -32,7 +32,7 @@ fn recorded_and_played_again() {
     assert_eq!(again.digest, live.digest);
     assert_eq!(runs::library_prints(&bytes).unwrap(), printed.as_bytes());
     let Some(program) = Program::find() else {
-        // Written past the test's capture: it is to be seen.
+        // Written past the test's capture, so that a person sees it.
         let _ = writeln!(
             std::io::stderr(),
             "skipped: target/bin/replay is not there, so the program did not print the evening"

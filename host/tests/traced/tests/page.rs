@@ -1,4 +1,5 @@
-//! The examples of docs/formats/TRACE.md, read from the page: its records, its short inputs, what is printed, what salvage takes.
+//! The examples of docs/formats/TRACE.md, read from the page: its records, its short inputs, what is printed, and the
+//! salvages.
 
 use cableowl::{
     Commands, Frames, PlaybackPosition, Region, Settings,
@@ -13,7 +14,7 @@ use traced::{
 
 const PAGE: &str = include_str!("../../../../docs/formats/TRACE.md");
 
-/// The bytes of each block of code in a part of the page: the words of two hex digits at a line's start.
+/// The bytes of each block of code in a part of the page: the words of two hex digits at the start of a line.
 fn codes_of(part: &str) -> Vec<Vec<u8>> {
     let is_byte = |word: &&str| word.len() == 2 && u8::from_str_radix(word, 16).is_ok();
     let blocks = part.split("```").skip(1).step_by(2);
@@ -25,7 +26,7 @@ fn codes_of(part: &str) -> Vec<Vec<u8>> {
     bytes.collect()
 }
 
-/// What stands below a heading.
+/// The text below a heading.
 fn below(heading: &str) -> &'static str {
     let (_, part) = PAGE.split_once(heading).unwrap();
     part.split("\n## ").next().unwrap()
@@ -79,15 +80,17 @@ fn what_its_example_prints() {
     assert!(PAGE.contains(&said), "{said}");
 }
 
+/// The rows of the page's table with this head.
+fn rows(head: &str) -> impl Iterator<Item = &'static str> {
+    let (_, table) = PAGE.split_once(head).unwrap();
+    let rows = table.lines().skip(2);
+    rows.take_while(|line| line.starts_with('|'))
+}
+
 #[test]
 fn its_short_inputs() {
-    let (_, table) = PAGE.split_once("| input | answer |").unwrap();
-    let rows = table
-        .lines()
-        .skip(2)
-        .take_while(|line| line.starts_with('|'));
     let mut tried = 0;
-    for row in rows {
+    for row in rows("| input | answer |") {
         let [_, inputs, answer, _] = row.split('|').collect::<Vec<_>>()[..] else {
             panic!("{row}");
         };
@@ -111,7 +114,7 @@ fn its_short_inputs() {
         }
     }
     assert_eq!(tried, 14);
-    // Nothing prints nothing, though there is no record: 18.
+    // An empty trace prints nothing, although a read returns 18.
     assert_eq!(runs::library_prints(&[]), Ok(Vec::new()));
     assert_eq!(entries::read(&[], 0).refusal, 18);
     // A line feed after the last record.
@@ -140,7 +143,7 @@ fn blocks_before_a_creation_and_after_a_refused_one() {
     );
 }
 
-/// Each example of a false record is salvaged as the page tells.
+/// Each example of a false record is salvaged as the page says.
 #[test]
 fn false_records() {
     let part = below("\n## Salvage\n");
@@ -194,7 +197,7 @@ fn its_records_of_version_2() {
         assert_eq!((read.kind, read.next), (kind, bytes.len() as u64));
         assert_eq!(read.values, values);
         assert_eq!(second::lanes(bytes, &read), lanes);
-        // Any change of one byte behind the head's length is refused, and reader 1 knows no such kind.
+        // Any change of one byte after the head's length is refused, and reader 1 does not know the kind.
         for place in 5..bytes.len() {
             for bit in 0..8 {
                 let mut changed = bytes.clone();
@@ -204,7 +207,7 @@ fn its_records_of_version_2() {
         }
         assert_eq!(page::read(bytes, 0).refusal, 16);
         assert_eq!(page::bytes(kind, &values), Err(16));
-        // The checksum that the page prints is the one that its bytes have.
+        // The checksum that the page prints is that of its bytes.
         let seal = bytes.len() - second::CHECKSUM;
         let sum = format!("checksum {:08X}\n", second::checksum(&bytes[2..seal]));
         assert!(PAGE.contains(&sum), "{sum}");
@@ -215,13 +218,8 @@ fn its_records_of_version_2() {
 
 #[test]
 fn its_short_inputs_of_version_2() {
-    let (_, table) = PAGE.split_once("| input | reader 1 | reader 2 |").unwrap();
-    let rows = table
-        .lines()
-        .skip(2)
-        .take_while(|line| line.starts_with('|'));
     let mut tried = 0;
-    for row in rows {
+    for row in rows("| input | reader 1 | reader 2 |") {
         let [_, inputs, first, then, _] = row.split('|').collect::<Vec<_>>()[..] else {
             panic!("{row}");
         };
@@ -244,7 +242,7 @@ fn its_short_inputs_of_version_2() {
     assert_eq!(tried, 8);
 }
 
-/// The lengths and sizes that the page states of version 2.
+/// The lengths and sizes that the page states for version 2.
 #[test]
 fn its_lengths_of_version_2() {
     for kind in 0..=6 {

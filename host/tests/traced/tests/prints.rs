@@ -1,5 +1,5 @@
-//! The program `replay` and the library print the same bytes: the page's short inputs, its example, random and damaged traces.
-//! The program is the one that `rt` compiled; where it did not, these tests say so and try nothing.
+//! The program `replay` and the library print the same bytes: for the page's short inputs, its example, random and
+//! damaged traces. `rt` compiles the program. If it did not, these tests say so and try nothing.
 
 use std::io::Write;
 
@@ -8,7 +8,7 @@ use traced::{hex, make, program::Program, runs};
 fn program(what: &str) -> Option<Program> {
     let found = Program::find();
     if found.is_none() {
-        // Written past the test's capture: it is to be seen.
+        // Written past the test's capture, so that a person sees it.
         let _ = writeln!(
             std::io::stderr(),
             "skipped: target/bin/replay or the kit is not there, so {what} were not printed by the program"

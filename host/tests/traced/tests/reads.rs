@@ -1,9 +1,6 @@
-//! The compiled reader against the page: short inputs exhaustively, then changed, cut and random ones.
+//! Compares the compiled reader with the page: short inputs exhaustively, then changed, cut and random ones.
 
-use std::{
-    io::{self, Read},
-    thread,
-};
+use std::io::{self, Read};
 
 use cableowl::trace::{TraceReader, replay};
 use traced::{
@@ -17,35 +14,15 @@ fn compare(bytes: &[u8]) {
 
 #[test]
 fn every_input_of_at_most_three_bytes() {
-    compare(&[]);
-    thread::scope(|scope| {
-        for quarter in 0..4_u8 {
-            scope.spawn(move || {
-                for first in (0..=255).filter(|byte| byte % 4 == quarter) {
-                    compare(&[first]);
-                    for second in 0..=255 {
-                        compare(&[first, second]);
-                        for third in 0..=255 {
-                            compare(&[first, second, third]);
-                        }
-                    }
-                }
-            });
-        }
-    });
+    random::short_inputs(compare);
 }
 
 #[test]
 fn every_length_of_every_kind() {
-    for kind in 0..=4 {
-        for length in 0..=u16::MAX {
-            let [low, high] = length.to_le_bytes();
-            compare(&[0xa5, 0x1d, kind, low, high]);
-        }
-    }
+    COMPILED.compare_heads(0..=4).unwrap();
 }
 
-/// Every record of it, each byte changed to each value, and each cut.
+/// Each byte of each record changed to each value, and each cut.
 #[test]
 fn every_change_of_one_byte_and_every_cut() {
     let mut trace = make::all_kinds();
@@ -61,7 +38,7 @@ fn every_change_of_one_byte_and_every_cut() {
                 trace[place] = byte;
                 COMPILED.compare_read(&trace, at as u64).unwrap();
                 runs::compare_record(&trace, at).unwrap();
-                // The same with nothing behind the record.
+                // The same with nothing after the record.
                 COMPILED.compare_read(&trace[..next], at as u64).unwrap();
             }
             trace[place] = right;
@@ -70,7 +47,7 @@ fn every_change_of_one_byte_and_every_cut() {
     }
 }
 
-/// What is printed of each: the refusal stands where the page's reader finds it.
+/// What is printed of each cut: the refusal is at the offset at which the page's reader finds it.
 #[test]
 fn every_cut_of_a_trace_is_printed() {
     let trace = make::all_kinds();
@@ -106,7 +83,7 @@ fn random_traces_with_faults() {
     }
 }
 
-/// Past what is held at once, places go on; what cannot be read ends the records, and is said.
+/// After the first bufferful the offsets continue. A read error ends the records and is reported.
 #[test]
 fn a_trace_longer_than_what_is_held() {
     let (mut trace, mut part) = (Vec::new(), Vec::new());

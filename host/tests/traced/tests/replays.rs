@@ -1,4 +1,4 @@
-//! The step of a replay against the model, in pieces and of any bytes, and the lines against the proved bytes.
+//! Compares the step of a replay with the model, in pieces and for any bytes, and the lines with the proved bytes.
 
 use traced::replays;
 

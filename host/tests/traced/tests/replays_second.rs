@@ -1,4 +1,4 @@
-//! Replays of version 2 against the model, over sounds that are given or not: the crate's and the C entry's.
+//! Compares replays of version 2 with the model, over sounds that are given or not: by the crate and by the C entry.
 
 use random::Random;
 use traced::replays::second::{compare, entry, library};

@@ -1,7 +1,5 @@
-//! The compiled reader, writer and salvage of version 2 against the page: short inputs exhaustively, then changed, cut,
-//! sealed again and random ones.
-
-use std::thread;
+//! Compares the compiled reader, writer and salvage of version 2 with the page: short inputs exhaustively, then
+//! changed, cut, sealed again and random ones.
 
 use random::Random;
 use traced::{
@@ -19,35 +17,15 @@ fn compare(bytes: &[u8]) {
 
 #[test]
 fn every_input_of_at_most_three_bytes() {
-    compare(&[]);
-    thread::scope(|scope| {
-        for quarter in 0..4_u8 {
-            scope.spawn(move || {
-                for first in (0..=255).filter(|byte| byte % 4 == quarter) {
-                    compare(&[first]);
-                    for second in 0..=255 {
-                        compare(&[first, second]);
-                        for third in 0..=255 {
-                            compare(&[first, second, third]);
-                        }
-                    }
-                }
-            });
-        }
-    });
+    random::short_inputs(compare);
 }
 
 #[test]
 fn every_length_of_every_kind() {
-    for kind in 0..=6 {
-        for length in 0..=u16::MAX {
-            let [low, high] = length.to_le_bytes();
-            compare(&[0xa5, 0x1d, kind, low, high]);
-        }
-    }
+    COMPILED_V2.compare_heads(0..=6).unwrap();
 }
 
-/// Each byte of each record changed to each value, with its checksum and with one that is right for it; and each cut.
+/// Each byte of each record changed to each value, with the old checksum and with a correct one; and each cut.
 #[test]
 fn every_change_of_one_byte_and_every_cut() {
     let trace = make::all_kinds();
@@ -83,7 +61,7 @@ fn every_change_of_one_byte_and_every_cut() {
     }
 }
 
-/// The longest record: every cut near its ends, and a bit of any of its bytes.
+/// The longest record: every cut near its ends, and a flipped bit in any of its bytes.
 #[test]
 fn the_longest_record() {
     let mut values = [0; 80];
@@ -121,38 +99,13 @@ fn random_records_out_and_back() {
     }
 }
 
-/// Each byte of a trace of all kinds changed, taken out or put in: what is kept.
+/// What is kept if a byte of a trace of all kinds is changed, removed or added.
 #[test]
 fn every_fault_of_one_byte() {
-    let trace = make::all_kinds();
-    COMPILED_V2.compare_salvages(&trace, trace.len()).unwrap();
-    for place in 0..trace.len() {
-        let mut damaged = trace.clone();
-        for byte in 0..=255 {
-            damaged[place] = byte;
-            COMPILED_V2
-                .compare_salvage(&damaged, damaged.len())
-                .unwrap();
-        }
-        damaged.remove(place);
-        COMPILED_V2
-            .compare_salvages(&damaged, damaged.len())
-            .unwrap();
-        for byte in [0, 0x1d, 0xa5] {
-            let mut damaged = trace.clone();
-            damaged.insert(place, byte);
-            COMPILED_V2
-                .compare_salvages(&damaged, damaged.len())
-                .unwrap();
-        }
-        COMPILED_V2.compare_salvage(&trace[..place], place).unwrap();
-        COMPILED_V2
-            .compare_salvage(&trace[place..], trace.len())
-            .unwrap();
-    }
+    COMPILED_V2.compare_faults(&make::all_kinds()).unwrap();
 }
 
-/// A false head of the longest kind before good records: its checksum is wrong, and none of them is lost.
+/// A false head of the longest kind before good records: its checksum is wrong, and no record is lost.
 #[test]
 fn a_false_head_loses_no_record() {
     let mut random = Random::new(386);
@@ -175,7 +128,7 @@ fn random_faults() {
     assert!(tally.refused[25] > 100, "{tally}");
 }
 
-/// Kinds 1 to 3 are written and read as version 1 does, whatever the lanes are.
+/// Kinds 1 to 3 are written and read as in version 1, whatever the lanes are.
 #[test]
 fn version_1_stays_as_it_is() {
     let mut random = Random::new(383);

@@ -1,4 +1,5 @@
-//! The compiled writer against the page: random records out and back, every room, and each field of the Rust crate's record.
+//! Compares the compiled writer with the page: random records written and read back, every length of the buffer, and
+//! each field of the Rust crate's record.
 
 use cableowl::{
     Commands, EndPosition, Frames, LoopCommand, PlaybackPosition, Refusal, Region, ResumeCommand,
@@ -17,12 +18,13 @@ fn random_records_out_and_back() {
     }
 }
 
-/// Every room from none to the record's, at several places: 19 and nothing written, then an exact fit.
+/// Every length of the buffer from 0 to the record's end, at several offsets: 19 and nothing is written, then an exact
+/// fit.
 #[test]
 fn every_room() {
     let mut random = Random::new(1_050);
     for round in 0..60 {
-        let (kind, values) = make::lawful(&mut random);
+        let (kind, values) = make::well_formed(&mut random);
         let bytes = page::bytes(kind, &values).unwrap();
         let (record, _) = trace::read(&bytes, 0).unwrap();
         let at = round % 5;
@@ -38,7 +40,7 @@ fn every_room() {
                 assert!(buffer[..at].iter().all(|byte| *byte == 0x77));
             }
         }
-        // A place beyond the end, as far as there is one.
+        // An offset beyond the end, up to the largest.
         for at in [bytes.len() + 1, usize::MAX - 574, usize::MAX] {
             let mut buffer = vec![0x77; bytes.len()];
             assert_eq!(trace::write(&record, &mut buffer, at), Err(Refusal::Room));

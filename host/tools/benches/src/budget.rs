@@ -1,4 +1,4 @@
-// What the operator plans with: voices a core by block size and by steps a frame, timed.
+// Figures for planning: voices per core by block size and by steps per frame, timed.
 
 use std::fmt::Write;
 
@@ -9,10 +9,10 @@ use crate::{
 
 /// The blocks of the table, in frames.
 const BLOCKS: [usize; 7] = [64, 128, 256, 512, 1_024, 2_048, 4_096];
-/// The steps a frame: the rates, at the sound's own sample rate.
+/// The steps per frame: the rates, at the sound's own sample rate.
 const STEPS: [u32; 5] = [0, 1, 2, 3, 4];
 
-/// The table: a line a block size, nanoseconds a frame and voices a core through the safe crate.
+/// The table: one line per block size, with nanoseconds per frame and voices per core through the safe crate.
 #[must_use]
 pub fn table() -> String {
     let mut text = String::from(

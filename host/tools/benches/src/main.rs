@@ -1,9 +1,12 @@
-// Times ours against kira's text:
+// Times our code and kira's text:
 //   benches [--write DIR]
-//   benches --tables                                                        (the page's tables, in Markdown, on standard output)
+//   benches --tables                                                        (the page's tables, in Markdown, on
+// standard output)
 //   benches --modes                                                         (what the float mode costs a call)
-//   benches --budget                                                        (voices a core by block size and steps a frame)
-//   benches --players                                                       (64 players into one buffer, against bare voices)
+//   benches --budget                                                        (voices per core by block size and steps
+// per frame)
+//   benches --players                                                       (64 players into one buffer, and bare
+// voices)
 //   benches --play ours|safe|kira|player|moving|none --rate R --block N --looped long|3|subnormal
 //           --lanes once|constant|frames|rates --start N --frames N
 //                                                                          (one workload, to be counted)
@@ -77,7 +80,7 @@ fn number<T: std::str::FromStr>(words: &[String], name: &str, otherwise: T) -> R
     })
 }
 
-/// Plays one workload and nothing else; `none` makes all voices and plays none.
+/// Plays only one workload. `none` makes all voices and plays none.
 fn play(who: &str, words: &[String]) -> Result<(), Box<dyn Error>> {
     let workload = Workload {
         rate: number(words, "--rate", 0.93)?,

@@ -1,4 +1,4 @@
-// Times ours, the safe crate and kira's text in turns, so that what disturbs one disturbs the others.
+// Times our code, the safe crate and kira's text in turn, so that a disturbance affects all of them.
 
 use std::time::Instant;
 
@@ -15,12 +15,12 @@ const REPETITIONS: usize = 200;
 /// Frames of one repetition: whole blocks of each size.
 const FRAMES: usize = 8_192;
 
-/// Nanoseconds a frame: the least and the middle one.
+/// Nanoseconds per frame: the minimum and the median.
 #[derive(Debug, Clone, Copy)]
 pub struct Time {
-    /// The least of all repetitions.
+    /// The minimum of all repetitions.
     pub least: f64,
-    /// The middle one.
+    /// The median.
     pub median: f64,
 }
 
@@ -29,9 +29,9 @@ pub struct Time {
 pub struct Row {
     /// What was played.
     pub workload: Workload,
-    /// Ours, through the C entry.
+    /// Our code, through the C entry.
     pub ours: Time,
-    /// Ours, through the safe crate.
+    /// Our code, through the safe crate.
     pub safe: Time,
     /// kira's text.
     pub kira: Time,
@@ -83,7 +83,7 @@ fn row(workload: Workload, sound: &[f32]) -> Row {
     }
 }
 
-/// Nanoseconds a frame of one voice alone, the least of all repetitions.
+/// Nanoseconds per frame of one voice alone, the minimum of all repetitions.
 #[must_use]
 pub fn least(voice: &mut dyn Voice, block: usize) -> f64 {
     let times = (0..REPETITIONS).map(|_| timed(voice, block));

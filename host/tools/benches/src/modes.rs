@@ -1,4 +1,5 @@
-// What setting the float mode costs a call of 64 frames through the safe crate: a host in the plain mode, and one that flushes.
+// What setting the float mode costs a call of 64 frames through the safe crate, for a host in the plain mode and for
+// one that flushes subnormals.
 
 use std::time::Instant;
 
@@ -13,7 +14,7 @@ const BLOCK: usize = 64;
 const CALLS: usize = 128;
 const REPETITIONS: usize = 2_000;
 
-/// Nanoseconds a call, the least of all repetitions: plain, and flushing.
+/// Nanoseconds per call, the minimum of all repetitions: plain, and flushing.
 #[must_use]
 pub fn cost() -> [f64; 2] {
     let workload = Workload {

@@ -1,4 +1,4 @@
-// Many players into one buffer: bare voices, players whose parameters rest, and players all of whose parameters move.
+// Many players into one buffer: bare voices, players with constant parameters, and players whose parameters all move.
 
 use std::{fmt::Write, time::Instant};
 
@@ -10,10 +10,10 @@ use crate::workload::{HZ, Looped, Voice, Workload};
 const VOICES: usize = 64;
 /// The calls of the table, in frames.
 const BLOCKS: [usize; 4] = [64, 256, 1_024, 4_096];
-/// Frames of each voice, call after call; each call is timed by itself.
+/// Frames of each voice, call after call; each call is timed separately.
 const FRAMES: usize = 200 * 4_096;
 
-/// Someone who adds a block of all voices to a buffer.
+/// Something that adds a block of all voices to a buffer.
 trait Mixes {
     fn mix(&mut self, sound: &[f32], out: &mut [f32]);
 }
@@ -54,7 +54,7 @@ fn settings(voice: usize) -> Settings {
     all.start_position(Frames(701 * voice)).playback_rate(0.93)
 }
 
-/// Players; those that move go on moving for the whole measurement.
+/// Players. Those that move keep moving for the whole measurement.
 fn players(sound: &[f32], moving: bool) -> Vec<Player> {
     let level = Level::new(60).expect("a level");
     let tween = |hours: u64| match moving {
@@ -75,7 +75,7 @@ fn players(sound: &[f32], moving: bool) -> Vec<Player> {
     (0..VOICES).map(player).collect()
 }
 
-/// One player that plays a workload's blocks, for its instructions to be counted.
+/// One player that plays a workload's blocks, to count its instructions.
 pub struct One<'a> {
     player: Player,
     sound: &'a [f32],
@@ -83,7 +83,7 @@ pub struct One<'a> {
 }
 
 impl<'a> One<'a> {
-    /// A player over the workload's sound, all parameters in motion or none.
+    /// A player over the workload's sound, with all parameters moving or none.
     #[must_use]
     pub fn new(workload: &Workload, sound: &'a [f32], moving: bool) -> Self {
         Self {
@@ -105,7 +105,7 @@ impl Voice for One<'_> {
     }
 }
 
-/// Nanoseconds a frame of one voice, the least of all calls, of each in turns.
+/// Nanoseconds per frame of one voice, the minimum of all calls, each in turn.
 fn least(block: usize, sound: &[f32]) -> [f64; 3] {
     let voice = |voice| StaticSound::new(settings(voice), sound).expect("accepted settings");
     let mut bare = Bare {
@@ -129,7 +129,7 @@ fn least(block: usize, sound: &[f32]) -> [f64; 3] {
     least
 }
 
-/// The table: a line a size of the call.
+/// The table: one line per length of the call.
 #[must_use]
 pub fn table() -> String {
     let mut text = String::from(

@@ -7,7 +7,7 @@ use crate::{
     workload::{HZ, LaneKind, Looped},
 };
 
-/// The table, one line a workload.
+/// The table, one line per workload.
 #[must_use]
 pub fn table(rows: &[Row]) -> String {
     let mut text = String::from(
@@ -35,10 +35,11 @@ pub fn table(rows: &[Row]) -> String {
     text
 }
 
-/// The rates, in either direction, that the ratios of a kind of lane are taken over.
+/// The rates, in both directions, over which the ratios of a kind of lane are computed.
 const SLOW: [f64; 3] = [0.5, 0.93, 1.0];
 
-/// Ours over kira's text for each kind of lane: the least and the most of its cells, blocks of 512 and 4,096 beside blocks of 64.
+/// The time of our code divided by that of kira's text for each kind of lane: the smallest and the largest of its
+/// cells, for blocks of 512 and 4,096, and for blocks of 64.
 #[must_use]
 pub fn ratios(rows: &[Row]) -> String {
     let mut text = String::from("| lanes | 512 and 4,096 | 64 |\n|---|---|---|\n");
@@ -72,8 +73,8 @@ pub fn ratios(rows: &[Row]) -> String {
     text
 }
 
-/// The nanoseconds of a call that do not depend on its frames, at rate 0.93 in the long loop: by the times of blocks of 64 and
-/// of 4,096.
+/// The nanoseconds of a call that do not depend on its frames, at rate 0.93 in the long loop, from the times of blocks
+/// of 64 and of 4,096.
 #[must_use]
 pub fn fixed_parts(rows: &[Row]) -> String {
     let mut text = String::from("| lanes | ours | safe crate | kira's text |\n|---|---|---|---|\n");
@@ -88,7 +89,7 @@ pub fn fixed_parts(rows: &[Row]) -> String {
         let (Some(few), Some(many)) = (found(64), found(4_096)) else {
             continue;
         };
-        // A call takes the fixed part and so much a frame.
+        // A call takes the fixed part plus a time per frame.
         let fixed = |few: f64, many: f64| (few - many) / (1.0 / 64.0 - 1.0 / 4_096.0);
         writeln!(
             text,
@@ -201,7 +202,7 @@ Time a frame over that of kira's text in the same run, stereo, looped, rate 0.93
 | ours, on Arm (the table above) | 0.76 / 0.60 / 0.58 | as kira's, with every check, proved |
 ";
 
-/// Processor, system, compiler and day of the run, as far as they can be told.
+/// Processor, system, compiler and day of the run, as far as they are known.
 fn machine() -> String {
     let said = |program: &str, words: &[&str]| {
         let output = Command::new(program).args(words).output().ok()?;
@@ -255,7 +256,7 @@ fn arm_name(implementer: &str, part: &str) -> Option<&'static str> {
     })
 }
 
-/// The long loop, forward, as bars: a panel a block size, a pair of bars a rate.
+/// The long loop, forward, as bars: a panel per block size, a pair of bars per rate.
 #[must_use]
 pub fn plot(rows: &[Row]) -> String {
     let long: Vec<&Row> = rows

@@ -1,12 +1,12 @@
-// One workload, played by ours through the C entry, by ours through the safe crate, or by kira's text: the same sound, loop,
-// lanes and blocks.
+// One workload, played by our code through the C entry, by our code through the safe crate, or by kira's text, with the
+// same sound, loop, lanes and blocks.
 
 use random::Random;
 use raw::{
     CableowlPlace, CableowlRegion, CableowlSettings, CableowlSignals, CableowlState, Held, Lanes,
 };
 
-/// Frames a second, of the sound and of the output.
+/// Frames per second, of the sound and of the output.
 pub const HZ: u32 = 48_000;
 /// Frames of the sound.
 const FRAMES: usize = 48_000;
@@ -20,22 +20,22 @@ pub struct Workload {
     pub block: usize,
     /// What is looped.
     pub looped: Looped,
-    /// What the frames are given.
+    /// The numbers of the frames.
     pub lanes: LaneKind,
-    /// The frame it starts at; none is the loop's first.
+    /// The frame at which it starts; without one, the loop's first.
     pub start: Option<usize>,
 }
 
-/// What the frames of a block are given.
+/// The numbers of a block's frames.
 #[derive(Debug, Clone, Copy, PartialEq, Eq)]
 pub enum LaneKind {
-    /// Five numbers for the whole block, given once: amplitudes and gains 1, 0.5, 0.8 and 0.9.
+    /// Held lanes: five numbers for the whole block, with amplitudes and gains 1, 0.5, 0.8 and 0.9.
     Once,
-    /// Lanes that repeat a number, amplitudes and gains of 1.
+    /// Lanes that repeat one number, with amplitudes and gains of 1.
     Constant,
-    /// Amplitudes and gains of each frame, and one rate in all of the lane.
+    /// Amplitudes and gains for each frame, and one rate in the whole lane.
     PerFrame,
-    /// The same with a rate of each frame, up to a thousandth above the workload's.
+    /// The same with a rate for each frame, up to a thousandth above the workload's.
     Rates,
 }
 
@@ -43,7 +43,7 @@ impl LaneKind {
     /// All of them.
     pub const ALL: [Self; 4] = [Self::Once, Self::Constant, Self::PerFrame, Self::Rates];
 
-    /// The words for it in tables.
+    /// Its name in tables.
     #[must_use]
     pub fn name(self) -> &'static str {
         match self {
@@ -54,7 +54,7 @@ impl LaneKind {
         }
     }
 
-    /// The word for it in options.
+    /// Its name in options.
     #[must_use]
     pub fn word(self) -> &'static str {
         match self {
@@ -66,7 +66,7 @@ impl LaneKind {
     }
 }
 
-/// What is looped, and what it sounds like.
+/// What is looped, and which samples it has.
 #[derive(Debug, Clone, Copy, PartialEq, Eq)]
 pub enum Looped {
     /// All of the sound.
@@ -78,7 +78,7 @@ pub enum Looped {
 }
 
 impl Looped {
-    /// The word for it in tables and options.
+    /// Its name in tables and options.
     #[must_use]
     pub fn name(self) -> &'static str {
         match self {
@@ -95,7 +95,7 @@ impl Looped {
         }
     }
 
-    /// The sound played: samples from -1 to 1, in the tail times 2^-130.
+    /// The sound: samples from -1 to 1, for the tail times 2^-130.
     #[must_use]
     pub fn sound(self) -> Vec<f32> {
         let level = match self {
@@ -151,7 +151,7 @@ fn step() -> f64 {
     1.0 / f64::from(HZ)
 }
 
-/// Someone who plays a workload block by block.
+/// Something that plays a workload block by block.
 pub trait Voice {
     /// Plays one block.
     fn block(&mut self);
@@ -164,7 +164,7 @@ fn bits(samples: &[f32]) -> Vec<u32> {
     samples.iter().map(|sample| sample.to_bits()).collect()
 }
 
-/// Ours, with all its checks: every call judges the state and the lanes.
+/// Our code, with all its checks: every call checks the state and the lanes.
 pub struct Ours<'a> {
     state: CableowlState,
     sound: &'a [f32],
@@ -239,7 +239,7 @@ impl Voice for Ours<'_> {
     }
 }
 
-/// Ours through the safe crate, which sets the float mode of each call.
+/// Our code through the safe crate, which sets the float mode of each call.
 pub struct Safe<'a> {
     voice: cableowl::StaticSound,
     sound: &'a [f32],
@@ -253,7 +253,7 @@ impl<'a> Safe<'a> {
     /// A voice at the workload's beginning.
     ///
     /// # Panics
-    /// If the settings are refused, which they are not.
+    /// If the settings are refused, which does not happen.
     #[must_use]
     pub fn new(workload: &Workload, sound: &'a [f32]) -> Self {
         let frames = cableowl::Frames;
@@ -299,7 +299,7 @@ impl Voice for Safe<'_> {
     }
 }
 
-/// kira's text, without checks, without counts and without a copy of lanes or output.
+/// kira's text, without checks, counts, or a copy of lanes or output.
 pub struct Kira {
     voice: timed::Oracle,
     lanes: timed::LaneBuffers,

@@ -1,8 +1,8 @@
-//! Instructions a frame, counted by callgrind: they may not rise by more than 15 percent over what is recorded here. And
-//! divisions in a short loop, which may not rise at all.
+//! Instructions per frame, counted by callgrind: they may not rise by more than 15 percent above what is recorded here.
+//! Divisions in a short loop may not rise at all.
 //!
-//! Times depend on the machine and on what else runs there; counts depend on the archive alone, which one clang
-//! compiles. Where there is no valgrind, or nothing is recorded for the processor, that is said, and nothing is tested.
+//! Times depend on the machine and on its load. Counts depend only on the archive, which one clang compiles. If there
+//! is no valgrind, or nothing is recorded for the processor, the test says so and tests nothing.
 
 use std::{
     env::consts::ARCH,
@@ -24,8 +24,8 @@ const CELLS: [Cell; 7] = [
     ["0.93", "512", "long", "rates"],
 ];
 
-/// Instructions a frame in each cell, ours with every check: by processor, as callgrind counts them; none where a cell was not
-/// counted there.
+/// Instructions per frame in each cell, of our code with every check, by processor, as callgrind counts them; `None` if
+/// a cell was not counted there.
 const RECORDED: [(&str, [Option<f64>; 7]); 2] = [
     (
         "aarch64",
@@ -79,7 +79,7 @@ fn instructions_a_frame_do_not_rise() -> Result<(), Box<dyn Error>> {
     Ok(())
 }
 
-/// The turn at a loop's edge does not divide (#107): tools/divisions has the counts, and where each division is from.
+/// A wrap at a loop's edge does not divide (#107): tools/divisions has the counts, and where each division comes from.
 #[test]
 fn a_turn_at_the_edge_of_a_loop_does_not_divide() -> Result<(), Box<dyn Error>> {
     let tool = concat!(env!("CARGO_MANIFEST_DIR"), "/../../../tools/divisions");
@@ -94,7 +94,7 @@ fn a_turn_at_the_edge_of_a_loop_does_not_divide() -> Result<(), Box<dyn Error>> 
     }
 }
 
-/// Said past the test's own capture of what it prints.
+/// Printed past the test's capture.
 fn unheard(why: &str) -> Result<(), Box<dyn Error>> {
     Ok(writeln!(stderr(), "INSTRUCTIONS WERE NOT TESTED: {why}")?)
 }

@@ -1,5 +1,5 @@
-//! The items of a text that a landing counts: definitions of specs/ and contracts of src/, each by its name, and what
-//! became of them between two commits; and the digest of each statement (`statements`).
+//! The items of a text that a landing counts: definitions of specs/ and contracts of src/, each by its name, and how
+//! they changed between two commits; and the digest of each statement (`statements`).
 #![deny(unsafe_code)]
 #![warn(missing_docs)]
 
@@ -14,7 +14,7 @@ pub use statements::{FILE, changes, pinned, statements};
 /// Items by name, each with its lines that are neither empty nor a comment.
 pub type Items = BTreeMap<String, Vec<String>>;
 
-/// Words that may stand before a definition's name.
+/// Words that may precede a definition's name.
 const BEFORE: [&str; 6] = ["unfoldable", "abbrev", "opaque", "pub", "record", "data"];
 
 /// The definitions of a text of antt: a name, its type, and all lines up to the next name. Inside a module with
@@ -49,15 +49,15 @@ pub fn definitions(text: &str) -> Items {
     found
 }
 
-/// Whether a line brings names of other files in, or names a file of its own folder.
+/// Whether a line imports names from other files, or names a file of its own folder.
 fn is_use(line: &str) -> bool {
     ["use ", "pub use ", "ghost use ", "pub mod ", "mod "]
         .iter()
         .any(|word| line.starts_with(word))
 }
 
-/// The name that a line begins to define: the first after a word such as `abbrev`, else one with its type. Parameters
-/// may stand between a name and its type.
+/// The name whose definition begins at a line: the first after a word such as `abbrev`, otherwise one with its type.
+/// Parameters may be between a name and its type.
 fn defined(line: &str) -> Option<&str> {
     if line.starts_with(char::is_whitespace) || is_use(line) {
         return None;
@@ -118,16 +118,16 @@ fn is_clause(line: &str) -> bool {
     line.starts_with("requires ") || line.starts_with("ensures ")
 }
 
-/// What became of a set of items.
+/// How a set of items changed.
 #[derive(Debug, Default, PartialEq, Eq)]
 pub struct Change {
     /// Names that were not there before.
     pub new: Vec<String>,
-    /// Names whose lines are others.
+    /// Names with changed lines.
     pub changed: Vec<String>,
     /// Names that are no longer there.
     pub removed: Vec<String>,
-    /// How many stayed word for word.
+    /// How many are the same, word for word.
     pub stayed: usize,
     /// Lines that the new and the changed have and did not have before.
     pub added_lines: usize,
@@ -135,7 +135,7 @@ pub struct Change {
     pub removed_lines: usize,
 }
 
-/// What became of the items before.
+/// Compares the items with those before.
 #[must_use]
 pub fn change(before: &Items, after: &Items) -> Change {
     let mut change = Change::default();
@@ -156,7 +156,7 @@ pub fn change(before: &Items, after: &Items) -> Change {
     change
 }
 
-/// How many of the lines the other text lacks, each line of it answering for one.
+/// How many of the lines the other text lacks. Each of its lines counts once.
 fn missing(lines: &[String], other: Option<&Vec<String>>) -> usize {
     let mut left: Vec<&String> = other.into_iter().flatten().collect();
     let mut count = 0;

@@ -10,7 +10,7 @@ use std::{
 
 use landing::{Change, FILE, Items, Sources, change, changes, contracts, definitions};
 
-/// How the items of a part are read off a commit's files.
+/// How the items of a part are read from a commit's files.
 type Reads = fn(&Sources) -> Items;
 
 type Result<T> = std::result::Result<T, Box<dyn Error>>;
@@ -63,7 +63,7 @@ fn report(before: &str, after: &str) -> Result<String> {
         &interface,
     );
     names += &named("interface", &interface);
-    // The file of digests is younger than the first landings.
+    // The file of digests did not exist at the first landings.
     if let (Some(before), Some(after)) = (old.0.get(FILE), new.0.get(FILE)) {
         let (change, moved) = changes(before, after);
         text += &row("statements (docs/assurance/STATEMENTS.txt)", &change);

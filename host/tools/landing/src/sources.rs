@@ -1,4 +1,4 @@
-//! The texts of the crates by their paths, of a commit or of the folder that this is built in.
+//! The texts of the crates by their paths, from a commit or from this repository's folder.
 
 use std::{collections::BTreeMap, fs, io, path::Path};
 

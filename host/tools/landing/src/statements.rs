@@ -1,5 +1,5 @@
 //! The digest of each statement that a reader must believe: the definitions of specs/, the fields of its records, the
-//! contracts of public functions, and where the names come from that a file of them uses.
+//! contracts of public functions, and for each file the paths that it imports.
 
 use std::collections::{BTreeMap, BTreeSet};
 
@@ -10,7 +10,7 @@ use crate::{Change, Items, Sources, change, contracts, definitions};
 /// The file that holds them.
 pub const FILE: &str = "docs/assurance/STATEMENTS.txt";
 
-/// What the file begins with.
+/// The first lines of the file.
 const HEAD: &str = "\
 # The digest of each statement; `tools/statements` writes this file, and docs/guide/CHANGING.md says when to run it.
 # A line: name, kind, and the first 64 bits of the SHA-256 of its text without comments and layout.
@@ -67,7 +67,8 @@ pub fn pinned(text: &str) -> Items {
         .collect()
 }
 
-/// What became of the statements between two texts of the file; one with another name and the same digest has moved.
+/// How the statements changed between two texts of the file. A statement with another name and the same digest has
+/// moved.
 #[must_use]
 pub fn changes(before: &str, after: &str) -> (Change, Vec<String>) {
     let (before, after) = (pinned(before), pinned(after));
@@ -95,7 +96,7 @@ pub fn changes(before: &str, after: &str) -> (Change, Vec<String>) {
 /// A field's name and its lines.
 type Field<'a> = (&'a str, &'a [String]);
 
-/// A record's first lines, and each of its fields with its lines; nothing for another definition.
+/// A record's first lines, and each of its fields with its lines; `None` for another definition.
 fn record(lines: &[String]) -> Option<(&[String], Vec<Field<'_>>)> {
     let mut words = lines[0].split_whitespace();
     words
@@ -116,8 +117,8 @@ fn record(lines: &[String]) -> Option<(&[String], Vec<Field<'_>>)> {
     Some((head, fields.collect()))
 }
 
-/// A text without comments and layout: one space between words, none beside a bracket or a semicolon, and no mark before
-/// a closing bracket, where layout puts one if the list takes several lines.
+/// A text without comments and layout: one space between words, none beside a bracket or a semicolon, and no comma
+/// before a closing bracket, where layout adds one if the list has several lines.
 fn plain(lines: &[String], comment: &str) -> String {
     let said = lines
         .iter()
@@ -135,7 +136,7 @@ fn plain(lines: &[String], comment: &str) -> String {
         .replace(",)", ")")
 }
 
-/// The names that a file's lines with this word bring in, each with the path that it comes from, in order.
+/// The names that a file's lines with this word import, each with its path, in order.
 fn names(text: &str, word: &str) -> String {
     let mut found = BTreeSet::new();
     let mut lines = text.lines();

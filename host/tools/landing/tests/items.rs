@@ -1,4 +1,4 @@
-//! Definitions and contracts are found by name, and what became of them is told.
+//! Definitions and contracts are found by name, and changes are reported.
 
 use landing::{change, contracts, definitions};
 

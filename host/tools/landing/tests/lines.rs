@@ -1,4 +1,4 @@
-//! A line of `src/` or `specs/` has at most 120 characters, so that a contract is read without scrolling.
+//! A line of `src/` or `specs/` has at most 120 characters, so that a contract can be read without scrolling.
 
 use std::path::Path;
 

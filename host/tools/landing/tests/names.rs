@@ -1,4 +1,4 @@
-//! A word of the glossary's column "not" is no part of an identifier in `src/` and `specs/`.
+//! No identifier in `src/` and `specs/` contains a word of the glossary's column "not".
 
 use std::{
     collections::{BTreeMap, BTreeSet},
@@ -40,7 +40,7 @@ fn words(page: &str) -> (BTreeSet<String>, BTreeSet<String>) {
     (not.collect(), kept.filter(|word| word != "word").collect())
 }
 
-/// The parts of an identifier in lower case: of `isTrail`, `is_trail` and `is-trail` the same two.
+/// The parts of an identifier in lower case: `isTrail`, `is_trail` and `is-trail` have the same two.
 fn parts(identifier: &str) -> Vec<String> {
     let mut parts = vec![String::new()];
     let mut before = ' ';

@@ -1,4 +1,5 @@
-//! docs/assurance/STATEMENTS.txt holds the digest of each statement as it stands, and a statement that changes is a line of it.
+//! docs/assurance/STATEMENTS.txt has the digest of each statement in the sources, and a changed statement changes a
+//! line.
 
 use std::{collections::BTreeSet, fs, path::Path};
 
@@ -60,7 +61,7 @@ fn of(krate: &str, specs: &str, source: &str) -> String {
     statements(&Sources(files.into()))
 }
 
-/// The statements that are others when a text of the specs and one of the source is replaced.
+/// The statements that change when a text of the specs and one of the source are replaced.
 fn differ(specs: (&str, &str), source: (&str, &str)) -> Vec<String> {
     assert!(SPECS.contains(specs.0) && SOURCE.contains(source.0));
     let edited = of(
@@ -195,7 +196,7 @@ fn a_weaker_statement_is_a_line() {
             ("module _ {K : Type 0}", "module _ {K : Type 1}"),
             vec!["block::Decides definition"],
         ),
-        // a promise, a promise that is gone, two that changed places
+        // a promise, a removed promise, two that changed places
         (
             ("(n : ℕ) → Cut n", "(n : ℕ) → n ≡ 0 → Cut n"),
             vec!["block::Promises.cut-blocks field"],
@@ -214,7 +215,7 @@ fn a_weaker_statement_is_a_line() {
             ),
             vec!["block::Promises definition", "+block::Promises.more field"],
         ),
-        // a name that comes from elsewhere
+        // a name that is imported from another file
         (
             ("numbers.specs.Lists", "frame.specs.Lists"),
             vec!["block/specs/Blocks.antt names"],
@@ -263,7 +264,7 @@ fn a_crate_under_another_name_moves_its_lines_and_changes_no_digest() {
     assert_eq!((change.new.len(), change.removed.len()), (0, 0));
     assert_eq!((change.changed.len(), moved.len()), (0, 9));
     assert!(moved.contains(&"block::plays contract → slab::plays contract".to_owned()));
-    // Elsewhere only the lines change that say where names come from.
+    // In other files only the lines that say where names come from change.
     assert_eq!(
         differ(("Rattle.numbers", "Rattle.figures"), ("", "")),
         ["block/specs/Blocks.antt names"]

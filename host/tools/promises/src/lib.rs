@@ -1,7 +1,6 @@
-//! Whether each public function of the Rattle crates has its promise told: an `ensures`, a row in docs/PROMISES.md, and
-//! either a line among the laws that two outcomes of one promise coincide or, unless C calls it, a row in
-//! docs/EXCEPTIONS.md. And whether docs/EXCEPTIONS.md names every function that asks something of its callers, in the
-//! table of public or of private functions as the sources have it, and those callers.
+//! Finds public functions of the Rattle crates whose promise is not documented. Each needs an `ensures`, a row in
+//! docs/PROMISES.md, and either a line in a record `Coincide` or, unless C calls it, a row in docs/EXCEPTIONS.md.
+//! Also finds the functions with a `requires` and their callers, which docs/EXCEPTIONS.md lists.
 
 pub mod records;
 
@@ -9,7 +8,7 @@ use std::fs;
 use std::iter;
 use std::path::Path;
 
-/// What every source of every crate below `crates/` has, crate by crate.
+/// Collects what `of_one` finds in every source of every crate below `crates/`.
 fn of_every_source<T>(crates: &Path, of_one: impl Fn(&str, &str) -> Vec<T>) -> Vec<T> {
     let mut found = Vec::new();
     for krate in sorted(crates) {
@@ -50,12 +49,12 @@ pub fn packages(host: &Path) -> Vec<String> {
     found
 }
 
-/// The name of a function's line among the laws: `transport::Transport::seek_to` has `transport-transport-seek-to`.
+/// The name of a function's line in `Coincide`: `transport::Transport::seek_to` has `transport-transport-seek-to`.
 pub fn law_of(function: &str) -> String {
     function.replace("::", "-").replace('_', "-").to_lowercase()
 }
 
-/// The lines that outcomes coincide: `specs/Coincide.antt` of every crate below `crates/` that has one.
+/// The texts of the records `Coincide`: `specs/Coincide.antt` of every crate below `crates/` that has one.
 pub fn all_laws(crates: &Path) -> String {
     let files = sorted(crates)
         .into_iter()
@@ -64,18 +63,18 @@ pub fn all_laws(crates: &Path) -> String {
     texts.collect()
 }
 
-/// The texts that a promise is told in.
-pub struct Told {
+/// The texts that document a promise.
+pub struct Documents {
     /// docs/PROMISES.md
     pub promises: String,
     /// docs/EXCEPTIONS.md
     pub exceptions: String,
-    /// the records of lines that outcomes coincide
+    /// the records `Coincide`
     pub laws: String,
 }
 
-impl Told {
-    /// What is missing of one public function's promise, in words; nothing where all is told.
+impl Documents {
+    /// What is missing for the promise of a public function, in words; `None` if nothing is.
     pub fn missing(&self, function: &Function) -> Option<String> {
         let path = &function.path;
         if !function.promises {
@@ -91,18 +90,20 @@ impl Told {
         let excused = self.excuses(path) || self.excuses(&format!("*::{}", function.name()));
         match self.law(path) {
             Some(_) if excused => Some(format!(
-                "{path}: it has a law, so docs/EXCEPTIONS.md need not excuse it"
+                "{path}: it has a line in `Coincide`, so docs/EXCEPTIONS.md need not excuse it"
             )),
             Some(law) if !law.ends_with(&format!(" {}.Reads.Post", path.replace("::", "."))) => {
-                Some(format!("{path}: its law is of another contract: {law}"))
+                Some(format!(
+                    "{path}: its line in `Coincide` is about another contract: {law}"
+                ))
             }
             Some(law) if function.writes() && !law.starts_with("DecidesWith ") => Some(format!(
-                "{path}: it writes through a `&mut`, and its law says nothing of what it leaves"
+                "{path}: it writes through a `&mut`, and its line in `Coincide` says nothing about what it leaves"
             )),
             Some(_) => None,
             None if excused && !function.is_entry() => None,
             None => Some(format!(
-                "{path}: no law `{}` that two outcomes coincide{}",
+                "{path}: no line `{}` in `Coincide`{}",
                 law_of(path),
                 if function.is_entry() {
                     ", and a C entry is never excused"
@@ -113,7 +114,7 @@ impl Told {
         }
     }
 
-    /// What a function's law says, on one line. A law ends before the next field and before a comment.
+    /// A function's line in `Coincide`, joined into one. It ends before the next field and before a comment.
     fn law(&self, path: &str) -> Option<String> {
         let start = format!("pub {} :", law_of(path));
         let mut lines = self.laws.lines().map(str::trim);
@@ -125,12 +126,12 @@ impl Told {
         Some(law.join(" ").trim_start().to_string())
     }
 
-    /// Whether the last table of docs/EXCEPTIONS.md has a row of this name.
+    /// Whether the last table of docs/EXCEPTIONS.md has a row with this name.
     fn excuses(&self, name: &str) -> bool {
         self.excused().any(|row| row == name)
     }
 
-    /// The names in the last table of docs/EXCEPTIONS.md: functions without a line of their own.
+    /// The names in the last table of docs/EXCEPTIONS.md: functions without a line in `Coincide`.
     pub fn excused(&self) -> impl Iterator<Item = &str> {
         self.exceptions
             .lines()
@@ -139,14 +140,14 @@ impl Told {
     }
 }
 
-/// A function of a Rattle source, and what stands in it.
+/// A function of a Rattle source.
 #[derive(Default)]
 pub struct Function {
     /// `crate::Type::name` or `crate::name`
     pub path: String,
     /// whether it is `pub` or C calls it; `pub(crate)` is private
     pub public: bool,
-    /// what is given and returned, as it stands in the source
+    /// its parameters and what it returns, as the source has them
     pub signature: String,
     /// whether its contract has a `requires`
     pub asks: bool,
@@ -231,18 +232,18 @@ impl Function {
         self.path.rsplit("::").next().expect("a function's name")
     }
 
-    /// Whether C calls it: a public function of the crate that the archive is made of.
+    /// Whether C calls it: a public function of the crate `cableowl`, from which the archive is made.
     pub fn is_entry(&self) -> bool {
         self.public && self.krate() == "cableowl"
     }
 
-    /// Whether it writes through a reference that it is given.
+    /// Whether it has a parameter `&mut`.
     fn writes(&self) -> bool {
         self.signature.contains("&mut ")
     }
 
-    /// Whether its code calls the function of this path: a method by `.name(` or `Type::name(`, another by its name
-    /// inside its crate or where a `use` brings it in, and by `crate::name(` elsewhere.
+    /// Whether its code calls the function with this path: a method by `.name(` or `Type::name(`, another function by
+    /// its name inside its crate or if a `use` imports it, and otherwise by `crate::name(`.
     pub fn calls(&self, path: &str) -> bool {
         let parts: Vec<&str> = path.split("::").collect();
         let name = parts[parts.len() - 1];
@@ -263,40 +264,56 @@ impl Function {
     }
 }
 
-/// A row of docs/EXCEPTIONS.md that names callers.
-pub struct Asking {
-    pub path: String,
-    /// whether its row is in the table of public functions, which says who guarantees what they ask
+/// The page that lists the functions with a `requires`, and their callers.
+pub const EXCEPTIONS: &str = "docs/EXCEPTIONS.md";
+
+/// A row of docs/EXCEPTIONS.md for a function with a `requires`. Its last column lists the callers.
+pub struct Row<'a> {
+    pub path: &'a str,
+    /// Whether the row is in the table of public functions, which also says who guarantees what they require.
     pub public: bool,
-    pub callers: Vec<String>,
+    /// The row without its last column: `| ... | ...`.
+    kept: &'a str,
 }
 
-/// The rows of docs/EXCEPTIONS.md that name callers.
-pub fn callers_told(exceptions: &str) -> Vec<Asking> {
-    let mut callers_follow = false;
+/// The lines of docs/EXCEPTIONS.md, each with its row if it is one that lists callers.
+fn lines_with_rows(exceptions: &str) -> impl Iterator<Item = (&str, Option<Row<'_>>)> {
+    let mut has_callers = false;
     let mut public = false;
-    let mut found = Vec::new();
-    for line in exceptions.lines() {
+    exceptions.lines().map(move |line| {
         if line.starts_with("| function |") {
-            callers_follow = line.ends_with("| called by |");
+            has_callers = line.ends_with("| called by |");
             public = line.contains("| who guarantees it |");
         }
-        if !callers_follow || !line.starts_with("| `") {
-            continue;
-        }
-        let cells: Vec<&str> = line
-            .trim_start_matches("| ")
-            .trim_end_matches(" |")
-            .split(" | ")
-            .collect();
-        let name = |cell: &str| cell.trim_matches('`').to_string();
-        found.push(Asking {
-            path: name(cells[0]),
-            public,
-            callers: cells[cells.len() - 1].split(", ").map(name).collect(),
+        let row = line.strip_prefix("| `").filter(|_| has_callers);
+        let row = row.and_then(|rest| {
+            let path = rest.split('`').next()?;
+            let (kept, _) = line.strip_suffix(" |")?.rsplit_once(" | ")?;
+            Some(Row { path, public, kept })
         });
-    }
-    found
+        (line, row)
+    })
+}
+
+/// The rows of docs/EXCEPTIONS.md that list callers.
+pub fn rows(exceptions: &str) -> Vec<Row<'_>> {
+    let rows = lines_with_rows(exceptions).filter_map(|(_, row)| row);
+    rows.collect()
+}
+
+/// docs/EXCEPTIONS.md with the callers that the sources have: the last column of its first two tables.
+/// The callers are sorted by name. The row of a function without a `requires` stays the same.
+pub fn with_callers(exceptions: &str, all: &[Function]) -> String {
+    let lines = lines_with_rows(exceptions).map(|(line, row)| match row {
+        Some(row) if all.iter().any(|f| f.asks && f.path == row.path) => {
+            let callers = all.iter().filter(|f| f.calls(row.path));
+            let mut callers: Vec<String> = callers.map(|f| format!("`{}`", f.path)).collect();
+            callers.sort_unstable();
+            format!("{} | {} |\n", row.kept, callers.join(", "))
+        }
+        _ => format!("{line}\n"),
+    });
+    lines.collect()
 }
 
 /// The files that comments of a Rattle or antt source name: words that end in `.rt`, `.antt` or `.md`.

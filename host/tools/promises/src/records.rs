@@ -1,5 +1,5 @@
 //! The records of promises: functions that do nothing, whose contract is one record with a field for each theorem.
-//! Which theorems ask something of their input, and whether `Witnesses`, a record beside them, has an input that meets it.
+//! Finds which theorems have a hypothesis, and whether the record `Witnesses` beside them has an input that meets it.
 
 use super::{of_every_source, sorted};
 use std::fs;
@@ -25,7 +25,7 @@ pub struct Record {
     pub fields: Vec<Field>,
 }
 
-/// Every function below `crates/` whose contract is one name and nothing else, with the record of that name.
+/// Every function below `crates/` whose contract is only one name, with the record of that name.
 pub fn all_records(crates: &Path) -> Vec<Record> {
     let contracts = of_every_source(crates, |krate, source| {
         let named = record_contracts(krate, source);
@@ -48,7 +48,7 @@ pub fn all_records(crates: &Path) -> Vec<Record> {
     contracts.into_iter().map(record).collect()
 }
 
-/// The functions of a source whose contract is one name: the function, the file that the name comes from, the name.
+/// The functions of a source whose contract is one name: the function, the file that defines the name, the name.
 pub fn record_contracts(krate: &str, source: &str) -> Vec<(String, String, String)> {
     let mut function = String::new();
     let mut found = Vec::new();
@@ -74,7 +74,7 @@ pub fn record_contracts(krate: &str, source: &str) -> Vec<(String, String, Strin
     found
 }
 
-/// The file of the crate's `specs/` that a source takes a name from.
+/// The file of the crate's `specs/` from which a source imports a name.
 fn file_of(krate: &str, source: &str, name: &str) -> String {
     let start = format!("ghost use Rattle.{krate}.specs.");
     let file = source.lines().find_map(|line| {
@@ -89,7 +89,7 @@ fn file_of(krate: &str, source: &str, name: &str) -> String {
 }
 
 impl Specs {
-    /// Those of a crate.
+    /// The functions of a crate.
     pub fn of(crates: &Path, krate: &str) -> Self {
         let folder = crates.join(krate).join("specs");
         let files = sorted(&folder).into_iter().filter_map(|file| {
@@ -112,8 +112,8 @@ impl Specs {
         file.map(|(file, _)| file.as_str())
     }
 
-    /// What a type asks: a list for each statement in it that asks something, with all that it asks. A name is looked up,
-    /// and the fields of a record are statements of their own.
+    /// The hypotheses of a type: a list for each statement in it that has any. A name is looked up, and the fields of a
+    /// record are separate statements.
     pub fn asked(&self, says: &str) -> Vec<Vec<String>> {
         let says = open(&says.split_whitespace().collect::<Vec<_>>().join(" ")).to_string();
         if is_name(&says) {
@@ -144,7 +144,7 @@ impl Specs {
         }
     }
 
-    /// What the fields of a record ask: conditions of what a theorem promises are asked as its hypothesis is.
+    /// The hypotheses of the fields of a record. Conditions inside a theorem's conclusion count like its hypothesis.
     fn asked_by_record(&self, name: &str) -> Vec<Vec<String>> {
         let text = self.home(name).and_then(|file| self.file(file));
         let fields = text.and_then(|text| fields(text, name));
@@ -153,7 +153,7 @@ impl Specs {
     }
 }
 
-/// A line that begins the definition of a name.
+/// The first line of the definition of a name.
 fn defines(line: &str, name: &str) -> bool {
     let rest = ["pub record ", "abbrev pub ", "unfoldable pub "]
         .iter()
@@ -183,7 +183,7 @@ pub fn fields(text: &str, record: &str) -> Option<Vec<Field>> {
     Some(found)
 }
 
-/// What a name is defined as.
+/// The definition of a name.
 fn body(text: &str, name: &str) -> Option<String> {
     let start = format!("{name} =");
     let mut lines = text.lines().skip_while(|line| !line.starts_with(&start));
@@ -194,8 +194,8 @@ fn body(text: &str, name: &str) -> Option<String> {
 
 /// What is wrong with the witnesses of a record of promises, in words.
 ///
-/// Each theorem asks at most one thing, which has a name, so that nothing can be asked beside it; and the witness of the
-/// same name says the same of one input.
+/// Each theorem has at most one hypothesis, which has a name, so that no other can be added unseen. The witness of the
+/// same name states the hypothesis for one input.
 pub fn unmet(specs: &Specs, record: &Record, is_defined: impl Fn(&str) -> bool) -> Vec<String> {
     let witnesses = specs
         .home("Witnesses")
@@ -255,7 +255,7 @@ pub fn unmet(specs: &Specs, record: &Record, is_defined: impl Fn(&str) -> bool) 
     wrong
 }
 
-/// The names of what a promise asks, each once, in their order.
+/// The names of a promise's hypotheses, each once, in their order.
 pub fn names_asked(specs: &Specs, field: &Field) -> Vec<String> {
     let mut found = Vec::new();
     for name in heads(specs.asked(&field.says).iter().flatten()) {
@@ -272,7 +272,7 @@ fn heads<'a>(things: impl Iterator<Item = &'a String>) -> Vec<String> {
         .collect()
 }
 
-/// The name of what is asked, where it is a name and what it is given.
+/// The name of a hypothesis, if it is a name with arguments.
 fn head(thing: &str) -> Option<&str> {
     let thing = open(thing);
     let operator = |c| ['≡', '≤', '<', '×', '⊎', '→'].contains(&c);
@@ -287,7 +287,8 @@ fn is_name(text: &str) -> bool {
     text.starts_with(char::is_uppercase) && text.chars().all(char::is_alphanumeric)
 }
 
-/// What one step of a theorem asks: all of it, or of binders what is no plain input, as in `(k : ℕ) (none : k ≡ 0)`.
+/// The hypothesis of one step of a theorem: all of it, or in binders what is not a plain input, as in `(k : ℕ) (none :
+/// k ≡ 0)`.
 fn asked_in(step: &str) -> Vec<String> {
     let Some(types) = bound(step) else {
         return vec![unlet(step).to_string()];
@@ -303,7 +304,7 @@ fn is_input(of: &str) -> bool {
     })
 }
 
-/// The types of binders, where there are binders and nothing else: `(a : A) (b c : B)`.
+/// The types of binders, if there is nothing but binders: `(a : A) (b c : B)`.
 fn bound(step: &str) -> Option<Vec<String>> {
     let mut rest = step.trim();
     let mut types = Vec::new();
@@ -318,7 +319,7 @@ fn bound(step: &str) -> Option<Vec<String>> {
     rest.is_empty().then_some(types)
 }
 
-/// Where the bracket that is open at the beginning closes.
+/// Where the bracket closes that is open at the beginning.
 fn closing(inside: &str) -> Option<usize> {
     let closes = |&(at, c): &(usize, char)| c == ')' && depth(&inside[..at]) == 0;
     inside.char_indices().find(closes).map(|(at, _)| at)
@@ -333,7 +334,7 @@ fn depth(text: &str) -> i32 {
     })
 }
 
-/// The parts of a text between signs that stand outside of all brackets.
+/// The parts of a text between signs that are outside all brackets.
 fn split(text: &str, sign: char) -> Vec<String> {
     let mut parts = vec![String::new()];
     let mut open = 0;
@@ -353,7 +354,7 @@ fn split(text: &str, sign: char) -> Vec<String> {
     trimmed.collect()
 }
 
-/// A text without the brackets that stand around all of it. Binders keep theirs.
+/// A text without the brackets around all of it. Binders keep theirs.
 fn open(text: &str) -> &str {
     let text = text.trim();
     let inside = text.strip_prefix('(').filter(|_| bound(text).is_none());
@@ -361,7 +362,7 @@ fn open(text: &str) -> &str {
     inside.map_or(text, |inside| open(&inside[..inside.len() - 1]))
 }
 
-/// A text behind its `let .. in`.
+/// A text after its `let .. in`.
 fn unlet(text: &str) -> &str {
     let text = text.trim();
     if !text.starts_with("let ") {

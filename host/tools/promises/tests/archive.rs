@@ -1,4 +1,4 @@
-//! The build scripts' own tests: host/archive/tests.rs.
+//! Runs the build scripts' own tests: host/archive/tests.rs.
 
 #[path = "../../../archive.rs"]
 #[expect(dead_code, reason = "what links is not called here")]

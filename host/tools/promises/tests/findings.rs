@@ -1,4 +1,4 @@
-//! docs/assurance/FINDINGS.md: each test that it names is there, and it names each test of a finding.
+//! docs/assurance/FINDINGS.md: each test that it names exists, and it names each test of a finding.
 
 use std::{
     collections::BTreeSet,
@@ -9,7 +9,7 @@ use std::{
 /// The findings of the page.
 const FINDINGS: u32 = 18;
 
-/// Where each test is named after its finding.
+/// The folders in which each test has the name of its finding.
 const LIBRARY: &str = "host/cableowl/tests/findings";
 const COMMAND: &str = "host/command/tests/people/findings.rs";
 

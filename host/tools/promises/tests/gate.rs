@@ -1,5 +1,5 @@
-//! The gate's last line counts both halves, and agrees with its exit status: tried with a kit, a cargo and a compiler
-//! that say what a test has them say.
+//! The gate's last line counts both halves, and agrees with its exit status. Tested with a kit, a cargo and a compiler
+//! that print what a test asks for.
 
 use std::{
     fs,
@@ -9,14 +9,14 @@ use std::{
     sync::{Mutex, PoisonError},
 };
 
-/// One gate at a time: a script that is being written while another is started cannot be run.
+/// One gate at a time: a script cannot be run while another test writes it.
 static TURN: Mutex<()> = Mutex::new(());
 
-/// What the tools say and how they end.
+/// What the tools print and how they end.
 struct Tools {
     machine: &'static str,
     rt: Option<&'static str>,
-    /// What the trial of the only crate's control says.
+    /// What the trial of the only crate's control prints.
     control: &'static str,
     documents: &'static str,
     cargo_test: &'static str,
@@ -42,7 +42,7 @@ impl Default for Tools {
     }
 }
 
-/// The gate's last line, whether it says that all is well, and all it wrote.
+/// The gate's last line, whether it reports success, and everything that it wrote.
 fn gate(name: &str, tools: &Tools) -> (String, bool, String) {
     let _turn = TURN.lock().unwrap_or_else(PoisonError::into_inner);
     let room = Room::new(name);
@@ -146,7 +146,7 @@ fn ends(name: &str, tools: &Tools, last: &str) -> String {
 #[test]
 fn both_halves_are_counted() {
     ends("well", &Tools::default(), "214 passed, 0 failed");
-    // On x86-64 the way to Arm is tried too.
+    // On x86-64 the way that Arm uses is tried too.
     let tools = Tools {
         machine: "x86_64",
         ..Tools::default()

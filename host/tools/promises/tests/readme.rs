@@ -1,4 +1,4 @@
-//! README begins with the player, in twenty lines at most.
+//! README begins with the player, in at most twenty lines.
 
 use std::{fs, path::Path};
 

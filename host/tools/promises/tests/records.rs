@@ -1,5 +1,5 @@
-//! Each record of promises has its table in docs/PROMISES.md, each field an edit that must fail, and each theorem that
-//! asks something an input that meets it.
+//! Each record of promises has its table in docs/PROMISES.md, each field has an edit that must fail, and each theorem
+//! with a hypothesis has an input that meets it.
 
 use promises::records::{
     Field, Record, Row, Specs, all_records, fields, names_asked, record_contracts, table, unmet,
@@ -165,7 +165,7 @@ fn a_contract_that_is_one_name_is_found() {
     assert_eq!(found, ["k::promised All Promises"]);
 }
 
-/// A record with one promise, a theorem of a file beside it, and the witnesses.
+/// A record with one promise, a theorem of another file, and the witnesses.
 fn unmet_in(theorem: &str, witness: &str) -> Vec<String> {
     let promises = format!("pub record Promises : Type 0 where\n  pub cut : {theorem}\n");
     let text = format!(

@@ -1,4 +1,4 @@
-//! One version, from one place: the workspace's. CHANGELOG begins with it.
+//! There is one version, the workspace's, and CHANGELOG begins with it.
 
 use std::{fs, path::Path};
 

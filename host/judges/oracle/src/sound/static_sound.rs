@@ -1,4 +1,4 @@
-// Stand-ins for what kira's static_sound module holds beside data.rs and sound.rs.
+// Stand-ins for what kira's static_sound module contains besides data.rs and sound.rs.
 
 mod data {
     // kira's sound/static_sound/data.rs, unchanged.
@@ -9,7 +9,7 @@ mod data {
 mod handle;
 
 mod sound {
-    // kira's sound/static_sound/sound.rs with its one edit, and the ways in beside it.
+    // kira's sound/static_sound/sound.rs with its one edit, and access to its private fields.
     #![allow(clippy::all, dead_code, missing_docs)]
     include!(concat!(env!("OUT_DIR"), "/sound.rs"));
     include!("static_sound/access.rs");
@@ -41,7 +41,7 @@ pub struct StaticSoundSettings {
     pub fade_in_tween: Option<Tween>,
 }
 
-/// The commands a static sound reads when a block is about to start.
+/// The commands that a static sound reads before a block.
 #[derive(Debug, Default)]
 pub struct CommandReaders {
     pub set_playback_rate: CommandReader<(Value<PlaybackRate>, Tween)>,
@@ -53,7 +53,7 @@ pub struct CommandReaders {
     pub seek_to: CommandReader<f64>,
 }
 
-/// kira's other end of the readers; here the readers are written directly.
+/// The other end of kira's readers. Here the readers are written directly.
 #[derive(Debug)]
 pub struct CommandWriters;
 

@@ -1,7 +1,6 @@
-// kira's transport.rs, unchanged; around it, a transport that counts its wraps, which kira does not, by
-// watching its place. That tells each step without doubt: a forward step that does not wrap goes up
-// by one, and one that wraps does not go up; a backward step that does not wrap goes down by one or
-// ends playing, and one that wraps does neither.
+// kira's transport.rs, unchanged, and a wrapper that counts its wraps, which kira does not, by watching its position.
+// That identifies each step: a forward step without a wrap raises the position by one, and one with a wrap does not
+// raise it; a backward step without a wrap lowers it by one or ends playing, and one with a wrap does neither.
 
 use std::ops::{Deref, DerefMut};
 
@@ -12,7 +11,7 @@ mod text {
     include!("../../kira/src/sound/transport.rs");
 }
 
-/// Steps that took the wrap, forward and backward; each count stands still at its type's limit.
+/// Steps that wrapped, forward and backward. Each count stays at its type's limit.
 #[derive(Debug, Clone, Copy, Default, PartialEq, Eq)]
 pub struct Wraps {
     /// Forward steps.
@@ -48,7 +47,7 @@ impl Transport {
         }
     }
 
-    /// A transport found at a place.
+    /// A transport at a position.
     #[must_use]
     pub fn found(
         position: usize,
@@ -66,7 +65,7 @@ impl Transport {
         }
     }
 
-    /// kira's `increment_position`, watched.
+    /// kira's `increment_position`, with a count of its wraps.
     #[inline]
     pub fn increment_position(&mut self, num_frames: usize) {
         let (before, went) = (self.position, self.playing);
@@ -76,7 +75,7 @@ impl Transport {
         }
     }
 
-    /// kira's `decrement_position`, watched.
+    /// kira's `decrement_position`, with a count of its wraps.
     #[inline]
     pub fn decrement_position(&mut self) {
         let before = self.position;

@@ -18,7 +18,7 @@ pub fn frames(start: usize, end: usize) -> Region {
     }
 }
 
-/// Plays `n` frames with unit lanes at the given rate and no signals: left samples and steps.
+/// Plays `n` frames with unit lanes at the given rate and no signals. Returns the left samples and the steps.
 pub fn play(voice: &mut Oracle, n: usize, rate: f64, dt: f64) -> (Vec<f32>, u64) {
     let lanes = LaneBuffers::constant(n, 1.0, 1.0, (1.0, 1.0), rate);
     let mut out = vec![f32::NAN; 2 * n];
@@ -27,7 +27,7 @@ pub fn play(voice: &mut Oracle, n: usize, rate: f64, dt: f64) -> (Vec<f32>, u64)
     (left, reported.steps)
 }
 
-/// The window's frame numbers.
+/// The window's frame indices.
 pub fn numbers(voice: &Oracle) -> [usize; 4] {
     voice.state().window.map(|entry| entry.number)
 }

@@ -1,10 +1,10 @@
-// Blocks cut in two at every place or at its edges, and cut in many by random schedules.
+// Blocks cut in two at every frame or near their ends, and cut into many parts at random.
 
 use random::Random;
 
 use crate::{any, harness::Harness, tally::Kind};
 
-/// One short block cut everywhere, one longer block cut at its edges and by a schedule.
+/// One short block cut everywhere, one longer block cut near its ends and at random.
 pub fn cuts(harness: &mut Harness, random: &mut Random) {
     let n = random.below(25);
     let call = any::block_call(random, n);

@@ -1,54 +1,32 @@
-// Blocks whose frames all have the same five numbers, as the entries take them that are given the numbers once: voices that
-// play on, mostly over few frames, in loops of one to eight or in none, over sounds with both zeros, NaN and infinities; at
-// times a number, the time step, the frames or the place that is refused.
+// Blocks with held lanes: all frames have the same five numbers. The voices play block after block, mostly over few frames,
+// in loops of one to eight frames or without a loop, over sounds with both zeros, NaN and infinities. Some blocks have a
+// number, a time step, a frame count or a first frame of the mix that is refused.
 
 use oracle::LaneBuffers;
 use random::Random;
 
-use super::rides::settings;
+use super::scans::ten_blocks;
 use crate::{
     any,
-    call::{Ask, Block, Call, Place, Sound},
+    call::{Block, Place},
     harness::Harness,
     tally::Kind,
 };
 
-/// One voice and ten blocks; seldom a command between them.
+/// Ten blocks with held lanes.
 pub fn held(harness: &mut Harness, random: &mut Random) {
-    let few = 1 + random.below(8);
-    let more = 9 + random.below(200);
-    let total = any::one_of(random, &[few, few, few, more]);
-    let sound = Sound::new((0..2 * total).map(|_| sample(random)).collect());
-    let call = |ask| Call {
-        ask,
-        sound: sound.clone(),
-    };
-    let create = Ask::Create(settings(random, total, 8));
-    let created = harness.ask(Kind::Creation, &call(create));
-    let Some(mut state) = created.state else {
-        return;
-    };
-    for _ in 0..10 {
-        if random.one_in(8) {
-            let ask = Ask::Command(state, any::commands(random, &state));
-            let outcome = harness.ask(Kind::Commands, &call(ask));
-            state = outcome.state.unwrap_or(state);
-        }
-        let one = any::block(random, 1, &state);
+    ten_blocks(harness, random, sample, 8, |random, state| {
+        let one = any::block(random, 1, state);
         let block = repeated(random, one);
         let kind = match block.place {
             Place::Whole(_) => Kind::Block,
             Place::Mix(..) => Kind::Mix,
         };
-        let outcome = harness.ask(kind, &call(Ask::Block(state, block)));
-        state = outcome.state.unwrap_or(state);
-        if harness.has_enough() {
-            return;
-        }
-    }
+        (kind, block)
+    });
 }
 
-/// A block of one frame, its numbers repeated, and seldom something that is refused.
+/// The numbers of a block of one frame, repeated; rarely something is changed so that the block is refused.
 fn repeated(random: &mut Random, one: Block) -> Block {
     let n = match random.below(40) {
         0 => 4_097,

@@ -1,5 +1,4 @@
-// Once in the loop, always in the loop: a long row of calls on a voice that plays inside its loop,
-// with the promise looked at after each of them.
+// A voice that plays inside its loop stays inside it: a long sequence of calls, and a check of the promise after each.
 
 use oracle::{Answer, PlaybackState, State};
 use random::Random;
@@ -10,22 +9,22 @@ use crate::{
     player::Player,
 };
 
-/// What rows of calls held.
+/// What sequences of calls contained.
 #[derive(Debug, Default)]
 pub struct Seen {
     /// Calls that were accepted.
     pub accepted: u64,
-    /// Calls that were refused, whatever they held.
+    /// Calls that were refused, whatever they contained.
     pub refused: u64,
     /// Accepted sets with a seek.
     pub seeks: u64,
     /// Frames played.
     pub frames: u64,
-    /// Voices that a stop command or a never answer ended; each is followed by a new one.
+    /// Voices that a stop command or the answer "never" ended. A new voice follows each.
     pub ended: u64,
 }
 
-/// So many calls, or the first one after which the promise is broken.
+/// Makes this many calls. Fails at the first one after which the promise is broken.
 ///
 /// # Errors
 ///
@@ -46,7 +45,7 @@ pub fn in_the_loop(
             sound: sound.clone(),
         };
         let outcome = player.answer(&call).ok_or("no answer")?;
-        let after = outcome.state.ok_or("no lawful state")?;
+        let after = outcome.state.ok_or("no well formed state")?;
         if outcome.refusal == 0 {
             seen.accepted += 1;
             seen.seeks += u64::from(sought);
@@ -92,8 +91,8 @@ fn looped(random: &mut Random) -> (std::sync::Arc<Sound>, State) {
     (sound, state)
 }
 
-/// A call: of a set, no loop command, and seldom a stop; of a block, seldom a never. One in eight is
-/// to be refused, and holds what it likes.
+/// A call. A command set has no loop command, and rarely a stop; a block rarely has the answer "never". One in eight
+/// calls must be refused and may contain anything.
 fn ask(random: &mut Random, state: &State) -> Ask {
     let refused = random.one_in(8);
     let seldom = random.one_in(200);
@@ -124,7 +123,7 @@ fn ask(random: &mut Random, state: &State) -> Ask {
     Ask::Block(*state, block)
 }
 
-/// Whether it holds a stop command or a never answer, and a seek; and its frames.
+/// Whether it contains a stop command or the answer "never", and a seek; and its frames.
 fn holds(ask: &Ask) -> (bool, bool, u64) {
     match ask {
         Ask::Command(_, commands) => {

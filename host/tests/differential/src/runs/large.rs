@@ -1,4 +1,4 @@
-// Random voices: created or found in any state, then commands, blocks, mixes and stretches.
+// Random voices, created or set to any state; then commands, blocks, mixes and stretches.
 
 use random::Random;
 

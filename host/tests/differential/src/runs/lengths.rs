@@ -1,4 +1,4 @@
-// Two sounds of equal length and the same calls: nothing but samples may differ.
+// Two sounds of equal length and the same calls: only samples may differ.
 
 use std::sync::Arc;
 
@@ -11,7 +11,7 @@ use crate::{
     player::Player,
 };
 
-/// What rows of calls over two sounds held.
+/// What sequences of calls over two sounds contained.
 #[derive(Debug, Default)]
 pub struct Alike {
     /// Calls that both accepted.
@@ -22,11 +22,11 @@ pub struct Alike {
     pub created: u64,
     /// Blocks that read a count below 4.
     pub tails: u64,
-    /// Calls after which the two windows held other samples.
+    /// Calls after which the two windows had different samples.
     pub other_samples: u64,
 }
 
-/// So many calls over two sounds of equal length, or the first one after which more than samples differs.
+/// Makes this many calls over two sounds of equal length. Fails at the first one after which more than samples differs.
 ///
 /// # Errors
 ///
@@ -56,7 +56,7 @@ pub fn lengths(
         } else {
             seen.refused += 1;
         }
-        // A state that is not well formed is given once: a voice is created next.
+        // A state that is not well formed is used once; then a voice is created.
         states = a.state.zip(b.state).filter(|(state, _)| {
             a.refusal != 1
                 && state.sample_rate > 0
@@ -67,12 +67,12 @@ pub fn lengths(
     Ok(())
 }
 
-/// Whether to leave the voice: mostly once it is Stopped.
+/// Whether to leave the voice: mostly when it is Stopped.
 fn is_over(random: &mut Random, state: &State) -> bool {
     state.playback == PlaybackState::Stopped && !random.one_in(4)
 }
 
-/// A sound, and one of as many samples: any bits, or one sample throughout.
+/// A sound, and another with as many samples: any bits, or the same sample throughout.
 fn two_sounds(random: &mut Random) -> [Arc<Sound>; 2] {
     let sound = any::short_sound(random);
     let same = any::one_of(
@@ -88,7 +88,7 @@ fn two_sounds(random: &mut Random) -> [Arc<Sound>; 2] {
     [sound, other]
 }
 
-/// The same call of each voice; of none, a creation.
+/// The same call for each voice; a creation if there is none.
 fn asks(random: &mut Random, sound: &Sound, states: Option<(State, State)>) -> [Ask; 2] {
     let Some((mut one, mut other)) = states else {
         let settings = any::settings(random, sound.num_frames());
@@ -118,7 +118,7 @@ fn asks(random: &mut Random, sound: &Sound, states: Option<(State, State)>) -> [
     }
 }
 
-/// A sample where a well formed voice has +0: in both, from the count on.
+/// Puts a sample where a well formed voice has +0: in both, from the count on.
 fn spoil(random: &mut Random, one: &mut State, other: &mut State) {
     let entry = random.below(4);
     let sample = any::one_of(random, &[-0.0, 1.0, f32::NAN]);
@@ -142,7 +142,7 @@ fn muted(state: &State) -> State {
     muted
 }
 
-/// What differs besides samples, if anything does.
+/// What differs besides samples, if anything.
 fn difference(a: &Outcome, b: &Outcome) -> Option<String> {
     let told = |outcome: &Outcome| {
         let position = outcome.position.to_bits();

@@ -1,4 +1,5 @@
-//! The runs: tiny sounds exhaustively, held zeros, random calls, voices that play on, refusals by construction, cuts, rows of calls inside a loop, starts due at a tick, blocks whose numbers are given once, two sounds of equal length.
+//! The runs: tiny sounds exhaustively, held zeros, random calls, voices that play on, refusals by construction, cuts,
+//! sequences of calls inside a loop, starts due at a tick, blocks with held lanes, two sounds of equal length.
 
 mod cuts;
 mod held;
@@ -6,7 +7,7 @@ mod in_the_loop;
 mod large;
 mod lengths;
 mod refusals;
-mod rides;
+mod scans;
 mod ticks;
 mod tiny;
 mod zeros;
@@ -17,7 +18,7 @@ pub use in_the_loop::{Seen, in_the_loop};
 pub use large::large;
 pub use lengths::{Alike, lengths};
 pub use refusals::{Big, refusals};
-pub use rides::rides;
+pub use scans::scans;
 pub use ticks::ticks;
 pub use tiny::{Extent, tiny_blocks, tiny_creations, tiny_seeks, transports};
 pub use zeros::zeros;

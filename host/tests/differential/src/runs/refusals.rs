@@ -1,5 +1,5 @@
-// Calls of which the refusal's number is known by construction: an accepted call with one thing
-// broken, and at times others of higher numbers too; and the nearest calls that are accepted.
+// Calls whose refusal is known by construction: an accepted call with one thing broken, and sometimes others with
+// higher numbers too; and the nearest calls that are accepted.
 
 use std::sync::Arc;
 
@@ -92,7 +92,7 @@ pub fn refusals(harness: &mut Harness, random: &mut Random) {
     state_edges(harness, random);
 }
 
-/// The number itself, and at times higher ones of the entry.
+/// The number itself, and sometimes higher ones of the entry.
 fn numbers(random: &mut Random, number: u32, of_entry: &[u32]) -> Vec<u32> {
     let more = random.coin();
     let higher = of_entry.iter().filter(|other| **other > number);
@@ -165,7 +165,7 @@ fn block(harness: &mut Harness, random: &mut Random, number: u32) {
         call.block_mut().expect("a block").place = place;
     }
     harness.expect_accepted(&call);
-    // The lengths are broken last, so that the others find their lanes.
+    // The lengths are broken last, so that the other changes find their lanes.
     let mut all = numbers(random, number, &[1, 9, 10, 11, 12]);
     all.sort_by_key(|number| [9, 1].iter().position(|last| last == number));
     for number in all {
@@ -231,14 +231,14 @@ fn bad_sample_rate(random: &mut Random) -> u32 {
     one_of(random, &[0, MOST_HZ + 1, u32::MAX, above])
 }
 
-/// An odd count of samples, or none.
+/// An odd number of samples, or none.
 fn bad_sound(random: &mut Random, sound: &Sound) -> Arc<Sound> {
     let samples = sound.samples();
     let length = one_of(random, &[0, 1, samples.len() - 1]);
     Sound::new(samples[..length].to_vec())
 }
 
-/// A region that does not fit so many frames.
+/// A region that does not fit this many frames.
 fn bad_region(random: &mut Random, n: usize, sample_rate: u32) -> Region {
     let hz = f64::from(sample_rate.clamp(1, MOST_HZ));
     let inside = random.below(n);
@@ -254,7 +254,7 @@ fn bad_region(random: &mut Random, n: usize, sample_rate: u32) -> Region {
         5 => (endless, frames(n)),
         6 => (frames(0), endless),
         7 => (endless, endless),
-        // It rounds up to n + 1, or to as much as is counted.
+        // It rounds up to n + 1, or to the largest frame index.
         8 => (frames(inside), seconds((n as f64 + 0.75) / hz)),
         9 => (frames(inside), seconds(1e300)),
         // Both round to the same frame.
@@ -286,7 +286,7 @@ fn bad_start(random: &mut Random, n: usize, sample_rate: u32) -> PlaybackPositio
     }
 }
 
-/// A seek that is not finite or reaches the limit, and at times another that is accepted.
+/// A seek that is not finite or reaches the limit, and sometimes another that is accepted.
 fn bad_seek(random: &mut Random, state: &State, commands: &mut Commands) {
     let hz = f64::from(state.sample_rate);
     let by = |amount: f64| (state.position as f64 / hz + amount) * hz;
@@ -309,7 +309,7 @@ fn far_or(random: &mut Random, edge: f64) -> f64 {
     )
 }
 
-/// The least number near another of which a rising test holds.
+/// The smallest number near another for which a monotonic test holds.
 fn least(holds: impl Fn(f64) -> bool, near: f64) -> f64 {
     let (mut low, mut high) = (-near - 1.0, 2.0 * near + 1.0);
     debug_assert!(!holds(low) && holds(high));
@@ -377,7 +377,7 @@ fn bad_step(random: &mut Random) -> f64 {
     one_of(random, &[0.0, -0.0, -1.0, -5e-324, endless])
 }
 
-/// Breaks one number of one lane, where there is one.
+/// Breaks one number of one lane, if there is one.
 fn bad_lane(random: &mut Random, block: &mut Block) {
     let n = block.lanes.rate.len();
     if n == 0 {
@@ -407,7 +407,7 @@ fn bad_lane(random: &mut Random, block: &mut Block) {
     }
 }
 
-/// Gives one rate, where there is one, an advance above the most.
+/// Gives one rate, if there is one, an advance above the limit.
 fn bad_advance(random: &mut Random, block: &mut Block, hz: u32) {
     let n = block.lanes.rate.len();
     if n == 0 {
@@ -422,7 +422,7 @@ fn bad_advance(random: &mut Random, block: &mut Block, hz: u32) {
     }
 }
 
-/// Breaks a state that is well formed over the lent sound, or lends another sound.
+/// Breaks a state that is well formed over the sound, or passes another sound.
 fn break_state(random: &mut Random, call: &mut Call) {
     let samples = call.sound.samples().to_vec();
     let Some(state) = call.state_mut() else {
@@ -496,7 +496,7 @@ fn seek_edges(harness: &mut Harness, random: &mut Random) {
     harness.expect_accepted(&call(Some(-f64::MAX), Some(-f64::MAX)));
 }
 
-/// Advances that are the last accepted, and the first above.
+/// The largest accepted advances, and the smallest refused ones.
 fn advance_edges(harness: &mut Harness, random: &mut Random) {
     let n = 1 + random.below(3);
     let mut call = any::block_call(random, n);
@@ -516,7 +516,7 @@ fn advance_edges(harness: &mut Harness, random: &mut Random) {
     harness.expect_refused(&call, 12);
 }
 
-/// Creations on the limits' near side.
+/// Creations just inside the limits.
 fn creation_edges(harness: &mut Harness, random: &mut Random) {
     let sound = any::short_sound(random);
     let total = sound.num_frames();
@@ -540,7 +540,7 @@ fn creation_edges(harness: &mut Harness, random: &mut Random) {
     harness.expect_accepted(&call);
 }
 
-/// States on the limits' near side, for a block, a command set and a stretch.
+/// States just inside the limits, for a block, a command set and a stretch.
 fn state_edges(harness: &mut Harness, random: &mut Random) {
     let mut call = any::block_call(random, 2);
     tame(&mut call);

@@ -1,4 +1,4 @@
-// Blocks whose start is due at a tick: asked, into an output and into a mix, and cut in two, each part with the same tick.
+// Blocks whose start is due at a tick: into an output, into a mix, and cut in two, where each part gets the same tick.
 
 use random::Random;
 

@@ -23,20 +23,20 @@ pub enum Extent {
     Full,
 }
 
-/// A sound of so many frames, no two samples the same.
+/// A sound of this many frames, all samples different.
 pub(super) fn sound(frames: usize) -> Arc<Sound> {
     let sample = |i: usize| [0.5, -0.75][i % 2] * (i as f32 + 1.0);
     Sound::new((0..2 * frames).map(sample).collect())
 }
 
-/// No region, and every region that fits so many frames.
+/// No region, and every region within this many frames.
 fn regions(frames: usize) -> impl Iterator<Item = Option<(usize, usize)>> {
     let pairs =
         (0..frames).flat_map(move |start| (start + 1..=frames).map(move |end| (start, end)));
     [None].into_iter().chain(pairs.map(Some))
 }
 
-/// Every transport over so many frames, with every slice and direction, in a plain state at 1 Hz.
+/// Every transport over this many frames, with every slice and direction, in a plain state at 1 Hz.
 pub fn transports(total: usize) -> impl Iterator<Item = State> {
     let slices = regions(total);
     let with_loops = slices.flat_map(move |slice| {
@@ -74,7 +74,7 @@ pub fn transports(total: usize) -> impl Iterator<Item = State> {
     })
 }
 
-/// A window in which so many entries sound.
+/// A window in which this many entries are frames of the sound.
 fn window(count: usize) -> [Entry; 4] {
     std::array::from_fn(|place| {
         let sounds = |value: f32| if place < count { value } else { 0.0 };
@@ -86,7 +86,7 @@ fn window(count: usize) -> [Entry; 4] {
     })
 }
 
-/// Settings that create a voice with this slice, loop, place and direction.
+/// Settings that create a voice with this slice, loop, position and direction.
 pub(super) fn settings_at(state: &State) -> Settings {
     let region = |(start, end)| Region {
         start: PlaybackPosition::Samples(start),
@@ -103,11 +103,11 @@ pub(super) fn settings_at(state: &State) -> Settings {
     }
 }
 
-/// Every creation over so many frames, from 1 frame on.
+/// Every creation over 1 to this many frames.
 pub fn tiny_creations(harness: &mut Harness, most: usize) {
     for total in 1..=most {
         let sound = sound(total);
-        // A creation starts where a transport plays; the other transports have no creation.
+        // A creation starts where a transport plays. The other transports have no creation.
         for state in transports(total).filter(|state| state.playing) {
             for waits in [false, true] {
                 let settings = Settings {
@@ -210,7 +210,7 @@ fn every_state(harness: &mut Harness, state: &State, sound: &Arc<Sound>) {
 fn ask(harness: &mut Harness, state: State, signals: Signals, sound: &Arc<Sound>) {
     let block = Block {
         lanes: LaneBuffers {
-            // Steps 1, 0, 3, 1: by whole and half frames, forward and backward in the lane.
+            // Steps 1, 0, 3, 1: whole and half frames, with both signs in the lane.
             rate: vec![1.0, -0.5, 2.5, 1.0],
             ..LaneBuffers::constant(4, 1.0, 0.5, (1.0, 2.0), 0.0)
         },

@@ -12,7 +12,7 @@ use crate::{
     tally::Kind,
 };
 
-/// Every place and loop over 1 frame, 2 frames and so on, up to the most.
+/// Every position and loop over 1 to `most` frames.
 pub fn zeros(harness: &mut Harness, most: usize) {
     for total in 1..=most {
         let mut voice = Asked {
@@ -32,14 +32,14 @@ pub fn zeros(harness: &mut Harness, most: usize) {
     }
 }
 
-/// The harness, and the sound that each of its calls is over.
+/// The harness, and the sound of each of its calls.
 struct Asked<'a, 'b> {
     harness: &'a mut Harness<'b>,
     sound: Arc<Sound>,
 }
 
 impl Asked<'_, '_> {
-    /// Created with the rate, then a block.
+    /// A creation with the rate, then a block.
     fn created(&mut self, state: &State, rate: f64) {
         let settings = Settings {
             rate,
@@ -49,13 +49,13 @@ impl Asked<'_, '_> {
         self.block(created, 0..4);
     }
 
-    /// The rate commanded, then a block.
+    /// A rate command, then a block.
     fn commanded(&mut self, state: &State, rate: f64) {
         let told = self.command(*state, rate);
         self.block(told, 0..4);
     }
 
-    /// A block whose second part comes after the rate was commanded.
+    /// A block with the rate command between its two parts.
     fn commanded_at_the_cut(&mut self, state: &State, rate: f64) {
         for cut in 0..=4 {
             let first = self.block(*state, 0..cut);
@@ -72,7 +72,7 @@ impl Asked<'_, '_> {
         self.ask(Ask::Command(state, commands))
     }
 
-    /// These frames of a block of four; its lane has both zeros and both signs.
+    /// These frames of a block of four. Its lane has both zeros and both signs.
     fn block(&mut self, state: State, part: std::ops::Range<usize>) -> State {
         let n = part.len();
         let block = Block {

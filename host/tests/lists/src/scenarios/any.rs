@@ -1,4 +1,4 @@
-// Scenarios at random: a sound, a voice on it, and some rounds of commands and blocks.
+// Random scenarios: a sound, a voice on it, and some rounds of commands and blocks.
 
 use oracle::{
     Answer, Commands, EndPosition, LIMIT, LaneBuffers, PlaybackPosition, Region, Settings, Signals,
@@ -37,7 +37,7 @@ pub fn write(list: &mut Words, random: &mut Random) {
     }
 }
 
-/// Mostly between -2 and 2, at times a special one.
+/// Mostly between -2 and 2, sometimes a special value.
 fn any_sample(random: &mut Random) -> f32 {
     match random.below(60) {
         0 => f32::INFINITY,
@@ -54,7 +54,7 @@ fn any_rate(random: &mut Random) -> f64 {
     [0.0, -0.0, 1.0, -1.0, random.unit() * 6.0 - 3.0][random.below(5)]
 }
 
-/// A place in frames, or in seconds that round to it.
+/// A position in frames, or in seconds that round to it.
 fn any_position(random: &mut Random, place: usize, sample_rate: u32) -> PlaybackPosition {
     let near = place as f64 + random.unit() * 0.9 - 0.45;
     if random.coin() {
@@ -64,7 +64,7 @@ fn any_position(random: &mut Random, place: usize, sample_rate: u32) -> Playback
     }
 }
 
-/// A region of so many frames that fits.
+/// A region that fits this many frames.
 fn any_region(random: &mut Random, n: usize, sample_rate: u32) -> Region {
     let start = random.below(n);
     let end = start + 1 + random.below(n - start);
@@ -152,7 +152,7 @@ fn any_block(random: &mut Random, state: &State) -> Block {
     }
 }
 
-/// Half of them 1, which is short to write.
+/// Half of them are 1, which is short to write.
 fn any_amplitude(random: &mut Random) -> f32 {
     [1.0, 1.0, 0.0, random.unit() as f32][random.below(4)]
 }

@@ -1,4 +1,5 @@
-// Scenarios by plan: the rules' examples and readings, every state with every signal and command, every small loop.
+// Planned scenarios: the examples and readings of the rules, every state with every signal and command, every small
+// loop.
 
 use oracle::{
     Answer, Commands, EndPosition, Entry, LIMIT, LaneBuffers, Oracle,
@@ -40,7 +41,7 @@ pub fn frames(start: usize, end: usize) -> Region {
     }
 }
 
-/// So many frames of unit lanes at a rate, with a time step of 1 and no signals.
+/// A block of this many frames with unit lanes at a rate, a time step of 1 and no signals.
 pub fn unit(n: usize, rate: f64) -> Block {
     Block {
         lanes: LaneBuffers::constant(n, 1.0, 1.0, (1.0, 1.0), rate),
@@ -49,12 +50,12 @@ pub fn unit(n: usize, rate: f64) -> Block {
     }
 }
 
-/// The state in which a sound of so many frames, as a ramp, is created at 1 Hz.
+/// The state after a creation over a ramp of this many frames at 1 Hz.
 pub fn created(first: usize, frames: usize) -> State {
     Oracle::create(&Settings::new(1), &ramp(first, frames)).state()
 }
 
-/// The rules' marked examples.
+/// The marked examples of the rules.
 fn examples(list: &mut Words) {
     let mut scene = Scene::begin(list, &ramp(1, 3));
     scene.create(&Settings::new(1));
@@ -175,7 +176,7 @@ fn zeros(list: &mut Words) {
     scene.block(&unit(4, 1.0));
 }
 
-/// Slices, their stretches, and places in a mix.
+/// Slices, their stretches, and positions in a mix.
 fn places(list: &mut Words) {
     let quarter = |place: f64| PlaybackPosition::Seconds(place / 4.0);
     let slices = [
@@ -333,13 +334,13 @@ fn commands(list: &mut Words) {
     }
 }
 
-/// Every region of so few frames, and none.
+/// Every region of at most this many frames, and none.
 fn small_loops(n: usize) -> Vec<Option<(usize, usize)>> {
     let regions = (0..n).flat_map(|start| (start + 1..=n).map(move |end| Some((start, end))));
     regions.chain([None]).collect()
 }
 
-/// Steps from every place with every loop, forward and backward.
+/// Steps from every position with every loop, forward and backward.
 fn steps(list: &mut Words) {
     for (rate, reverse) in [(1.0, false), (-1.0, false), (1.0, true), (-1.0, true)] {
         let mut scene = Scene::begin(list, &ramp(1, 3));
@@ -358,7 +359,7 @@ fn steps(list: &mut Words) {
     }
 }
 
-/// Seeks from every place to every place with every loop.
+/// Seeks from every position to every position with every loop.
 fn seeks(list: &mut Words) {
     for position in 0..3 {
         let mut scene = Scene::begin(list, &ramp(1, 3));
@@ -435,7 +436,7 @@ fn fractions(list: &mut Words) {
     scene.block(&unit(1, 256.0));
 }
 
-/// States at the edge of what is well formed.
+/// States just inside the limits of what is well formed.
 fn limits(list: &mut Words) {
     let window = |count: usize| {
         std::array::from_fn(|place| Entry {

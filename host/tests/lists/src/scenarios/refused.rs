@@ -1,4 +1,4 @@
-// Refused calls, expected by the rules: each number by each of its faults, and the lowest of two.
+// Refused calls, with the refusals of the rules: each number by each of its faults, and the lower of two.
 
 use oracle::{
     Commands, EndPosition, Entry, LIMIT,
@@ -22,17 +22,17 @@ pub fn write(list: &mut Words) {
     other_sounds(list);
 }
 
-/// A fault's number, and how it comes about.
+/// A refusal's number, and the fault that causes it.
 type Fault<T> = (u64, fn(&mut T));
 
-/// Each fault alone, then with each of a higher number: the lower number is given.
+/// Each fault alone, then with one of each higher number: the lower number is returned.
 fn faulty<T: Clone>(good: &T, faults: &[Fault<T>], mut refuse: impl FnMut(&T, u64)) {
     for (place, (number, spoil)) in faults.iter().enumerate() {
         let mut given = good.clone();
         spoil(&mut given);
         refuse(&given, *number);
         let higher = faults[place..].iter().filter(|fault| fault.0 > *number);
-        // Of the faults with a higher number one is enough, each time another one.
+        // One fault of each higher number is enough, a different one each time.
         if let Some((_, spoil_too)) = higher.clone().nth(place % higher.count().max(1)) {
             let mut given = good.clone();
             spoil_too(&mut given);
@@ -50,7 +50,7 @@ fn seconds(start: f64, end: f64) -> Region {
     }
 }
 
-/// What is wrong with a creation over 10 frames, the sound aside.
+/// The faults of a creation over 10 frames, except those of the sound.
 const CREATIONS: [Fault<Settings>; 22] = [
     (2, |s| s.sample_rate = 0),
     (2, |s| s.sample_rate = 768_001),
@@ -99,7 +99,7 @@ fn creations(list: &mut Words) {
     scene.stretch();
 }
 
-/// Sounds that are none: refused with 3, unless the sample rate is wrong too.
+/// Invalid sounds: refused with 3, unless the sample rate is wrong too.
 fn odd_sounds(list: &mut Words) {
     for samples in [0, 1, 5, 31] {
         let sound = vec![1.0; samples];
@@ -113,7 +113,7 @@ fn odd_sounds(list: &mut Words) {
     }
 }
 
-/// What is wrong with a command set at 1 Hz, at position 3 of 10 frames.
+/// The faults of a command set at 1 Hz, at position 3 of 10 frames.
 const COMMANDS: [Fault<Commands>; 16] = [
     (6, |c| c.loop_region = Some(Some(frames(4, 4)))),
     (6, |c| c.loop_region = Some(Some(frames(4, 11)))),
@@ -173,7 +173,7 @@ struct Placed {
     samples: usize,
 }
 
-/// What is wrong with a block of 3 frames at 1 Hz.
+/// The faults of a block of 3 frames at 1 Hz.
 const BLOCKS: [Fault<Placed>; 37] = [
     (9, |b| b.samples = 5),
     (9, |b| b.samples = 7),
@@ -253,7 +253,7 @@ fn blocks(list: &mut Words) {
     });
     scene.lend(20);
     scene.block(&unit(3, 1.0));
-    // At 2 Hz the first product alone is infinite.
+    // At 2 Hz only the first product is infinite.
     scene.give(&State {
         sample_rate: 2,
         ..created(0, 10)
@@ -263,7 +263,7 @@ fn blocks(list: &mut Words) {
     scene.block_refused(&given, 2, 12);
 }
 
-/// The faults of a block that do not lie in its output's length, and the places that hold none.
+/// The faults of a block that are not in its output's length, and the positions in a mix without enough space.
 fn mixes(list: &mut Words) {
     let mut scene = Scene::begin(list, &ramp(0, 10));
     scene.create(&Settings::new(1));
@@ -301,7 +301,7 @@ fn mixes(list: &mut Words) {
     scene.mix(&unit(3, 1.0), 12, 3);
 }
 
-/// What is wrong with a state over 10 frames, whose window is full.
+/// The faults of a state over 10 frames with a full window.
 const STATES: [Fault<State>; 30] = [
     (1, |s| s.sample_rate = 0),
     (1, |s| s.sample_rate = 768_001),
@@ -378,7 +378,7 @@ fn states(list: &mut Words) {
     }
 }
 
-/// A well formed state with another sound lent than the recorded one.
+/// A well formed state with another sound than the recorded one.
 fn other_sounds(list: &mut Words) {
     let mut scene = Scene::begin(list, &ramp(1, 10));
     for slice in [None, Some((2, 5))] {

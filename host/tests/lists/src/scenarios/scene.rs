@@ -1,8 +1,6 @@
-// A scenario as it is written: each record beside what the oracle answers, or the rules' refusal.
+// A scenario as it is written: each record with the oracle's result, or the refusal by the rules.
 
-use oracle::{
-    Commands, Entry, LaneBuffers, Oracle, PlaybackState, Reported, Settings, Signals, State, Wraps,
-};
+use oracle::{Commands, LaneBuffers, Oracle, Reported, Settings, Signals, State};
 
 use super::words::Words;
 
@@ -16,32 +14,7 @@ const BLOCK: u64 = 6;
 const MIX: u64 = 7;
 const STRETCH: u64 = 8;
 
-/// What a refused creation leaves.
-const BLANK: State = State {
-    sample_rate: 0,
-    total_frames: 0,
-    slice: None,
-    reverse: false,
-    rate: 0.0,
-    started: false,
-    playback: PlaybackState::Stopped,
-    fraction: 0.0,
-    position: 0,
-    loop_region: None,
-    playing: false,
-    window: [Entry {
-        left: 0.0,
-        right: 0.0,
-        number: 0,
-    }; 4],
-    count: 0,
-    wraps: Wraps {
-        forward: 0,
-        backward: 0,
-    },
-};
-
-/// What a block is given.
+/// The input of a block.
 #[derive(Clone)]
 pub struct Block {
     pub lanes: LaneBuffers,
@@ -49,7 +22,7 @@ pub struct Block {
     pub signals: Signals,
 }
 
-/// A sound, and a voice of kira's on it as long as its state is well formed.
+/// A sound, and kira's voice on it while its state is well formed.
 pub struct Scene<'a> {
     list: &'a mut Words,
     sound: Vec<f32>,
@@ -59,7 +32,7 @@ pub struct Scene<'a> {
 }
 
 impl<'a> Scene<'a> {
-    /// A scenario over these samples, all of them lent.
+    /// A scenario over these samples; each call gets all of them.
     pub fn begin(list: &'a mut Words, sound: &[f32]) -> Self {
         list.number(SOUND);
         list.counted(sound);
@@ -68,7 +41,7 @@ impl<'a> Scene<'a> {
             sound: sound.to_vec(),
             lent: sound.len(),
             voice: None,
-            state: BLANK,
+            state: State::BLANK,
         }
     }
 
@@ -76,7 +49,7 @@ impl<'a> Scene<'a> {
         &self.state
     }
 
-    /// From here on the voice is in this state, well formed or not.
+    /// Sets the voice to this state, well formed or not.
     pub fn give(&mut self, state: &State) {
         self.list.number(STATE);
         self.list.state(state);
@@ -85,7 +58,7 @@ impl<'a> Scene<'a> {
         self.voice = fits.then(|| Oracle::inject(state, &self.sound));
     }
 
-    /// From here on so many of the sound's samples are lent.
+    /// From now on each call gets this many of the sound's samples.
     pub fn lend(&mut self, samples: usize) {
         self.list.number(LENT);
         self.list.index(samples);
@@ -100,7 +73,7 @@ impl<'a> Scene<'a> {
     }
 
     pub fn create_refused(&mut self, settings: &Settings, refusal: u64) {
-        self.state = BLANK;
+        self.state = State::BLANK;
         self.voice = None;
         self.write_creation(settings, refusal);
     }
@@ -123,14 +96,14 @@ impl<'a> Scene<'a> {
         self.write_outcome(0, reported, &out);
     }
 
-    /// A block that is refused, into an output of so many samples.
+    /// A refused block, into an output of this many samples.
     pub fn block_refused(&mut self, block: &Block, samples: usize, refusal: u64) {
         self.write_block(BLOCK, block);
         self.list.index(samples);
         self.write_outcome(refusal, NOTHING, &untouched(samples));
     }
 
-    /// A block into a mix of so many samples, from a frame on.
+    /// A block into a mix of this many samples, from a frame on.
     pub fn mix(&mut self, block: &Block, samples: usize, from: usize) {
         let (reported, out) = self.play(block);
         let mut mix = untouched(samples);
@@ -148,7 +121,7 @@ impl<'a> Scene<'a> {
         self.write_outcome(refusal, NOTHING, &untouched(samples));
     }
 
-    /// The sound's own stretch; empty where the state is not well formed or does not fit the sound.
+    /// The stretch of the voice; empty if the state is not well formed or does not fit the sound.
     pub fn stretch(&mut self) {
         let state = self.state;
         let fits = state.is_well_formed() && self.lent == 2 * state.total_frames;
@@ -210,7 +183,7 @@ const NOTHING: Reported = Reported {
     lowest_count: 4,
 };
 
-/// What an output holds before a call: -1, -2 and so on.
+/// The contents of an output before a call: -1, -2 and so on.
 fn untouched(samples: usize) -> Vec<f32> {
     (1..=samples).map(|place| -(place as f32)).collect()
 }

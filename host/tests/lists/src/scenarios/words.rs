@@ -1,4 +1,4 @@
-// Numbers, one a line, in the shapes that records are made of.
+// Numbers, one per line, in the layouts that records consist of.
 
 use std::fmt::Write;
 
@@ -43,7 +43,7 @@ impl Words {
         samples.iter().for_each(|sample| self.single(*sample));
     }
 
-    /// A length, then so many samples.
+    /// A length, then that many samples.
     pub fn counted(&mut self, samples: &[f32]) {
         self.index(samples.len());
         self.samples(samples);

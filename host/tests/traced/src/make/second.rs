@@ -1,4 +1,4 @@
-//! Records and traces of version 2 to try: lawful, a little off, damaged, sealed again after a change.
+//! Records and traces of version 2 for the tests: well formed, slightly wrong, damaged, sealed again after a change.
 
 use random::Random;
 
@@ -11,7 +11,7 @@ use crate::{
 /// A record: its kind, its numbers and its lanes.
 pub type Made = (u64, Values, Vec<u8>);
 
-/// A digest's four numbers, and the frames that it is of.
+/// A sound's digest in four numbers, and its frame count.
 #[derive(Debug, Clone, Copy, PartialEq, Eq)]
 pub struct Named {
     /// How many frames the sound has.
@@ -21,7 +21,7 @@ pub struct Named {
 }
 
 impl Named {
-    /// What names these samples: their SHA-256 as little-endian f32.
+    /// The name of these samples: their SHA-256 as little-endian f32.
     #[must_use]
     pub fn of(samples: &[f32]) -> Self {
         let bytes: Vec<u8> = samples.iter().flat_map(|s| s.to_le_bytes()).collect();
@@ -37,7 +37,7 @@ impl Named {
     }
 }
 
-/// A creation over a sound of one of these names, or of another.
+/// A creation over a sound with one of these names, or another.
 fn creation(random: &mut Random, names: &[Named]) -> Made {
     let mut values = super::creation(random);
     values[13..].fill(0);
@@ -55,13 +55,13 @@ fn creation(random: &mut Random, names: &[Named]) -> Made {
     values[12] = named.frames;
     values[13..17].copy_from_slice(&named.digest);
     if random.one_in(8) && !names.is_empty() {
-        // A digit of the digest, or the count, is another.
+        // One digit of the digest, or the count, is changed.
         values[12 + random.below(5)] ^= 1 << random.below(24);
     }
     (4, values, Vec::new())
 }
 
-/// The frames of a kind 5: mostly few.
+/// The frames of a laned block: mostly few.
 fn frames(random: &mut Random) -> usize {
     match random.below(60) {
         0 => 1 + random.below(1_024),
@@ -102,8 +102,8 @@ fn block(random: &mut Random) -> Made {
     }
     if random.one_in(12) {
         // Lanes that look like records.
-        let (kind, inner, within) = lawful(random, &[]);
-        let inner = page::bytes(kind, &inner, &within).expect("a lawful record");
+        let (kind, inner, within) = well_formed(random, &[]);
+        let inner = page::bytes(kind, &inner, &within).expect("a well formed record");
         let at = random.below(lanes.len());
         for (to, from) in lanes[at..].iter_mut().zip(inner) {
             *to = from;
@@ -112,11 +112,11 @@ fn block(random: &mut Random) -> Made {
     (5, values, lanes)
 }
 
-/// A lawful record; a creation is over a sound of one of these names, mostly.
-pub fn lawful(random: &mut Random, names: &[Named]) -> Made {
+/// A well formed record. A creation is mostly over a sound with one of these names.
+pub fn well_formed(random: &mut Random, names: &[Named]) -> Made {
     match random.below(8) {
         0..=2 => {
-            let (kind, values) = super::lawful(random);
+            let (kind, values) = super::well_formed(random);
             (kind, values, Vec::new())
         }
         3 => creation(random, names),
@@ -124,9 +124,9 @@ pub fn lawful(random: &mut Random, names: &[Named]) -> Made {
     }
 }
 
-/// A record, lawful or a number or some lanes away from it.
+/// A record, well formed or with a wrong number or wrong lanes.
 pub fn any(random: &mut Random) -> Made {
-    let (mut kind, mut values, mut lanes) = lawful(random, &[]);
+    let (mut kind, mut values, mut lanes) = well_formed(random, &[]);
     match random.below(8) {
         0..=2 => {}
         3 => kind = [0, 1, 2, 3, 4, 5, 6, random.word()][random.below(8)],
@@ -147,25 +147,25 @@ pub fn any(random: &mut Random) -> Made {
     (kind, values, lanes)
 }
 
-/// A lawful trace of so many records over sounds of these names; its first is a creation, mostly.
+/// A well formed trace of this many records over sounds with these names. The first is mostly a creation.
 ///
 /// # Panics
 ///
-/// If the page's writer refuses a lawful record.
+/// If the page's writer refuses a well formed record.
 #[must_use]
 pub fn trace(random: &mut Random, names: &[Named], records: usize) -> Vec<u8> {
     let mut bytes = Vec::new();
     for record in 0..records {
         let (kind, values, lanes) = match record == 0 && !random.one_in(10) {
             true => creation(random, names),
-            false => lawful(random, names),
+            false => well_formed(random, names),
         };
-        bytes.extend(page::bytes(kind, &values, &lanes).expect("a lawful record"));
+        bytes.extend(page::bytes(kind, &values, &lanes).expect("a well formed record"));
     }
     bytes
 }
 
-/// The places of the sealed records of a trace, with the places after them.
+/// The offsets of the sealed records of a trace, with the offsets after them.
 fn sealed(bytes: &[u8]) -> Vec<(usize, usize)> {
     let (mut at, mut found) = (0, Vec::new());
     while at < bytes.len() {
@@ -182,14 +182,14 @@ fn sealed(bytes: &[u8]) -> Vec<(usize, usize)> {
     found
 }
 
-/// The checksum of the record between these places, made right for its bytes.
+/// Corrects the checksum of the record between these offsets.
 fn seal(bytes: &mut [u8], at: usize, next: usize) {
     let end = next - CHECKSUM;
     let sum = page::checksum(&bytes[at + 2..end]).to_le_bytes();
     bytes[end..next].copy_from_slice(&sum);
 }
 
-/// One fault: one of version 1's, or of a sealed record.
+/// One fault: one of version 1's, or one of a sealed record.
 pub fn damage(random: &mut Random, bytes: &mut Vec<u8>) {
     let sealed = sealed(bytes);
     let which = random.below(12);
@@ -202,14 +202,14 @@ pub fn damage(random: &mut Random, bytes: &mut Vec<u8>) {
         // A wrong checksum, then one byte of the record changed.
         3 => bytes[next - 1 - random.below(CHECKSUM)] ^= 1 << random.below(8),
         4 => bytes[at + 2 + random.below(next - at - 2)] ^= 1 << random.below(8),
-        // The same with a checksum that is right for it.
+        // The same with a correct checksum.
         5 | 6 => {
             let place = payload.start + random.below(payload.len());
             let place = if random.coin() { payload.start } else { place };
             bytes[place] = random.word() as u8 >> random.below(8);
             seal(bytes, at, next);
         }
-        // A frame more or less than the field says, with a length and a checksum that are right for it.
+        // A frame more or less than the field says, with a correct length and checksum.
         7 | 8 if bytes[at + 2] == 5 => {
             let end = payload.end;
             let length = match random.coin() {
@@ -254,7 +254,7 @@ pub fn damage(random: &mut Random, bytes: &mut Vec<u8>) {
     }
 }
 
-/// A trace with up to so many faults, and none at times.
+/// A trace with at most this many faults, sometimes none.
 #[must_use]
 pub fn damaged(random: &mut Random, names: &[Named], records: usize, faults: usize) -> Vec<u8> {
     let records = random.below(records + 1);
@@ -306,13 +306,13 @@ pub fn all_kinds() -> Vec<u8> {
     let sealed = [(4, given, Vec::new()), (5, laned, lanes)];
     let sealed = sealed.map(|(kind, values, lanes)| {
         let bytes = page::bytes(kind, &values, &lanes);
-        bytes.expect("lawful")
+        bytes.expect("well formed")
     });
-    let end = super::page::bytes(2, &[0; 80]).expect("lawful");
+    let end = super::page::bytes(2, &[0; 80]).expect("well formed");
     [super::all_kinds(), sealed.concat(), end].concat()
 }
 
-/// Sounds to give to a replay: two of one length among them.
+/// Sounds for a replay, including two of the same length.
 pub fn sounds(random: &mut Random) -> Vec<(Named, Vec<f32>)> {
     let lengths = [1, 5, 5, 64, 65, 300];
     let sound = |frames: usize| {

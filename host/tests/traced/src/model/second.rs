@@ -1,5 +1,5 @@
 //! A second player of traces of version 2, over the voice's own calls and sounds that are given or not: what a replay
-//! must answer. It can make a slip, so that the comparison can be tried.
+//! must return. It can make a slip, to test the comparison.
 
 use cableowl::{
     BlockLanes, Commands, Lanes, Refusal, Settings, StartAnswer, StaticSound,
@@ -19,23 +19,23 @@ use crate::{
 pub enum Slip {
     /// None.
     Right,
-    /// The sound is judged after the settings: 2 to 7 before 26.
+    /// The sound is checked after the settings: 2 to 7 before 26.
     SoundAfterSettings,
-    /// The voice stays when none of the sounds fits.
+    /// The voice stays if none of the sounds fits.
     VoiceKept,
-    /// A sound of the recorded frame count fits, whatever its digest.
+    /// A sound with the recorded frame count fits, whatever its digest.
     CountAlone,
-    /// A sound of the recorded digest fits, whatever the recorded frame count.
+    /// A sound with the recorded digest fits, whatever the recorded frame count.
     DigestAlone,
-    /// 26 where no sound is given.
+    /// 26 if no sound is given.
     NoneGivenRefused,
-    /// Silence of the recorded frame count where none fits.
+    /// Silence of the recorded frame count if none fits.
     NoneFitsSilent,
-    /// The trace ends where none fits.
+    /// The trace ends if none fits.
     EndsThere,
     /// A creation that is refused with 26 is counted as a block.
     Counted,
-    /// The line of 26 states the place after the record.
+    /// The line of 26 has the offset after the record.
     PlaceAfter,
     /// Left and right exchanged in the lanes.
     LeftForRight,
@@ -73,7 +73,7 @@ pub struct Did {
     pub answers: Vec<(u64, u64)>,
     /// The lines.
     pub lines: Vec<String>,
-    /// The samples of the blocks over a sound that was there, by their bits.
+    /// The samples of the blocks over a sound that was given or recorded, by their bits.
     pub heard: Vec<u32>,
     /// The voice at the end, if there is one.
     pub voice: String,
@@ -87,7 +87,7 @@ pub type Sounds = [(Named, Vec<f32>)];
 enum Over {
     /// Samples.
     Samples(Vec<f32>),
-    /// So many frames, of which nothing is known.
+    /// This many frames, of which nothing is known.
     Frames(Vec<f32>),
 }
 
@@ -99,7 +99,7 @@ impl Over {
     }
 }
 
-/// The lanes of a kind 5.
+/// The lanes of a laned block.
 #[derive(Debug, Default)]
 struct FrameLanes {
     singles: [Vec<f32>; 4],
@@ -138,7 +138,7 @@ impl FrameLanes {
     }
 }
 
-/// The settings of a creation, by the crate's reader of a creation of kind 1 over no frames.
+/// The settings of a creation, read by the crate from a creation of kind 1 over no frames.
 fn settings(values: &Values) -> Settings {
     let mut bare = [0; 80];
     bare[..12].copy_from_slice(&values[..12]);
@@ -149,7 +149,7 @@ fn settings(values: &Values) -> Settings {
     }
 }
 
-/// A run of a trace.
+/// A replay of a trace.
 struct Model<'a> {
     sounds: Option<&'a Sounds>,
     slip: Slip,
@@ -162,7 +162,7 @@ struct Model<'a> {
 }
 
 impl Model<'_> {
-    /// The sound of a creation of kind 4; none where none of the given ones fits.
+    /// The sound of a creation of kind 4; `None` if none of the given ones fits.
     fn over(&self, values: &Values) -> Option<Over> {
         let named = Named {
             frames: values[12],
@@ -217,7 +217,7 @@ impl Model<'_> {
         answer.err().map_or(0, |refusal| refusal.number().into())
     }
 
-    /// A block, by its own lanes or by those of each frame.
+    /// A block with its own lanes, or with those of each frame.
     fn block(&mut self, block: trace::Block, lanes: Option<&FrameLanes>) -> u64 {
         self.blocks += 1;
         let Some(voice) = &mut self.voice else {
@@ -245,7 +245,7 @@ impl Model<'_> {
         answer.err().map_or(0, |refusal| refusal.number().into())
     }
 
-    /// Plays the record that was read at a place; whether the trace goes on.
+    /// Plays the record that was read at an offset. Returns whether the trace continues.
     fn play(&mut self, bytes: &[u8], at: u64, read: &Read) -> bool {
         let values = &read.values;
         let refusal = match read.kind {
@@ -280,7 +280,7 @@ impl Model<'_> {
     }
 }
 
-/// What a kind 5 says besides its lanes.
+/// The fields of a laned block besides its lanes.
 fn laned_block(values: &Values) -> trace::Block {
     let answer = |number: u64| match number {
         0 => StartAnswer::Waiting,

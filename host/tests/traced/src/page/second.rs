@@ -1,11 +1,11 @@
 //! docs/formats/TRACE.md, "Version 2": all five kinds.
 
-use super::{Found, Read, Reader, Saved, Sent, Values, Writer};
+use super::{Fields, Found, Read, Reader, Saved, Sent, Values, Writer};
 
 /// The bytes of the checksum at the end of a sealed record.
 pub const CHECKSUM: usize = 4;
 
-/// The bytes of a frame of a kind 5.
+/// The bytes of a frame of a laned block.
 pub const FRAME: usize = 24;
 
 /// The bytes of the longest record.
@@ -38,31 +38,25 @@ pub fn checksum(bytes: &[u8]) -> u32 {
     !rest
 }
 
-impl Reader<'_> {
-    fn given_creation(&mut self) -> Result<(), u64> {
-        self.settings()?;
-        self.number(4)?;
-        // The digest's 32 bytes.
-        for _ in 0..4 {
-            self.number(8)?;
-        }
-        Ok(())
+fn given_creation(fields: &mut impl Fields) -> Result<(), u64> {
+    fields.settings()?;
+    fields.single()?;
+    // The digest's 32 bytes.
+    for _ in 0..4 {
+        fields.word()?;
     }
+    Ok(())
+}
 
-    fn laned_block(&mut self) -> Result<(), u64> {
-        let frames = self.number(2)?;
-        if !(1..=1_024).contains(&frames) {
-            return Err(17);
-        }
-        self.number(8)?;
-        self.tag(1)?;
-        self.tag(2)?;
-        self.tag(2)?;
-        for _ in 0..frames * FRAME as u64 {
-            self.byte()?;
-        }
-        Ok(())
+/// The fields of a laned block before its lanes. Returns its frames.
+fn laned_block(fields: &mut impl Fields) -> Result<u64, u64> {
+    let frames = fields.number(2, 1_024)?;
+    if frames == 0 {
+        return Err(17);
     }
+    fields.word()?;
+    fields.signals()?;
+    Ok(frames)
 }
 
 fn record(bytes: &[u8]) -> Found {
@@ -79,8 +73,12 @@ fn record(bytes: &[u8]) -> Found {
         count: 0,
     };
     match kind {
-        4 => reader.given_creation()?,
-        _ => reader.laned_block()?,
+        4 => given_creation(&mut reader)?,
+        _ => {
+            for _ in 0..laned_block(&mut reader)? * FRAME as u64 {
+                reader.byte()?;
+            }
+        }
     }
     if reader.at != seal {
         return Err(17);
@@ -92,13 +90,13 @@ fn record(bytes: &[u8]) -> Found {
     }
 }
 
-/// What reader 2 must answer.
+/// What reader 2 must return.
 #[must_use]
 pub fn read(bytes: &[u8], at: u64) -> Read {
     super::read_by(record, bytes, at)
 }
 
-/// The lanes of a kind 5 that was read at a place: the bytes of its frames.
+/// The lanes of a laned block that was read: the bytes of its frames.
 #[must_use]
 pub fn lanes<'a>(bytes: &'a [u8], read: &Read) -> &'a [u8] {
     let end = read.next as usize - CHECKSUM;
@@ -108,7 +106,7 @@ pub fn lanes<'a>(bytes: &'a [u8], read: &Read) -> &'a [u8] {
     }
 }
 
-/// A sealed record of a payload: its length counts the checksum.
+/// A sealed record with this payload. Its stated length includes the checksum.
 #[must_use]
 pub fn sealed(kind: u8, payload: &[u8]) -> Vec<u8> {
     let mut bytes = super::headed(kind, payload.len() + CHECKSUM, payload);
@@ -120,7 +118,7 @@ pub fn sealed(kind: u8, payload: &[u8]) -> Vec<u8> {
 ///
 /// # Errors
 ///
-/// 16 for an unknown kind; 17 for a number that a field does not take, and for lanes that are not 24 bytes a frame.
+/// 16 for an unknown kind; 17 for a number that a field does not accept, and for lanes that are not 24 bytes a frame.
 pub fn bytes(kind: u64, values: &Values, lanes: &[u8]) -> Result<Vec<u8>, u64> {
     let mut writer = Writer {
         values: values.iter(),
@@ -129,25 +127,13 @@ pub fn bytes(kind: u64, values: &Values, lanes: &[u8]) -> Result<Vec<u8>, u64> {
     let frames = match kind {
         1..=3 => return super::bytes(kind, values),
         4 => {
-            writer.settings()?;
-            writer.number(4, u32::MAX.into())?;
-            for _ in 0..4 {
-                writer.word_if(true)?;
-            }
+            given_creation(&mut writer)?;
             0
         }
-        5 => {
-            let frames = writer.number(2, 1_024)?;
-            writer.word_if(true)?;
-            writer.tag(1)?;
-            writer.tag(2)?;
-            writer.tag(2)?;
-            frames
-        }
+        5 => laned_block(&mut writer)?,
         _ => return Err(16),
     };
-    let empty = kind == 5 && frames == 0;
-    if empty || lanes.len() as u64 != frames * FRAME as u64 {
+    if lanes.len() as u64 != frames * FRAME as u64 {
         return Err(17);
     }
     writer.bytes.extend(lanes);

@@ -1,4 +1,4 @@
-//! Replays of version 2, over sounds that are given or not, against the model.
+//! Replays of version 2, over sounds that are given or not, compared with the model.
 
 use cableowl::{
     Refusal,
@@ -26,7 +26,7 @@ pub fn compare(seed: u64, count: u64, mut play: impl FnMut(&[u8], Option<&Sounds
         let named: Vec<Named> = sounds.iter().map(|(name, _)| *name).collect();
         let faults = random.below(2);
         let bytes = make::damaged(&mut random, &named, 30, faults);
-        // All of them, some, or none; an empty collection is one that was given.
+        // All of them, some, or none; an empty collection also counts as given.
         let given = match random.below(4) {
             0 => None,
             1 => Some(&sounds[random.below(sounds.len() + 1)..]),
@@ -47,10 +47,10 @@ pub fn compare(seed: u64, count: u64, mut play: impl FnMut(&[u8], Option<&Sounds
     Ok(tally)
 }
 
-/// The bytes that a replay holds: a trace in pieces of any lengths.
+/// The bytes that a replay has: a trace in pieces of any lengths.
 struct Pieces<'a> {
     bytes: &'a [u8],
-    /// What is held, and the place of its first byte.
+    /// The bytes, and the offset of the first.
     held: Vec<u8>,
     at: usize,
 }
@@ -68,7 +68,7 @@ impl<'a> Pieces<'a> {
         self.at + self.held.len() == self.bytes.len()
     }
 
-    /// A piece more.
+    /// Adds a piece.
     fn more(&mut self, random: &mut Random) {
         let from = self.at + self.held.len();
         let most = if random.one_in(10) { 30_000 } else { 100 };
@@ -76,7 +76,7 @@ impl<'a> Pieces<'a> {
         self.held.extend_from_slice(&self.bytes[from..until]);
     }
 
-    /// So many bytes are done.
+    /// Removes this many bytes, which are done.
     fn done(&mut self, size: usize) {
         self.held.drain(..size);
         self.at += size;

@@ -1,4 +1,4 @@
-//! `tools/statements`: writes docs/assurance/STATEMENTS.txt anew, and prints what changed in it.
+//! `tools/statements`: rewrites docs/assurance/STATEMENTS.txt, and prints what changed in it.
 
 use std::{env, error::Error, fs, path::Path, process::ExitCode};
 

@@ -1,14 +1,14 @@
-// The ways into kira's private fields, included beside the text of sound.rs.
+// Access to kira's private fields, included beside the text of sound.rs.
 
 pub use self::resampler::{current_frame_index, empty, get, new_window, push_frame};
 
 impl StaticSound {
-    /// What kira's manager makes of the data.
+    /// What kira's manager makes from the data.
     pub(super) fn from_data(data: StaticSoundData) -> Self {
         data.split().0
     }
 
-    /// A sound found in the given state.
+    /// A sound in the given state.
     pub(super) fn from_state(
         state: &crate::State,
         frames: Arc<[Frame]>,
@@ -44,7 +44,7 @@ impl StaticSound {
         }
     }
 
-    /// The state it is in.
+    /// Its state.
     pub(super) fn state(&self) -> crate::State {
         let window = self.resampler.window();
         crate::State {
@@ -65,32 +65,32 @@ impl StaticSound {
         }
     }
 
-    /// The frames it plays: the slice's, or all.
+    /// The frames that it plays: the slice's, or all.
     pub(super) fn num_frames(&self) -> usize {
         num_frames(&self.frames, self.slice)
     }
 
-    /// The slots its commands are read from.
+    /// The slots from which it reads its commands.
     pub(super) fn command_readers(&mut self) -> &mut CommandReaders {
         &mut self.command_readers
     }
 
-    /// The position it last reported.
+    /// The position that it reported last.
     pub(super) fn reported_position(&self) -> f64 {
         self.shared.position()
     }
 
-    /// The updates made since the last call: each asks the held rate exactly once.
+    /// The updates since the last call: each reads the held rate exactly once.
     pub(super) fn take_steps(&self) -> u64 {
         self.playback_rate.take_asked()
     }
 
-    /// The lowest count of the window's reads since the last call, 4 for none.
+    /// The lowest count of the window's reads since the last call; 4 if there was none.
     pub(super) fn take_lowest_count(&self) -> u32 {
         self.resampler.take_lowest() as u32
     }
 
-    /// Puts the lanes in the parameters' places, or takes them out again.
+    /// Puts the lanes in the place of the parameters, or takes them out again.
     pub(super) fn swap_lanes(&mut self, lanes: &mut crate::LaneBuffers) {
         use std::mem::swap;
         swap(self.playback_state_manager.fade().lane(), &mut lanes.fade);

@@ -1,4 +1,4 @@
-// Stand-in for kira's handle.rs: what `split` hands back beside the sound.
+// Stand-in for kira's handle.rs: what `split` returns besides the sound.
 
 use std::sync::Arc;
 

@@ -1,5 +1,5 @@
-// kira's resampler.rs, unchanged, with the way into its private window; around it, a resampler that
-// remembers the lowest count it was read at; and the leaves over it.
+// kira's resampler.rs, unchanged, with access to its private window; a wrapper that remembers the lowest count at which
+// it was read; and the leaves over it.
 use std::cell::Cell;
 
 use crate::{Frame, leaves::Window};
@@ -10,7 +10,7 @@ mod text {
     use crate::{Entry, leaves::Window};
 
     impl Resampler {
-        /// A resampler that holds the given window.
+        /// A resampler with the given window.
         pub(super) fn from_window(window: &Window) -> Self {
             Self {
                 frames: window.entries.map(|entry| RecentFrame {
@@ -21,7 +21,7 @@ mod text {
             }
         }
 
-        /// The window it holds.
+        /// Its window.
         pub(super) fn window(&self) -> Window {
             Window {
                 entries: self.frames.map(|recent| Entry {
@@ -52,12 +52,12 @@ impl Resampler {
         Self::around(text::Resampler::new(starting_frame_index))
     }
 
-    /// A resampler that holds the given window.
+    /// A resampler with the given window.
     pub(super) fn from_window(window: &Window) -> Self {
         Self::around(text::Resampler::from_window(window))
     }
 
-    /// The window it holds.
+    /// Its window.
     pub(super) fn window(&self) -> Window {
         self.text.window()
     }
@@ -77,7 +77,7 @@ impl Resampler {
         self.text.empty()
     }
 
-    /// kira's `get`; its count before each read is remembered.
+    /// kira's `get`. The count before each read is remembered.
     #[inline]
     pub fn get(&self, fractional_position: f32) -> Frame {
         if cfg!(not(timed)) {
@@ -86,7 +86,7 @@ impl Resampler {
         self.text.get(fractional_position)
     }
 
-    /// The lowest count of the reads since the last call, 4 for none.
+    /// The lowest count of the reads since the last call; 4 if there was none.
     pub(super) fn take_lowest(&self) -> usize {
         self.lowest.replace(4)
     }

@@ -1,9 +1,9 @@
-//! A voice recorded in version 1 plays as an unrecorded one, call for call and bit for bit, whatever it cannot record;
-//! and what it recorded prints, played again, the lines of the evening and sounds the same.
+//! A voice recorded in version 1. Some of its calls fit no record, and then the trace ends.
 
+use super::{Unrecorded, bits, commands, record_block, settings};
 use cableowl::{
-    Commands, Frames, Hall, Lanes, LoopTable, Processed, Refusal, Settings, Signals, StartAnswer,
-    StartSignal, StaticSound,
+    Commands, Frames, Hall, Lanes, LoopTable, Refusal, Settings, Signals, StartAnswer, StartSignal,
+    StaticSound,
     trace::{
         self, Block, Lesson, Line, Record, Recorded, Recorder, Replay, ShortSound, Trace,
         TraceVersion,
@@ -11,10 +11,10 @@ use cableowl::{
 };
 use random::Random;
 
-/// The most bytes of a record.
+/// The length of the longest record in bytes.
 const MAX_BYTES: usize = TraceVersion::First.max_record_bytes();
 
-/// What is lent as the lanes of a block.
+/// The lanes of a block.
 #[derive(Clone)]
 struct Numbers {
     fade: Vec<f32>,
@@ -28,9 +28,9 @@ enum Call {
     Create(Settings, Vec<f32>),
     Commands(Commands),
     Take(LoopTable, usize),
-    /// Of these frames, in an output of so many samples, from a frame on where it is a mix.
+    /// The frames, the lanes, the time step, the signals, the samples of the output, and the first frame in a mix.
     Block(usize, Numbers, f64, Signals, usize, Option<usize>),
-    /// Lends another sound from here on, until the next creation.
+    /// Passes another sound from now on, until the next creation.
     Sound(Vec<f32>),
 }
 
@@ -42,33 +42,6 @@ fn sound(random: &mut Random) -> Vec<f32> {
         _ => 2 * (1 + random.below(20)),
     };
     (0..samples).map(|_| random.unit() as f32 - 0.5).collect()
-}
-
-fn settings(random: &mut Random) -> Settings {
-    let settings = Settings::new([0, 1, 1, 2, 3][random.below(5)])
-        .reverse(random.one_in(4))
-        .start_waits(random.one_in(4));
-    match random.below(4) {
-        0 => settings.loop_region(..),
-        1 => settings.loop_region(0.0..1.0).playback_rate(-1.0),
-        2 => settings.slice(Frames(0)..Frames(random.below(9))),
-        _ => settings,
-    }
-}
-
-fn commands(random: &mut Random) -> Commands {
-    let commands = Commands::new();
-    match random.below(9) {
-        0 => commands.pause(),
-        1 => commands.resume(),
-        2 => commands.resume_waiting(),
-        3 => commands.stop(),
-        4 => commands.seek_by(random.unit() * 8.0 - 4.0),
-        5 => commands.seek_to(f64::from_bits(random.word())),
-        6 => commands.set_loop_region(Frames(random.below(9))..Frames(random.below(9))),
-        7 => commands.clear_loop_region().set_playback_rate(-0.5),
-        _ => commands,
-    }
 }
 
 fn signals(random: &mut Random) -> Signals {
@@ -130,7 +103,7 @@ fn block(random: &mut Random, off: bool) -> Call {
     }
 }
 
-/// An evening's calls; `off` lets some of them be such as no record holds.
+/// An evening's calls. If `off` is set, some of them fit no record.
 fn evening(random: &mut Random, calls: usize, off: bool) -> Vec<Call> {
     let mut table = LoopTable::new(8);
     table.write(Hall::A, 3, 1..3).unwrap();
@@ -146,29 +119,26 @@ fn evening(random: &mut Random, calls: usize, off: bool) -> Vec<Call> {
         }
         2 => Call::Take(table, [3, 9, 4, 99][random.below(4)]),
         3 if off && random.one_in(4) => Call::Sound(sound(random)),
-        3..=9 => Call::Commands(commands(random)),
+        3..=9 => Call::Commands(commands(random, |_| true)),
         _ => block(random, off),
     };
     (0..calls).map(|place| call(place == 0)).collect()
 }
 
-fn bits(samples: &[f32]) -> Vec<u32> {
-    samples.iter().map(|sample| sample.to_bits()).collect()
-}
-
 /// An unrecorded voice beside a recorded one.
 struct Beside<'a> {
     recorder: Recorder<'a>,
-    voice: Option<StaticSound>,
+    voice: Unrecorded,
     sound: Vec<f32>,
     created: Vec<f32>,
     lanes: [Lanes; 2],
     blocks: u64,
-    /// The lines and the samples of the blocks that the trace holds.
+    /// The lines and the samples of the recorded blocks.
     log: Vec<(Line, Vec<u32>)>,
-    /// What the trace should hold of each call, and why it ends.
+    /// The records that the trace must have.
     records: Vec<Record<'static>>,
     room: usize,
+    /// Why the trace ended.
     ended: Option<Refusal>,
 }
 
@@ -177,7 +147,7 @@ impl<'a> Beside<'a> {
         Self {
             room: buffer.len(),
             recorder: Recorder::with_version(buffer, TraceVersion::First),
-            voice: None,
+            voice: Unrecorded::default(),
             sound: Vec::new(),
             created: Vec::new(),
             lanes: [Lanes::new(), Lanes::new()],
@@ -188,14 +158,14 @@ impl<'a> Beside<'a> {
         }
     }
 
-    /// What the recorder must say of a call with this record.
+    /// Compares what the recorder returned for a call with this record, and whether the trace goes on after it.
     fn expect<T: PartialEq + std::fmt::Debug>(
         &mut self,
         made: Recorded<T>,
         answer: Result<T, Refusal>,
         record: Option<Record<'static>>,
     ) -> bool {
-        assert_eq!(made.answer, answer);
+        self.voice.compare(&self.recorder, &made, &answer);
         if self.ended.is_none() {
             let mut bytes = [0; MAX_BYTES];
             let write = |record| TraceVersion::First.write(&record, &mut bytes, 0).unwrap();
@@ -211,14 +181,12 @@ impl<'a> Beside<'a> {
         }
         assert_eq!(made.recorded, self.ended.map_or(Ok(()), Err));
         assert_eq!(self.recorder.room(), self.room);
-        let states = [self.recorder.voice(), self.voice.as_ref()];
-        let [recorded, plain] = states.map(|voice| voice.map(StaticSound::state));
-        assert_eq!(recorded, plain);
         self.ended.is_none()
     }
 
+    /// Whether the sound is the one that the voice was created with.
     fn is_the_creations(&self) -> bool {
-        self.voice.is_none() || bits(&self.sound) == bits(&self.created)
+        self.voice.0.is_none() || bits(&self.sound) == bits(&self.created)
     }
 
     fn call(&mut self, call: &Call) {
@@ -227,9 +195,7 @@ impl<'a> Beside<'a> {
             Call::Create(settings, sound) => {
                 self.sound.clone_from(sound);
                 self.created.clone_from(sound);
-                let plain = StaticSound::new(*settings, sound);
-                let answer = plain.as_ref().map(|_| ()).map_err(|refusal| *refusal);
-                self.voice = plain.ok();
+                let answer = self.voice.create(*settings, sound);
                 let lesson = Lesson::new(sound.clone()).unwrap();
                 let made = self.recorder.create(*settings, &lesson);
                 let settings = *settings;
@@ -239,21 +205,17 @@ impl<'a> Beside<'a> {
             }
             Call::Commands(commands) => {
                 let made = self.recorder.on_start_processing(&self.sound, *commands);
-                let answer = match &mut self.voice {
-                    Some(voice) => voice.on_start_processing(&self.sound, *commands),
-                    None => Err(Refusal::State),
-                };
+                let answer = self.voice.commands(&self.sound, *commands);
                 let record = Record::Commands(*commands);
                 let record = self.is_the_creations().then_some(record);
                 self.expect(made, answer, record);
             }
             Call::Take(table, slot) => {
                 let made = self.recorder.take_loop(&self.sound, table, *slot);
-                let answer = match (table.read(*slot), &mut self.voice) {
-                    (Err(refusal), _) => Err(refusal),
-                    (_, Some(voice)) => voice.take_loop(&self.sound, table, *slot),
-                    (_, None) => Err(Refusal::State),
-                };
+                let answer = table.read(*slot).and_then(|_| {
+                    let voice = self.voice.voice()?;
+                    voice.take_loop(&self.sound, table, *slot)
+                });
                 let Ok(region) = table.read(*slot) else {
                     assert_eq!(made.answer, answer);
                     assert_eq!(made.recorded, self.ended.map_or(Ok(()), Err));
@@ -289,25 +251,20 @@ impl<'a> Beside<'a> {
         });
         let [recorded, plain] = lanes;
         let constant = recorded.constant_frames() == frames && numbers.fade.len() == frames;
-        let (made, answer) = match from {
-            None => (
-                self.recorder
-                    .process(&self.sound, recorded, dt, signals, recorded_out),
-                self.voice.as_mut().map_or(Err(Refusal::State), |voice| {
-                    voice.process(&self.sound, plain, dt, signals, plain_out)
-                }),
-            ),
-            Some(from) => (
-                self.recorder
-                    .process_into(&self.sound, recorded, dt, signals, recorded_out, from),
-                self.voice.as_mut().map_or(Err(Refusal::State), |voice| {
-                    voice.process_into(&self.sound, plain, dt, signals, plain_out, from)
-                }),
-            ),
-        };
+        let sound = &self.sound;
+        let made = record_block(
+            &mut self.recorder,
+            sound,
+            recorded,
+            dt,
+            signals,
+            recorded_out,
+            from,
+        );
+        let answer = self.voice.block(sound, plain, dt, signals, plain_out, from);
         assert_eq!(bits(&outs[0]), bits(&outs[1]));
         self.blocks += 1;
-        let line = match &self.voice {
+        let line = match &self.voice.0 {
             Some(voice) => Line::of_block(self.blocks, frames, voice, answer),
             None => Line::RefusedBlock {
                 block: self.blocks,
@@ -330,18 +287,17 @@ impl<'a> Beside<'a> {
                 .with_signals(signals),
             )
         });
-        let heard: Result<Processed, Refusal> = answer;
-        let place = 2 * from.unwrap_or(0);
-        let heard = match heard {
-            Ok(_) => bits(&outs[0][place..place + 2 * frames]),
+        let first = 2 * from.unwrap_or(0);
+        let played = match answer {
+            Ok(_) => bits(&outs[0][first..first + 2 * frames]),
             Err(_) => Vec::new(),
         };
         if self.expect(made, answer, record) {
-            self.log.push((line, heard));
+            self.log.push((line, played));
         }
     }
 
-    /// What is recorded is what was done, and played again it is what was heard and logged.
+    /// The records are those of the calls, and a replay has the lines and the samples that were played.
     fn end(&mut self) {
         let bytes = self.recorder.bytes();
         let records: Vec<Record> = Trace::new(bytes).map(|record| record.unwrap().1).collect();
@@ -385,7 +341,7 @@ fn a_recorded_voice_plays_as_an_unrecorded_one() {
     assert!(lines > 20_000 && ends.iter().all(|times| *times > 100));
 }
 
-/// A host that empties a small buffer in time has the same trace as one with a large buffer.
+/// A host that empties a small buffer in time gets the same trace as one with a large buffer.
 #[test]
 fn emptied_in_time_the_buffer_is_never_full() {
     let mut random = Random::new(1_052);
@@ -412,7 +368,7 @@ fn emptied_in_time_the_buffer_is_never_full() {
     }
 }
 
-/// A tick is recorded as the answer that the library gives it.
+/// A tick is recorded as the answer that the library computes from it.
 #[test]
 fn a_tick_is_its_answer() {
     let edges = [0, 1, 2, 1 << 31, u32::MAX].map(|edge: u32| {
@@ -432,12 +388,12 @@ fn a_tick_is_its_answer() {
             (block.unwrap().steps, voice.state())
         };
         let tick = StartSignal::Tick { due, now };
-        let told = started(tick.answer().into(), &mut lanes);
-        assert_eq!(started(tick, &mut lanes), told, "due {due}, now {now}");
+        let expected = started(tick.answer().into(), &mut lanes);
+        assert_eq!(started(tick, &mut lanes), expected, "due {due}, now {now}");
     }
 }
 
-/// No voice: command sets and blocks are refused with 1, and recorded.
+/// Without a voice, command sets and blocks are refused with 1 and recorded.
 #[test]
 fn before_a_creation() {
     let mut buffer = [0; 200];

@@ -1,21 +1,23 @@
-//! The same runs on readers, writers and salvages that each make one slip find all of them.
+//! Wrong readers, writers and salvages of version 1.
 
+use super::{
+    Page, clearing, finds_readers, finds_salvages, finds_writers, partial_write, refused, skipping,
+    space_first, space_for_kept,
+};
 use traced::{
     entries::{Read, Saved, Sent},
     page,
-    runs::{Codec, Reader, Salvage, Version, Writer},
+    runs::{Reader, Salvage, Version, Writer},
 };
 
-fn refused(refusal: u64, at: u64) -> Read {
-    Read {
-        refusal,
-        kind: 0,
-        next: at,
-        values: [0; 80],
-    }
+struct First;
+
+impl Page for First {
+    const VERSION: Version = Version::First;
+    const SEED: u64 = 1;
 }
 
-/// A head at the place: its kind and length, and whether all of its payload is there.
+/// The kind and the length of the record at this offset, and whether all of its payload is in the bytes.
 fn head(bytes: &[u8], at: u64) -> Option<(u8, u16, bool)> {
     let rest = bytes.get(usize::try_from(at).ok()?..)?;
     let &[0xa5, 0x1d, kind, low, high, ref payload @ ..] = rest else {
@@ -25,7 +27,7 @@ fn head(bytes: &[u8], at: u64) -> Option<(u8, u16, bool)> {
     Some((kind, length, payload.len() >= length.into()))
 }
 
-/// The bytes with the one at the place changed.
+/// The bytes with the one at `at + by` changed.
 fn changed(bytes: &[u8], at: u64, by: usize, to: u8) -> Vec<u8> {
     let mut bytes = bytes.to_vec();
     if let Some(byte) = bytes.get_mut(at as usize + by) {
@@ -42,39 +44,41 @@ const READERS: [(&str, Reader); 12] = [
         }
     }),
     (
-        "a tag judged after the payload's bytes",
+        "a tag checked after the payload's bytes",
         |bytes, at| match head(bytes, at) {
             Some((1..=3, length, false)) if is_length(bytes, at, length) => refused(18, at),
             _ => page::read(bytes, at),
         },
     ),
-    ("the stated length not held to the fields", |bytes, at| {
-        let lengths: Vec<u16> = (0..=68)
-            .map(|k| 26 + 8 * k)
-            .chain([7, 15, 23, 31, 39, 47])
-            .collect();
-        let right = page::read(bytes, at);
-        match (right.refusal, head(bytes, at)) {
-            (17, Some(_)) => lengths
-                .iter()
-                .map(|length| changed(bytes, at, 3, *length as u8))
-                .map(|bytes| page::read(&bytes, at))
-                .find(|read| read.refusal == 0)
-                .unwrap_or(right),
-            _ => right,
-        }
-    }),
+    (
+        "the stated length not compared with the fields",
+        |bytes, at| {
+            let lengths: Vec<u16> = (0..=68)
+                .map(|k| 26 + 8 * k)
+                .chain([7, 15, 23, 31, 39, 47])
+                .collect();
+            let right = page::read(bytes, at);
+            match (right.refusal, head(bytes, at)) {
+                (17, Some(_)) => lengths
+                    .iter()
+                    .map(|length| changed(bytes, at, 3, *length as u8))
+                    .map(|bytes| page::read(&bytes, at))
+                    .find(|read| read.refusal == 0)
+                    .unwrap_or(right),
+                _ => right,
+            }
+        },
+    ),
     ("kind 4 accepted", |bytes, at| match head(bytes, at) {
         Some((4, ..)) => page::read(&changed(bytes, at, 2, 3), at),
         _ => page::read(bytes, at),
     }),
-    (
-        "a length with its high bit set taken as signed",
-        |bytes, at| match head(bytes, at) {
+    ("a length read as a signed number", |bytes, at| {
+        match head(bytes, at) {
             Some((1..=3, 0x8000.., _)) => refused(18, at),
             _ => page::read(bytes, at),
-        },
-    ),
+        }
+    }),
     ("half a mark", |bytes, at| {
         let second = usize::try_from(at).ok().and_then(|at| bytes.get(at + 1));
         match second {
@@ -88,7 +92,7 @@ const READERS: [(&str, Reader); 12] = [
             false => page::read(bytes, at),
         }
     }),
-    ("the place after a record counted from it", |bytes, at| {
+    ("the next offset counted from the record", |bytes, at| {
         let read = page::read(bytes, at);
         let next = if read.refusal == 0 {
             read.next - at
@@ -125,7 +129,7 @@ const READERS: [(&str, Reader); 12] = [
             _ => read,
         }
     }),
-    ("a refused record tells its kind", |bytes, at| {
+    ("a refused record returns its kind", |bytes, at| {
         let read = page::read(bytes, at);
         match (read.refusal, head(bytes, at)) {
             (17, Some((kind, ..))) => Read {
@@ -143,35 +147,12 @@ fn is_length(bytes: &[u8], at: u64, length: u16) -> bool {
 
 #[test]
 fn every_wrong_reader_is_found() {
-    let right = Version::First.page();
-    right.reads(1, 20_000).unwrap();
-    for (slip, read) in READERS {
-        let found = Codec { read, ..right }.reads(1, 400_000);
-        assert!(found.is_err(), "{slip}");
-    }
+    finds_readers::<First>(&READERS);
 }
 
 const WRITERS: [(&str, Writer); 6] = [
-    ("19 before 17", |buffer, at, kind, values, _| {
-        let right = page::write(buffer, at, kind, values);
-        let room = (buffer.len() as u64).saturating_sub(at);
-        match right.refusal == 17 && room < 12 {
-            true => Sent {
-                refusal: 19,
-                ..right
-            },
-            false => right,
-        }
-    }),
-    ("a partial write on 19", |buffer, at, kind, values, _| {
-        let right = page::write(buffer, at, kind, values);
-        if right.refusal == 19
-            && let Some(byte) = buffer.get_mut(at as usize)
-        {
-            *byte = 0xa5;
-        }
-        right
-    }),
+    ("19 before 17", space_first::<First, 12>),
+    ("a partial write on 19", partial_write::<First>),
     ("an exact fit refused", |buffer, at, kind, values, _| {
         let bytes = page::bytes(kind, values).map_or(0, |bytes| bytes.len());
         match at.checked_add(bytes as u64) == Some(buffer.len() as u64) && bytes > 0 {
@@ -190,7 +171,7 @@ const WRITERS: [(&str, Writer); 6] = [
         }
     }),
     (
-        "a number where none stands is passed over",
+        "a number in an absent field ignored",
         |buffer, at, kind, values, _| {
             let mut values = *values;
             if kind == 2 && values[0] == 0 {
@@ -215,74 +196,44 @@ const WRITERS: [(&str, Writer); 6] = [
 
 #[test]
 fn every_wrong_writer_is_found() {
-    let right = Version::First.page();
-    right.writes(1, 20_000).unwrap();
-    for (slip, write) in WRITERS {
-        let found = Codec { write, ..right }.writes(1, 400_000);
-        assert!(found.is_err(), "{slip}");
-    }
-}
-
-/// A salvage that passes so many bytes of what is no record.
-fn skipping(bytes: &[u8], out: &mut [u8], passes: fn(&[u8]) -> usize) -> Saved {
-    let (mut at, mut to, mut records, mut skipped, mut first) = (0, 0, 0, 0, bytes.len());
-    if out.len() < bytes.len() {
-        return page::salvage(bytes, out);
-    }
-    while at < bytes.len() {
-        let read = page::read(bytes, at as u64);
-        if read.refusal == 0 {
-            let length = read.next as usize - at;
-            out[to..to + length].copy_from_slice(&bytes[at..at + length]);
-            (at, to, records) = (at + length, to + length, records + 1);
-        } else {
-            let passed = passes(&bytes[at..]).min(bytes.len() - at);
-            first = first.min(at);
-            (at, skipped) = (at + passed, skipped + passed);
-        }
-    }
-    Saved {
-        refusal: 0,
-        records,
-        skipped: skipped as u64,
-        first: first as u64,
-    }
+    finds_writers::<First>(&WRITERS);
 }
 
 const SALVAGES: [(&str, Salvage); 7] = [
     (
         "a damaged record skipped by its stated length",
         |bytes, out| {
-            skipping(bytes, out, |rest| match head(rest, 0) {
+            skipping::<First>(bytes, out, page::read, |rest| match head(rest, 0) {
                 Some((_, length, _)) => 5 + usize::from(length),
                 None => 1,
             })
         },
     ),
     ("on to the next mark's second byte", |bytes, out| {
-        skipping(
-            bytes,
-            out,
-            |rest| if rest.starts_with(&[0xa5]) { 2 } else { 1 },
-        )
+        skipping::<First>(bytes, out, page::read, |rest| {
+            if rest.starts_with(&[0xa5]) { 2 } else { 1 }
+        })
     }),
-    ("the last offset told as the first", |bytes, out| {
-        let saved = page::salvage(bytes, out);
-        let (mut at, mut last) = (0, saved.first);
-        while saved.refusal == 0 && at < bytes.len() as u64 {
-            let read = page::read(bytes, at);
-            if read.refusal == 0 {
-                at = read.next;
-            } else {
-                (at, last) = (at + 1, at);
+    (
+        "the last skipped offset in place of the first",
+        |bytes, out| {
+            let saved = page::salvage(bytes, out);
+            let (mut at, mut last) = (0, saved.first);
+            while saved.refusal == 0 && at < bytes.len() as u64 {
+                let read = page::read(bytes, at);
+                if read.refusal == 0 {
+                    at = read.next;
+                } else {
+                    (at, last) = (at + 1, at);
+                }
             }
-        }
-        Saved {
-            first: last,
-            ..saved
-        }
-    }),
-    ("the first offset of none is 0", |bytes, out| {
+            Saved {
+                first: last,
+                ..saved
+            }
+        },
+    ),
+    ("the first skipped offset is 0 if none is", |bytes, out| {
         let saved = page::salvage(bytes, out);
         match saved.skipped {
             0 => Saved { first: 0, ..saved },
@@ -297,33 +248,11 @@ const SALVAGES: [(&str, Salvage); 7] = [
             false => saved,
         }
     }),
-    ("25 judged on the kept bytes", |bytes, out| {
-        let mut room = vec![0; bytes.len()];
-        let saved = page::salvage(bytes, &mut room);
-        let kept = bytes.len() - saved.skipped as usize;
-        match out.get_mut(..kept) {
-            Some(out) => {
-                out.copy_from_slice(&room[..kept]);
-                saved
-            }
-            None => page::salvage(bytes, out),
-        }
-    }),
-    ("the output cleared past the kept bytes", |bytes, out| {
-        let saved = page::salvage(bytes, out);
-        if saved.refusal == 0 {
-            out[bytes.len() - saved.skipped as usize..].fill(0);
-        }
-        saved
-    }),
+    ("25 judged by the kept bytes", space_for_kept::<First>),
+    ("the output cleared after the kept bytes", clearing::<First>),
 ];
 
 #[test]
 fn every_wrong_salvage_is_found() {
-    let right = Version::First.page();
-    right.salvages(1, 2_000).unwrap();
-    for (slip, salvage) in SALVAGES {
-        let found = Codec { salvage, ..right }.salvages(1, 100_000);
-        assert!(found.is_err(), "{slip}");
-    }
+    finds_salvages::<First>(100_000, &SALVAGES);
 }

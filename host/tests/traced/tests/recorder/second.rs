@@ -1,8 +1,8 @@
-// A voice recorded in version 2 plays as an unrecorded one, call for call and bit for bit, over any sound and with any lanes;
-// what it recorded prints, played again, the lines of the evening and sounds the same.
+//! A voice recorded in version 2, over any sound and with any lanes.
 
+use super::{Unrecorded, bits, commands, record_block, settings};
 use cableowl::{
-    Commands, Frames, Lanes, Processed, Refusal, Settings, Signals, StartAnswer, StaticSound,
+    Commands, Lanes, Refusal, Settings, Signals, StartAnswer, StaticSound,
     trace::{
         Block, Lesson, Line, MAX_TRACED_FRAMES, Record, Recorded, Recorder, Replay, Sounds, Trace,
         lines, write,
@@ -10,7 +10,7 @@ use cableowl::{
 };
 use random::Random;
 
-#[path = "../examples/evening/edges.rs"]
+#[path = "../../../../cableowl/examples/evening/edges.rs"]
 mod edges;
 
 use edges::common_edges;
@@ -25,33 +25,6 @@ fn lessons(random: &mut Random) -> Vec<Lesson> {
             Lesson::new(samples).unwrap()
         })
         .collect()
-}
-
-fn settings(random: &mut Random) -> Settings {
-    let settings = Settings::new([0, 1, 1, 2, 3][random.below(5)])
-        .reverse(random.one_in(4))
-        .start_waits(random.one_in(4));
-    match random.below(4) {
-        0 => settings.loop_region(..),
-        1 => settings.loop_region(0.0..1.0).playback_rate(-1.0),
-        2 => settings.slice(Frames(0)..Frames(random.below(9))),
-        _ => settings,
-    }
-}
-
-fn commands(random: &mut Random) -> Commands {
-    let commands = Commands::new();
-    match random.below(9) {
-        0 => commands.pause(),
-        1 => commands.resume(),
-        2 => commands.resume_waiting(),
-        3 if random.one_in(4) => commands.stop(),
-        4 => commands.seek_by(random.unit() * 8.0 - 4.0),
-        5 => commands.seek_to(f64::from_bits(random.word())),
-        6 => commands.set_loop_region(Frames(random.below(9))..Frames(random.below(9))),
-        7 => commands.clear_loop_region().set_playback_rate(-0.5),
-        _ => commands,
-    }
 }
 
 fn signals(random: &mut Random) -> Signals {
@@ -123,10 +96,6 @@ impl Numbers {
     }
 }
 
-fn bits(samples: &[f32]) -> Vec<u32> {
-    samples.iter().map(|sample| sample.to_bits()).collect()
-}
-
 /// A log: the accepted lines that have frames, and each refusal with the frames before it.
 #[derive(Default)]
 struct Log {
@@ -154,7 +123,7 @@ impl Log {
 /// An unrecorded voice beside a recorded one.
 struct Beside<'a> {
     recorder: Recorder<'a>,
-    voice: Option<StaticSound>,
+    voice: Unrecorded,
     lanes: [Lanes; 2],
     log: Log,
     heard: Vec<u32>,
@@ -163,72 +132,53 @@ struct Beside<'a> {
 
 impl Beside<'_> {
     fn same<T: PartialEq + std::fmt::Debug>(&self, made: Recorded<T>, answer: Result<T, Refusal>) {
-        assert_eq!(made.answer, answer);
+        self.voice.compare(&self.recorder, &made, &answer);
         assert_eq!(made.recorded, Ok(()));
-        let voices = [self.recorder.voice(), self.voice.as_ref()];
-        let [recorded, plain] = voices.map(|voice| voice.map(StaticSound::state));
-        assert_eq!(recorded, plain);
     }
 
     fn create(&mut self, settings: Settings, lesson: &Lesson) {
-        let plain = StaticSound::new(settings, lesson.samples());
-        let answer = plain.as_ref().map(|_| ()).map_err(|refusal| *refusal);
-        self.voice = plain.ok();
+        let answer = self.voice.create(settings, lesson.samples());
         let made = self.recorder.create(settings, lesson);
         self.same(made, answer);
     }
 
     fn commands(&mut self, sound: &[f32], commands: Commands) {
         let made = self.recorder.on_start_processing(sound, commands);
-        let answer = match &mut self.voice {
-            Some(voice) => voice.on_start_processing(sound, commands),
-            None => Err(Refusal::State),
-        };
+        let answer = self.voice.commands(sound, commands);
         self.same(made, answer);
     }
 
     fn block(&mut self, sound: &[f32], numbers: &Numbers, dt: f64, signals: Signals, mix: bool) {
-        let (frames, from) = (numbers.frames, if mix { 3 } else { 0 });
-        let mut outs = [(); 2].map(|()| vec![9.0; 2 * frames + 2 * from]);
+        let (frames, from) = (numbers.frames, mix.then_some(3));
+        let first = 2 * from.unwrap_or(0);
+        let mut outs = [(); 2].map(|()| vec![9.0; 2 * frames + first]);
         let [ours, plain] = &mut outs;
         let [one, other] = &mut self.lanes;
-        let made = match mix {
-            true => {
-                let lanes = numbers.lanes(one);
-                self.recorder
-                    .process_into(sound, lanes, dt, signals, ours, from)
-            }
-            false => self
-                .recorder
-                .process(sound, numbers.lanes(one), dt, signals, ours),
-        };
+        let lanes = numbers.lanes(one);
+        let made = record_block(&mut self.recorder, sound, lanes, dt, signals, ours, from);
         let lanes = numbers.lanes(other);
-        let answer: Result<Processed, Refusal> = match &mut self.voice {
-            Some(voice) if mix => voice.process_into(sound, lanes, dt, signals, plain, from),
-            Some(voice) => voice.process(sound, lanes, dt, signals, plain),
-            None => Err(Refusal::State),
-        };
-        let stopped = self.voice.as_ref().is_some_and(StaticSound::finished);
+        let answer = self.voice.block(sound, lanes, dt, signals, plain, from);
+        let stopped = self.voice.0.as_ref().is_some_and(StaticSound::finished);
         let ran_off = stopped && answer.is_ok_and(|counts| counts.steps > 0);
         if ran_off && frames > MAX_TRACED_FRAMES {
-            // Played in parts: the frames are the same, and what is counted after the end is the trace's.
+            // It is played in parts. The frames are the same; the trace counts fewer steps after the end.
             self.in_parts += 1;
             assert_eq!(made.recorded, Ok(()));
             let (ours, plain) = (made.answer.unwrap(), answer.unwrap());
             assert!(ours.steps <= plain.steps);
-            self.voice = self.recorder.voice().cloned();
-            assert!(self.voice.as_ref().is_some_and(StaticSound::finished));
+            self.voice.0 = self.recorder.voice().cloned();
+            assert!(self.voice.0.as_ref().is_some_and(StaticSound::finished));
         } else {
             self.same(made, answer);
         }
         assert_eq!(bits(&outs[0]), bits(&outs[1]));
         self.log.add(self.recorder.line().unwrap());
         if answer.is_ok() {
-            self.heard.extend(bits(&outs[0][2 * from..]));
+            self.heard.extend(bits(&outs[0][first..]));
         }
     }
 
-    /// What is recorded, played again, is what was heard and logged.
+    /// A replay of the trace has the samples and the lines that were played.
     fn end(&mut self, sounds: &Sounds) -> [usize; 6] {
         let trace = self.recorder.bytes();
         let (mut again, mut heard, mut kinds) = (Log::default(), Vec::new(), [0; 6]);
@@ -262,7 +212,7 @@ fn a_recorded_voice_plays_as_an_unrecorded_one() {
         let mut buffer = vec![0; 8_000_000];
         let mut beside = Beside {
             recorder: Recorder::new(&mut buffer),
-            voice: None,
+            voice: Unrecorded::default(),
             lanes: [Lanes::new(), Lanes::new()],
             log: Log::default(),
             heard: Vec::new(),
@@ -276,7 +226,10 @@ fn a_recorded_voice_plays_as_an_unrecorded_one() {
                     beside.create(settings(random), lesson);
                 }
                 _ if call == 3 => beside.create(Settings::new(1).loop_region(..), lesson),
-                2..6 => beside.commands(lesson.samples(), commands(random)),
+                2..6 => beside.commands(
+                    lesson.samples(),
+                    commands(random, |random| random.one_in(4)),
+                ),
                 _ => {
                     let numbers = Numbers::any(random);
                     let dt = match random.one_in(20) {
@@ -293,7 +246,7 @@ fn a_recorded_voice_plays_as_an_unrecorded_one() {
                 }
             }
             if random.one_in(30) {
-                // The open record is closed, and nothing else changes.
+                // This closes the open record and changes nothing else.
                 let _ = beside.recorder.bytes();
             }
         }
@@ -311,8 +264,7 @@ fn a_recorded_voice_plays_as_an_unrecorded_one() {
     assert!(in_parts > 50 && refused > 1_000 && kinds[2..].iter().all(|kind| *kind > 1_000));
 }
 
-/// A call that no record contains is played, and ends the trace; a call that does not fit is not
-/// recorded in part.
+/// A call that fits no record is played and ends the trace. A call without space for its records is not recorded in part.
 #[test]
 fn what_is_not_recorded() {
     let lesson = Lesson::new(vec![0.25; 2_000]).unwrap();
@@ -386,13 +338,13 @@ fn the_open_block_has_its_space() {
     assert_eq!(block(&mut recorder, 0.5), Ok(()));
     assert_eq!(recorder.room(), 0);
     assert_eq!(block(&mut recorder, 0.5), Ok(()));
-    let told: Vec<String> = lines(recorder.bytes())
+    let printed: Vec<String> = lines(recorder.bytes())
         .map(|line| line.to_string())
         .collect();
-    assert_eq!(told.len(), 2);
+    assert_eq!(printed.len(), 2);
     assert!(
-        told.iter().all(|line| line.contains(" frames=8 ")),
-        "{told:?}"
+        printed.iter().all(|line| line.contains(" frames=8 ")),
+        "{printed:?}"
     );
     // After `bytes` nothing is joined to the last record, so there is no space.
     assert_eq!(block(&mut recorder, 0.5), Err(Refusal::Room));
@@ -432,7 +384,7 @@ fn nothing_is_joined_over_the_end_of_the_sound() {
     assert_eq!(steps(&as_one), [8]);
 }
 
-/// A block that no record can hold whole, in which the sound ends.
+/// A block that is too long for one record and in which the sound ends.
 #[test]
 fn a_long_block_over_the_end_is_played_in_parts() {
     let lesson = Lesson::new(vec![0.5; 2]).unwrap();

@@ -1,26 +1,28 @@
-//! The runs of version 2 on readers, writers, salvages and replays that each make one slip find all of them.
+//! Wrong readers, writers, salvages and replays of version 2.
 
+use super::{
+    Page, clearing, finds_readers, finds_salvages, finds_writers, partial_write, refused, skipping,
+    space_first, space_for_kept,
+};
 use traced::{
-    entries::{Read, Saved, Sent},
+    entries::{Read, Sent},
     model::second::{Slip, Sounds, did},
     page::{
         self,
         second::{self, CHECKSUM, FRAME, checksum},
     },
     replays::second::compare,
-    runs::{Codec, Reader, Salvage, Version, Writer},
+    runs::{Reader, Salvage, Version, Writer},
 };
 
-fn refused(refusal: u64, at: u64) -> Read {
-    Read {
-        refusal,
-        kind: 0,
-        next: at,
-        values: [0; 80],
-    }
+struct Second;
+
+impl Page for Second {
+    const VERSION: Version = Version::Second;
+    const SEED: u64 = 2;
 }
 
-/// A head of a sealed kind at a place: the place, the kind and the record's end as its length states it.
+/// A sealed record at this offset: the offset, the kind, and the record's end by its stated length.
 fn head(bytes: &[u8], at: u64) -> Option<(usize, u8, usize)> {
     let at = usize::try_from(at).ok()?;
     let &[0xa5, 0x1d, kind @ 4..=5, low, high, ..] = bytes.get(at..)? else {
@@ -31,13 +33,13 @@ fn head(bytes: &[u8], at: u64) -> Option<(usize, u8, usize)> {
     second::is_length(kind, length).then_some((at, kind, end))
 }
 
-/// The frames that a kind 5 states, if the field is there.
+/// The stated number of frames of a record of kind 5, if the field is in the bytes.
 fn stated_frames(bytes: &[u8], at: usize) -> Option<u64> {
     let field = bytes.get(at + 5..at + 7)?;
     Some(u64::from(u16::from_le_bytes([field[0], field[1]])))
 }
 
-/// A reader whose checksum of a record is this function of its bytes before it and of the stated one.
+/// A reader that computes the checksum by `sum`, from the record's bytes before it and the stated checksum.
 fn summed(bytes: &[u8], at: u64, sum: fn(&[u8], [u8; 4]) -> [u8; 4]) -> Read {
     let whole = head(bytes, at).filter(|(_, _, end)| *end <= bytes.len());
     let Some((from, _, end)) = whole else {
@@ -55,10 +57,10 @@ fn summed(bytes: &[u8], at: u64, sum: fn(&[u8], [u8; 4]) -> [u8; 4]) -> Read {
     }
 }
 
-/// Finds another answer for the bytes of a head.
+/// Returns another refusal for the record at a head, if the slip makes one.
 type Other = fn(&Read, &[u8], (usize, u8, usize)) -> Option<u64>;
 
-/// The page's answer, unless this finds another for the head and the bytes that are there.
+/// The page's answer, or a refusal if `other` returns one for the record.
 fn unless(bytes: &[u8], at: u64, other: Other) -> Read {
     let read = second::read(bytes, at);
     let number = head(bytes, at).and_then(|head| other(&read, bytes, head));
@@ -102,7 +104,7 @@ const READERS: [(&str, Reader); 24] = [
             (read.refusal == 17 && bytes.len() < end).then_some(18)
         })
     }),
-    ("the frames judged after the lanes", |bytes, at| {
+    ("the frames checked after the lanes", |bytes, at| {
         unless(bytes, at, |read, bytes, (from, kind, end)| {
             let frames = stated_frames(bytes, from)?;
             let wrong = kind == 5 && !(1..=1_024).contains(&frames);
@@ -118,7 +120,7 @@ const READERS: [(&str, Reader); 24] = [
             (read.refusal == 17 && over && cut && frames <= 1_024).then_some(18)
         })
     }),
-    ("a frame too many passed over", |bytes, at| {
+    ("a frame too many ignored", |bytes, at| {
         let read = second::read(bytes, at);
         let whole = head(bytes, at).filter(|(_, kind, end)| *kind == 5 && *end <= bytes.len());
         let Some((from, _, end)) = whole.filter(|_| read.refusal == 17) else {
@@ -205,7 +207,7 @@ const READERS: [(&str, Reader); 24] = [
         }
         read
     }),
-    ("the place before the checksum", |bytes, at| {
+    ("the next offset before the checksum", |bytes, at| {
         let mut read = second::read(bytes, at);
         if read.kind >= 4 {
             read.next -= CHECKSUM as u64;
@@ -234,12 +236,7 @@ const READERS: [(&str, Reader); 24] = [
 
 #[test]
 fn every_wrong_reader_is_found() {
-    let right = Version::Second.page();
-    right.reads(2, 20_000).unwrap();
-    for (slip, read) in READERS {
-        let found = Codec { read, ..right }.reads(2, 400_000);
-        assert!(found.is_err(), "{slip}");
-    }
+    finds_readers::<Second>(&READERS);
 }
 
 /// Writes these bytes, or refuses with this number.
@@ -251,8 +248,8 @@ fn put(buffer: &mut [u8], at: u64, bytes: Result<Vec<u8>, u64>) -> Sent {
     };
     let end = at.saturating_add(bytes.len() as u64);
     match buffer.get_mut(at as usize..end as usize) {
-        Some(room) => {
-            room.copy_from_slice(&bytes);
+        Some(space) => {
+            space.copy_from_slice(&bytes);
             Sent {
                 refusal: 0,
                 next: end,
@@ -276,19 +273,9 @@ const WRITERS: [(&str, Writer); 10] = [
         }
         second::write(buffer, at, kind, values, &lanes)
     }),
-    ("19 before 17", |buffer, at, kind, values, lanes| {
-        let right = second::write(buffer, at, kind, values, lanes);
-        let room = (buffer.len() as u64).saturating_sub(at);
-        match right.refusal == 17 && room < 18 {
-            true => Sent {
-                refusal: 19,
-                ..right
-            },
-            false => right,
-        }
-    }),
+    ("19 before 17", space_first::<Second, 18>),
     (
-        "lanes of a kind 4 passed over",
+        "lanes of a kind 4 ignored",
         |buffer, at, kind, values, lanes| {
             let lanes = if kind == 4 { &[] } else { lanes };
             second::write(buffer, at, kind, values, lanes)
@@ -351,61 +338,19 @@ const WRITERS: [(&str, Writer); 10] = [
             false => second::write(buffer, at, kind, values, lanes),
         },
     ),
-    (
-        "the head written on 19",
-        |buffer, at, kind, values, lanes| {
-            let right = second::write(buffer, at, kind, values, lanes);
-            if right.refusal == 19
-                && let Some(byte) = buffer.get_mut(at as usize)
-            {
-                *byte = 0xa5;
-            }
-            right
-        },
-    ),
+    ("a partial write on 19", partial_write::<Second>),
 ];
 
 #[test]
 fn every_wrong_writer_is_found() {
-    let right = Version::Second.page();
-    right.writes(2, 20_000).unwrap();
-    for (slip, write) in WRITERS {
-        let found = Codec { write, ..right }.writes(2, 400_000);
-        assert!(found.is_err(), "{slip}");
-    }
-}
-
-/// A salvage by this reader, which passes so many bytes of what is no record.
-fn skipping(bytes: &[u8], out: &mut [u8], read: Reader, passes: fn(&[u8]) -> usize) -> Saved {
-    let (mut at, mut to, mut records, mut skipped, mut first) = (0, 0, 0, 0, bytes.len());
-    if out.len() < bytes.len() {
-        return second::salvage(bytes, out);
-    }
-    while at < bytes.len() {
-        let found = read(bytes, at as u64);
-        if found.refusal == 0 {
-            let length = found.next as usize - at;
-            out[to..to + length].copy_from_slice(&bytes[at..at + length]);
-            (at, to, records) = (at + length, to + length, records + 1);
-        } else {
-            let passed = passes(&bytes[at..]).min(bytes.len() - at);
-            first = first.min(at);
-            (at, skipped) = (at + passed, skipped + passed);
-        }
-    }
-    Saved {
-        refusal: 0,
-        records,
-        skipped: skipped as u64,
-        first: first as u64,
-    }
+    finds_writers::<Second>(&WRITERS);
 }
 
 const SALVAGES: [(&str, Salvage); 6] = [
     (
         "a sealed record skipped by its stated length",
         |bytes, out| {
-            skipping(bytes, out, second::read, |rest| {
+            skipping::<Second>(bytes, out, second::read, |rest| {
                 head(rest, 0).map_or(1, |(_, _, end)| end)
             })
         },
@@ -413,13 +358,13 @@ const SALVAGES: [(&str, Salvage); 6] = [
     (
         "the fields of a false block skipped with its head",
         |bytes, out| {
-            skipping(bytes, out, second::read, |rest| {
+            skipping::<Second>(bytes, out, second::read, |rest| {
                 head(rest, 0).map_or(1, |(_, kind, _)| if kind == 5 { 18 } else { 1 })
             })
         },
     ),
     ("a wrong checksum kept", |bytes, out| {
-        skipping(
+        skipping::<Second>(
             bytes,
             out,
             |bytes, at| summed(bytes, at, |_, stated| stated),
@@ -427,35 +372,16 @@ const SALVAGES: [(&str, Salvage); 6] = [
         )
     }),
     ("the salvage of version 1", page::salvage),
-    ("25 judged on the kept bytes", |bytes, out| {
-        let mut room = vec![0; bytes.len()];
-        let saved = second::salvage(bytes, &mut room);
-        let kept = bytes.len() - saved.skipped as usize;
-        match out.get_mut(..kept) {
-            Some(out) => {
-                out.copy_from_slice(&room[..kept]);
-                saved
-            }
-            None => second::salvage(bytes, out),
-        }
-    }),
-    ("the output cleared past the kept bytes", |bytes, out| {
-        let saved = second::salvage(bytes, out);
-        if saved.refusal == 0 {
-            out[bytes.len() - saved.skipped as usize..].fill(0);
-        }
-        saved
-    }),
+    ("25 judged by the kept bytes", space_for_kept::<Second>),
+    (
+        "the output cleared after the kept bytes",
+        clearing::<Second>,
+    ),
 ];
 
 #[test]
 fn every_wrong_salvage_is_found() {
-    let right = Version::Second.page();
-    right.salvages(2, 500).unwrap();
-    for (slip, salvage) in SALVAGES {
-        let found = Codec { salvage, ..right }.salvages(2, 20_000);
-        assert!(found.is_err(), "{slip}");
-    }
+    finds_salvages::<Second>(20_000, &SALVAGES);
 }
 
 #[test]

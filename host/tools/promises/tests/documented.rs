@@ -1,6 +1,9 @@
-//! Every public function's promise is told, and a function whose promise is not told is found.
+//! The promise of every public function is documented, and docs/EXCEPTIONS.md lists every function with a `requires`.
 
-use promises::{Function, Told, all_functions, all_laws, callers_told, files_named, functions};
+use promises::{
+    Documents, EXCEPTIONS, Function, all_functions, all_laws, files_named, functions, rows,
+    with_callers,
+};
 use std::fs;
 use std::path::{Path, PathBuf};
 
@@ -12,8 +15,8 @@ fn read(path: &str) -> String {
     fs::read_to_string(root().join(path)).unwrap_or_else(|e| panic!("{path}: {e}"))
 }
 
-fn told() -> Told {
-    Told {
+fn documents() -> Documents {
+    Documents {
         promises: read("docs/PROMISES.md"),
         exceptions: read("docs/EXCEPTIONS.md"),
         laws: all_laws(&root().join("crates")),
@@ -27,11 +30,14 @@ fn public_functions() -> Vec<Function> {
 }
 
 #[test]
-fn every_public_function_has_its_promise_told() {
-    let told = told();
+fn every_promise_is_documented() {
+    let documents = documents();
     let functions = public_functions();
     assert!(functions.len() > 50, "only {} found", functions.len());
-    let missing: Vec<String> = functions.iter().filter_map(|f| told.missing(f)).collect();
+    let missing: Vec<String> = functions
+        .iter()
+        .filter_map(|f| documents.missing(f))
+        .collect();
     assert!(missing.is_empty(), "{}", missing.join("\n"));
 }
 
@@ -57,60 +63,72 @@ fn public(krate: &str, name: &str, parameter: &str, contract: &str) -> Function 
 }
 
 #[test]
-fn what_is_not_told_is_missed() {
-    let mut told = told();
+fn a_missing_document_is_found() {
+    let mut documents = documents();
     let ensures = "ensures { λ r. ⌜ x ⌝ }";
     let narrow = public("numbers", "narrow", "x: f64", ensures);
     let widen = public("numbers", "widen", "x: f64", ensures);
-    assert!(told.missing(&narrow).is_none());
-    assert!(told.missing(&widen).is_some());
-    told.promises
+    assert!(documents.missing(&narrow).is_none());
+    assert!(documents.missing(&widen).is_some());
+    documents
+        .promises
         .push_str("\n| `numbers::widen` | `wide` | |\n");
-    let words = told.missing(&widen).expect("it has no law");
+    let words = documents.missing(&widen).expect("it has no line");
     assert!(words.contains("numbers-widen"), "{words}");
     let law = "\npub numbers-widen : Decides numbers.widen.Reads.Post\n";
-    told.laws.push_str(&law.replace(".widen", ".narrow"));
-    let words = told.missing(&widen).expect("its law is another's");
+    documents.laws.push_str(&law.replace(".widen", ".narrow"));
+    let words = documents
+        .missing(&widen)
+        .expect("its line is about another function");
     assert!(words.contains("numbers.narrow"), "{words}");
-    told.laws = told.laws.replace(&law.replace(".widen", ".narrow"), law);
-    assert!(told.missing(&widen).is_none());
+    documents.laws = documents
+        .laws
+        .replace(&law.replace(".widen", ".narrow"), law);
+    assert!(documents.missing(&widen).is_none());
     let unpromised = public("numbers", "widen", "x: f64", "requires { ⌜ x ⌝ }");
-    let words = told.missing(&unpromised).expect("it promises nothing");
+    let words = documents.missing(&unpromised).expect("it promises nothing");
     assert!(words.contains("no `ensures`"), "{words}");
     let writing = public("numbers", "widen", "x: &mut f64", ensures);
-    let words = told.missing(&writing).expect("what it leaves is not told");
+    let words = documents
+        .missing(&writing)
+        .expect("what it leaves is not documented");
     assert!(words.contains("what it leaves"), "{words}");
-    told.laws.clear();
-    assert!(told.missing(&narrow).is_some());
+    documents.laws.clear();
+    assert!(documents.missing(&narrow).is_some());
 }
 
 #[test]
 fn what_is_excused_has_no_law_and_is_no_entry() {
-    let mut told = told();
+    let mut documents = documents();
     let ensures = "ensures { λ r. ⌜ x ⌝ }";
-    let excuse = |told: &mut Told, name: &str| {
-        told.exceptions
+    let excuse = |documents: &mut Documents, name: &str| {
+        documents
+            .exceptions
             .push_str(&format!("| `{name}` | why not |\n"));
     };
     let narrow = public("numbers", "narrow", "x: f64", ensures);
-    excuse(&mut told, "numbers::narrow");
-    let words = told.missing(&narrow).expect("it is excused for nothing");
+    excuse(&mut documents, "numbers::narrow");
+    let words = documents
+        .missing(&narrow)
+        .expect("it is excused for nothing");
     assert!(words.contains("need not excuse"), "{words}");
-    told.laws.clear();
-    assert!(told.missing(&narrow).is_none());
+    documents.laws.clear();
+    assert!(documents.missing(&narrow).is_none());
     let entry = public("cableowl", "cableowl_new", "x: u32", ensures);
     for name in ["cableowl::cableowl_new", "cableowl::*", "*::cableowl_new"] {
-        excuse(&mut told, name);
-        let words = told.missing(&entry).expect("an entry is never excused");
+        excuse(&mut documents, name);
+        let words = documents
+            .missing(&entry)
+            .expect("an entry is never excused");
         assert!(words.contains("cableowl-cableowl-new"), "{words}");
     }
 }
 
 #[test]
 fn each_excuse_is_of_a_function_that_is_there() {
-    let told = told();
+    let documents = documents();
     let functions = public_functions();
-    let idle: Vec<&str> = told
+    let idle: Vec<&str> = documents
         .excused()
         .filter(|row| {
             !functions.iter().any(|f| match row.split_once('*') {
@@ -145,38 +163,55 @@ fn each_wrong_answer_named_is_an_edit_that_must_be_refused() {
 }
 
 #[test]
-fn each_function_that_asks_has_a_row_with_its_callers() {
+fn each_function_that_asks_has_a_row() {
     let all = all_functions(&root().join("crates"));
-    let told = callers_told(&read("docs/EXCEPTIONS.md"));
+    let exceptions = read(EXCEPTIONS);
+    let rows = rows(&exceptions);
     let mut wrong = Vec::new();
     for asking in all.iter().filter(|f| f.asks) {
-        let Some(row) = told.iter().find(|row| row.path == asking.path) else {
-            wrong.push(format!("{}: no row", asking.path));
-            continue;
-        };
-        if row.public != asking.public {
-            let table = if asking.public { "public" } else { "private" };
-            wrong.push(format!("{}: it is {table}", asking.path));
-        }
-        let mut named = row.callers.clone();
-        let mut calling: Vec<String> = all
-            .iter()
-            .filter(|f| f.calls(&asking.path))
-            .map(|f| f.path.clone())
-            .collect();
-        named.sort_unstable();
-        calling.sort_unstable();
-        if named != calling {
-            wrong.push(format!("{}: {named:?} against {calling:?}", asking.path));
+        match rows.iter().find(|row| row.path == asking.path) {
+            None => wrong.push(format!("{}: no row", asking.path)),
+            Some(row) if row.public != asking.public => {
+                let table = if asking.public { "public" } else { "private" };
+                wrong.push(format!("{}: it is {table}", asking.path));
+            }
+            Some(_) => (),
         }
     }
-    for row in &told {
+    for row in &rows {
         if !all.iter().any(|f| f.asks && f.path == row.path) {
-            wrong.push(format!("{}: asks nothing", row.path));
+            wrong.push(format!("{}: it has no `requires`", row.path));
         }
     }
-    assert!(told.len() > 20, "only {} found", told.len());
+    assert!(rows.len() > 20, "only {} found", rows.len());
     assert!(wrong.is_empty(), "{}", wrong.join("\n"));
+}
+
+#[test]
+fn each_row_lists_the_callers_that_the_sources_have() {
+    let page = read(EXCEPTIONS);
+    let right = with_callers(&page, &all_functions(&root().join("crates")));
+    let lines = page.lines().zip(right.lines());
+    let wrong: Vec<String> = lines
+        .filter(|(is, should)| is != should)
+        .map(|(is, should)| format!("- {is}\n+ {should}\n"))
+        .collect();
+    assert!(
+        page == right,
+        "{EXCEPTIONS} differs from the sources; run tools/callers:\n{}",
+        wrong.concat()
+    );
+}
+
+#[test]
+fn callers_are_written_into_the_last_column_only() {
+    let source = "fn held(x: u32) -> u32\n    requires { ⌜ x ⌝ }\n{\n    x\n}\nfn one() -> u32 {\n    held(1)\n}\nfn two() -> u32 {\n    held(2)\n}\n";
+    let page = "text\n\n| function | asks | called by |\n|---|---|---|\n| `k::held` | x `y` | `k::gone` |\n| `k::one` | asks nothing | `k::two` |\n\n| function | why |\n|---|---|\n| `k::held` | because |\n";
+    let right = page.replace("`k::gone`", "`k::one`, `k::two`");
+    let all = functions("k", source);
+    assert_eq!(with_callers(page, &all), right);
+    assert_eq!(with_callers(&page.replace("`k::gone`", ""), &all), right);
+    assert_eq!(with_callers(&right, &all), right);
 }
 
 #[test]
