@@ -1,5 +1,5 @@
-// The refusals by name, in the order of document 01's table; 0 is no refusal. The header has the same names and numbers, and the
-// sentence for each.
+// The refusals by name, in the order of document 01's table; 0 is no refusal. The header has the same names and
+// numbers, and the sentence for each.
 
 pub mod words;
 
