@@ -29,7 +29,7 @@ pub ands : (b c : Bool) → (b && c) ≡ true → (b ≡ true) × (c ≡ true)
 ands true c e = (refl, e)
 ands false c e = never e
 
--- what a sound row is
+-- what `sound` means for a row
 pub record Sound (r : Row) : Type 0 where
   pub narrow : r .width ≤ 8
   pub numbered : 0 < r .refusal

@@ -1,4 +1,4 @@
--- The lengths that a layout's bytes can have: at least the rows that always stand, at most all rows, and eight apart where
+-- The lengths that a layout's bytes can have: at least the rows that are always present, at most all rows, and eight apart where
 -- every row that may be absent has eight bytes.
 use mathlib.Core.Path.{_≡_, refl, sym, _∙_}
 use Prim.Native.Nat.{ℕ, zero, suc, _+_, _*_, _≤_}
@@ -18,7 +18,7 @@ pub always : (r : Row) (vs : List ℕ) → r .low ≡ 0 → stands r vs ≡ true
 unfolding stands
 always r vs e = rw e (leb·zero (getD vs (r .guard) 0))
 
--- the bytes of all rows, and of those that always stand
+-- the bytes of all rows, and of those that are always present
 unfoldable pub most : List Row → ℕ
 most [] = 0
 most (r ∷ rs) = r .width + most rs

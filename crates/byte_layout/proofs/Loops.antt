@@ -1,4 +1,4 @@
--- The loop over the rows: one row more, and what every row of a sound table is.
+-- The loop over the rows: one more row, and what holds for every row of a `sound` table.
 use mathlib.Core.Path.{_≡_, refl, sym, ap, _∙_}
 use Prim.Native.Nat.{ℕ, zero, suc, _+_, _-_, _*_, _≤_, _<_}
 use native.Mathlib.Omega.{arith}

@@ -1,4 +1,4 @@
--- Little-endian numbers: reading gives back what was written, and writing what was read.
+-- Little-endian numbers: what was written is read back, and what was read is written again.
 use mathlib.Core.Path.{_≡_, refl, sym, ap, _∙_}
 use Prim.Native.Nat.{ℕ, zero, suc, _+_, _-_, _*_, _/_, _%_, _^_, _≤_, _<_}
 use native.Mathlib.Nat.{pow-succ', pow-le-pow-right, mod-add-div, mod-eq-of-lt, add-mul-mod-self-left, add-mul-div-left, div-eq-of-lt}
@@ -63,7 +63,7 @@ bytes-num (suc m) (b ∷ l) h k =
     let f : (b + 256 * n) / 256 ≡ n = add-mul-div-left b n (omega arith) ∙ ap (λ (z : ℕ). z + n) (div-eq-of-lt s) ∙ omega arith in
     rw (e, f) (ap (λ (z : List ℕ). b ∷ z) (bytes-num m l (λ i. h (suc i)) (omega arith)))
 
--- one byte more in front
+-- one more byte in front
 pub num-step : (s : List ℕ) (at k w : ℕ) → suc k ≤ w → at + w ≤ length s
     → num (take (w - k) (drop (at + k) s)) ≡ getD s (at + k) 0 + 256 * num (take (w - suc k) (drop (suc (at + k)) s))
 unfolding num
@@ -74,7 +74,7 @@ num-step s at k w a b =
 pub word : (m : ℕ) (l : List ℕ) → Small l → m ≤ 7 → num (take m l) < 72057594037927936
 word m l h k = omega (arith, num-lt m l h, pow-le-pow-right {n = 256} (omega arith) {i = m} {j = 7} k)
 
--- the loop of `number`: one byte more, and what it fits
+-- the loop of `number`: one more byte, and what it fits
 pub turn : (s : List ℕ) (at w k x : ℕ) → 0 < k → k ≤ w → at + w ≤ length s → x ≡ num (take (w - k) (drop (at + k) s))
     → x * 256 + getD s (at + (k - 1)) 0 ≡ num (take (w - (k - 1)) (drop (at + (k - 1)) s))
 turn s at w k x p a b e =

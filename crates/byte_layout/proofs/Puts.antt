@@ -1,4 +1,4 @@
--- The writer's loops: what is left to write after i rows, and one row more.
+-- The writer's loops: what is left to write after i rows, and one more row.
 use mathlib.Core.Path.{_≡_, refl, sym, ap, _∙_}
 use Prim.Native.Nat.{ℕ, zero, suc, _+_, _-_, _*_, _/_, _%_, _≤_, _<_}
 use native.Mathlib.Omega.{arith}
@@ -90,7 +90,7 @@ module _ (t : List ℕ) (n : ℕ) (v : List ℕ) (i : ℕ) (h : i < n) (l : i < 
       → sets new b (tailOf t n v (i + 1)) ≡ sets buf a (tailOf t n v i)
   row-put buf new a b p q = rw (p, q, tail-is) (sym (sets-append buf a (field (stands r (take i v)) r (getD v i 0)) (tailOf t n v (i + 1))))
 
--- a copy: one byte more, and the last
+-- a copy: one more byte, and the last
 pub copy-next : (s out : List ℕ) (i to k : ℕ) → i < to → to ≤ length s
     → sets (set out k (getD s i 0)) (k + 1) (take (to - (i + 1)) (drop (i + 1) s)) ≡ sets out k (take (to - i) (drop i s))
 copy-next s out i to k h l =

@@ -1,4 +1,4 @@
--- What rows that always stand take, row by row, and what they took read back. Assumes nothing.
+-- The numbers that rows accept that are always present, row by row, and what they accepted read back. Assumes nothing.
 use mathlib.Core.Path.{_≡_, refl, sym, ap, _∙_, subst}
 use Prim.Native.Nat.{ℕ, _+_, _≤_}
 use native.Mathlib.Nat.{add-zero}
@@ -14,7 +14,7 @@ use Rattle.byte_layout.specs.Writes.{fits, fine, payload}
 use Rattle.byte_layout.proofs.Codec.{never, both, ands}
 use Rattle.byte_layout.proofs.Lengths.{always}
 
--- a row that always stands takes a number of its range
+-- a row that is always present accepts a number in its range
 pub took : (r : Row) (rs : List Row) (vs : List ℕ) (x : ℕ) (ws : List ℕ) → r .low ≡ 0 → r .least ≤ x → x ≤ r .most → fine rs (vs ++ (x ∷ [])) ws ≡ true → fine (r ∷ rs) vs (x ∷ ws) ≡ true
 unfolding fine fits within
 took r rs vs x ws l a b h = rw (always r vs l) (rw (le-leb (r .least) x a, le-leb x (r .most) b) h)
@@ -23,7 +23,7 @@ pub none : (vs : List ℕ) → fine [] vs [] ≡ true
 unfolding fine
 none vs = refl
 
--- and what it took was one
+-- and what it accepted was one
 pub peel : (P : List ℕ → Type 0) (r : Row) (rs : List Row) (vs ws : List ℕ) → r .low ≡ 0 → fine (r ∷ rs) vs ws ≡ true
     → ((x : ℕ) (l : List ℕ) → r .least ≤ x → x ≤ r .most → fine rs (vs ++ (x ∷ [])) l ≡ true → P (x ∷ l)) → P ws
 unfolding fine fits within

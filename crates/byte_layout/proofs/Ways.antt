@@ -1,4 +1,4 @@
--- Each way that one row can go, from the tests of the code.
+-- Each result that one row can have, from the tests of the code.
 use mathlib.Core.Path.{_≡_, refl, sym, ap, _∙_}
 use Prim.Native.Nat.{ℕ, zero, suc, _+_, _-_, _*_, _≤_, _<_}
 use native.Mathlib.Omega.{arith}

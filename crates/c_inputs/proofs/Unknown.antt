@@ -1,4 +1,4 @@
--- Tags that mean nothing: each fails the test of the number that its field has, since no number is not finite. Assumes nothing.
+-- Unknown tags: each fails its field's check, since a NaN is not finite. Assumes nothing.
 use mathlib.Core.Path.{_≡_, refl}
 use Prim.Native.Nat.{ℕ, _<_}
 use native.Mathlib.Omega.{arith}
@@ -15,7 +15,7 @@ use Rattle.c_inputs.specs.declared.CableowlPlace.{CableowlPlace}
 use Rattle.c_inputs.specs.declared.CableowlRegion.{CableowlRegion}
 use Rattle.c_inputs.specs.Inputs.{positionOf, endOf, regionIf, optionalOf, amountOf, loopOf}
 
--- ---- places and regions
+-- ---- positions and regions
 
 above : (n k : ℕ) → k < n → eqb n k ≡ false
 above n k h = ne-eqb n k (λ e. omega (arith, e, h))

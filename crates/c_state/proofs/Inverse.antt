@@ -1,4 +1,4 @@
--- The two translations of a state undo each other: every voice has a well formed record that means it, and every well formed record is that of what it means.
+-- The two translations of a state undo each other: every voice has a well formed record that represents it, and every well formed record is that of the voice that it represents.
 -- Field by field: states and flags by their few numbers, ranges by whether they are given, the window entry by entry. Assumes nothing.
 use mathlib.Core.Path.{_≡_, refl, ap, _∙_}
 use Prim.Native.Nat.{ℕ, zero, suc, _≤_}

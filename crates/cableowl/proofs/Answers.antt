@@ -1,4 +1,4 @@
--- What each entry answers, from what the entry below it gave and from the translations. Assumes nothing.
+-- What each entry returns, from the result of the function below it and from the translations. Assumes nothing.
 use mathlib.Core.Path.{_≡_, sym, ap, _∙_, subst}
 use Prim.Native.Nat.{ℕ, _≤_}
 use mathlib.Core.List.{List}

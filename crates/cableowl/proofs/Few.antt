@@ -1,5 +1,5 @@
 -- Numbers that fit: the count of every state that is encoded, and the part of the sound that is played.
--- An accepted call leaves a state that is well formed over its sound, and there the count is at most 4. Assumes nothing.
+-- An accepted call returns a state that is well formed over its sound, and there the count is at most 4. Assumes nothing.
 use mathlib.Core.Path.{_≡_}
 use Prim.Native.Nat.{ℕ, _+_, _*_, _≤_}
 use native.Mathlib.Nat.{le-refl}
@@ -46,7 +46,7 @@ part-few len v h =
     let k = setup-parts (v .setup) (f .setup) .few in
     omega arith
 
--- ---- what each accepted call leaves
+-- ---- what each accepted call returns
 
 pub created-well-formed-for : (snd : List Float) (s : Settings) → refusedNew (length snd) s ≡ 0 → T (wellFormedFor (length snd) (made snd s))
 created-well-formed-for snd s k = made-well-formed-for snd s (creatable-parts (length snd) s k)
@@ -74,7 +74,7 @@ module _ (snd : List Float) (v : StaticSound) (dt : Float) (b : Lanes) (g : Sign
       let r = room from (length (b .rate)) mix in
       rw (into-done snd v dt b g mix from k) (block-well-formed-for snd v dt b g r (accepted-parts (length snd) v dt b r k))
 
-  -- ---- and the lowest count that a block reports, refused or not
+  -- ---- the lowest count that a block reports, refused or not
 
   pub processed-low : (out : List Float) → (processed snd v dt b g out) .answer .«lowest_count» ≤ 4
   unfolding processed
@@ -98,7 +98,7 @@ module _ (snd : List Float) (v : StaticSound) (dt : Float) (b : Lanes) (g : Sign
       go true = block-lowest snd dt (rows b) g v
       go false = le-refl 4
 
--- ---- and so the count that it leaves
+-- ---- and so the count of the returned state
 
 pub created-few : (snd : List Float) (s : Settings) → countOf ((created snd s) .voice) ≤ 4
 unfolding created

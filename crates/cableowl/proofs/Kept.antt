@@ -1,5 +1,5 @@
--- What every call over records leaves. An accepted one leaves a well formed record of a state that is well formed over the sound; a refused one the given record.
--- By the laws of the entries below, and since every voice's record is well formed and means it. Assumes nothing.
+-- What every call over records returns. An accepted one returns a well formed record of a state that is well formed over the sound; a refused one returns the given record.
+-- By the laws of the entries below, and since every voice's record is well formed and represents it. Assumes nothing.
 use mathlib.Core.Path.{_≡_, sym, ap, subst}
 use Prim.Native.Nat.{ℕ}
 use mathlib.Core.List.{List}
@@ -27,7 +27,7 @@ use Rattle.cableowl.specs.Entries.{after, createdC, commandedC, OutcomeC
 use Rattle.cableowl.proofs.Few.{created-well-formed-for, commanded-well-formed-for, processed-well-formed-for, into-well-formed-for}
 use Rattle.c_state.proofs.Inverse.{well-formed-encoded, decoded-encoded}
 
--- a record that the next call takes over this sound
+-- a record that the next call accepts over this sound
 abbrev pub Good : List Float → CableowlState → Type 0
 Good snd c = T (wellFormedState c) × T (wellFormedFor (length snd) (decoded c))
 

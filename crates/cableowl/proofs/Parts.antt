@@ -1,4 +1,4 @@
--- The part that the stretch answers is the stretch itself: so many samples of the lent sound from its offset on, and none where the state is refused.
+-- The part that the entry returns is the stretch: this many samples of the sound from its offset on, and none if the state is refused.
 -- By whether the state is well formed and whether there is a slice. Assumes nothing.
 use mathlib.Core.Path.{_≡_, refl, sym, ap, _∙_, subst}
 use Prim.Native.Nat.{ℕ, _-_, _*_, _≤_, _<_}
@@ -83,7 +83,7 @@ module _ (snd : List Float) (v : StaticSound) where
       go true n = refl
       go false n = absurd (n refl)
 
--- ---- what the entry answers, from the part xs that `stretch` gave
+-- ---- what the entry returns, from the part xs that `stretch` returned
 
 module _ (snd : List Float) (c : CableowlState) (v : StaticSound) (xs : List Float) (d : v ≡ decoded c) (f : xs ≡ stretchOf snd v) where
   pub part-none : length xs ≡ 0 → _≡_ {A = CableowlPart} (record { offset = 0; length = 0 }) (partC snd c)

@@ -1,4 +1,4 @@
--- What a step of a replay answers, from what the calls below it gave. Assumes nothing.
+-- What a step of a replay returns, from the results of the calls below it. Assumes nothing.
 use mathlib.Core.Path.{_≡_, refl, sym, ap, _∙_, subst}
 use Prim.Native.Nat.{ℕ, _+_, _-_, _*_, _/_, _≤_}
 use native.Mathlib.Omega.{arith}
@@ -37,9 +37,9 @@ use Rattle.cableowl.proofs.Few.{countOf, well-formed-for-few, created-f
 none : {A : Type 0} → ⊥ → A
 none e = elim e [ ]
 
--- ---- parts of lent buffers
+-- ---- parts of borrowed buffers
 
--- what was put at the start of a buffer that holds it
+-- what was written to the start of a buffer with enough space
 pub prefix : {A : Type 0} (l new t : List A) (r : ℕ) → new ≡ sets l 0 t → r ≡ length t → length t ≤ length l → take r new ≡ t
 prefix {A} l new t r e q h =
     let z : 0 + length t ≤ length l = omega arith in
@@ -96,7 +96,7 @@ module _ (r : CableowlReplay) (n : ℕ) (vs : List ℕ) where
   unfolding blockC
   block-answer frames q e k a p he hk ha hp = rw (hp, ha, hk, he)
 
--- a block whose numbers are given once is the block of its lanes
+-- a block with held lanes is the block of its lanes
 abbrev heldOf : Block → Held
 heldOf b = record { fade = b .fade; volume = b .volume; left = b .left; right = b .right; rate = b .rate }
 

@@ -1,4 +1,4 @@
--- What a step of a replay of version 2 answers, from what the calls below it gave. Assumes nothing.
+-- What a step of a replay of version 2 returns, from the results of the calls below it. Assumes nothing.
 use mathlib.Core.Path.{_≡_, refl, sym, ap, _∙_, subst}
 use Prim.Native.Nat.{ℕ, _+_, _-_, _*_, _/_, _%_, _≤_}
 use native.Mathlib.Omega.{arith}
@@ -105,7 +105,7 @@ module _ (given : List Float) (sounds : ℕ) (r : CableowlReplay) (n : ℕ) (vs 
   unfolding givenC
   given-is b m s d e q a p hb f hm hs hd he hq ha hp = rw (sym hb ∙ f, hp, ha, hq, he, hd, hs, hm)
 
--- ---- a block with a value for each frame
+-- ---- a laned block
 
 pub few-laned : (vs : List ℕ) (b : LanedBlock) → b ≡ lanedBlockOf vs → b .frames ≤ 1024
 unfolding lanedBlockOf

@@ -1,4 +1,4 @@
--- A voice that took a slot's loop: accepted, it is well formed over its sound, so its count fits; and what the entry answers. Assumes nothing.
+-- A voice that took a slot's loop: if accepted, it is well formed over its sound, so its count fits; and what the entry returns. Assumes nothing.
 use mathlib.Core.Path.{_≡_, refl}
 use Prim.Native.Nat.{ℕ, _≤_}
 use mathlib.Core.Bool.{Bool, true, false, cond}

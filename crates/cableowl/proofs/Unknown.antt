@@ -1,4 +1,4 @@
--- Bytes that mean nothing: a record that is not well formed is refusal 1, since the blank state is not well formed. Assumes nothing.
+-- Unknown bytes: a record that is not well formed is refused with 1, since the blank state is not well formed. Assumes nothing.
 use mathlib.Core.Path.{_≡_}
 use Prim.Native.Nat.{ℕ}
 use mathlib.Core.Bool.{false}

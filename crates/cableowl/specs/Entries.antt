@@ -65,7 +65,7 @@ processedIntoC snd c dt b g mix from =
     let o = processedInto snd (decoded c) dt b (signalsOf g) mix from in
     record { answer = answered (o .answer) c; samples = o .samples }
 
--- a block whose numbers are given once: the block over lanes that repeat them, one frame for each two samples of the
+-- a block with held lanes: the block over lanes that repeat the five numbers, one frame for each two samples of the
 -- output
 abbrev pub processedHeldC : List Float → CableowlState → Float → Held → CableowlSignals → List Float → OutcomeC
 processedHeldC snd c dt x g out = processedC snd c dt (heldLanes x (length out / 2)) g out

@@ -89,7 +89,7 @@ pub record StepC : Type 0 where
 
 -- ---- the three kinds
 
--- a creation, accepted or refused; a refused one leads to the blank voice; the number of blocks stays
+-- a creation, accepted or refused; a refused one leads to the blank voice; the number of blocks does not change
 unfoldable pub creationC : CableowlReplay → ℕ → List ℕ → CableowlReplayed
 creationC r n vs =
     let c = created (samplesOf vs) (settingsOf vs) in
@@ -120,7 +120,7 @@ blockC r n frames p =
 
 -- ---- a step
 
--- a block into the first samples of the output; the others stay
+-- a block into the first samples of the output; the others do not change
 unfoldable pub blockStep : CableowlReplay → ℕ → List ℕ → List Float → List Float → StepC
 blockStep r n vs snd out =
     let b = blockOf vs in

@@ -66,7 +66,7 @@ otherSound sounds len vs = not (eqb sounds 0) && not (eqb sounds 1 && eqb len (2
 abbrev pub refusedGiven : CableowlReplay → ℕ → CableowlReplayed
 refusedGiven r n = playedAs (behind (playing 1 r) n (encoded blankSound) 0 (r .blocks)) n 4 26 0 0 4
 
--- 26 comes first; else it is a creation over the recorded number of samples of the given sound
+-- 26 comes first; otherwise it is a creation over the recorded number of samples of the given sound
 unfoldable pub givenC : List Float → ℕ → CableowlReplay → ℕ → List ℕ → CableowlReplayed
 givenC given sounds r n vs =
     let m = givenSamples vs in
@@ -75,7 +75,7 @@ givenC given sounds r n vs =
     (refusedGiven r n)
     (playedAs (behind (playing 1 r) n (encoded (c .voice)) m (r .blocks)) n 4 (c .refusal) 0 0 4)
 
--- ---- kind 5, a block with a value for each frame
+-- ---- kind 5, a laned block
 
 -- its lanes: the frames begin at the record's byte 18
 abbrev pub lanesIn : ℕ → List ℕ → Lanes

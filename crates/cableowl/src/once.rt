@@ -1,4 +1,4 @@
-// Blocks whose five numbers are given once.
+// Blocks with held lanes: five numbers that apply to every frame.
 ghost use mathlib.Core.Path.{_≡_};
 ghost use Rattle.cableowl.specs.Entries.{processedHeldC, processedHeldIntoC};
 use crate::CableowlProcessed;
@@ -9,7 +9,7 @@ use c_state::CableowlState;
 use c_state::decode;
 use sound_held::Held;
 
-// As many frames as the output has room for.
+// As many frames as the output has space for.
 #[no_mangle]
 pub extern "C" fn cableowl_process_held(
     state: CableowlState,
@@ -46,7 +46,7 @@ pub extern "C" fn cableowl_process_held(
     answer(processed, state)
 }
 
-// So many frames into the middle of a longer mix, from the frame given on.
+// This many frames into the middle of a longer mix, from the given frame on.
 #[no_mangle]
 pub extern "C" fn cableowl_process_held_into(
     state: CableowlState,

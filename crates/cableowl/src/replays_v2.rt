@@ -133,7 +133,7 @@ fn process_lanes(
     )
 }
 
-// The answer of a block, which is counted.
+// The answer of a block. The block is counted.
 fn counted(
     replay: CableowlReplay,
     size: u64,

@@ -39,8 +39,8 @@ pub extern "C" fn cableowl_salvage(bytes: &[u8], out: &mut [u8]) -> Saved
     trace_salvage::salvage(bytes, out)
 }
 
-// A record of any of the five kinds. The lanes of a kind 5 stay in the bytes, the 24 * frames before the last four of
-// the record.
+// A record of any of the five kinds. The lanes of a laned block stay in the bytes: the 24 * frames bytes before the
+// last four of the record.
 #[no_mangle]
 pub extern "C" fn cableowl_read_record_v2(bytes: &[u8], at: u64) -> Record
     ensures { λ r. ⌜ r ≡ anyAt (now (bytes .entry)) at ⌝ }
@@ -48,7 +48,7 @@ pub extern "C" fn cableowl_read_record_v2(bytes: &[u8], at: u64) -> Record
     trace_sealed::read(bytes, at as usize)
 }
 
-// The lanes are the bytes of the frames of a kind 5. A kind 4 has none, and kinds 1 to 3 do not look at them.
+// The lanes are the bytes of the frames of a laned block. A record of kind 4 has none, and kinds 1 to 3 ignore them.
 #[no_mangle]
 pub extern "C" fn cableowl_write_record_v2(
     buffer: &mut [u8],

@@ -1,4 +1,4 @@
--- What is promised beyond the contracts, computed. Assumes nothing.
+-- The theorems, computed. Assumes nothing.
 use mathlib.Core.Path.{refl}
 use Rattle.crc32.specs.Checksums.{bit, bits, byte, register, checksumOf}
 use Rattle.crc32.specs.Promises.{Promises}

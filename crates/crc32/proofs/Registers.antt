@@ -1,4 +1,4 @@
--- Eight bits of the register at once: what leaves by the low byte comes from the table, and the rest moves down. Assumes nothing.
+-- Eight bits of the register at once: the table has the effect of the low byte, and the rest is shifted. Assumes nothing.
 use mathlib.Core.Path.{_≡_, refl, sym, ap, ap₂, _∙_, subst}
 use mathlib.Core.Bool.{Bool, true, false}
 use mathlib.Core.List.{List, [], _∷_}
@@ -50,7 +50,7 @@ bits-shifted (suc n) h = ap (bits n) (bit-shifted h n) ∙ bits-shifted n h
 bits-split : (n x : ℕ) → bits n x ≡ bitXor (bits n (x % 2 ^ n)) (x / 2 ^ n)
 bits-split n x = ap (bits n) (xor-split n x) ∙ bits-xor n (x % 2 ^ n) (x / 2 ^ n * 2 ^ n) ∙ ap (bitXor (bits n (x % 2 ^ n))) (bits-shifted n (x / 2 ^ n))
 
--- each entry is what eight bits make of its place: the one test
+-- each entry is the result of eight bits for its index: the one test
 abbrev pub tested : List ℕ → Bool
 tested xs = every (λ (n e : ℕ). eqb e (bits 8 n)) 0 xs
 

@@ -7,7 +7,7 @@ ghost use Rattle.crc32.specs.Promises.{Promises};
 
 mod table;
 
-// The register after one byte more.
+// The register after one more byte.
 fn step(entries: &[u32; 256], register: u32, b: u8) -> u32
     requires { ⌜ Table (now entries) ⌝ }
     ensures { λ r. ⌜ r ≡ byte register b ⌝ }
@@ -31,7 +31,7 @@ fn whole(s: &[u8]) -> u32
     c ^ 4294967295
 }
 
-// The checksum of n bytes from a place, or of as many as there are: any bytes, any place, any n.
+// The checksum of n bytes from an offset, or of as many as there are. It accepts any bytes, any offset and any n.
 pub fn checksum(s: &[u8], at: usize, n: usize) -> u32
     ensures { λ r. ⌜ r ≡ checksumOf (take n (drop at (now (s .entry)))) ⌝ }
 {
@@ -45,7 +45,7 @@ pub fn checksum(s: &[u8], at: usize, n: usize) -> u32
     whole(&s[at..end])
 }
 
-// What is promised beyond the contracts.
+// An empty function whose contract collects the theorems, so that the checker must prove them.
 pub fn promised()
     ensures { λ r. ⌜ Promises ⌝ }
 {}

@@ -34,7 +34,7 @@ quotient24 : (e : ℕ) → e ≤ 16777216 → div binary32 (ofInt binary32 (pos 
 unfolding ofBits
 quotient24 e h = quotient binary32 24 e h
 
--- ---- what the function leaves
+-- ---- the result of the function
 
 pub whole-float : (t e : ℕ) → e ≡ scaled t → T (inFloat binary32 (pos e))
 unfolding inFloat

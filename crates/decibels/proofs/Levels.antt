@@ -1,4 +1,4 @@
--- The rule of the table: a table that passes the test at each entry has the largest number that fits there; and the largest number itself keeps the
+-- The rule of the table: a table that passes the test at each entry has the largest number that fits there; and the largest number itself meets the
 -- rule at every level. Assumes nothing.
 use mathlib.Core.Path.{_≡_, sym, subst}
 use mathlib.Core.Bool.{Bool, not}

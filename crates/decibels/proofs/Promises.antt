@@ -1,4 +1,4 @@
--- What is promised of levels and ramps beyond the contracts, put together. Assumes nothing.
+-- The theorems about levels and ramps, put together. Assumes nothing.
 use mathlib.Core.Path.{_≡_, refl}
 use native.Mathlib.Omega.{arith}
 use lib.ListN.{take-append-drop}

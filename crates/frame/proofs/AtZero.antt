@@ -1,4 +1,4 @@
--- At fraction 0 the cubic of samples of magnitude at most 8 equals b, the sign of a zero aside.
+-- At fraction 0 the cubic of samples of magnitude at most 8 equals b, except for the sign of a zero.
 -- The bounds keep every coefficient finite, so each product by the fraction is a zero, and a zero added to b leaves b.
 use mathlib.Core.Path.{_≡_}
 use mathlib.Core.Bool.{true, false}

@@ -98,7 +98,7 @@ sub-swap f (fin s m e) (fin t n d) =
     subst (λ (z : ℕ). Swapped (sum f s (m * up e * down d) (not t) (n * up d * down e) (down e * down d)) (sum f t (n * up d * down e) (not s) (m * up e * down d) z)) (mul-comm (down e) (down d))
     (sum-swap f s t (m * up e * down d) (n * up d * down e) (down e * down d) (mul-pos (down-pos e) (down-pos d)))
 
--- where the difference turns, so does the sum
+-- if the difference changes its sign, so does the sum
 pub as-difference : (f : Format) (u x y : Float) (n : ℕ) (d : ℤ) → y ≡ neg x → sub f u (mul f y (fin false n d)) ≡ add f u (mul f x (fin false n d))
 unfolding sub
 as-difference f u x y n d e =

@@ -1,4 +1,4 @@
--- What is known of the cubic beyond its definition.
+-- What is proved about the cubic beyond its definition.
 pub mod Silence
 pub mod AtZero
 pub mod Difference

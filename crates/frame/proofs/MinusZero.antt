@@ -1,4 +1,4 @@
--- A sum of numbers that fit is minus zero only where both are: else it is a whole number of the smallest values, and does not
+-- A sum of numbers that fit is minus zero only if both are: otherwise it is a whole number of the smallest values, and does not
 -- round to zero. Assumes nothing.
 use mathlib.Core.Path.{_≡_, refl, sym, ap, ap₂, _∙_, subst}
 use Prim.Native.Nat.{ℕ, zero, suc, _+_, _-_, _*_, _^_, _<_, _≤_}

@@ -1,4 +1,4 @@
--- Four samples of positive zero give positive zero at any fraction: every product and sum in the cubic is positive zero.
+-- The cubic of four samples of positive zero is positive zero at any fraction: every product and sum in the cubic is positive zero.
 use mathlib.Core.Path.{_≡_}
 use mathlib.Core.Bool.{false}
 use lib.IntN.{pos, negsuc}

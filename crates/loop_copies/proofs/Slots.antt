@@ -1,4 +1,4 @@
--- One slot more: compared, and copied. Assumes nothing.
+-- One more slot: compared, and copied. Assumes nothing.
 use mathlib.Core.Path.{_≡_, sym, ap, ap₂, _∙_}
 use mathlib.Core.Bool.{Bool, _&&_}
 use mathlib.Core.List.{List, [], _∷_, _++_}

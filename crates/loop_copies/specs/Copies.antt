@@ -47,7 +47,7 @@ copyCleared c h k = counted h c (cleared (c .table) h k)
 abbrev pub sameSlot : LoopSlot → LoopSlot → Bool
 sameSlot x y = eqb (x .start) (y .start) && eqb (x .end) (y .end)
 
--- n slots from slot k on hold the same
+-- n slots from slot k on are equal
 unfoldable pub sameSlots : ℕ → ℕ → List LoopSlot → List LoopSlot → Bool
 sameSlots zero k a b = true
 sameSlots (suc n) k a b = sameSlots n k a b && sameSlot (getD a (k + n) empty) (getD b (k + n) empty)

@@ -56,7 +56,7 @@ fn is_same_slot(x: LoopSlot, y: LoopSlot) -> bool
     (x.start == y.start) & (x.end == y.end)
 }
 
-// Whether the eight slots from slot `from` on hold the same.
+// Whether the eight slots from slot `from` on are equal.
 fn are_same_slots(a: [LoopSlot; 16], b: [LoopSlot; 16], from: usize) -> bool
     requires { ⌜ from ≤ 8 ⌝ }
     ensures { λ r. ⌜ r ≡ sameSlots 8 from a b ⌝ }
@@ -97,7 +97,7 @@ impl LoopCopy {
         }
     }
 
-    // After a write or a clear by a hall.
+    // The copy after a write or a clear by a hall.
     fn count(self, hall: Hall, changed: LoopChanged) -> CopyChanged
         ensures { λ r. ⌜ r ≡ counted hall self changed ⌝ }
     {

@@ -1,4 +1,4 @@
--- An accepted write or clear: from no number to what each test says. By taking the tests apart. Assumes nothing.
+-- An accepted write or clear: from refusal 0 to what each test says, one test after the other. Assumes nothing.
 use mathlib.Core.Path.{_≡_}
 use Prim.Native.Nat.{ℕ, suc, _<_}
 use native.Mathlib.Omega.{arith}
@@ -8,7 +8,7 @@ use Rattle.loop_table.specs.declared.Hall.{Hall}
 use Rattle.loop_table.specs.declared.LoopTable.{LoopTable}
 use Rattle.loop_table.specs.Tables.{unless, looping, wellFormedTable, owns, refusedSlot, refusedWrite, refusedClear}
 
--- a test that gives its number where it fails
+-- a test that returns its number if it fails
 pub passed : (ok : Bool) (n rest : ℕ) → unless ok (suc n) rest ≡ 0 → T ok × (rest ≡ 0)
 passed true n rest h = (tt, h)
 passed false n rest h = let e : _≡_ {A = ℕ} (suc n) 0 = h in absurd (omega arith)

@@ -1,5 +1,5 @@
 -- Bounds that go through rounding: a sum, a difference or a product of floats that are bounded by whole numbers is bounded by those numbers' sum or product.
--- And what a zero does as a factor and as a summand. Assumes nothing.
+-- Also, zeros as factors and as summands. Assumes nothing.
 use mathlib.Core.Path.{_≡_, refl, sym, ap, _∙_, subst}
 use Prim.Native.Nat.{ℕ, zero, suc, _+_, _-_, _*_, _^_, _≤_, _<_}
 use native.Mathlib.Nat.{le-trans, le-of-eq, lt-irrefl, zero-lt-suc, add-mul, zero-mul, mul-zero, zero-add, mul-one, mul-comm, mul-assoc, mul-pos, mul-le-mul, mul-le-mul-right, mul-mul-mul-comm, add-le-add, sub-zero}
@@ -168,7 +168,7 @@ eq-zeros (fin s m e) (fin t n d) p q =
     or-true true = refl
     or-true false = refl
 
--- a zero and b make b, up to the sign of a zero
+-- a zero plus b is b, except for the sign of a zero
 sum-zero : (f : Format) (s t : Bool) (b : Float) (B D k : ℕ) → 0 < D → T (within k b) → round f t B D ≡ b → (B ≡ 0 → T (isZero b)) → eq (sum f s 0 t B D) b ≡ true
 unfolding sum
 sum-zero f s t b B D k P w r z = go s t r

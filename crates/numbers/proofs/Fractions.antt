@@ -117,7 +117,7 @@ whole-within k nan h = absurd h
 whole-within k (inf s) h = absurd h
 whole-within k (fin s m e) h = div-le-of-le-mul (down e) (le-trans (leb→le (m * up e) (k * down e) h) (le-of-eq (mul-comm k (down e))))
 
--- a fraction moved on by at most k makes at most k + 1 steps
+-- a fraction plus an advance of at most k makes at most k + 1 steps
 pub sum-steps : (f a : Float) (k : ℕ) → k ≤ 256 → T (proper f) → T (finiteClear a) → T (le a (ofInt binary64 (pos k))) → whole (add binary64 f a) ≤ suc k
 unfolding ofInt
 sum-steps f a k K p l h =

@@ -1,4 +1,4 @@
--- Whole numbers from a float, cut off or rounded. Where 0 < x < 2 ^ 32, x + x is exact,
+-- Whole numbers from a float, cut off or rounded. If 0 < x < 2 ^ 32, x + x is exact,
 -- and the whole part of x + x, with one added, is twice the rounded x and perhaps one more. Assumes nothing.
 use mathlib.Core.Path.{_≡_, refl, sym, ap, _∙_, subst}
 use Prim.Native.Nat.{ℕ, suc, _+_, _-_, _*_, _/_, _^_, _≤_, _<_, min}
@@ -153,7 +153,7 @@ cut-low x h k = go x (low-is x h k)
     go (fin true m e) l = refl
     go (fin false m e) l = sym (less-than (m * up e) (down e) (down-pos e) (subst (λ (z : ℕ). z < down e) (sym l) (down-pos e)))
 
--- ---- what `truncating_f64_to_u64` asks
+-- ---- what `truncating_f64_to_u64` requires
 pub asked : (y : Float) → Under (2 ^ 64) y → T (lt (fin true 1 (pos 0)) y) × T (lt y (fin false 1 (pos 64)))
 unfolding lt
 asked nan h = absurd h
@@ -255,7 +255,7 @@ doubled (fin false m e) t u =
     capped : (q : ℕ) → q < 2 ^ 32 + 1 → min q (2 ^ 32) ≡ q
     capped q h = omega arith
 
--- ---- no frame number is above the largest
+-- ---- no frame index is above the largest
 capped-le : (q : ℕ) → min q most ≤ most
 capped-le q = omega arith
 
@@ -275,7 +275,7 @@ cut-le (inf false) = lit≤ tt
 cut-le (fin true m e) = lit≤ tt
 cut-le (fin false m e) = capped-le (m * up e / down e)
 
--- an f64 holds a frame number exactly
+-- an f64 represents a frame index exactly
 pub number-held : (n : ℕ) → n ≤ most → T (inFloat binary64 (pos n))
 unfolding inFloat
 number-held n h = le→leb n (2 ^ 53) (le-trans h (lit≤ tt))

@@ -1,4 +1,4 @@
--- Laws of `all`: over two lists joined, over what is dropped, and over a list shifted by one place, for every length.
+-- Laws of `all`: over two lists joined, over what is dropped, and over a list shifted by one, for every length.
 -- Shifted, what held of each entry from the t-th on holds from the one before it on. Assumes nothing.
 use mathlib.Core.Path.{_≡_, sym, _∙_, subst}
 use Prim.Native.Nat.{ℕ, zero, suc, _+_, _-_, _<_}

@@ -230,7 +230,7 @@ field-of-units m e n h =
     ap (λ (z : ℕ). (0 + (size z - 53) * 2 ^ 52 + z / 2 ^ (size z - 53)) / 2 ^ 52) is
     ∙ ap (λ (z : ℕ). (z + n / 2 ^ (size n - 53)) / 2 ^ 52) (zero-add ((size n - 53) * 2 ^ 52))
 
--- what `narrow` takes for the exponent's field of x: its own, and 897 at least
+-- the exponent's field of x that `narrow` uses: its own, and 897 at least
 pub record Chosen (x : Float) (at : ℕ) : Type 0 where
   pub least : 897 ≤ at
   pub field : toBits binary64 x / 2 ^ 52 ≤ at

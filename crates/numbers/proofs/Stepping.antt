@@ -1,5 +1,5 @@
--- The loop that subtracts 1: each difference is exact, so each turn takes 1 off the whole part, and what is left at the end is proper.
--- `Spinning` is its invariant, `spun` a turn, `spun-out` its end. Assumes nothing.
+-- The loop that subtracts 1: each difference is exact, so each iteration subtracts 1 from the whole part, and the rest is proper.
+-- `Spinning` is its invariant, `spun` one iteration, `spun-out` its end. Assumes nothing.
 use mathlib.Core.Path.{_≡_, refl, sym, ap, _∙_, subst}
 use mathlib.Core.Logic.{inl, inr}
 use Prim.Native.Nat.{ℕ, zero, suc, _+_, _-_, _*_, _/_, _^_, _≤_, _<_}
@@ -44,7 +44,7 @@ sub-one m e t lo hi =
     (sym (sub-at binary64 (fin false m e) one (m * up e) (down e) (down e) (down-pos e) lo (refl, refl) (refl, one-mul (down e) ∙ sym (mul-one (down e)))))
     (drop-one m e t hi)
 
--- ---- one turn: x - 1 is finite and clear, and has one step less to go
+-- ---- one iteration: x - 1 is finite and clear, and has one step less to go
 pub record Turn (x y : Float) : Type 0 where
   pub finiteClear : T (finiteClear y)
   pub whole : whole x ≡ suc (whole y)
@@ -88,7 +88,7 @@ turn (fin false m e) n h t w k =
         few : (q n : ℕ) → q ≡ suc n → n < 1000 → q < 1001
         few q n e k = omega arith
 
--- ---- what is left is proper
+-- ---- the rest is proper
 stop-proper : (x : Float) → T (finiteClear x) → whole x ≡ 0 → T (proper x)
 unfolding whole
 stop-proper nan h e = absurd h
@@ -174,7 +174,7 @@ spinning f a p l h =
     none : (n : ℕ) → 0 + n ≡ n
     none n = omega arith
 
--- a turn
+-- one iteration
 pub spun : (x y : Float) (n : ℕ) → Spinning x y n → le one y ≡ true → Turn y (sub binary64 y one) × Spinning x (sub binary64 y one) (n + 1)
 spun x y n h e =
     let w = go-on y (h .finiteClear) e in

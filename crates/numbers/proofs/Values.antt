@@ -118,7 +118,7 @@ pow-le-back a l h = go (leb a l) refl
 pub back : (a l : ℕ) → l ≤ a → a - l + l ≡ a
 back a l h = omega arith
 
--- where a number that fits stands: m * 2 ^ j of the smallest values
+-- the size of a number that fits: m * 2 ^ j of the smallest values
 pub place : (f : Format) (s : Bool) (m : ℕ) (e : ℤ) → T (fits f (fin s m e)) → (j : ℕ) × (m * up e * 2 ^ low f ≡ m * 2 ^ j * down e)
 place f s m (pos a) t = (a + low f, mul-assoc m (2 ^ a) (2 ^ low f) ∙ ap (λ (x : ℕ). m * x) (sym (pow-add 2 a (low f))) ∙ sym (mul-one (m * 2 ^ (a + low f))))
 place f s zero (negsuc a) t = (0, ap (λ (x : ℕ). x * 2 ^ low f) (zero-mul 1) ∙ zero-mul (2 ^ low f) ∙ sym (ap (λ (x : ℕ). x * 2 ^ suc a) (zero-mul (2 ^ 0)) ∙ zero-mul (2 ^ suc a)))

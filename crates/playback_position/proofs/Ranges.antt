@@ -1,4 +1,4 @@
--- Ranges of frames: what the tests `ordered` and `within` say of a start and an end. By taking the tests apart. Assumes nothing.
+-- Ranges of frames: what the tests `ordered` and `within` say of a start and an end. Test by test. Assumes nothing.
 use Prim.Native.Nat.{ℕ, _≤_, _<_}
 use mathlib.Core.Path.{_≡_}
 use mathlib.Core.Bool.{_&&_}
@@ -27,7 +27,7 @@ pub within-ordered : (n : ℕ) (r : FrameRange) → T (within n r) → T (ordere
 within-ordered n Absent h = tt
 within-ordered n (Frames s e) h = and-l (ltb s e) (leb e n) h
 
--- a lawful region lies in the n frames
+-- a well formed region lies in the n frames
 pub well-formed-within : (hz n : ℕ) (r : Region) → T (wellFormedRegion hz n r) → T (within n (regionInFrames hz n r))
 unfolding wellFormedRegion
 well-formed-within hz n r h = and-r (finitePosition (r .start) && finiteEnd (r .end)) (within n (regionInFrames hz n r)) h

@@ -1,2 +1,2 @@
--- What is known of the states beyond their definitions.
+-- What is proved about the states beyond their definitions.
 pub mod Stays

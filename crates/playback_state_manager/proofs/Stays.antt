@@ -1,4 +1,4 @@
--- What leaves a state as it is: every command in Stopped, and a block with no signals. By cases.
+-- What does not change a state: every command in Stopped, and a block with no signals. By cases.
 use mathlib.Core.Path.{_≡_, refl}
 use mathlib.Core.Bool.{Bool, false}
 use Rattle.playback_state_manager.specs.declared.PlaybackState.{PlaybackState}

@@ -1,4 +1,4 @@
--- A place within the part of a buffer that a window shows.
+-- An offset within the part of a buffer that a window shows.
 use Prim.Native.Nat.{ℕ, _≤_}
 use native.Mathlib.Omega.{arith}
 use mathlib.Core.List.{List}

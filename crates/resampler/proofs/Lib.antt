@@ -1,3 +1,3 @@
--- What is known of the window beyond its definition.
+-- What is proved about the window beyond its definition.
 pub mod Windows
 pub mod Silence

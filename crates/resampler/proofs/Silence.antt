@@ -46,7 +46,7 @@ at-last-zero [] i k h = absurd (not-suc-le-zero k)
 at-last-zero (r ∷ l) zero k h = zero-frame-frame r (and-l (zeroFrame r) (all zeroFrame l) h)
 at-last-zero (r ∷ l) (suc i) k h = at-last-zero l i (le-of-suc-le-suc k) (and-r (zeroFrame r) (all zeroFrame l) h)
 
--- reading an empty window gives silence
+-- a reading of an empty window is silence
 pub reading-positive-zero : (w : Resampler) (f : Float) → w .«time_until_empty» ≡ 0 → Windowed w → T (finiteClear f) → (reading w f) .frame ≡ lastZero
 unfolding reading
 reading-positive-zero w f e h l =

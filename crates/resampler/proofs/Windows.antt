@@ -1,5 +1,5 @@
 -- A window stays well formed: the test and the named facts are the same, a push into four entries is a shift, and a shift keeps them.
--- The shift itself is known for lists of any length.
+-- The law of the shift is proved for lists of any length.
 use mathlib.Core.Path.{_≡_, refl, sym, _∙_, subst}
 use Prim.Native.Nat.{ℕ, _≤_, _<_}
 use native.Mathlib.Nat.{le-refl, le-of-eq}
@@ -41,7 +41,7 @@ windowed-of w h =
     let d = all numbered (w .frames) in
     and-i (a && b && c) d (and-i (a && b) c (and-i a b (eq→eqb (h .four)) (le→leb (w .«time_until_empty») 4 (h .few))) (h .lastZero)) (h .numbers)
 
--- the first entry goes, and the given one comes last
+-- the first entry is removed, and the given one is appended
 abbrev pub shift : Resampler → MaybeFrame → ℕ → Resampler
 shift w g n = record { frames = drop 1 (w .frames) ++ given-entry g n ∷ []; «time_until_empty» = given-count g (w .«time_until_empty») }
 
@@ -58,7 +58,7 @@ pub push-shift : (w : Resampler) (g : MaybeFrame) (n : ℕ) → length (w .frame
 unfolding push
 push-shift w g n e = simp (four-shift (w .frames) (given-entry g n) e)
 
--- a count of 4 asks nothing of four entries
+-- a count of 4 requires nothing of four entries
 none-left : (l : List RecentFrame) → length l ≡ 4 → T (all zeroFrame (drop 4 l))
 none-left l e = subst (λ (r : List RecentFrame). T (all zeroFrame r)) (sym (drop-of-length-le l {i = 4} (le-of-eq e))) tt
 
@@ -90,7 +90,7 @@ push-parts w g n k h = subst Windowed (sym (push-shift w g n (h .four))) (shift-
 pub fresh-parts : (n : ℕ) → n ≤ most → Windowed (fresh n)
 fresh-parts n k = record { four = refl; few = lit≤ tt; lastZero = tt; numbers = simp (le-leb n most k) tt }
 
--- the number heard is in range
+-- the reported frame index is in range
 pub heard-low : (w : Resampler) → Windowed w → currentFrameIndex w ≤ most
 heard-low w h = go (w .frames) (h .numbers)
   where

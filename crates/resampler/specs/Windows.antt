@@ -51,7 +51,7 @@ nth w i = (getD (w .frames) i blank) .frame
 unfoldable pub reading : Resampler → Float → Reading
 reading w f = record { frame = interpolated (nth w 0) (nth w 1) (nth w 2) (nth w 3) f; count = w .«time_until_empty» }
 
--- the frame index that is heard: entry 1's
+-- the frame index that is reported: entry 1's
 abbrev pub currentFrameIndex : Resampler → ℕ
 currentFrameIndex w = (getD (w .frames) 1 blank) .«frame_index»
 

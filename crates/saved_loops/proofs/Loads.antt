@@ -1,4 +1,4 @@
--- The ways that loading can go, from the tests of the code. Assumes nothing.
+-- The results that loading can have, from the tests of the code. Assumes nothing.
 use mathlib.Core.Path.{_≡_, refl, sym, ap, ap₂, _∙_}
 use Prim.Native.Nat.{ℕ, _+_, _≤_, _<_}
 use native.Mathlib.Omega.{arith}

@@ -1,4 +1,4 @@
--- What is promised of a half's bytes beyond the contracts, put together. Assumes nothing.
+-- The theorems about a half's bytes, put together. Assumes nothing.
 use mathlib.Core.Path.{_≡_, refl, sym, ap, _∙_}
 use mathlib.Core.Bool.{true}
 use Prim.Native.Nat.{ℕ, zero, suc, _^_, _<_}

@@ -1,4 +1,4 @@
--- Round trips: what is stored loads as the same words and names, and what loads stores as the same bytes. Assumes nothing.
+-- Round trips: what is stored loads as the same words and names, and what was loaded is stored as the same bytes. Assumes nothing.
 use mathlib.Core.Path.{_≡_, refl, sym, ap, ap₂, _∙_, subst}
 use Prim.Native.Nat.{ℕ, zero, suc, _+_, _^_, _%_, _/_, _≤_, _<_}
 use native.Mathlib.Nat.{le-antisymm}
@@ -137,7 +137,7 @@ half-lows = tt
 some : (k : ℕ) (ws : List ℕ) → refusedBy (suc k) ≡ whole ws → ⊥
 some k ws e = let z : suc k ≡ 0 = ap (λ (l : LoadedHalf). l .refusal) e in omega (arith, z)
 
--- what bytes that are shown are
+-- what is known about bytes that load
 pub record Shown (ws bs vs : List ℕ) : Type 0 where
   pub long : 666 ≤ length bs
   pub words : drop 4 vs ≡ ws
@@ -183,7 +183,7 @@ fine-length ws h =
     omega (arith, at-most (rows halfTable 0 23) [] ws, at-least (rows halfTable 0 23) [] ws h, half-most, half-least)
 
 module _ (ws bs : List ℕ) (small : Bytes bs) where
-  -- the bytes of a record that is shown
+  -- the bytes of a record that loads
   record-is : (left : ℕ) (vs rest : List ℕ) → steps (rows halfTable 0 23) (good 666 [] bs) ≡ good left vs rest → Shown ws bs vs → take 666 bs ≡ encoded ws (namesIn bs)
   unfolding encoded body halfRows
   record-is left vs rest q x =

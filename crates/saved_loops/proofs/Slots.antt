@@ -1,4 +1,4 @@
--- One turn of the loops: a slot judged, a word copied out of the numbers and into them. Assumes nothing.
+-- One iteration of the loops: a slot is checked, a word is copied from the numbers or to them. Assumes nothing.
 use mathlib.Core.Path.{_≡_, refl, sym, ap, ap₂, _∙_}
 use mathlib.Core.Bool.{Bool, _&&_}
 use mathlib.Core.List.{List, [], _∷_, _++_}

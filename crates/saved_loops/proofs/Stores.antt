@@ -141,7 +141,7 @@ accepted ws n m h = go (wellFormed ws) refl h
 pub enough : (ws : List ℕ) (n m : ℕ) → wellFormed ws ≡ true → n ≡ 512 → 666 ≤ m → storeRefusal ws n m ≡ 0
 enough ws n m h e l = rw (h, eq-eqb n 512 e, le-leb 666 m l) refl
 
--- the two answers to fields that may be stored
+-- the two results for fields that may be stored
 pub no-room : (ws : List ℕ) (n m : ℕ) → storable ws n ≡ true → m < 666 → 19 ≡ storeRefusal ws n m
 no-room ws n m h l = sym (ap (λ (b : Bool). cond b (cond (leb 666 m) 0 19) 24) h ∙ ap (λ (b : Bool). cond b 0 19) (lt-leb 666 m l))
 

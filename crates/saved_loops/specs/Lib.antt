@@ -1,4 +1,4 @@
--- What the contracts of a half's bytes cite.
+-- The definitions that contracts on a half's bytes cite.
 pub mod Tables
 pub mod Records
 pub mod Promises

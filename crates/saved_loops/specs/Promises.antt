@@ -1,5 +1,4 @@
--- What is promised of a half's bytes beyond the contracts: store and load agree both ways.
--- A word is below 2^64, a byte below 256.
+-- The theorems about a half's bytes: store and load agree in both directions. A word is below 2^64, a byte below 256.
 use Prim.Native.Nat.{ℕ, _^_, _≤_, _<_}
 use mathlib.Core.Path.{_≡_}
 use mathlib.Core.List.{List}
@@ -9,13 +8,13 @@ use Rattle.byte_layout.specs.Numbers.{Bytes}
 use Rattle.saved_loops.specs.declared.LoadedHalf.{LoadedHalf}
 use Rattle.saved_loops.specs.Records.{namesIn, loaded, encoded, storeRefusal, stored}
 
--- shown, and no refusal
+-- the words are returned, without a refusal
 abbrev pub whole : List ℕ → LoadedHalf
 whole ws = record { words = ws; refusal = 0 }
 
--- ---- what is asked
+-- ---- hypotheses
 
--- a buffer into which `store` puts these words and names
+-- a buffer into which `store` writes these words and names
 pub record Stores (ws names buffer : List ℕ) : Type 0 where
   pub nineteen : length ws ≡ 19
   pub words : (i : ℕ) → getD ws i 0 < 2 ^ 64
@@ -28,7 +27,7 @@ pub record Loads (ws bytes buffer : List ℕ) : Type 0 where
   pub shows : loaded bytes ≡ whole ws
   pub room : 666 ≤ length buffer
 
--- ---- and inputs that meet it: hall A's empty half over no frames, without names
+-- ---- and inputs that meet them: hall A's empty half over no frames, without names
 
 abbrev pub noWords : List ℕ
 noWords = replicate 19 0
@@ -45,16 +44,16 @@ pub record Witnesses : Type 0 where
 
 -- ---- the theorems
 
--- what is stored is what is loaded
+-- what is stored loads as the same words and names
 pub record Kept (ws names bytes : List ℕ) : Type 0 where
   pub shown : loaded bytes ≡ whole ws
   pub named : namesIn bytes ≡ names
 
 pub record Promises : Type 0 where
-  -- what `store` leaves in the buffer is what `load` shows
+  -- `load` returns what `store` wrote to the buffer
   pub store-loads : (ws names buffer : List ℕ) → Stores ws names buffer → Kept ws names (stored ws names buffer)
-  -- and what `load` shows, `store` writes as the same bytes if the buffer is long enough
+  -- and `store` writes what `load` returned as the same bytes, if they fit
   pub load-stores : (ws bytes buffer : List ℕ) → Loads ws bytes buffer
       → stored ws (namesIn bytes) buffer ≡ sets buffer 0 (take 666 bytes)
-  -- an input for each that meets what it asks
+  -- one input for each hypothesis
   pub witnesses : Witnesses

@@ -20,18 +20,18 @@ use Rattle.saved_loops.specs.Tables.{halfRows}
 abbrev pub slotAt : List ℕ → ℕ → LoopSlot
 slotAt ws k = record { start = getD ws (3 + 2 * k) 0; end = getD ws (4 + 2 * k) 0 }
 
--- each of the first n slots is empty or holds a loop of the sound
+-- each of the first n slots is empty or has a loop of the sound
 unfoldable pub wellFormedSlots : ℕ → List ℕ → Bool
 wellFormedSlots zero ws = true
 wellFormedSlots (suc n) ws = wellFormedSlots n ws && wellFormedSlot (getD ws 1 0) (slotAt ws n)
 
--- 24: a half that is not one of these is wrong
+-- 24: a field that is not one of these is wrong
 abbrev pub wellFormed : List ℕ → Bool
 wellFormed ws = leb (getD ws 0 0) 1 && wellFormedSlots 8 ws
 
 -- ---- loading
 
--- the names, 64 bytes a slot, where they stand in a record
+-- the names in a record, 64 bytes per slot
 abbrev pub namesIn : List ℕ → List ℕ
 namesIn bs = take 512 (drop 150 bs)
 
@@ -39,14 +39,14 @@ namesIn bs = take 512 (drop 150 bs)
 abbrev pub crcRight : List ℕ → Bool
 crcRight bs = eqb (num (take 4 (drop 662 bs))) (checksumOf (take 662 bs))
 
--- refused: every word shown as 0
+-- if refused, every word is 0
 abbrev pub refusedBy : ℕ → LoadedHalf
 refusedBy k = record { words = replicate 19 0; refusal = k }
 
 abbrev pub shown : Bool → List ℕ → LoadedHalf
 shown ok ws = cond ok (record { words = ws; refusal = 0 }) (refusedBy 24)
 
--- the head is judged byte by byte; the fields and the CRC once all bytes are there
+-- the head is checked byte by byte; the fields and the CRC are checked once all bytes are there
 unfoldable pub judged : List ℕ → Reading → LoadedHalf
 judged bs (bad k) = refusedBy k
 judged bs (good left vs rest) =
@@ -74,7 +74,7 @@ storable ws named = wellFormed ws && eqb named 512
 abbrev pub storeRefusal : List ℕ → ℕ → ℕ → ℕ
 storeRefusal ws named room = cond (storable ws named) (cond (leb 666 room) 0 19) 24
 
--- the buffer afterwards: the record at its start, or as it was
+-- the buffer afterwards: the record at its start, or unchanged
 unfoldable pub stored : List ℕ → List ℕ → List ℕ → List ℕ
 stored ws names buffer =
     cond (eqb (storeRefusal ws (length names) (length buffer)) 0) (sets buffer 0 (encoded ws names)) buffer

@@ -195,7 +195,7 @@ pub fn store(words: [u64; 19], names: &[u8], buffer: &mut [u8]) -> u32
     0
 }
 
-// What is promised beyond the contracts.
+// An empty function whose contract collects the theorems, so that the checker must prove them.
 pub fn promised()
     ensures { λ r. ⌜ Promises ⌝ }
 {}

@@ -28,7 +28,7 @@ encoded-long version s = go (eqb version 1)
 
 -- ---- stored, then loaded
 
--- an accepted store puts the record before the rest of the buffer
+-- an accepted store writes the record before the rest of the buffer
 put-first : (version : ℕ) (s : SavedSettings) (buffer : List ℕ) → storeRefusal version s (length buffer) ≡ 0
     → stored version s buffer ≡ encoded version s ++ drop (0 + length (encoded version s)) buffer
 put-first version s buffer h =

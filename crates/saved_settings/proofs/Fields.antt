@@ -1,4 +1,4 @@
--- What lawful fields have, and what a byte with a sign is. Assumes nothing.
+-- What well formed fields have, and what a byte with a sign is. Assumes nothing.
 use mathlib.Core.Path.{_≡_, refl, sym, ap, _∙_, subst}
 use Prim.Native.Nat.{ℕ, zero, suc, _+_, _-_, _*_, _/_, _%_, _^_, _≤_, _<_}
 use native.Mathlib.Nat.{mod-eq-of-lt, div-lt-iff-lt-mul}

@@ -1,4 +1,4 @@
--- The ways that loading can go, from the tests of the code. Assumes nothing.
+-- The results that loading can have, from the tests of the code. Assumes nothing.
 use mathlib.Core.Path.{_≡_, refl, sym, ap, _∙_}
 use Prim.Native.Nat.{ℕ, _≤_, _<_}
 use native.Mathlib.Omega.{arith}
@@ -37,7 +37,7 @@ pub second-read : (s : List ℕ) (p q : Parsed) → p ≡ Start 26 → view s 10
 unfolding secondRows
 second-read s p q e r = r ∙ ap (steps (rows secondTable 0 10)) (begun s 0 26 p e)
 
--- the fields stand among the first numbers
+-- the fields are among the first numbers
 first-saved : (vs : List ℕ) → savedOf 1 (take 9 vs) ≡ savedOf 1 vs
 first-saved vs =
     rw (getD-take 9 vs 4 0 (omega arith), getD-take 9 vs 5 0 (omega arith), getD-take 9 vs 6 0 (omega arith), getD-take 9 vs 7 0 (omega arith), getD-take 9 vs 8 0 (omega arith)) refl

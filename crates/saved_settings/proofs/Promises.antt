@@ -1,4 +1,4 @@
--- What is promised of saved settings beyond the contracts, put together. Assumes nothing.
+-- The theorems about saved settings, put together. Assumes nothing.
 use Rattle.saved_settings.specs.Promises.{Promises}
 use Rattle.saved_settings.proofs.Fields.{rates}
 use Rattle.saved_settings.proofs.Witnesses.{witnesses}

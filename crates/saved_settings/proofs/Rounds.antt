@@ -1,4 +1,4 @@
--- Round trips: what is stored loads as the same fields, and what loads stores as the same bytes, by the laws of the codec. Assumes nothing.
+-- Round trips: what is stored loads as the same fields, and what was loaded is stored as the same bytes, by the laws of the codec. Assumes nothing.
 use mathlib.Core.Path.{_≡_, refl, sym, ap, _∙_, subst}
 use Prim.Native.Nat.{ℕ, zero, suc, _+_, _-_, _*_, _%_, _^_, _≤_, _<_}
 use native.Mathlib.Nat.{add-zero, le-antisymm}
@@ -109,7 +109,7 @@ pub unknown : (s : SavedSettings) (rest : List ℕ) → loaded 1 (encoded 2 s ++
 unfolding loaded encoded payload field stands secondRows rows rowAt secondTable bytes
 unknown s rest = stops _
 
--- fields that are shown were lawful, and they are the fields among the numbers read
+-- loaded fields are well formed, and they are the fields among the numbers read
 shown-is : (version : ℕ) (s t : SavedSettings) → 0 < version → shown version t ≡ whole version s → (t ≡ s) × (wellFormed s ≡ true)
 shown-is version s t p e = go (wellFormed t) refl e
   where

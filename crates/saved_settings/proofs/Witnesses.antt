@@ -1,4 +1,4 @@
--- What is asked, at its inputs: by computing. Assumes nothing.
+-- The hypotheses at their inputs, by computing. Assumes nothing.
 use mathlib.Core.Path.{_≡_, refl}
 use native.Mathlib.Omega.{arith}
 use lib.Dec.{T}

@@ -21,7 +21,7 @@ use Rattle.saved_settings.specs.Records.{
   refusedBy,
 }
 
--- shown, and no refusal
+-- the fields are returned, without a refusal
 abbrev pub whole : ℕ → SavedSettings → Loaded
 whole version s = record { settings = s; version = version; refusal = 0 }
 
@@ -61,7 +61,7 @@ pub record LoadsWithRoom (reader version : ℕ) (s : SavedSettings) (bytes buffe
   pub shown : loaded reader bytes ≡ whole version s
   pub room : size version ≤ length buffer
 
--- and inputs that meet it: rate 1, the loop from 3 to 6, two semitones up in version 2
+-- and inputs that meet them: rate 1, the loop from 3 to 6, two semitones up in version 2
 abbrev pub looping : ℕ → SavedSettings
 looping pitch = record {
   start = 0;
@@ -88,7 +88,7 @@ pub record Promises : Type 0 where
   pub second : (s : SavedSettings) (rest : List ℕ) → Second s → loaded 2 (encoded 2 s ++ rest) ≡ whole 2 s
   -- a version 1 reader refuses version 2 by its number
   pub unknown : (s : SavedSettings) (rest : List ℕ) → loaded 1 (encoded 2 s ++ rest) ≡ refusedBy 23
-  -- what loads stores as the same bytes
+  -- what was loaded is stored as the same bytes
   pub first-again : (reader : ℕ) (s : SavedSettings) (bytes : List ℕ) → Loads 1 reader s bytes → Holds 1 s bytes
   pub second-again : (reader : ℕ) (s : SavedSettings) (bytes : List ℕ) → Loads 2 reader s bytes → Holds 2 s bytes
   -- a rate whose bits pass is a finite number

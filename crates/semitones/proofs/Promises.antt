@@ -1,4 +1,4 @@
--- What is promised of pitches beyond the contracts, put together. Assumes nothing.
+-- The theorems about pitches, put together. Assumes nothing.
 use native.Mathlib.Omega.{arith}
 use Rattle.semitones.specs.Promises.{Witnesses, Promises}
 use Rattle.semitones.proofs.Ratios.{scaled-rule, none-larger, ratio-exact}

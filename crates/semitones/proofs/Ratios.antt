@@ -83,9 +83,9 @@ ratio-exact steps h = go (scaled (steps % 12) * 2 ^ (steps / 12)) (scaled-room (
         (lt-of-lt-of-le (shl-lt 53 1024 s) (lit≤ {m = 2 ^ 1077} {n = 2 ^ 2098} tt))
         (sym (mul-assoc x (2 ^ 1024) (2 ^ 50)))
 
--- ---- what the function leaves
+-- ---- the result of the function
 
--- the whole number that is divided
+-- the dividend
 pub record Product (steps x : ℕ) : Type 0 where
   pub low : x ≤ 9007199254740976
   pub is : x ≡ scaled (steps % 12) * 2 ^ (steps / 12)

@@ -8,7 +8,7 @@ use Rattle.semitones.specs.Ratios.{fits, Entry, scaled, ratio}
 
 -- ---- hypotheses
 
--- a number of semitones below an octave, and one that fits it
+-- a number of semitones below an octave, and a number that fits it
 abbrev pub Semitones : ℕ → Type 0
 Semitones n = n < 12
 
@@ -16,11 +16,11 @@ pub record Fitting (n e : ℕ) : Type 0 where
   pub semitones : Semitones n
   pub fits : T (fits n e)
 
--- the steps from the lowest pitch to one of those that there are
+-- the number of steps from the lowest pitch to a pitch
 abbrev pub Steps : ℕ → Type 0
 Steps steps = steps ≤ 48
 
--- and numbers that meet it: a fifth, an octave's beginning, the middle pitch
+-- and numbers that meet them: a fifth, the beginning of an octave, the middle pitch
 pub record Witnesses : Type 0 where
   pub rule : Semitones 7
   pub none-larger : Fitting 0 281474976710656

@@ -1,4 +1,4 @@
--- The ratio of a pitch, and the rate that it raises: request #113, docs/formats/SETTINGS.md.
+-- The ratio of a pitch, and a rate times that ratio: request #113, docs/formats/SETTINGS.md.
 use Prim.Native.Nat.{ℕ, suc, _+_, _-_, _*_, _/_, _%_, _^_, _≤_, _<_}
 use mathlib.Core.Path.{_≡_}
 use mathlib.Core.Bool.{Bool, false, cond}

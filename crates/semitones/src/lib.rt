@@ -1,4 +1,4 @@
-// Semitones: the ratio of a pitch by a table of twelve numbers scaled by 2^48, and the rate that a pitch raises.
+// Semitones: the ratio of a pitch by a table of twelve numbers scaled by 2^48, and a rate times that ratio.
 ghost use mathlib.Core.Path.{_≡_};
 ghost use Prim.Native.Nat.{_/_, _^_, _≤_, _<_};
 ghost use Rattle.semitones.specs.Ratios.{Table, raisedBy};
@@ -52,8 +52,8 @@ fn doubled(octaves: u64) -> u64
     16
 }
 
-// The pitch of that many steps above the lowest, -24. What is divided is below 2^53, so it is an f64 and its quotient
-// is exact.
+// The ratio of the pitch this many steps above the lowest, -24. The dividend is below 2^53, so it is an f64 and its
+// quotient is exact.
 fn ratio(steps: u64) -> f64
     requires { ⌜ steps ≤ 48 ⌝ }
     ensures { λ r. ⌜ r ≡ Ratios.ratio steps ⌝ }
@@ -65,7 +65,8 @@ fn ratio(steps: u64) -> f64
     (scaled as f64) / 1125899906842624.0
 }
 
-// The rate times the pitch's ratio, rounded once. The pitch is in two's complement; one outside -24 to 24 gives NaN.
+// The rate times the pitch's ratio, rounded once. The pitch is in two's complement; outside -24 to 24 the result is
+// NaN.
 pub fn raised(rate: f64, pitch: u64) -> f64
     ensures { λ r. ⌜ r ≡ raisedBy rate pitch ⌝ }
 {

@@ -1,4 +1,4 @@
--- What a command set gives, by whether it is refused. Assumes nothing.
+-- The result of a command set, by whether it is refused. Assumes nothing.
 use mathlib.Core.Path.{_≡_, refl}
 use Prim.Native.Nat.{ℕ}
 use mathlib.Core.List.{List}

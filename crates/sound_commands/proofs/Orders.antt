@@ -1,4 +1,4 @@
--- A command set: an accepted one keeps a voice well formed over its sound. Rate and loop were judged, and a seek lands at a frame number in range.
+-- A command set: an accepted one keeps a voice well formed over its sound. Rate and loop were checked, and a seek goes to a frame index in range.
 -- By the order in which the commands act. Assumes nothing.
 use mathlib.Core.Path.{_≡_, refl, sym, ap, _∙_}
 use Prim.Native.Nat.{ℕ, _*_, _≤_}

@@ -1,4 +1,4 @@
--- From no number to all that an accepted command set has passed. Assumes nothing.
+-- From refusal 0 to all tests that an accepted command set has passed. Assumes nothing.
 use mathlib.Core.Path.{_≡_}
 use Prim.Native.Nat.{ℕ}
 use mathlib.Core.Bool.{_&&_}

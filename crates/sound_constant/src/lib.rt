@@ -9,7 +9,8 @@ ghost use Rattle.sound_lanes.specs.Lanes.{lanesNow, lanesAtEntry};
 ghost use Rattle.sound_constant.specs.Constant.{first, Constant};
 use sound_held::Held;
 
-// Whether two amplitudes are equal. The second is not 0, and so they are the same number: 0 and -0 are equal, too.
+// Whether two amplitudes are equal. The second is not 0, so they are the same number: only 0 and -0 are equal and
+// differ.
 fn is_equal(a: f32, b: f32) -> bool
     requires { ⌜ eq b positiveZero ≡ false ⌝ }
     ensures { λ r. ⌜ (r ≡ true → a ≡ b) ⌝ }
@@ -25,7 +26,7 @@ fn is_equal_rate(a: f64, b: f64) -> bool
     a == b
 }
 
-// Whether a lane's first and last number are equal: a lane that moves is found out by them.
+// Whether a lane's first and last number are equal. Most lanes that change differ there.
 fn has_equal_ends(lane: &[f32]) -> bool
     requires { ⌜ 0 < length (now lane) ⌝ }
     ensures { λ r. ⌜ r ≡ eq (getD (now (lane .entry)) 0 nan)
@@ -35,7 +36,7 @@ fn has_equal_ends(lane: &[f32]) -> bool
     lane[0] == lane[end]
 }
 
-// Whether all numbers of a lane are its first, which is not 0.
+// Whether all numbers of a lane equal its first, which is not 0.
 fn is_constant(lane: &[f32]) -> bool
     requires { ⌜ 0 < length (now lane) ⌝ }
     ensures { λ r. ⌜ (r ≡ true → now (lane .entry)

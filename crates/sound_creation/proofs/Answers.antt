@@ -1,4 +1,4 @@
--- What creation gives, by whether it is refused. Assumes nothing.
+-- The result of creation, by whether it is refused. Assumes nothing.
 use mathlib.Core.Path.{_≡_, refl, ap}
 use Prim.Native.Nat.{ℕ}
 use mathlib.Core.Bool.{Bool, true, false, cond}

@@ -1,5 +1,5 @@
 -- Creation: an accepted one makes a voice that is well formed over its sound, and the blank state of a refused one is not well formed.
--- The voice as it is opened is well formed, and updates keep that. Assumes nothing.
+-- The voice before its updates is well formed, and updates keep that. Assumes nothing.
 use mathlib.Core.Path.{_≡_, refl}
 use Prim.Native.Nat.{ℕ, _*_, _/_, _%_}
 use native.Mathlib.Omega.{arith}
@@ -34,7 +34,7 @@ pub allowed-within : (hz n : ℕ) (r : OptionalRegion) → T (allowed hz n r) �
 allowed-within hz n optional.Absent h = tt
 allowed-within hz n (optional.Present r) h = well-formed-within hz n r h
 
--- what creation fixes is set up
+-- what creation fixes is well formed
 pub setup-of : (len : ℕ) (s : Settings) → Creatable len s → T (wellFormedSetup (setupOf len s))
 setup-of len s h =
     let a = ltb 0 (s .«sample_rate») in

@@ -1,4 +1,4 @@
--- From no number to all that an accepted creation has passed. Assumes nothing.
+-- From refusal 0 to all tests that an accepted creation has passed. Assumes nothing.
 use mathlib.Core.Path.{_≡_}
 use Prim.Native.Nat.{ℕ, _/_, _%_, _≤_, _<_}
 use mathlib.Core.Bool.{_&&_}

@@ -1,2 +1,2 @@
--- Laws of a ride in parts.
+-- Laws of a scan in parts.
 pub mod Parts

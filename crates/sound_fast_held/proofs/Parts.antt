@@ -1,4 +1,4 @@
--- A ride whose next frames are ridden as a ride of their own, over their part of the output. Assumes nothing.
+-- A scan whose next frames are a scan of their own, over their part of the output. Assumes nothing.
 use mathlib.Core.Path.{_≡_, refl, sym, ap, ap₂, _∙_, subst}
 use Prim.Native.Nat.{ℕ, zero, suc, _+_, _-_, _*_, _≤_, _<_}
 use native.Mathlib.Nat.{add-zero}
@@ -28,7 +28,7 @@ take-replicate i n z h =
     let e : n ≡ i + (n - i) = omega arith in
     ap (λ (k : ℕ). take i (replicate k z)) e ∙ ap (take i) (sym (replicate-append-replicate i (n - i) z)) ∙ take-at (replicate i z) (replicate (n - i) z) i (length-replicate i z)
 
--- what is asked of so many frames is asked of fewer
+-- what is required for some frames is required for fewer
 slow-fewer : (hz : ℕ) (dt r : Float) (m n : ℕ) → m ≤ n → T (all (slow hz dt) (replicate n r)) → T (all (slow hz dt) (replicate m r))
 slow-fewer hz dt r m n h s =
     let e : n ≡ m + (n - m) = omega arith in
@@ -39,13 +39,13 @@ slow-fewer hz dt r m n h s =
 pub slow-rate : (hz : ℕ) (dt r : Float) (n : ℕ) → 0 < n → T (all (slow hz dt) (replicate n r)) → T (slow hz dt r)
 slow-rate hz dt r n h s = and-l (slow hz dt r) (all (slow hz dt) []) (slow-fewer hz dt r 1 n h s)
 
--- ---- a ride, and the next frames of it
+-- ---- a scan, and its next frames
 
--- the way from where a ride has come to
+-- the start of the rest of a scan
 abbrev pub wayOn : Way → Reached → Way
 wayOn w a = record { track = w .track; at = a .at; «fractional_position» = a .«fractional_position»; dt = w .dt; «sample_rate» = w .«sample_rate» }
 
--- a ride and the ride after it
+-- a scan and the scan after it
 abbrev pub bothReached : Reached → Reached → Reached
 bothReached a b = record { at = b .at; «fractional_position» = b .«fractional_position»; steps = a .steps + b .steps; next = a .next + b .next }
 
@@ -69,7 +69,7 @@ module _ (snd : List Float) (w : Way) (r : Float) (n : ℕ) (updatable : Scannab
       ∙ ap (λ (z : Scan). nexts (z .steps) (w .track) (w .at)) (h .soFar)
 
   module _ (m : ℕ) (fits : i + m ≤ n) where
-    -- the samples that the next m frames are written to, as code cuts them
+    -- the samples that the next m frames are written to, as the code cuts them
     abbrev width : ℕ
     width = 2 * i + 2 * m - 2 * i
 

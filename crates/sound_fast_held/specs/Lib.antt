@@ -1,1 +1,1 @@
--- No definition of its own.
+-- This crate has no definitions.

@@ -10,7 +10,7 @@ ghost use Rattle.sound_fast_reading.specs.Scans.{begun, Scannable, Scanned};
 use sound_fast_reading::Reached;
 use sound_fast_reading::Way;
 
-// How many of n frames go next: at most 16.
+// How many of n frames to play next: at most 16.
 fn part_of(n: usize) -> usize
     ensures { λ m. ⌜ (m ≤ 16) × (m ≤ n) ⌝ }
 {
@@ -37,7 +37,7 @@ fn straight(
     sound_fast_straight::held_on(way, from, sound, rate, frames, out)
 }
 
-// From the way's beginning: one frame per iteration where no step wraps, then round the loop's edge.
+// From the beginning of a scan: one frame per iteration where no step wraps, then across the loop's edge.
 fn around(way: Way, sound: &[f32], rate: &[f64], out: &mut [f32]) -> Reached
     requires { ⌜ Scannable (now sound) way (now rate) ⌝ }
     requires { ⌜ Scanned (now sound) way (now rate) (begun way) (now out) ⌝ }
@@ -57,7 +57,7 @@ fn around(way: Way, sound: &[f32], rate: &[f64], out: &mut [f32]) -> Reached
     sound_fast_wrapping::wrapping_on(way, ones, sound, rate, out)
 }
 
-// At most 16 frames more.
+// At most 16 more frames.
 fn few(way: Way, from: Reached, sound: &[f32], rate: f64, frames: usize, out: &mut [f32]) -> Reached
     requires { ⌜ Scannable (now sound) way (replicate frames rate) ⌝ }
     requires { ⌜ Scanned (now sound) way (replicate frames rate) from (now out) ⌝ }

@@ -1,4 +1,4 @@
--- One frame's steps along a track: they are few, leave a fraction, and stay where the track has room. Assumes nothing.
+-- One frame's steps along a track: they are few, leave a fraction, and stay on the track if it has space for them. Assumes nothing.
 use mathlib.Core.Path.{_≡_, refl, sym, ap, ap₂, _∙_, subst}
 use Prim.Native.Nat.{ℕ, suc, _+_, _-_, _*_, _≤_, _<_}
 use native.Mathlib.Nat.{le-refl}
@@ -34,7 +34,7 @@ pub advance-is : (hz : ℕ) (r dt m : Float) → m ≡ magnitude r → product h
 unfolding advance
 advance-is hz r dt m e = ap (λ (x : Float). product hz x dt) e
 
--- what the sum asks of the advance
+-- what the sum requires of the advance
 pub asks : (hz : ℕ) (r dt m : Float) → m ≡ magnitude r → T (lt positiveZero dt) → T (slow hz dt r) → T (finiteClear (product hz m dt)) × T (le (product hz m dt) (fin false 1 (pos 8)))
 asks hz r dt m e t s = rw (advance-is hz r dt m e) (advance-finite-clear hz r dt t s, s)
 
@@ -70,7 +70,7 @@ module _ (hz : ℕ) (dt f r : Float) (below : T (proper f)) (time : T (lt positi
       subst (λ (a : Stepped). T (proper (a .fraction))) (sym e)
       (sum-proper f (advance hz r dt) below (advance-finite-clear hz r dt time slows) slows)
 
--- the same of an advance
+-- the same for an advance
 module _ (f a : Float) (below : T (proper f)) (slow : Slow a) (s : Stepped) (e : s ≡ stepped (add binary64 f a)) where
   stepped-few : s .steps ≤ 257
   unfolding ofInt
@@ -109,7 +109,7 @@ same-list (x ∷ l) a h =
     first : (n : ℕ) → 0 < suc n
     first n = omega arith
 
--- one rate more
+-- one more rate
 pub same-more : (rates : List Float) (i : ℕ) (b s : Bool) → (s ≡ true → (j : ℕ) → j < i → getD rates j nan ≡ getD rates 0 nan) → (b ≡ true → getD rates i nan ≡ getD rates 0 nan)
     → b && s ≡ true → (j : ℕ) → j < i + 1 → getD rates j nan ≡ getD rates 0 nan
 same-more rates i b s h k e j l = go (ltb j i) refl
@@ -121,7 +121,7 @@ same-more rates i b s h k e j l = go (ltb j i) refl
     go true t = h (second-of b s e) j (ltb-true j i t)
     go false t = ap (λ (n : ℕ). getD rates n nan) (last j i (ltb-false j i t) l) ∙ k (first-of b s e)
 
--- ---- room on the track
+-- ---- space on the track
 
 room-far : (l b : Bool) (s e n q : ℕ) → (l ≡ false → 4 + n ≤ cond b (q - s) (e - 1 - q)) → T (l || cond b (leb (s + 4 + n) q) (ltb (q + 4 + n) e))
 room-far true b s e n q h = tt
@@ -138,7 +138,7 @@ roomy-of : (k : Track) (n q : ℕ) → Inside k n q → T (roomy k n q)
 roomy-of k n q i = room-far (k .looped) (k .backwards) (k .low) (k .high) n q (i .ends)
 
 module _ (k : Track) (q m n : ℕ) (o : On k q) where
-  -- room for m + n steps: for m, and then for n
+  -- space for m + n steps: for m, and then for n
   pub roomy-first : T (roomy k (m + n) q) → T (roomy k m q)
   roomy-first h = roomy-of k m q (inside-first m n k q (inside-of k (m + n) q o h))
 

@@ -1,4 +1,4 @@
--- A scan frame by frame: one scan and then another, one frame more, and where it begins. By induction on the rates. Assumes nothing.
+-- A scan frame by frame: one scan and then another, one more frame, and where it begins. By induction on the rates. Assumes nothing.
 use mathlib.Core.Path.{_≡_, refl, sym, ap, ap₂, _∙_, subst}
 use Prim.Native.Nat.{ℕ, zero, suc, _+_, _-_, _*_, _≤_, _<_}
 use native.Mathlib.Nat.{add-zero, zero-add, add-assoc, not-suc-le-zero, le-of-suc-le-suc}
@@ -44,11 +44,11 @@ all-at p [] i h k = absurd (not-suc-le-zero h)
 all-at p (x ∷ l) zero h k = and-l (p x) (all p l) k
 all-at p (x ∷ l) (suc i) h k = all-at p l i (le-of-suc-le-suc h) (and-r (p x) (all p l) k)
 
--- frame i begins at sample 2 * i, however code works that out
+-- frame i begins at sample 2 * i, however the code computes it
 pub stored-at : (o out : List Float) (k i : ℕ) (x : Frame) → k ≡ 2 * i → o ≡ set (set out k (x .left)) (k + 1) (x .right) → o ≡ set (set out (2 * i) (x .left)) (2 * i + 1) (x .right)
 stored-at o out k i x e h = h ∙ ap (λ (k : ℕ). set (set out k (x .left)) (k + 1) (x .right)) e
 
--- an output stays as long when a frame is written
+-- writing a frame does not change the length of an output
 pub stored-length : (o out : List Float) (i : ℕ) (x : Frame) → o ≡ set (set out (2 * i) (x .left)) (2 * i + 1) (x .right) → length o ≡ length out
 stored-length o out i x e = ap length e ∙ length-set (set out (2 * i) (x .left)) (2 * i + 1) (x .right) ∙ length-set out (2 * i) (x .left)
 
@@ -67,7 +67,7 @@ module _ (snd : List Float) (k : Track) (hz : ℕ) (dt : Float) where
       ap (thenScan (readOn snd k q f) (whole x)) (scans-append xs ys (nexts (whole x) k q) (part x))
       ∙ ap (λ (n : ℕ). record { at = b .at; «fractional_position» = b .«fractional_position»; steps = n; samples = (readOn snd k q f) .left ∷ (readOn snd k q f) .right ∷ (a .samples ++ b .samples) }) (sym (add-assoc (whole x) (a .steps) (b .steps)))
 
-  -- a scan ends as many places on as it has steps
+  -- a scan ends as many positions further as it has steps
   pub scans-at : (rs : List Float) (q : ℕ) (f : Float) → let a = scans snd k hz dt rs q f in a .at ≡ nexts (a .steps) k q
   unfolding scans nexts
   scans-at [] q f = refl
@@ -86,7 +86,7 @@ module _ (snd : List Float) (k : Track) (hz : ℕ) (dt : Float) where
       ap (λ (n : ℕ). record { at = nexts (whole x) k q; «fractional_position» = part x; steps = n; samples = (readOn snd k q f) .left ∷ (readOn snd k q f) .right ∷ [] }) (add-zero (whole x))
 
 module _ (snd : List Float) (w : Way) (rates : List Float) where
-  -- the scan made so far, as code has it
+  -- the scan made so far, as the code has it
   abbrev made : ℕ → Float → ℕ → List Float → Scan
   made q f steps samples = record { at = q; «fractional_position» = f; steps = steps; samples = samples }
 
@@ -121,7 +121,7 @@ module _ (snd : List Float) (w : Way) (rates : List Float) where
   unfolding scans
   scanned-none out len o p r = record { within = omega arith; few = omega arith; asLong = len; begins = o; on = o; below = p; room = r; soFar = refl }
 
-  -- one frame more, however code names the place, the steps, the frame and the output after it
+  -- one more frame, however the code names the position, the steps, the frame and the output after it
   pub scanned-more : (i steps q : ℕ) (f : Float) (out : List Float) (x : Frame) (a : Stepped) (z s n : ℕ) (o : List Float) → Scannable snd w rates → Scanned snd w rates (place q f steps i) out
       → i < length rates → x ≡ readOn snd tr q f → a ≡ stepped (add binary64 f (advance hz (getD rates i nan) (w .dt))) → z ≡ nexts (a .steps) tr q → T (roomy tr (a .steps) q)
       → s ≡ steps + a .steps → n ≡ i + 1 → o ≡ set (set out (2 * i) (x .left)) (2 * i + 1) (x .right)

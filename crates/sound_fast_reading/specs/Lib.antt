@@ -1,3 +1,3 @@
--- One frame's steps, and a run along a track (a scan).
+-- The steps of one frame, and a scan along a track.
 pub mod Moves
 pub mod Scans

@@ -15,7 +15,7 @@ pub record Slow (a : Float) : Type 0 where
   pub finiteClear : T (finiteClear a)
   pub most : T (le a (fin false 1 (pos 8)))
 
--- s is the steps that the advance a makes from the fraction f, and the new fraction
+-- s has the steps that the advance a makes from the fraction f, and the new fraction
 pub record Move (f a : Float) (s : Stepped) : Type 0 where
   pub is : s ≡ stepped (add binary64 f a)
   pub few : s .steps < 258

@@ -1,4 +1,4 @@
--- A scan: a run along a track, with the frames it reads, its steps, and its end.
+-- A scan along a track: its readings, its steps, and its end.
 use Prim.Native.Nat.{ℕ, _+_, _*_, _≤_}
 use mathlib.Core.Path.{_≡_}
 use mathlib.Core.List.{List, [], _∷_}
@@ -48,11 +48,11 @@ scans snd k hz dt (r ∷ rs) q f =
     let x = add binary64 f (advance hz r dt) in
     thenScan (readOn snd k q f) (whole x) (scans snd k hz dt rs (nexts (whole x) k q) (part x))
 
--- the scan that begins with w
+-- the scan that starts at w
 abbrev pub scanFrom : List Float → Way → List Float → Scan
 scanFrom snd w rates = scans snd (w .track) (w .«sample_rate») (w .dt) rates (w .at) (w .«fractional_position»)
 
--- the beginning of a scan
+-- the start of a scan
 abbrev pub begun : Way → Reached
 begun w = record { at = w .at; «fractional_position» = w .«fractional_position»; steps = 0; next = 0 }
 
@@ -63,7 +63,7 @@ pub record Scannable (snd : List Float) (w : Way) (rates : List Float) : Type 0 
   pub slow : T (all (slow (w .«sample_rate») (w .dt)) rates)
   pub most : length rates ≤ 4096
 
--- the readings so far are those of the definition, and the steps made stay on the track
+-- the readings so far are those of the definition, and the steps stay on the track
 pub record Scanned (snd : List Float) (w : Way) (rates : List Float) (r : Reached) (out : List Float) : Type 0 where
   pub within : r .next ≤ length rates
   pub few : r .steps ≤ 257 * r .next

@@ -1,4 +1,4 @@
--- Gains frame by frame: one more, four more, and what they leave as it is. By induction on the frames. Assumes nothing.
+-- Gains frame by frame: one more, four more, and what they do not change. By induction on the frames. Assumes nothing.
 use mathlib.Core.Path.{_≡_, refl, sym, ap, ap₂, _∙_, subst}
 use Prim.Native.Nat.{ℕ, zero, suc, _+_, _*_, _≤_, _<_}
 use native.Mathlib.Nat.{not-suc-le-zero, le-of-suc-le-suc}
@@ -22,7 +22,7 @@ gained-length fs vs ls rs (suc n) [] = refl
 gained-length fs vs ls rs (suc n) (x ∷ []) = refl
 gained-length fs vs ls rs (suc n) (x ∷ y ∷ out) = ap (λ (n : ℕ). suc (suc n)) (gained-length (drop 1 fs) (drop 1 vs) (drop 1 ls) (drop 1 rs) n out)
 
--- what follows the first i frames is as it was
+-- what follows the first i frames is unchanged
 keeps : (fs vs ls rs : List Float) (i : ℕ) (out : List Float) (m : ℕ) → 2 * i ≤ m → getD (gained fs vs ls rs i out) m nan ≡ getD out m nan
 unfolding gained
 keeps fs vs ls rs zero out m h = refl
@@ -77,7 +77,7 @@ more fs vs ls rs (suc i) (suc (suc m)) (x ∷ y ∷ out) e h =
     half i m e = omega arith
 
 module _ (fs vs ls rs : List Float) (out : List Float) where
-  -- one frame more: its readings are those of an output g that has them as they were
+  -- one more frame: its readings are those of an output g that has them unchanged
   pub gained-one : (i n : ℕ) (g o : List Float) → g ≡ gained fs vs ls rs i out → getD o (2 * i) nan ≡ getD out (2 * i) nan → getD o (2 * i + 1) nan ≡ getD out (2 * i + 1) nan
       → 2 * i + 1 < length out → n ≡ i + 1 → gainedAt fs vs ls rs i o g ≡ gained fs vs ls rs n out
   gained-one i n g o e l r h en =
@@ -87,7 +87,7 @@ module _ (fs vs ls rs : List Float) (out : List Float) where
       ∙ more fs vs ls rs i (2 * i) out refl (subst (λ (m : ℕ). m < length out) (add-one (2 * i)) h)
       ∙ ap (λ (n : ℕ). gained fs vs ls rs n out) (sym (en ∙ add-one i))
 
-  -- the readings of a frame that is not yet gained
+  -- the readings of a frame that is not yet multiplied
   pub unread : (i m : ℕ) (g : List Float) → g ≡ gained fs vs ls rs i out → 2 * i ≤ m → getD g m nan ≡ getD out m nan
   unread i m g e h = ap (λ (l : List Float). getD l m nan) e ∙ keeps fs vs ls rs i out m h
 
@@ -115,7 +115,7 @@ first fs vs ls rs (suc n) (suc (suc m)) (x ∷ y ∷ out) e =
 pub gained-take : (fs vs ls rs : List Float) (n : ℕ) (out : List Float) → take (2 * n) (gained fs vs ls rs n out) ≡ gained fs vs ls rs n (take (2 * n) out)
 gained-take fs vs ls rs n out = first fs vs ls rs n (2 * n) out refl
 
--- ---- gains given once
+-- ---- held gains
 
 -- every frame has them
 pub gains-once : (g : Gains) (n i : ℕ) → i < n → gainsAt (replicate n (g .fade)) (replicate n (g .volume)) (replicate n (g .left)) (replicate n (g .right)) i ≡ g

@@ -20,7 +20,7 @@ scaled x y g =
       right = mul binary32 (mul binary32 (mul binary32 y (g .fade)) (g .volume)) (g .right);
     }
 
--- the first n frames of an output times their gains, and the rest of it as it is
+-- the first n frames of an output times their gains, with the rest of it unchanged
 unfoldable pub gained : List Float → List Float → List Float → List Float → ℕ → List Float → List Float
 gained fs vs ls rs zero out = out
 gained fs vs ls rs (suc n) [] = []
@@ -35,6 +35,6 @@ scaledAt g i o out =
     let x = scaled (getD o (2 * i) nan) (getD o (2 * i + 1) nan) g in
     set (set out (2 * i) (x .left)) (2 * i + 1) (x .right)
 
--- the same by its gains in the lanes
+-- the same with its gains in the lanes
 abbrev pub gainedAt : List Float → List Float → List Float → List Float → ℕ → List Float → List Float → List Float
 gainedAt fs vs ls rs i o out = scaledAt (gainsAt fs vs ls rs i) i o out

@@ -50,7 +50,7 @@ endless nan = true
 endless (inf s) = not s
 endless (fin s m e) = false
 
--- what is endless stays so in a product with what has its sign clear
+-- a NaN or infinity stays one in a product with a number whose sign bit is clear
 mul-endless : (f : Format) (x y : Float) → T (endless x) → T (clear y) → T (endless (mul f x y))
 unfolding mul
 mul-endless f nan y h k = tt

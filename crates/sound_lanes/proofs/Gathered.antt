@@ -1,5 +1,5 @@
--- Tests gathered over lists, a turn at a time: words by their top bit, which `or` keeps, and answers by `and`.
--- What is gathered of the first i entries is the test over them, so at the end it is the test over all. Assumes nothing.
+-- Tests combined over lists, one iteration at a time: words by their top bit, which `or` keeps, and results by `and`.
+-- What is combined over the first i entries is the test over them, so at the end it is the test over all. Assumes nothing.
 use mathlib.Core.Path.{_≡_, refl, sym, ap, ap₂, _∙_, subst}
 use Prim.Native.Nat.{ℕ, zero, suc, _+_, _≤_, _<_}
 use native.Mathlib.Nat.{not-suc-le-zero, le-of-suc-le-suc}
@@ -35,7 +35,7 @@ both-swap true true c d = refl
 both-swap true false true d = refl
 both-swap true false false d = refl
 
--- four answers more, each beside what was gathered of its own lane
+-- four more answers, each beside the combined result of its own lane
 pub four-more : (A B C D a b c d : Bool) → ((A && B && C && D) && a && b && c && d) ≡ ((A && a) && (B && b) && (C && c) && (D && d))
 four-more A B C D a b c d =
     ap (λ (x : Bool). x && c && d) (both-assoc (A && B && C && D) a b)
@@ -62,7 +62,7 @@ or-low a b = go (ltb a 2147483648) (ltb b 2147483648) refl refl
     go true false e f = le-ltb _ _ (more a b (bitOr a b) (bitAnd a b) (or-add-and a b) (and-le-l a b) (ltb-false b 2147483648 f))
     go false q e f = le-ltb _ _ (other a b (bitOr a b) (bitAnd a b) (or-add-and a b) (and-le-r a b) (ltb-false a 2147483648 e))
 
--- ---- one entry more, and the end
+-- ---- one more entry, and the end
 module _ {A : Type 0} (p : A → Bool) where
   pub all-more : (ls : List A) (i : ℕ) (z : A) → i < length ls → all p (take (suc i) ls) ≡ (all p (take i ls) && p (getD ls i z))
   all-more [] i z h = absurd (not-suc-le-zero h)
@@ -76,7 +76,7 @@ module _ {A : Type 0} (p : A → Bool) where
   pub all-end : (ls : List A) (i : ℕ) (ok : Bool) → length ls ≤ i → ok ≡ all p (take i ls) → ok ≡ all p ls
   all-end ls i ok h e = e ∙ ap (all p) (take-all i ls h)
 
--- one turn over four lanes
+-- one iteration over four lanes
 pub four-turn : (a b c d : List Float) (i tops ta tb tc td : ℕ) → i < length a → i < length b → i < length c → i < length d
     → low tops ≡ fourFiniteClear (take i a) (take i b) (take i c) (take i d)
     → low ta ≡ finiteClear (getD a i nan) → low tb ≡ finiteClear (getD b i nan) → low tc ≡ finiteClear (getD c i nan) → low td ≡ finiteClear (getD d i nan)

@@ -1,4 +1,4 @@
--- The largest number of 32 bits: no finite one is above it, so what is not at most that is refused. Assumes nothing.
+-- The largest number of 32 bits: no finite one is above it, so anything that is not at most that is refused. Assumes nothing.
 use mathlib.Core.Path.{_≡_, refl, sym, ap, _∙_, subst}
 use Prim.Native.Nat.{ℕ, zero, suc, _+_, _-_, _*_, _%_, _^_, _≤_, _<_, zero-le}
 use native.Mathlib.Nat.{le-trans, le-of-eq, le-of-lt, mul-le-mul, mul-le-mul-left, mul-le-mul-right, mul-assoc, mul-comm, mul-pos, lt-of-mul-lt-mul-right, add-sub-of-le}
@@ -46,7 +46,7 @@ whole m k few h = go (ltb k 104) refl
         ap (λ (n : ℕ). m * 2 ^ n) (sym (add-sub-of-le (ltb-false k 104 e))) ∙ ap (λ (n : ℕ). m * n) (pow-add 2 104 j ∙ mul-comm (2 ^ 104) (2 ^ j)) ∙ sym (mul-assoc m (2 ^ j) (2 ^ 104)) in
         le-trans (le-of-eq cut) (mul-le-mul-right (2 ^ 104) (digits (m * 2 ^ j) (lt-of-mul-lt-mul-right (2 ^ 104) (subst (λ (n : ℕ). n < 16777216 * 2 ^ 104) cut h))))
 
--- what it takes to fit: 24 digits, and below 2^128
+-- what it means to fit: 24 bits, and below 2^128
 fitted : (n u d : ℕ) → T (eqb (n % 2) 1 && ltb n 16777216 && leb d (2 ^ 149) && ltb (n * u) (2 ^ 128 * d)) → (n < 16777216) × (n * u < 2 ^ 128 * d)
 fitted n u d t =
     let a = eqb (n % 2) 1 in

@@ -1,5 +1,5 @@
--- The lanes side by side: what is asked of them frame by frame is what is asked of each lane.
--- Each law goes by the rate lane, one frame of every lane at a time. Assumes nothing.
+-- The lanes side by side: a test of all frames is a test of each lane.
+-- Each law is by induction on the rate lane, one frame of every lane at a time. Assumes nothing.
 use mathlib.Core.Path.{_≡_, refl, sym, ap, ap₂, _∙_, subst}
 use Prim.Native.Nat.{ℕ, zero, suc, _-_, _≤_, _<_}
 use native.Mathlib.Nat.{le-trans, not-suc-le-zero, le-of-suc-le-suc}
@@ -184,7 +184,7 @@ rest-sized k b s =
     less : (n k : ℕ) → n ≤ 4096 → n - k ≤ 4096
     less n k h = omega arith
 
--- ---- judged
+-- ---- the check
 chosen : (a s f : Bool) → (T s → T f) → _≡_ {A = ℕ} (cond (a && f) (cond s 0 12) 11) (cond a (cond s 0 (cond f 12 11)) 11)
 chosen false s f h = refl
 chosen true true true h = refl
@@ -192,7 +192,7 @@ chosen true true false h = absurd (h tt)
 chosen true false true h = refl
 chosen true false false h = refl
 
--- lane by lane, and 11 told from 12 only where a rate is too fast
+-- lane by lane, and 11 is distinguished from 12 only if a rate is too fast
 pub judged-lanes : (hz : ℕ) (dt : Float) (b : Lanes) → T (timeStep dt) → T (sized b)
     → judged hz dt b ≡ cond (fourFiniteClear (b .fade) (b .volume) (b .left) (b .right)) (cond (all (slow hz dt) (b .rate)) 0 (cond (all finite (b .rate)) 12 11)) 11
 judged-lanes hz dt b t s =

@@ -1,4 +1,4 @@
--- Tests in a row: from no number to what each has passed, and back; as code makes them; and the outcome that a number picks.
+-- Tests one after the other: from refusal 0 to the tests that have passed, and back; as the code makes them; and the outcome that a refusal selects.
 -- By cases of the tests. Assumes nothing.
 use mathlib.Core.Path.{_≡_, refl, sym, ap, _∙_}
 use Prim.Native.Nat.{ℕ, suc}
@@ -8,7 +8,7 @@ use lib.Dec.{T, eqb}
 use borrow.Author.Tests.{eqb-true, not-true, not-false}
 use Rattle.sound_state.specs.Refusals.{unless}
 
--- a test that gives its number where it fails
+-- a test that returns its number if it fails
 not-0 : (n : ℕ) → suc n ≡ 0 → ⊥
 not-0 n h = omega arith
 
@@ -20,7 +20,7 @@ pub passing : (ok : Bool) (n rest : ℕ) → T ok → rest ≡ 0 → unless ok n
 passing true n rest h e = e
 passing false n rest h e = absurd h
 
--- ---- as code makes them
+-- ---- as the code makes them
 
 fails : (ok : Bool) (n rest : ℕ) → ok ≡ false → n ≡ unless ok n rest
 fails ok n rest e = rw e
@@ -28,7 +28,7 @@ fails ok n rest e = rw e
 passes : (ok : Bool) (n rest k : ℕ) → ok ≡ true → k ≡ rest → k ≡ unless ok n rest
 passes ok n rest k e h = rw e h
 
--- with the answer r to the test, and how the code went on
+-- with the result r of the test, and how the code continued
 pub refused-here : (r ok : Bool) (n rest : ℕ) → r ≡ ok → not r ≡ true → n ≡ unless ok n rest
 refused-here r ok n rest e t = fails ok n rest (sym e ∙ not-true r t)
 

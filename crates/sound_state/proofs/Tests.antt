@@ -1,4 +1,4 @@
--- The tests of a voice as the code makes them, against the words: the window's entry by entry, the voice's once its setup is tested.
+-- The tests of a voice as the code makes them, compared with the definitions: the window entry by entry, the voice after its setup.
 use mathlib.Core.Path.{_≡_, refl, sym, ap, _∙_}
 use Prim.Native.Nat.{ℕ, zero, suc, _*_, _≤_, _<_}
 use native.Mathlib.Omega.{arith}

@@ -1,5 +1,5 @@
--- A well formed voice as a test and as named facts: each gives the other, by taking the test's parts.
--- With them N and its bounds, and that an update may be asked for.
+-- A well formed voice as a test and as named facts: each implies the other, part by part.
+-- With them N and its bounds, and that an update may be made.
 use mathlib.Core.Path.{_≡_, sym, subst}
 use Prim.Native.Nat.{ℕ, _+_, _-_, _*_, _≤_, _<_}
 use native.Mathlib.Nat.{le-trans}
@@ -108,7 +108,7 @@ well-formed-of v h =
     (and-i (a && b && c) d (and-i (a && b) c (and-i a b (h .setup) (h .rate)) (well-formed-transport-of (sliceLength (v .setup)) (v .moving .transport) (h .transportWellFormed))) (h .fraction))
     (windowed-of (v .moving .resampler) (h .window))
 
--- the same with the lent sound's length
+-- the same with the sound's length
 pub well-formed-for-parts : (len : ℕ) (v : StaticSound) → T (wellFormedFor len v) → WellFormed v × (len ≡ 2 * v .setup .«num_frames»)
 unfolding wellFormedFor
 well-formed-for-parts len v h =
@@ -129,12 +129,12 @@ updatable-of snd v h e =
       inside = subst (λ (n : ℕ). 2 * (sliceStart (v .setup) + sliceLength (v .setup)) ≤ n) (sym e) (span-inside (v .setup) (h .setup));
     }
 
--- ---- what moves
+-- ---- the moving part
 
--- a well formed voice's moving parts
+-- a well formed voice's moving part
 pub kept-of : (v : StaticSound) → WellFormed v → Kept (sliceLength (v .setup)) (v .moving)
 kept-of v h = record { transportWellFormed = h .transportWellFormed; window = h .window }
 
--- with another proper fraction and other well formed moving parts it stays well formed
+-- with another proper fraction and another well formed moving part it stays well formed
 pub moved-well-formed : (v : StaticSound) (f : Float) (m : Moving) → WellFormed v → T (proper f) → Kept (sliceLength (v .setup)) m → WellFormed (moved v f m)
 moved-well-formed v f m h p k = record { setup = h .setup; rate = h .rate; transportWellFormed = k .transportWellFormed; fraction = p; window = k .window }

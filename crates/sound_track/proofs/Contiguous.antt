@@ -1,4 +1,4 @@
--- Moving parts whose window is the transport's contiguous window stay so: an update moves the contiguous window one place on, and counts as the track does.
+-- Moving parts whose window is the transport's contiguous window stay so: an update moves the contiguous window by one position, and counts as the track does.
 -- By the direction and the loop, case by case, then by induction on the updates. Assumes nothing.
 use mathlib.Core.Path.{_≡_, refl, sym, ap, ap₂, _∙_, subst}
 use Prim.Native.Nat.{ℕ, zero, suc, _+_, _-_, _*_, _≤_, _<_}
@@ -36,7 +36,7 @@ on loop p = record { position = p; «loop_region» = loop; playing = true }
 abbrev way : FrameRange → ℕ → ℕ → Bool → Track
 way loop o n b = trackOf loop (record { start = o; «num_frames» = n; backwards = b })
 
--- where the track does not loop, the step does not go round
+-- if the track has no loop, the step does not wrap
 abbrev Going : Track → ℕ → Type 0
 Going k p = k .looped ≡ false → wrapsAt k p ≡ false
 
@@ -102,7 +102,7 @@ wraps-by false (Frames s e) o n p h r = go (eqb (p + 1) e) refl
     go true t = le-leb e (p + 1) (at p e (eqb-true (p + 1) e t))
     go false t = lt-leb e (p + 1) (below p e (h .below refl) (eqb-false (p + 1) e t))
 
--- what of a track is the course's and the loop's
+-- which parts of a track come from the slice and which from the loop
 pub record Fits (k : Track) (loop : FrameRange) (c : Slice) : Type 0 where
   pub is : k ≡ trackOf loop c
   pub held : T (within (c .«num_frames») loop)
@@ -133,7 +133,7 @@ module _ (k : Track) (loop : FrameRange) (c : Slice) (f : Fits k loop c) (p : �
 
 -- ---- one update
 
--- one update moves the contiguous window one place on
+-- one update moves the contiguous window by one position
 updated-contiguous : (snd : List Float) (k : Track) (m : Moving) (c : Slice) (w : Wraps) (q : ℕ) → Fits k (m .transport .«loop_region») c → On k q → Going k (ahead k q)
     → updated snd c (contiguousOf snd k m w q) ≡ contiguousOf snd k m (countedAt k (ahead k q) w) (next k q)
 unfolding updated pushed push
@@ -171,14 +171,14 @@ roomy-far false false s e n q h z = go (ltb (q + 4 + n) e) refl h
 pub inside-of : (k : Track) (n q : ℕ) → On k q → T (roomy k n q) → Inside k n q
 inside-of k n q o h = record { on = o; ends = roomy-far (k .looped) (k .backwards) (k .low) (k .high) n q h }
 
--- after m of m + n steps there is room for n
+-- after m of m + n steps there is space for n
 pub inside-rest : (m n : ℕ) (k : Track) (q : ℕ) → Inside k (m + n) q → Inside k n (nexts m k q)
 inside-rest m n k q i = record { on = on-nexts m k q (i .on); ends = λ e. (let h = i .ends e in let w = nexts-within m k q (i .on) (omega arith) .left in omega arith) }
 
 pub inside-first : (m n : ℕ) (k : Track) (q : ℕ) → Inside k (m + n) q → Inside k m q
 inside-first m n k q i = record { on = i .on; ends = λ e. (let h = i .ends e in omega arith) }
 
--- n updates move it n places on
+-- n updates move it by n positions
 pub updates-contiguous : (n : ℕ) (snd : List Float) (k : Track) (m : Moving) (c : Slice) (w : Wraps) (q : ℕ) → Fits k (m .transport .«loop_region») c → Inside k n q
     → updates n snd c (contiguousOf snd k m w q) ≡ contiguousOf snd k m (counts n k (ahead k q) w) (nexts n k q)
 unfolding updates nexts counts
@@ -199,7 +199,7 @@ updates-contiguous (suc n) snd k m c w q f i =
         let l = next-far k q (i .on) (omega arith) in
         omega arith
 
--- ---- as code puts it together
+-- ---- as the code assembles it
 
 pub contiguous-made : (snd : List Float) (k : Track) (m : Moving) (w : Wraps) (q b c d p : ℕ) (ea eb ec ed : RecentFrame)
     → b ≡ next k q → c ≡ next k b → d ≡ next k c → p ≡ next k d

@@ -1,4 +1,4 @@
--- Wraps along a track: of one direction only, as many as the steps go round, and raised at once. By induction on the steps. Assumes nothing.
+-- Wraps along a track: of one direction only, as many as the steps wrap, and raised at once. By induction on the steps. Assumes nothing.
 use mathlib.Core.Path.{_≡_, refl, sym, ap, ap₂, _∙_}
 use Prim.Native.Nat.{ℕ, zero, suc, _+_, _≤_, _<_}
 use native.Mathlib.Omega.{arith}
@@ -32,7 +32,7 @@ unfolding raisedBy
 once true r c = refl
 once false r c = refl
 
--- what is asked and not is not
+-- a flag and its negation are not both set
 only : (t b : Bool) → b ≡ false → (t && not b ≡ t) × (t && b ≡ false)
 only true false e = (refl, refl)
 only false false e = (refl, refl)

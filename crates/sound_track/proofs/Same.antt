@@ -1,4 +1,4 @@
--- The test for a contiguous window: what it is case by case, and that it tells one. Assumes nothing.
+-- The test for a contiguous window: its cases, and that it implies one. Assumes nothing.
 use mathlib.Core.Path.{_≡_, refl, sym, ap, ap₂, _∙_, subst}
 use Prim.Native.Nat.{ℕ, zero, suc, _≤_, _<_}
 use native.Mathlib.Omega.{arith}
@@ -36,7 +36,7 @@ pub not-false : (b : Bool) → not b ≡ false → b ≡ true
 not-false true h = refl
 not-false false h = absurd (true≢false h)
 
--- ---- two answers at once
+-- ---- two results at once
 
 pub first-of : (a b : Bool) → a && b ≡ true → a ≡ true
 first-of true b h = refl
@@ -84,7 +84,7 @@ same-window a b m n t e0 e1 e2 e3 =
     ∙ ap₂ (λ (x y : RecentFrame). getD (b .frames) 0 blank ∷ getD (b .frames) 1 blank ∷ x ∷ y ∷ []) e2 e3
     ∙ frames-are (b .frames) n) t
 
--- the window's test, answer by answer
+-- the window's test, result by result
 pub window-as : (a b : Resampler) (x y z w : Bool)
     → x ≡ sameEntry (getD (a .frames) 0 blank) (getD (b .frames) 0 blank) → y ≡ sameEntry (getD (a .frames) 1 blank) (getD (b .frames) 1 blank)
     → z ≡ sameEntry (getD (a .frames) 2 blank) (getD (b .frames) 2 blank) → w ≡ sameEntry (getD (a .frames) 3 blank) (getD (b .frames) 3 blank)
@@ -134,7 +134,7 @@ module _ (snd : List Float) (k : Track) (m : Moving) where
   unfolding isContiguous
   the-rest p o r = go-on _ _ _ _ _ p o r
 
-  -- what it tells
+  -- what it implies
   pub contiguous : m .transport .playing ≡ true → On k (firstIndex m) → roomy k 0 (firstIndex m) ≡ true → m .transport .position ≡ ahead k (firstIndex m)
       → m .resampler ≡ passed snd k (firstIndex m) → Contiguous snd k m
   contiguous p o r at win =
@@ -146,7 +146,7 @@ module _ (snd : List Float) (k : Track) (m : Moving) where
         room = holds (roomy k 0 (firstIndex m)) r;
       }
 
--- the test of a place, in a sound that the track lies in
+-- the test of a position, in a sound that contains the track
 below-of : (b : Bool) (l h n q : ℕ) → ltb q n && cond b (leb l q) (ltb q h) ≡ true → b ≡ false → q < h
 below-of true l h n q t e = absurd (true≢false e)
 below-of false l h n q t e = ltb-true q h (second-of (ltb q n) (ltb q h) t)

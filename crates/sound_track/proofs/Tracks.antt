@@ -1,5 +1,5 @@
--- Places of a track: one step, n steps at once, and that they stay on it. Both ways at once: what counts is how far it is to the
--- step that goes round. By induction on the steps. Assumes nothing.
+-- Positions of a track: one step, n steps at once, and that they stay on it. Both directions at once: what counts is the distance to the
+-- step that wraps. By induction on the steps. Assumes nothing.
 use mathlib.Core.Path.{_≡_, refl, sym, ap, ap₂, _∙_, subst}
 use Prim.Native.Nat.{ℕ, zero, suc, _+_, _-_, _%_, _/_, _≤_, _<_}
 use native.Mathlib.Nat.{mod-lt, mod-eq-of-lt, mod-eq-sub-mod, div-eq-of-lt, div-eq-sub-div}
@@ -11,7 +11,7 @@ use borrow.Author.Tests.{eq-eqb, ne-eqb, ltb-true, ltb-false}
 use Rattle.sound_track.specs.declared.Track.{Track}
 use Rattle.sound_track.specs.Tracks.{wrapsAt, next, nexts, wrapsOf, On}
 
--- how many steps come before the one that goes round
+-- how many steps come before the one that wraps
 abbrev pub far : Track → ℕ → ℕ
 far k q = cond (k .backwards) (q - k .low) (k .high - 1 - q)
 
@@ -19,7 +19,7 @@ far k q = cond (k .backwards) (q - k .low) (k .high - 1 - q)
 abbrev pub entry : Track → ℕ
 entry k = cond (k .backwards) (k .high - 1) (k .low)
 
--- n places on, with no edge between
+-- n positions further, with no edge between
 abbrev pub along : Track → ℕ → ℕ → ℕ
 along k q n = cond (k .backwards) (q - n) (q + n)
 
@@ -125,7 +125,7 @@ module _ (k : Track) (q : ℕ) (o : On k q) where
         few = o .few;
       }
 
-  -- by whether it goes round
+  -- by whether it wraps
   pub far-or-not : (P : Type 0) → (far k q ≡ 0 → P) → (0 < far k q → P) → P
   far-or-not P z s = go (ltb 0 (far k q)) refl
     where
@@ -136,12 +136,12 @@ module _ (k : Track) (q : ℕ) (o : On k q) where
       go true e = s (ltb-true 0 (far k q) e)
       go false e = z (none (far k q) (ltb-false 0 (far k q) e))
 
-  -- the place after one of the track is one of the track
+  -- the position after one on the track is on the track
   pub on-next : On k (next k q)
   on-next =
       far-or-not (On k (next k q)) (λ z. subst (On k) (sym (next-entry z)) on-entry) (λ s. subst (On k) (sym (next-along s)) (on-along s))
 
--- a round, from where the track is entered
+-- a loop length, from where the track is entered
 entry-far : (k : Track) → k .low < k .high → far k (entry k) + 1 ≡ k .high - k .low
 entry-far k s = far-in (k .backwards) (k .low) (k .high) s
 
@@ -163,7 +163,7 @@ nexts-add (suc m) n k q = ap (λ (m : ℕ). nexts m k q) (more m n) ∙ nexts-ad
     more : (m n : ℕ) → suc m + n ≡ suc (m + n)
     more m n = omega arith
 
--- n steps that do not go round
+-- n steps that do not wrap
 pub record Within (n : ℕ) (k : Track) (q : ℕ) : Type 0 where
   pub place : nexts n k q ≡ along k q n
   pub turns : wrapsOf n k q ≡ 0
@@ -267,7 +267,7 @@ nexts-beyond zero k q o h = absurd (bad (far k q) h)
     bad f h = omega arith
 nexts-beyond (suc n) k q o h = over-more n k q o h (nexts-beyond n k)
 
--- ---- as code works it out
+-- ---- as the code computes it
 
 -- forward
 module _ (n : ℕ) (k : Track) (q : ℕ) (o : On k q) (forth : k .backwards ≡ false) where
@@ -347,14 +347,14 @@ module _ (n : ℕ) (k : Track) (q : ℕ) (o : On k q) (back : k .backwards ≡ t
       (ap (λ (b : Bool). cond (cond b (eqb q (k .low)) (eqb (q + 1) (k .high))) (cond b (k .high - 1) (k .low)) (cond b (q - 1) (q + 1))) back
       ∙ ap (λ (t : Bool). cond t (k .high - 1) (q - 1)) (ne-eqb q (k .low) h))
 
--- a place worked out is the one meant, and of the track
+-- a computed position is the right one, and on the track
 pub next-ends : (k : Track) (q : ℕ) → On k q → (r : ℕ) → r ≡ next k q → (r ≡ next k q) × On k r
 next-ends k q o r e = (e, subst (On k) (sym e) (on-next k q o))
 
 pub nexts-ends : (n : ℕ) (k : Track) (q : ℕ) → On k q → (r : ℕ) → r ≡ nexts n k q → (r ≡ nexts n k q) × On k r
 nexts-ends n k q o r e = (e, subst (On k) (sym e) (on-nexts n k q o))
 
--- a remainder by a round is below it
+-- a remainder by the loop length is below it
 pub round-rest : (x : ℕ) (k : Track) → k .low < k .high → x % (k .high - k .low) < k .high - k .low
 round-rest x k s = mod-lt x (some (k .low) (k .high) s)
   where

@@ -1,3 +1,3 @@
--- The track, and windows that are four neighbouring frames of it (contiguous windows).
+-- The track, and contiguous windows: four neighbouring frames of the track.
 pub mod Tracks
 pub mod Contiguous

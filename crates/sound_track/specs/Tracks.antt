@@ -66,7 +66,7 @@ unfoldable pub raisedBy : ℕ → ℕ → ℕ
 raisedBy zero c = c
 raisedBy (suc n) c = raisedBy n (raised true c)
 
--- ---- places
+-- ---- positions
 
 -- q is on the track: forward below its end, backward not below its start
 pub record On (k : Track) (q : ℕ) : Type 0 where

@@ -1,6 +1,5 @@
-// The track. During uninterrupted playback the window equals four neighbouring frames of the track (it is contiguous),
-// so
-// the fast path reads them in the sound and keeps only the position of the first.
+// The track. During uninterrupted playback the window is contiguous: it equals four neighbouring frames of the track.
+// So the fast path reads them in the sound and keeps only the position of the first.
 ghost use mathlib.Core.Path.{_≡_};
 ghost use mathlib.Core.Bool.{true, false};
 ghost use Prim.Native.Nat.{_+_, _*_, _<_};
@@ -150,7 +149,7 @@ pub fn has_room_before(track: Track, at: usize, n: usize) -> bool
     track.looped | (track.low + 4 + n <= at)
 }
 
-// ---- either way
+// ---- both directions
 
 fn step(track: Track, at: usize) -> usize
     requires { ⌜ On track at ⌝ }

@@ -1,4 +1,4 @@
--- Updates keep what is well formed of the moving parts, and that an update may be asked for: the step keeps the transportFormed, the push the window.
+-- Updates keep the moving part well formed, so that another update may be made: the step keeps the transport, the push the window.
 use mathlib.Core.Path.{_≡_}
 use Prim.Native.Nat.{ℕ, zero, suc, _+_, _*_, _≤_, _<_}
 use native.Mathlib.Nat.{le-trans}
@@ -19,7 +19,7 @@ use Rattle.sound_update.specs.declared.Slice.{Slice}
 use Rattle.sound_update.specs.Updates.{sounding, pushed, stepped, updated, updates, Updatable}
 use Rattle.transport.proofs.WellFormed.{forward-well-formed-transport, backward-well-formed-transport}
 
--- the moving parts are well formed over n frames
+-- the moving part is well formed over n frames
 pub record Kept (n : ℕ) (m : Moving) : Type 0 where
   pub transportWellFormed : WellFormedTransport n (m .transport)
   pub window : Windowed (m .resampler)
@@ -32,7 +32,7 @@ stepped-well-formed-transport c t k h = go (c .backwards)
     go true = backward-well-formed-transport (c .«num_frames») t k h
     go false = forward-well-formed-transport (c .«num_frames») t k h
 
--- a push at a place in range keeps the window well formed
+-- a push at a position in range keeps the window well formed
 pub pushed-windowed : (snd : List Float) (c : Slice) (m : Moving) → m .transport .position ≤ most → Windowed (m .resampler) → Windowed (pushed snd c m)
 unfolding pushed
 pushed-windowed snd c m k h = push-parts (m .resampler) (sounding snd (m .transport .playing) (c .start + m .transport .position)) (m .transport .position) k h
@@ -50,14 +50,14 @@ unfolding updates
 updates-kept zero snd c m k h = h
 updates-kept (suc n) snd c m k h = updates-kept n snd c (updated snd c m) k (updated-kept snd c m k h)
 
--- what an update reads of the sound is there
+-- what an update reads is inside the sound
 pub updatable-reads : (snd : List Float) (c : Slice) (m : Moving) → Updatable snd c m → m .transport .playing ≡ true → 2 * (c .start + m .transport .position) + 1 < length snd
 updatable-reads snd c m h e =
     let here = h .transportWellFormed .here e in
     let inside = h .inside in
     omega arith
 
--- an update may be asked for again
+-- another update may be made
 pub updated-updatable : (snd : List Float) (c : Slice) (m : Moving) → Updatable snd c m → Updatable snd c (updated snd c m)
 unfolding updated
 updated-updatable snd c m h =

@@ -1,4 +1,4 @@
--- Updates in a row, one at a time; and what moves, taken apart and put together beside a loop that stays.
+-- Several updates, one at a time; and the moving part, split and assembled with the same loop.
 use mathlib.Core.Path.{_≡_, refl, sym, ap, ap₂, _∙_}
 use mathlib.Core.Bool.{Bool, true, false, not, cond}
 use mathlib.Core.List.{List, [], _∷_}
@@ -29,7 +29,7 @@ pub updates-none : (n : ℕ) (snd : List Float) (c : Slice) (m : Moving) → n �
 unfolding updates
 updates-none n snd c m e = ap (λ (k : ℕ). updates k snd c m) e
 
--- ---- what moves, in parts beside a loop that stays
+-- ---- the moving part in pieces, with the same loop
 
 -- a step keeps the loop
 stepped-loop : (c : Slice) (t : Transport) → (stepped c t) .«loop_region» ≡ t .«loop_region»
@@ -46,11 +46,11 @@ stepped-loop c t = go (c .backwards) (t .playing)
     go false true = refl
     go false false = refl
 
--- entry i of the window, as code reads it
+-- entry i of the window, as the code reads it
 abbrev getD-blank : List RecentFrame → ℕ → RecentFrame
 getD-blank l i = getD l i blank
 
--- what moves, taken apart and put together beside a loop
+-- the moving part, split and assembled with a loop
 abbrev pub apart : FrameRange → Moving → Moving
 apart loop m =
     let w = m .resampler in
@@ -79,7 +79,7 @@ four (a ∷ b ∷ c ∷ d ∷ x ∷ l) e = absurd (bad (length l) e)
     bad : (n : ℕ) → suc (suc (suc (suc (suc n)))) ≡ 4 → ⊥
     bad n e = omega arith
 
--- beside its own loop it is what it was
+-- with its own loop it is the same
 pub together : (loop : FrameRange) (m : Moving) → m .transport .«loop_region» ≡ loop → length (m .resampler .frames) ≡ 4 → apart loop m ≡ m
 together loop m e f =
     ap₂ (λ (r : FrameRange) (l : List RecentFrame). record {
@@ -89,7 +89,7 @@ together loop m e f =
       wraps = m .wraps;
     }) (sym e) (four (m .resampler .frames) f)
 
--- the same, from the parts that the code has
+-- the same, from the pieces that the code has
 pub together-as : (loop : FrameRange) (m x : Moving) (f : Frames) (n : Numbers) → x ≡ m → m .transport .«loop_region» ≡ loop → length (m .resampler .frames) ≡ 4
     → f ≡ framesOf (x .resampler) → n ≡ numbersOf (x .resampler)
     → movingOf loop (x .state) (x .transport .position) (x .transport .playing) (x .wraps) (windowOf f n) ≡ m

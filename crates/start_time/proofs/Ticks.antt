@@ -1,4 +1,4 @@
--- Now minus due, wrapped: it is the one number below a turn that due added to wraps to now. So the code's difference is it, and moving both ticks changes nothing.
+-- Now minus due, wrapped: it is the only number in the range such that due plus it wraps to now. So it is the code's difference, and moving both ticks changes nothing.
 -- Assumes nothing.
 use mathlib.Core.Path.{_≡_, sym, ap, _∙_}
 use Prim.Native.Nat.{ℕ, _+_, _-_, _%_, _<_, _≤_}
@@ -12,7 +12,7 @@ use Rattle.start_time.specs.declared.StartSignal.the-variants as start
 use Rattle.start_time.specs.Ticks.{tickRange, half, since, reached, answering}
 
 module _ (m : ℕ) where
-  -- what is added and wrapped is undone by the rest of a turn
+  -- adding the rest of the range undoes an addition with wrapping
   undone : (x b : ℕ) → x < m → b ≤ m → ((x + b) % m + (m - b)) % m ≡ x
   undone x b h k =
       mod-add-mod (x + b) m (m - b) ∙ ap (λ (n : ℕ). n % m) (add-assoc x b (m - b) ∙ ap (λ (n : ℕ). x + n) (add-sub-of-le k))
@@ -26,7 +26,7 @@ module _ (m : ℕ) where
       back : (x d n : ℕ) → d < n → x + (n - d) + d ≡ x + n
       back x d n l = omega arith
 
-  -- and is the only number below a turn that does
+  -- and is the only number in the range that does
   only : (r due now : ℕ) → r < m → due < m → (r + due) % m ≡ now → r ≡ (now + (m - due)) % m
   only r due now h k e = sym (undone r due h (le-of-lt k)) ∙ ap (λ (n : ℕ). (n + (m - due)) % m) e
 

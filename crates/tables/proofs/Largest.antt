@@ -1,4 +1,4 @@
--- Where every number below one that passes passes too, a number that passes while the next does not is the largest; so an entry that is right is the
+-- If every number below one that passes also passes, a number that passes while the next does not is the largest; so an entry that is right is the
 -- largest number that fits. Assumes nothing.
 use mathlib.Core.Path.{_≡_, refl, sym, subst}
 use mathlib.Core.Bool.{Bool, true, false, not, _&&_, cond}
@@ -13,7 +13,7 @@ use lib.Ieee.Fits.{and-l, and-r}
 use Rattle.tables.specs.Largest.{largest}
 use Rattle.tables.proofs.Every.{every, at}
 
--- what passes, passes below
+-- what passes also passes below
 abbrev pub Down : (ℕ → Bool) → Type 0
 Down p = (a b : ℕ) → a ≤ b → T (p b) → T (p a)
 

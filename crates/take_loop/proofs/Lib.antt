@@ -1,1 +1,1 @@
--- No laws of its own.
+-- This crate has no laws.

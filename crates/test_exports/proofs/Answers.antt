@@ -9,7 +9,7 @@ use Rattle.numbers.specs.declared.Stepped.{Stepped}
 use Rattle.test_exports.specs.declared.Moved.{Moved}
 use Rattle.test_exports.specs.Answers.{walked, moved}
 
--- a leaf's answer under the export's type
+-- a leaf's result under the export's type
 abbrev pub copied : Stepped → Moved
 copied s = record { steps = s .steps; rest = s .fraction }
 

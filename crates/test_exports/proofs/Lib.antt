@@ -1,3 +1,3 @@
--- Laws of the exports' answers.
+-- Laws of the exports' results.
 pub mod Answers
 pub mod Tested

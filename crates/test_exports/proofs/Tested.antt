@@ -1,4 +1,4 @@
--- A move that is made where a test passes, by the test's answer. Assumes nothing.
+-- A move that is made if a test passes, by the test's result. Assumes nothing.
 use mathlib.Core.Path.{_≡_}
 use mathlib.Core.Bool.{Bool, true, false, cond}
 use Rattle.transport.specs.declared.Transport.{Transport}

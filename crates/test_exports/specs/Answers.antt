@@ -1,4 +1,4 @@
--- The answers of the exports, as numbers.
+-- The results of the exports, as numbers.
 use Prim.Native.Nat.{ℕ}
 use mathlib.Core.Bool.{Bool, false, _&&_, cond}
 use lib.Dec.{ltb}
@@ -15,12 +15,11 @@ bit b = cond b 1 0
 abbrev pub yes : ℕ → Bool
 yes n = ltb 0 n
 
--- the steps and the rest of a sum
+-- the steps of a sum, and the remaining fraction
 abbrev pub walked : Float → Moved
 walked x = record { steps = whole x; rest = part x }
 
--- a fraction moved on by an advance: no steps and positive zero where the fraction is not proper, or the advance is
--- above 256
+-- a fraction plus an advance: no steps and positive zero if the fraction is not proper or the advance is above 256
 unfoldable pub moved : Float → Float → Moved
 moved f a = cond (proper f && le a (fin false 1 (pos 8))) (walked (add binary64 f a))
     (record { steps = 0; rest = positiveZero })

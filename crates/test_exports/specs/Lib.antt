@@ -1,4 +1,4 @@
--- What the contracts of the exports cite.
+-- The definitions that contracts of the exports cite.
 pub mod Answers
 pub mod Places
 pub mod Moves

@@ -18,6 +18,6 @@ plainTransport t = record {
   playing = bit (t .playing);
 }
 
--- all zeros: the answer where a move asks for more than it is given
+-- all zeros: the result if a move's requirement is not met
 abbrev pub nowhere : PlainTransport
 nowhere = record { position = 0; «loop_region» = record { given = 0; start = 0; end = 0 }; playing = 0 }

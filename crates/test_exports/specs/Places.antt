@@ -1,4 +1,4 @@
--- Places, regions and ranges from plain numbers, and a range as plain numbers.
+-- Positions, regions and ranges from plain numbers, and a range as plain numbers.
 use Prim.Native.Nat.{ℕ}
 use mathlib.Core.Bool.{cond}
 use lib.Dec.{eqb}
@@ -13,18 +13,18 @@ use Rattle.test_exports.specs.declared.places.PlainPosition.{PlainPositi
 use Rattle.test_exports.specs.declared.places.PlainRegion.{PlainRegion}
 use Rattle.test_exports.specs.declared.places.PlainRange.{PlainRange}
 
--- in seconds, or in samples where `in_seconds` is 0
+-- in seconds, or in samples if `in_seconds` is 0
 abbrev pub positionOf : PlainPosition → PlaybackPosition
 positionOf p = cond (eqb (p .«in_seconds») 0) (Samples (p .samples)) (Seconds (p .seconds))
 
--- the end of audio where none is given
+-- the end of audio if none is given
 abbrev pub endOf : ℕ → PlainPosition → EndPosition
 endOf given p = cond (eqb given 0) EndOfAudio (Custom (positionOf p))
 
 abbrev pub regionOf : PlainRegion → Region
 regionOf r = record { start = positionOf (r .start); end = endOf (r .«end_given») (r .end) }
 
--- none where `given` is 0
+-- none if `given` is 0
 abbrev pub rangeOf : PlainRange → FrameRange
 rangeOf r = cond (eqb (r .given) 0) Absent (Frames (r .start) (r .end))
 

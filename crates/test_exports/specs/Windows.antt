@@ -31,7 +31,7 @@ entryOf e = record { frame = frameOf (e .frame); «frame_index» = e .«frame_in
 abbrev pub plainEntry : RecentFrame → PlainEntry
 plainEntry e = record { frame = plainFrame (e .frame); «frame_index» = e .«frame_index» }
 
--- what the logic reads where an array has no entry
+-- the value that the logic reads outside an array
 abbrev pub void : PlainEntry
 void = plainEntry blank
 
@@ -60,6 +60,6 @@ plainWindow w =
       «time_until_empty» = w .«time_until_empty»;
     }
 
--- none where `given` is 0
+-- none if `given` is 0
 abbrev pub givenFrame : ℕ → PlainFrame → MaybeFrame
 givenFrame given f = cond (eqb given 0) Absent (Present (frameOf f))

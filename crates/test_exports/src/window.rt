@@ -1,4 +1,4 @@
-// The window of four as plain numbers: what is pushed, read and heard.
+// The window of four as plain numbers: what is pushed and read, and the reported frame index.
 ghost use mathlib.Core.Path.{_≡_};
 ghost use Rattle.frame.specs.Frames.{interpolated};
 ghost use Rattle.resampler.specs.Windows.{fresh, push, reading, currentFrameIndex, isEmpty};

@@ -1,2 +1,2 @@
--- What the contracts of the examples cite.
+-- The definitions that contracts of the examples cite.
 pub mod Places

@@ -1,4 +1,4 @@
--- Where the examples begin: docs/assurance/RULES.md, Marked examples.
+-- The transports that the examples begin with: docs/assurance/RULES.md, "Marked examples".
 use Prim.Native.Nat.{ℕ}
 use mathlib.Core.Bool.{true}
 use Rattle.playback_position.specs.declared.FrameRange.the-variants.{Absent, Frames}

@@ -31,7 +31,7 @@ number-lt line at (suc n) = more (number line at n) (digit (getD line (at + n) 0
     more : (v d p q : ℕ) → v < p → d < 16 → q ≡ p * 16 → v * 16 + d < q
     more v d p q h k e = omega arith
 
--- one digit more fits 64 bits
+-- one more digit fits 64 bits
 pub room : (line : List ℕ) (at i n : ℕ) → i < n → n ≤ 16 → number line at i < 2 ^ 60
 room line at i n h k = below (number line at i) (16 ^ i) (number-lt line at i) (pow-le-pow-right (lit< tt) (last i n h k))
   where

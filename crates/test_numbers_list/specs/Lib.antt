@@ -1,2 +1,2 @@
--- What the contracts of the list cite.
+-- The definitions that contracts of the list cite.
 pub mod Lines

@@ -1,4 +1,4 @@
--- A line of the list: its fields, and whether its answer is that of the definitions of `numbers`.
+-- A line of the list: its fields, and whether its answer agrees with the definitions of `numbers`.
 use Prim.Native.Nat.{ℕ, zero, suc, _+_, _*_, _%_}
 use mathlib.Core.Bool.{Bool, false, cond}
 use mathlib.Core.List.{List}
@@ -13,12 +13,12 @@ use Rattle.numbers.specs.Frames.{rounded, cutOff}
 abbrev pub digit : ℕ → ℕ
 digit b = cond (ltb b 58) (b % 16) ((b + 9) % 16)
 
--- the number that so many digits from a place on spell
+-- the number that this many digits from an offset spell
 unfoldable pub number : List ℕ → ℕ → ℕ → ℕ
 number line at zero = 0
 number line at (suc n) = number line at n * 16 + digit (getD line (at + n) 0)
 
--- x seconds in frames, before they are made whole
+-- x seconds in frames, before rounding
 abbrev pub product : Float → ℕ → Float
 product x rate = mul binary64 x (ofInt binary64 (pos rate))
 
@@ -30,7 +30,7 @@ narrowsTo x bits = cond (proper x) (eqb (toBits binary32 (narrowed x)) bits) fal
 unfoldable pub measures : Float → ℕ → Bool
 measures x bits = cond (eq (magnitude x) (magnitude x)) (eqb (toBits binary64 (magnitude x)) bits) false
 
--- `n` narrows, `r` rounds, `c` cuts, `m` takes the magnitude; any other kind is not right
+-- `n` narrows, `r` rounds, `c` cuts, `m` returns the magnitude; any other kind is wrong
 unfoldable pub right : ℕ → Float → ℕ → ℕ → Bool
 right kind x rate expected =
     cond (eqb kind 110) (narrowsTo x expected)
@@ -38,7 +38,7 @@ right kind x rate expected =
     (cond (eqb kind 99) (eqb (cutOff (product x rate)) expected)
     (cond (eqb kind 109) (measures x expected) false)))
 
--- the line's answer is right; the pattern of a NaN is no case
+-- the line's answer is right; the bits of a NaN are not a case
 unfoldable pub agrees : List ℕ → Bool
 agrees line =
     cond (nanBits binary64 (number line 2 16)) false

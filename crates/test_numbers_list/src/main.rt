@@ -56,7 +56,7 @@ fn measures(x: f64, expected: u64) -> bool
     }
 }
 
-// Whether the function that `kind` names gives the expected answer.
+// Whether the function that `kind` names returns the expected answer.
 fn is_right(kind: u8, x: f64, rate: u32, expected: u64) -> bool
     ensures { λ r. ⌜ r ≡ right kind x rate expected ⌝ }
 {
@@ -97,7 +97,7 @@ enum Line {
     Differs,
 }
 
-// Reads one line. One that is cut short differs.
+// Reads one line. A line that is cut short counts as a difference.
 fn next_line() -> Line {
     let mut line = [0u8; 45];
     let n = io::read_full(0, &mut line);

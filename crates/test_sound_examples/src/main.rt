@@ -50,7 +50,7 @@ fn number(yes: bool) -> u64 {
     if yes { 1 } else { 0 }
 }
 
-// ---- what is given
+// ---- inputs
 
 fn frames(start: usize, end: usize) -> Region {
     Region {

@@ -23,7 +23,7 @@ pub struct Answer {
     pub same: bool,
 }
 
-// ---- what a call is given
+// ---- the input of a call
 
 // 0 is frames, anything else seconds.
 fn next_position() -> PlaybackPosition {
@@ -169,7 +169,7 @@ fn prepare(out: &mut [f32]) -> usize
     n
 }
 
-// Whether the list goes on with the first samples of an output, and the others are untouched.
+// Whether the next numbers of the list are the first samples of an output, and the others are unchanged.
 fn is_output(out: &[f32; 32], count: usize) -> bool {
     let mut same = true;
     let mut untouched: f32 = -1.0;
@@ -196,7 +196,7 @@ fn is_processed(made: Processed) -> bool {
 
 // ---- the calls
 
-// What a refused creation leaves: no sample rate is given.
+// What a refused creation returns: no sample rate.
 pub(crate) fn blank() -> StaticSound {
     let sound = [0.0f32; 2];
     let settings = Settings {
@@ -240,7 +240,7 @@ fn played(made: Processed, out: &[f32; 32], samples: usize) -> Answer {
     }
 }
 
-// A block, or one into a mix, whose frame comes last.
+// A block, or a block into a mix, whose first frame comes last.
 pub(crate) fn block(voice: StaticSound, sound: &[f32], mixes: bool) -> Answer {
     let mut fade = [0.0f32; 32];
     let mut volume = [0.0f32; 32];
@@ -288,7 +288,7 @@ pub(crate) fn block(voice: StaticSound, sound: &[f32], mixes: bool) -> Answer {
     played(made, &out, samples)
 }
 
-// Whether the list goes on with the sound's own stretch: its length, then its samples.
+// Whether the next numbers of the list are the voice's stretch: its length, then its samples.
 pub(crate) fn stretch(voice: StaticSound, sound: &[f32]) -> bool {
     is_part(static_sound::stretch(voice, sound))
 }

@@ -39,7 +39,7 @@ pub(crate) fn index() -> usize {
     next() as usize
 }
 
-// A count of at most so many.
+// A number of at most this limit.
 pub(crate) fn count(most: usize) -> usize
     ensures { λ r. ⌜ r ≤ most ⌝ }
 {

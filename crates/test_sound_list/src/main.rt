@@ -18,13 +18,13 @@ struct Replay {
     differ: u64,
 }
 
-// One more, as far as any list goes.
+// One more, up to a limit that no list reaches.
 fn more(count: u64) -> u64 {
     if count < MOST { count + 1 } else { count }
 }
 
 impl Replay {
-    // A call has answered; what it left goes on.
+    // After a call: keeps its state, and counts.
     fn answered(self, voice: StaticSound, same: bool) -> Replay {
         let calls = more(self.calls);
         if same {
@@ -63,7 +63,7 @@ impl Replay {
         self.answered(voice, false)
     }
 
-    // What is set and not called: a scenario's sound, the state, how much of the sound is lent.
+    // Records that set something without a call: a scenario's sound, the state, how much of the sound is passed.
     fn set(self, kind: u64, sound: &mut [f32]) -> Replay {
         if kind == 1 {
             let lent = input::singles(sound);

@@ -160,7 +160,7 @@ pub(crate) fn next() -> StaticSound {
     }
 }
 
-// Whether the list goes on with this state.
+// Whether the next numbers of the list are this state.
 pub(crate) fn are(voice: StaticSound) -> bool {
     let setup = voice.setup;
     let moving = voice.moving;

@@ -1,4 +1,4 @@
--- Only a well formed end: the rest of a block after k frames is played on what they left, and on an ended voice it is idle. Assumes nothing.
+-- The only way to end: the rest of a block after k frames is played from the voice after them, and an ended voice stays idle. Assumes nothing.
 use mathlib.Core.Path.{_≡_, sym, ap, _∙_, subst}
 use mathlib.Core.Logic.{_⊎_, inl, inr}
 use Prim.Native.Nat.{ℕ, _*_, _≤_}

@@ -1,4 +1,4 @@
--- The order of steps in a loop does not matter: a step is a remainder, and a remainder goes on as the number it is of. By induction on the steps. Assumes nothing.
+-- The order of steps in a loop does not matter: a step is a remainder, and a remainder behaves like its number. By induction on the steps. Assumes nothing.
 use mathlib.Core.Path.{_≡_, refl, sym, ap, ap₂, _∙_, subst}
 use Prim.Native.Nat.{ℕ, suc, _+_, _-_, _*_, _/_, _%_, _≤_, _<_}
 use native.Mathlib.Nat.{mod-lt, mod-add-mod, add-mul-mod-self-left, mod-eq-of-lt, mod-add-div, add-assoc, sub-zero}
@@ -60,7 +60,7 @@ cycled-is a b l p = go (leb b a) refl
         ∙ add-mul-mod-self-left (l - 1 - (b - a - 1) % l) l (a + (l - 1) * ((b - a - 1) / l) + (b - a - 1) % l)
         ∙ mod-eq-of-lt (less ((b - a - 1) % l) p))
 
--- a remainder goes on as the number it is of
+-- a remainder behaves like its number
 cycled-cycled : (a b c d l : ℕ) → 0 < l → cycled (cycled a b l + c) d l ≡ cycled (a + c) (b + d) l
 cycled-cycled a b c d l p =
     cycled-is (cycled a b l + c) d l p
@@ -75,7 +75,7 @@ cycled-cycled a b c d l p =
 
 -- ---- the two steps
 
--- a transport at place x of its loop
+-- a transport at offset x in its loop
 abbrev at : ℕ → ℕ → ℕ → Transport
 at s e x = record { position = s + x; «loop_region» = Frames s e; playing = true }
 
@@ -135,9 +135,9 @@ backward-at s e x h = ap (λ (q : ℕ). record { position = q; «loop_region» =
         ∙ sym (cycled-below x 1 (e - s) (zero-x (leb-true (s + x) s q))))
     go false q = less (leb-false (s + x) s q) ∙ ap (λ (c : ℕ). s + c) (sym (cycled-above x 1 (e - s) (more (leb-false (s + x) s q)) ∙ mod-eq-of-lt small))
 
--- ---- a row of steps
+-- ---- a sequence of steps
 
--- where a row leads from place x
+-- where a sequence leads from offset x
 abbrev led : ℕ → ℕ → ℕ → List Step → ℕ
 led s e x l = cycled (x + forwards l) (backwards l) (e - s)
 
@@ -171,7 +171,7 @@ walked-at n s e (Backward ∷ l) x h k =
     one-more : (b : ℕ) → 1 + b ≡ suc b
     one-more b = omega arith
 
--- a transport inside its loop is at a place of it
+-- a transport inside its loop has an offset in it
 located : (s e : ℕ) (t : Transport) → Inside s e t → t ≡ at s e (t .position - s)
 located s e t h =
     let f : s ≤ t .position = h .from in
@@ -202,7 +202,7 @@ pub any-order : AnyOrder
 any-order n s e l t x =
     record { place = ap (λ (u : Transport). u .position) (walked-is n s e t (x .fits) (x .inside) l); inside = λ j. walked-inside n s e t (x .fits) (x .inside) (take j l) }
 
--- ---- what a tutor reads
+-- ---- the consequences for a tutor
 
 counted : {l m : List Step} → Permuted l m → (forwards l ≡ forwards m) × (backwards l ≡ backwards m)
 counted none = (refl, refl)

@@ -1,4 +1,4 @@
--- The archive's entries cut in two, from the entries below: an accepted call's record means the state that it encodes. Assumes nothing.
+-- The archive's entries cut in two, from the entries below: an accepted call's record represents the state that it encodes. Assumes nothing.
 use mathlib.Core.Path.{_≡_, refl, sym, ap, _∙_, subst}
 use Prim.Native.Nat.{ℕ, _+_, _*_}
 use mathlib.Core.Bool.{Bool, true, false, cond}
@@ -29,7 +29,7 @@ use Rattle.theorems.specs.Archive.{quietC, PartsC, CutInTwoC, CutInMixC,
 use Rattle.theorems.proofs.Cut.{cut-blocks}
 use Rattle.theorems.proofs.Mix.{cut-mixes}
 
--- ---- an accepted call's record, and what it means
+-- ---- an accepted call's record, and the state that it represents
 
 pub after-is : (k : ℕ) (v : StaticSound) (c : CableowlState) → k ≡ 0 → after k v c ≡ encoded v
 unfolding after
@@ -38,7 +38,7 @@ after-is k v c e = rw e
 pub after-means : (k : ℕ) (v : StaticSound) (c : CableowlState) → k ≡ 0 → decoded (after k v c) ≡ v
 after-means k v c e = ap decoded (after-is k v c e) ∙ decoded-encoded v
 
--- what the archive's entry makes of an outcome below
+-- the archive's outcome for an outcome below
 abbrev pub raw : Outcome → CableowlState → OutcomeC
 raw o c = record { answer = answered (o .answer) c; samples = o .samples }
 
@@ -55,7 +55,7 @@ parts p f r c s h d =
           ∙ sym (ap bare (after-means (r .refusal) (r .voice) s (d .accepted .1)));
     }
   where
-    -- what the first part's record means
+    -- the state that the first part's record represents
     below : T (awake (decoded (after (f .refusal) (f .voice) c))) → T (awake (f .voice))
     below a = subst (λ (v : StaticSound). T (awake v)) (after-means (f .refusal) (f .voice) c (d .accepted .0)) a
 

@@ -1,4 +1,4 @@
--- The archive's calls lead where the calls below lead: a record means the voice, before and after each of them. Assumes nothing.
+-- The archive's calls lead where the calls below lead: a record represents the voice, before and after each of them. Assumes nothing.
 use mathlib.Core.Path.{_≡_, refl, sym, ap, ap₂, _∙_, subst}
 use Prim.Native.Nat.{ℕ}
 use mathlib.Core.Bool.{Bool, true, false, _&&_, _||_, not, cond}
@@ -32,7 +32,7 @@ meant (Command snd k) = below.Command snd (commandsOf k)
 meant (Take snd t k) = below.Take snd t k
 meant (Stretch snd) = below.Stretch snd
 
--- the record that comes back means the voice that comes back: a refused call leaves both
+-- the returned record represents the returned voice: a refused call changes neither
 back : (r : ℕ) (v : StaticSound) (c : CableowlState) → ((r ≡ 0 → ⊥) → v ≡ decoded c) → decoded (after r v c) ≡ v
 unfolding after
 back r v c h = go (eqb r 0) refl

@@ -1,4 +1,4 @@
--- A row of the archive's blocks is the row of the entries below, between records: each accepted record means the state that it encodes.
+-- A sequence of the archive's blocks is the sequence of the entries below, between records: each accepted record represents the state that it encodes.
 -- By induction on the blocks, for outputs and for a mix. Assumes nothing.
 use mathlib.Core.Path.{_≡_, refl, sym, ap, _∙_, subst}
 use Prim.Native.Nat.{ℕ, _+_, _*_}
@@ -29,7 +29,7 @@ use Rattle.theorems.proofs.Schedules.{any-sizes}
 use Rattle.theorems.proofs.Streams.{all-accepted}
 use Rattle.theorems.proofs.MixSchedules.{any-sizes-mix, all-accepted-mix}
 
--- an accepted row of records m against the row r below
+-- an accepted sequence of records m compared with the sequence r below
 record AsBelow (m : RunC) (r : Run) : Type 0 where
   accepted : T (r .accepted)
   state : m .state ≡ encoded (r .voice)
@@ -139,7 +139,7 @@ module _ (snd : List Float) (dt : Float) where
       (subst (λ (v : StaticSound). T ((mixedBy snd dt j ks (restLanes k b) (quiet (signalsOf g)) v (o .samples) (from + k)) .accepted))
       (sym (after-means (o .answer .refusal) (o .answer .voice) c (eqb→eq (o .answer .refusal) 0 a))) (and-r (eqb (o .answer .refusal) 0) (r .accepted) h))))
 
--- two rows agree as those below do
+-- two sequences agree as those below do
 agree : (m n : RunC) (r s : Run) → AsBelow m r → AsBelow n s → Agree r s → AgreeC m n
 agree m n r s x y a =
     record {

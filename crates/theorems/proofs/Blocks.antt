@@ -1,5 +1,5 @@
--- A block of the definition, of any length, cut in two. Playing goes on where it stopped, so the parts make the whole while the voice is as it was;
--- once it has ended, the rest of the uncut block is idle and the second part is silent. Assumes nothing.
+-- A block of the definition, of any length, cut in two. Playing goes on where it stopped, so the parts make the whole while the voice has not stopped;
+-- once it has ended, the rest of the uncut block changes nothing and the second part is silent. Assumes nothing.
 use mathlib.Core.Path.{_≡_, refl, sym, ap, ap₂, _∙_, subst}
 use mathlib.Core.Logic.{inl, inr}
 use Prim.Native.Nat.{_+_}
@@ -44,7 +44,7 @@ and-false true = refl
 and-false false = refl
 
 module _ (snd : List Float) (dt : Float) (xs ys : List Lane) where
-  -- the rest of a block brings the same tick at most
+  -- the rest of a block gets at most the same tick
   rest-live : (g : Signals) (v : StaticSound) → Taken g (v .started) → live v ≡ true → block snd dt ys (quiet g) v ≡ plays snd dt ys v
   rest-live g v h e = block-live snd dt ys (quiet g) v (ap live (begun-quiet g v h) ∙ e) ∙ ap (plays snd dt ys) (begun-quiet g v h)
 

@@ -49,7 +49,7 @@ module _ (k : ℕ) (small : k ≤ 256) (snd : List Float) (dt : Float) (t : T (l
       more : (w : ℕ) → w ≤ suc k → w ≤ k + 1
       more w h = omega arith
 
-  -- what a row of frames makes, frame by frame and in all
+  -- the steps of a sequence of frames, for each and in total
   pub record Frames (ls : List Lane) (v : StaticSound) : Type 0 where
     pub each : T (all (few k) (stepsOf snd dt ls v))
     pub sum : (plays snd dt ls v) .steps ≤ length ls * (k + 1)
@@ -76,7 +76,7 @@ module _ (k : ℕ) (small : k ≤ 256) (snd : List Float) (dt : Float) (t : T (l
 -- ---- the entries
 
 module _ (k : ℕ) (small : k ≤ 256) (snd : List Float) (v : StaticSound) (dt : Float) (b : Lanes) (g : Signals) where
-  -- an accepted block, whatever its samples go to
+  -- an accepted block, wherever its samples are written
   block-within : (placed : Bool) (out : List Float) → Accepted (length snd) v dt b placed → Slow k v dt b
       → Within k snd v dt b g ((acceptedWith (block snd dt (rows b) g v) out) .answer)
   unfolding begun
@@ -126,7 +126,7 @@ module _ (k : ℕ) (small : k ≤ 256) (snd : List Float) (dt : Float) where
       in
       subst (λ (n : ℕ). o .answer .steps ≤ n * (k + 1)) (length-take-le j (b .rate) q) (w .block)
 
-  -- a block leaves the setup
+  -- a block does not change the setup
   setup-kept : (b : Lanes) (g : Signals) (v : StaticSound) (out : List Float) → T (eqb ((processed snd v dt b g out) .answer .refusal) 0)
       → ((processed snd v dt b g out) .answer .voice) .setup ≡ v .setup
   setup-kept b g v out h =

@@ -22,18 +22,18 @@ parts e = (ap (λ (o : Outcome). o .answer) e, ap (λ (o : Outcome). o .samples)
 partsC : {o p : OutcomeC} → o ≡ p → (o .answer ≡ p .answer) × (o .samples ≡ p .samples)
 partsC e = (ap (λ (o : OutcomeC). o .answer) e, ap (λ (o : OutcomeC). o .samples) e)
 
--- an answer and what is left, each by its own equation
+-- a result and what is written, each by its own equation
 both : {A B : Type 0} {x y u : A} {v w z : B} → (x ≡ u) × (v ≡ z) → (y ≡ u) × (w ≡ z) → (x ≡ y) × (v ≡ w)
 both p q = (same (p .0) (q .0), same (p .1) (q .1))
 
--- a record written, and a salvage, with the buffer each leaves
+-- a record written, and a salvage, with the buffer after each
 sent : {x y : Sent} {v w : List ℕ} → sentOf x v ≡ sentOf y w → (x ≡ y) × (v ≡ w)
 sent e = (ap (λ (o : Written). record { refusal = o .number; next = o .next }) e, ap (λ (o : Written). o .buffer) e)
 
 saved : {x y : Saved} {v w : List ℕ} → savedOf x v ≡ savedOf y w → (x ≡ y) × (v ≡ w)
 saved e = (ap (λ (o : Salvaged). record { refusal = o .number; records = o .count; skipped = o .skip; first = o .place }) e, ap (λ (o : Salvaged). o .output) e)
 
--- a step of a replay, with the sound and the output that it leaves
+-- a step of a replay, with the sound and the output after it
 abbrev Buffers : Type 0
 Buffers = List Float × List Float
 

@@ -37,7 +37,7 @@ module _ (p : Lane → Bool) (k : ℕ) (b : Lanes) (h : T (all p (rows b))) wher
   pub rest-all : T (all p (rows (restLanes k b)))
   rest-all = all-rest p (rows (firstLanes k b)) (rows (restLanes k b)) joined
 
--- 12 is judged by the sample rate, which the first part leaves
+-- 12 is checked with the sample rate, which the first part does not change
 pub rest-near : (snd : List Float) (dt : Float) (k : ℕ) (b : Lanes) (g : Signals) (v : StaticSound) → T (all (near (v .setup .«sample_rate») dt) (rows b))
     → T (all (near (((block snd dt (rows (firstLanes k b)) g v) .voice) .setup .«sample_rate») dt) (rows (restLanes k b)))
 rest-near snd dt k b g v h =

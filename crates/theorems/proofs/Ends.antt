@@ -1,4 +1,4 @@
--- A voice that an update has stopped: it stays so, nothing of it changes but its fraction and its window's frame numbers, and it sounds +0.
+-- A voice that an update has stopped: it stays stopped, only its fraction and its frame indices change, and it writes +0.
 -- The transport no longer steps, only zero frames are pushed, and the cubic of zeros is zero. Assumes nothing.
 use mathlib.Core.Path.{_≡_, refl, sym, ap, ap₂, _∙_}
 use mathlib.Core.Logic.{inl, inr}
@@ -51,7 +51,7 @@ stepped-still c t e = go (c .backwards)
     go true = backward-still t e
     go false = forward-still (c .«num_frames») t e
 
--- where a test picks the same twice
+-- if both branches of a test are the same
 both-same : {A : Type 0} (b : Bool) (x y z : A) → x ≡ z → y ≡ z → cond b x y ≡ z
 both-same true x y z p q = p
 both-same false x y z p q = q
@@ -135,7 +135,7 @@ module _ (snd : List Float) (dt : Float) where
   plays-ended [] v h = h
   plays-ended (l ∷ ls) v h = plays-ended ls (afterFrame snd dt v l) (turned-ended v l h)
 
-  -- a block leaves the state as it is, or the voice has ended
+  -- a block does not change the playback state, or the voice has ended
   pub plays-ends : (ls : List Lane) (v : StaticSound) → EndsOnly (v .moving .state) ((plays snd dt ls v) .voice .moving)
   unfolding plays
   plays-ends [] v = inl refl
@@ -149,7 +149,7 @@ module _ (snd : List Float) (dt : Float) where
       go (inl e) (inr s) = inr s
       go (inr s) r = inr (plays-ended ls u s)
 
--- ---- what is heard
+-- ---- the samples
 
 frame-last-zero : (v : StaticSound) (l : Lane) → Windowed (v .moving .resampler) → T (proper (v .«fractional_position»)) → v .moving .resampler .«time_until_empty» ≡ 0 → T (laned l)
     → frameWithGains v l ≡ lastZero
@@ -169,7 +169,7 @@ frame-last-zero v l w p e k =
       mul-positive-zero binary32 (l .right) (and-r (a && b && c) d abcd),
     )
 
--- ---- all of a voice but its fraction and its window's frame numbers
+-- ---- a voice except for its fraction and its frame indices
 
 abbrev mute : RecentFrame
 mute = record { frame = lastZero; «frame_index» = 0 }

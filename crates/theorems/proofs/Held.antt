@@ -1,4 +1,4 @@
--- Blocks whose numbers are given once: the theorems over blocks, with lanes that repeat the numbers; a part of such lanes is such lanes. Assumes nothing.
+-- Blocks with held lanes: the theorems over blocks, with lanes that repeat the numbers; a part of such lanes is such lanes. Assumes nothing.
 use mathlib.Core.Path.{_≡_, refl, sym, ap, ap₂, _∙_, subst}
 use Prim.Native.Nat.{ℕ, _+_, _-_, _*_, _/_, _≤_}
 use native.Mathlib.Omega.{arith}

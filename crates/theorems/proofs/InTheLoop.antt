@@ -1,4 +1,4 @@
--- Once in the loop, always in the loop: steps and seeks stay inside, so no update ends the voice, and a row of calls is one call after the other. Assumes nothing.
+-- Once in the loop, always in the loop: steps and seeks stay inside, so no update ends the voice, and a sequence of calls is one call after the other. Assumes nothing.
 use mathlib.Core.Path.{_≡_, refl, sym, ap, ap₂, _∙_, subst}
 use Prim.Native.Nat.{ℕ, zero, suc, _+_, _-_, _≤_, _<_}
 use native.Mathlib.Nat.{lt-of-lt-of-le}
@@ -92,7 +92,7 @@ module _ (s e : ℕ) where
       let r : Range x = subst (λ (g : FrameRange). Range (cond (ltb (t .position) q) (under g q) (over g q))) (sym (h .loop)) (sought-range (t .position) q (h .from, h .to)) in
       record { loop = h .loop; going = ap₂ (λ (a b : Bool). a && b) (h .going) (lt-ltb x n (lt-of-lt-of-le (r .1) k)); from = r .0; to = r .1 }
 
-  -- ---- what moves: in the loop, and in the state that it was in
+  -- ---- the moving part: in the loop, and in the same playback state
 
   pub record Holds (m w : Moving) : Type 0 where
     pub inside : Inside s e (w .transport)
@@ -259,11 +259,11 @@ taken-refused snd t k v = go (eqb (f .refusal) 0)
 
 -- ---- one call
 
--- of an accepted call what is asked, of a refused one nothing
+-- a condition for an accepted call, none for a refused one
 abbrev Asked : (Call → Bool) → Call → StaticSound → Type 0
 Asked kind c v = T (not (accepted c v && kind c))
 
--- the voice after a call: as the block or the set leaves it, or untouched
+-- the voice after a call: the result of the block or the set, or unchanged
 pub record Next (s e : ℕ) (c : Call) (v w : StaticSound) : Type 0 where
   pub fits : e ≤ sliceLength (w .setup)
   pub inside : Inside s e (w .moving .transport)
@@ -310,7 +310,7 @@ module _ (s e : ℕ) (v : StaticSound) (h : In s e v) where
         alive = λ a i. subst alive (sym (b .state)) (ordered-alive c (v .moving .state) (j a) i);
       }
 
-  -- where the test says accepted, what is asked holds of the call
+  -- if the call is accepted, the condition holds for it
   asked : (kind : Bool) (b : Bool) → b ≡ true → T (not (b && kind)) → T (not kind)
   asked kind true q k = k
   asked kind false q k = absurd (false≢true q)
@@ -352,7 +352,7 @@ module _ (s e : ℕ) (v : StaticSound) (h : In s e v) where
       refuses r z h = subst (λ (x : ℕ). T (not (eqb x 0 && true))) z h
   next (Stretch snd) k = untouched (Stretch snd)
 
--- ---- a row of calls
+-- ---- a sequence of calls
 
 module _ (s e : ℕ) where
   row-inside : (cs : List Call) (v : StaticSound) → In s e v → T (not (someAccepted reloops cs v)) → Inside s e ((afterAll cs v) .moving .transport)

@@ -1,4 +1,4 @@
--- What every call leaves: by the laws of each entry, refused or not, and those of what is well formed. Assumes nothing.
+-- What every call returns: by the laws of each entry, refused or not, and those of what is well formed. Assumes nothing.
 use mathlib.Core.Path.{refl, sym, subst}
 use lib.Dec.{T}
 use lib.ListN.{length}

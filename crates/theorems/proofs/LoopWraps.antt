@@ -1,4 +1,4 @@
--- What the counts of wraps mean: a step inside the loop either moves by one and counts nothing, or turns at the edge, by L, and counts one.
+-- What the counts of wraps mean: a step inside the loop either moves by one and counts nothing, or wraps at the edge, by L, and counts one.
 -- By induction on the updates, with both sides kept as sums; a block's updates are as many as its steps. Assumes nothing.
 use mathlib.Core.Path.{_≡_, refl, sym, ap, ap₂, _∙_, subst}
 use Prim.Native.Nat.{ℕ, zero, suc, _+_, _-_, _*_, _≤_, _<_}
@@ -290,7 +290,7 @@ begun-inside : (g : Signals) (v : StaticSound) (s e : ℕ) → Inside s e (v .mo
 unfolding begun
 begun-inside g v s e h = h
 
--- from a voice that is well formed over the sound, to what as many updates as steps leave
+-- from a voice that is well formed over the sound, to the result of as many updates as steps
 made-fits : (snd : List Float) (g : Signals) (v : StaticSound) (s e n : ℕ) (w : Moving) → T (wellFormedFor (length snd) v) → Inside s e (v .moving .transport)
     → w ≡ updates n snd (sliceOf v) ((begun g v) .moving) → Fits s e (sliceOf v .backwards) n (v .moving) w
 made-fits snd g v s e n w o h m =

@@ -1,4 +1,4 @@
--- A block into a mix, cut in two: the second part's place begins where the first part's ends, and what lies around both is the mix's own. Assumes nothing.
+-- A block into a mix, cut in two: the second part begins where the first ends, and the samples around both are unchanged. Assumes nothing.
 use mathlib.Core.Path.{_≡_, refl, sym, ap, ap₂, _∙_, subst}
 use Prim.Native.Nat.{ℕ, _+_, _-_, _*_, _/_, _%_, _≤_}
 use native.Mathlib.Omega.{arith}
@@ -22,7 +22,7 @@ use Rattle.theorems.proofs.Cut.{first-accepted, rest-accepted, accepted
 
 -- ---- the samples of a mix
 
--- a place in a mix leaves its length
+-- writing into a mix does not change its length
 pub mixed-length : (from n : ℕ) (mix xs : List Float) → length xs ≡ 2 * n → 2 * (from + n) ≤ length mix → length (mixed from n mix xs) ≡ length mix
 mixed-length from n mix xs e h =
     let a = length-append (take (2 * from) mix) (xs ++ drop (2 * (from + n)) mix) in
@@ -65,7 +65,7 @@ mixed-cut from k m mix xs ys e h =
         ∙ drop-drop (2 * m) (2 * (from + k)) mix
         ∙ ap (λ (n : ℕ). drop n mix) joined
 
--- ---- the room for each part
+-- ---- the space for each part
 
 pub record Room (from n : ℕ) (mix : List Float) : Type 0 where
   pub even : length mix % 2 ≡ 0

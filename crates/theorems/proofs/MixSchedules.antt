@@ -1,5 +1,5 @@
--- A row of accepted blocks into a mix is the plain row, put in its place; so two rows agree as the plain ones do.
--- And what is accepted as a plain row is accepted into a mix that has room for it. By induction on the blocks. Assumes nothing.
+-- A sequence of accepted blocks into a mix is the plain sequence, written at its position; so two sequences agree as the plain ones do.
+-- What is accepted as a plain sequence is accepted into a mix with enough space. By induction on the blocks. Assumes nothing.
 use mathlib.Core.Path.{_≡_, refl, sym, ap, ap₂, _∙_, subst}
 use Prim.Native.Nat.{ℕ, _+_, _-_, _*_, _/_, _%_, _≤_}
 use native.Mathlib.Omega.{arith}
@@ -27,7 +27,7 @@ use Rattle.theorems.proofs.Plain.{putInto, held, plain-accepted, plain-
 use Rattle.theorems.proofs.Schedules.{any-sizes}
 use Rattle.theorems.proofs.Streams.{all-accepted}
 
--- a row into a mix against the plain row r
+-- a sequence into a mix compared with the plain sequence r
 record AsPlain (from n : ℕ) (mix : List Float) (m r : Run) : Type 0 where
   accepted : T (r .accepted)
   voice : m .voice ≡ r .voice
@@ -136,9 +136,9 @@ any-sizes-mix snd dt b g v k ks j js mix from ways =
       alike = ap bare (x .voice) ∙ a .alike ∙ sym (ap bare (y .voice));
     }
 
--- ---- an acceptable stream is accepted into a mix that has room for it
+-- ---- an acceptable stream is accepted into a mix with enough space
 
--- what is accepted into an output of its own is accepted wherever there is room
+-- what is accepted into an output of its own is accepted wherever there is space
 into-accepted : (snd : List Float) (v : StaticSound) (dt : Float) (b : Lanes) (g : Signals) (out mix : List Float) (from : ℕ)
     → (processed snd v dt b g out) .answer .refusal ≡ 0 → T (room from (length (b .rate)) mix) → (processedInto snd v dt b g mix from) .answer .refusal ≡ 0
 into-accepted snd v dt b g out mix from e h =

@@ -1,4 +1,4 @@
--- A block into a mix is the plain block, put in its place: the same answer, and the plain samples in the mix. So Steps and LawfulEnd hold of it too. Assumes nothing.
+-- A block into a mix is the plain block, written at its position: the same result, and the plain samples in the mix. So Steps and AllowedEnd hold for it too. Assumes nothing.
 use mathlib.Core.Path.{_≡_, refl, sym, ap, _∙_, subst}
 use mathlib.Core.Logic.{_⊎_, inl, inr}
 use Prim.Native.Nat.{ℕ, _+_, _-_, _*_, _≤_}
@@ -59,7 +59,7 @@ module _ (snd : List Float) (v : StaticSound) (dt : Float) (b : Lanes) (g : Sign
         ∙ block-length snd dt (rows b) g v
         ∙ ap (λ (i : ℕ). 2 * i) (beside-length (b .fade) (b .volume) (b .left) (b .right) (b .rate))
 
--- the block's own samples are an output that holds it
+-- the block's own samples are an output with space for it
 abbrev own : List Float → StaticSound → Float → Lanes → Signals → List Float
 own snd v dt b g = (block snd dt (rows b) g v) .samples
 
@@ -74,7 +74,7 @@ mix-steps-made snd v dt b g mix from e =
     let s = steps-made snd v dt b g out (plain-accepted snd v dt b g mix from e out h) in
     subst (Stepped snd v dt b g) (sym (plain-is snd v dt b g mix from e out h)) (record { reported = s .reported; few = s .few; made = s .made })
 
--- from frame k of its place on, the mix has the block's samples from k on
+-- from its frame k on, the mix has the block's samples from k on
 mixed-rest : (from n k : ℕ) (mix xs : List Float) → length xs ≡ 2 * n → 2 * from ≤ length mix → k ≤ n
     → take (2 * (n - k)) (drop (2 * (from + k)) (mixed from n mix xs)) ≡ drop (2 * k) xs
 mixed-rest from n k mix xs e h q =

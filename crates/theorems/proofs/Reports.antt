@@ -1,4 +1,4 @@
--- What a lowest count tells: a push with a frame fills the count and one without lowers it, a transport that has ended stays so, and the lowest count is one that was read.
+-- What a lowest count means: a push with a frame fills the count and one without lowers it, a transport that has ended stays ended, and the lowest count is one that was read.
 -- By cases on a push, and by induction on updates and lanes. Assumes nothing.
 use mathlib.Core.Path.{_≡_, refl, sym, ap, ap₂, _∙_, subst}
 use Prim.Native.Nat.{ℕ, zero, suc, _+_, _-_, _≤_, _<_}

@@ -1,4 +1,4 @@
--- Any row of accepted blocks against the whole stream played as one block of the definition, which knows no largest length; two rows then agree through it.
+-- Any sequence of accepted blocks compared with the whole stream played as one block of the definition, which has no largest length; so two sequences agree.
 -- By induction on the blocks: each is a cut of what is left of the stream. Assumes nothing.
 use mathlib.Core.Path.{_≡_, refl, sym, ap, _∙_, subst}
 use Prim.Native.Nat.{ℕ, _+_, _-_, _*_}
@@ -28,7 +28,7 @@ use Rattle.theorems.specs.Alike.{bare, awake}
 use Rattle.theorems.specs.Schedules.{Run, alone, followed, playedBy, AnySizes}
 use Rattle.theorems.proofs.Blocks.{CutPlayed, block-cut}
 
--- a row against one block p of the lanes ls; and what its blocks have passed, over all lanes
+-- a sequence compared with one block p of the lanes ls; and what its blocks have passed, over all lanes
 pub record Whole (dt : Float) (ls : List Lane) (v : StaticSound) (p : Played) (r : Run) : Type 0 where
   pub laned : T (all laned ls)
   pub near : T (all (near (v .setup .«sample_rate») dt) ls)
@@ -37,7 +37,7 @@ pub record Whole (dt : Float) (ls : List Lane) (v : StaticSound) (p : Played) (r
   pub lowest : T (all awake (r .cuts)) → r .«lowest_count» ≡ p .«lowest_count»
   pub alike : bare (r .voice) ≡ bare (p .voice)
 
--- a block that takes all that is left
+-- a block of all remaining frames
 rows-all : (k : ℕ) (b : Lanes) → k + 0 ≡ length (b .rate) → rows (firstLanes k b) ≡ rows b
 rows-all k b e =
     let l = beside-length (b .fade) (b .volume) (b .left) (b .right) (b .rate) in
@@ -52,7 +52,7 @@ module _ (snd : List Float) (dt : Float) where
       → Whole dt (rows b) v (block snd dt (rows b) g v) (alone (done b g v))
   once b g v out p = record { laned = p .laned; near = p .near; samples = refl; same = λ a. (refl, refl); lowest = λ a. refl; alike = refl }
 
-  -- a block, and the row after it
+  -- a block, and the sequence after it
   next : (b : Lanes) (ys : List Lane) (g : Signals) (v : StaticSound) (out : List Float) (r : Run) → Accepted (length snd) v dt b (holds b out)
       → let u = (block snd dt (rows b) g v) .voice in
       Whole dt ys u (block snd dt ys (quiet g) u) r → Whole dt (rows b ++ ys) v (block snd dt (rows b ++ ys) g v) (followed (done b g v) r)
@@ -87,7 +87,7 @@ module _ (snd : List Float) (dt : Float) where
       d : CutPlayed (block snd dt (rows b ++ ys) g v) (block snd dt (rows b) g v) (block snd dt ys (quiet g) ((block snd dt (rows b) g v) .voice))
       d = block-cut snd dt (rows b) ys (time-step-above dt (p .timeStep)) g v (well-formed-for-parts (length snd) v (p .wellFormedFor) .0) la ne
 
-  -- what an accepted block gives
+  -- the result of an accepted block
   taken : (b : Lanes) (g : Signals) (v : StaticSound) (out : List Float) → T (eqb ((processed snd v dt b g out) .answer .refusal) 0)
       → (processed snd v dt b g out ≡ done b g v) × Accepted (length snd) v dt b (holds b out)
   taken b g v out h =

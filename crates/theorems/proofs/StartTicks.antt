@@ -1,5 +1,5 @@
--- Half of all ticks are reached: below due the wrapped difference runs over the upper numbers of a turn, from due on over the lower ones, so over each once.
--- A block leaves the start that its signals left. Assumes nothing.
+-- Half of all ticks are reached: below due the wrapped difference runs over the upper half of the range, from due on over the lower half, so over each once.
+-- A block does not change the start after its signals. Assumes nothing.
 use mathlib.Core.Path.{_≡_, refl, sym, ap, ap₂, _∙_, subst}
 use Prim.Native.Nat.{ℕ, zero, suc, _+_, _-_, _%_, _<_, _≤_}
 use native.Mathlib.Omega.{arith}
@@ -66,7 +66,7 @@ count-below h d =
     (count-all (λ (i : ℕ). ltb i h) h (λ i l. lt-ltb i h l))
     ∙ zero-add h
 
--- a turn of d + e numbers, due at d
+-- a range of d + e numbers, due at d
 module _ (h d e : ℕ) (more : 0 < e) (few : h ≤ d + e) where
   abbrev at : ℕ → Bool
   at n = ltb ((n + e) % (d + e)) h
@@ -101,7 +101,7 @@ half-reached due l = halves tickRange half due l (omega arith)
 pub moved-together : MovedTogether
 moved-together due now k x = reached-moved due now k (x .0) (x .1)
 
--- ---- the start that a block leaves
+-- ---- whether a voice has started after a block
 
 come-tick : (r b : Bool) → come (cond r Now Waiting) b ≡ (b || r)
 come-tick true true = refl

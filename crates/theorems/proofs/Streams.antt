@@ -1,4 +1,4 @@
--- A well formed stream is accepted in blocks of any sizes up to 4,096 frames: the first block passes every test, and what it leaves is an acceptable stream again.
+-- A well formed stream is accepted in blocks of any sizes up to 4,096 frames: the first block passes every test, and the rest is an acceptable stream again.
 -- By induction on the blocks. Assumes nothing.
 use mathlib.Core.Path.{_≡_, sym, ap, _∙_, subst}
 use Prim.Native.Nat.{ℕ, _+_, _-_, _*_, _≤_, min}

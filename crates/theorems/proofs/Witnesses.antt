@@ -63,7 +63,7 @@ accepted-mix : AcceptedMix ten voice one lanes due mix 1
 unfolding processedInto refusedBlock wellFormedFor wellFormed created made refusedNew positionInFrames endInFrames regionInFrames wellFormedRegion rounded magnitude advance mul lt le ofInt
 accepted-mix = refl
 
--- the same of a voice whose start has not come
+-- the same for a voice that has not started
 accepted-unstarted : AcceptedBlock ten unstarted one lanes due output
 unfolding processed refusedBlock wellFormedFor wellFormed created made refusedNew positionInFrames endInFrames regionInFrames wellFormedRegion rounded magnitude advance mul lt le ofInt
 accepted-unstarted = refl
@@ -139,7 +139,7 @@ allowed-cut-mixC = subst (λ (v : StaticSound). AllowedCutMix ten one lanes v 1 
 way : Way ten one lanes due voice 1 (1 ∷ []) output
 way = record { all-of-it = refl; accepted = all-accepted ten one lanes due voice 1 (1 ∷ []) output allowed-cut }
 
--- ---- conditions in what is promised
+-- ---- conditions in conclusions
 
 awake-first : Awake ((processed ten voice one (firstLanes 1 lanes) due (take 2 output)) .answer .voice)
 unfolding processed refusedBlock wellFormedFor wellFormed block begun zeros plays total afterFrame frameWithGains lower updates updated stepped pushed created made refusedNew positionInFrames endInFrames regionInFrames wellFormedRegion rounded cutOff magnitude narrowed whole taken part advance forward backward push reading cubic interpolated add sub mul lt le ofInt

@@ -80,7 +80,7 @@ pub record StaysC (s e : ℕ) (ds : List CallC) (c : CableowlState) : Type 0 whe
   pub inside : Inside s e (decoded (afterAllC ds c) .moving .transport)
   pub stopped : EndsStoppedC ds c → T (someAcceptedC stopsC ds c || ending (decoded c .moving .state))
 
--- hypothesis; an unlawful record represents the blank voice, which is not well formed
+-- hypothesis; a record that is not well formed represents the blank voice, which is not well formed
 pub record EnteredC (s e : ℕ) (ds : List CallC) (c : CableowlState) : Type 0 where
   pub wellFormed : T (wellFormed (decoded c))
   pub inside : Inside s e (decoded c .moving .transport)

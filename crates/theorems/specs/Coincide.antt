@@ -1,7 +1,7 @@
 -- Whether a promise says enough (docs/assurance/RULES.md): any two outcomes that one contract allows for one input
--- coincide. A line for each public function, over its contract itself: `Post` is all that the function ensures, of
--- what it is given, what it answers and what the lent buffers hold at its end. The functions that replay a trace are
--- above this crate: crates/theorems_replay/specs/Coincide.antt has their lines.
+-- coincide. There is a line for each public function, over its contract itself: `Post` is everything that the function
+-- ensures about its input, its result and the final contents of the borrowed buffers. The functions that replay a trace
+-- are above this crate: crates/theorems_replay/specs/Coincide.antt has their lines.
 use mathlib.Core.Path.{_≡_}
 use mathlib.Core.List.{List}
 use denote.Ref.{RefT, now, ptr}
@@ -44,26 +44,25 @@ use Rattle.c_state.proofs as c_state
 use Rattle.c_inputs.proofs as c_inputs
 use Rattle.cableowl.proofs as cableowl
 
--- what a contract allows: for lifetimes k and all that is given, of an answer and of what was lent, at the end
+-- what a contract allows: for lifetimes k and every input, a result and the final contents of what was borrowed
 abbrev pub Allows : (K : Type 0) (A R S : K → Type 0) → Type 1
 Allows K A R S = (k : K) → A k → R k → S k → Type 0
 
 module _ {K : Type 0} {A R S : K → Type 0} where
-  -- its answers coincide
+  -- its results coincide
   abbrev pub Decides : Allows K A R S → Type 0
   Decides P = (k : K) (a : A k) (x y : R k) (s t : S k) → P k a x s → P k a y t → x ≡ y
 
-  -- and so does what it leaves: all of a buffer or a number that it writes, or the part of a buffer that the answer
-  -- says is in use
+  -- and so does what it writes: a whole buffer or number, or the part of a buffer that the result says is in use
   abbrev pub DecidesWith : {B : Type 0} (left : (k : K) → R k → S k → B) → Allows K A R S → Type 0
   DecidesWith left P = (k : K) (a : A k) (x y : R k) (s t : S k) → P k a x s → P k a y t → (x ≡ y)
       × (left k x s ≡ left k y t)
 
-  -- or what its callers see of the answer coincides
+  -- or what its callers see of the result coincides
   abbrev pub DecidesAs : {B : Type 0} (seen : (k : K) → A k → R k → B) → Allows K A R S → Type 0
   DecidesAs seen P = (k : K) (a : A k) (x y : R k) (s t : S k) → P k a x s → P k a y t → seen k a x ≡ seen k a y
 
--- a part of what was lent: its samples and its place coincide
+-- a part of a borrowed slice: its samples and its offset coincide
 abbrev pub DecidesPart : {K : Type 0} {A S : K → Type 0} → Allows K A (λ (k : K). RefT (List Float)) S → Type 0
 DecidesPart {K} {A} {S} P =
     (k : K) (a : A k) (x y : RefT (List Float)) (s t : S k) → P k a x s → P k a y t → (now x ≡ now y)

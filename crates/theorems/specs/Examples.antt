@@ -1,5 +1,5 @@
--- docs/assurance/RULES.md, "Marked examples": all that are marked [P], one table and one statement. N = 10 and loop
--- (3, 6) unless said.
+-- docs/assurance/RULES.md, "Marked examples": all that are marked [P], in one table and one statement. N = 10 and loop
+-- (3, 6) unless stated otherwise.
 use Prim.Native.Nat.{ℕ}
 use mathlib.Core.Path.{_≡_}
 use mathlib.Core.Bool.{Bool, true, false}
@@ -25,8 +25,8 @@ use Rattle.sound_creation.specs.declared.Created.{Created}
 use Rattle.sound_creation.specs.Creation.{created}
 use Rattle.sound_commands.specs.Commands.{targetTo}
 
--- what a row shows: where a transport is and whether it plays on; a frame number; a creation's refusal, window
--- numbers and position; a frame heard
+-- what a row shows: the position of a transport and whether it still plays; a frame index; a creation's refusal, frame
+-- indices and position; a reading
 pub data Shown : Type 0 where
   moved : ℕ → Bool → Shown
   place : ℕ → Shown
@@ -45,7 +45,7 @@ plain p = record { position = p; «loop_region» = Absent; playing = true }
 abbrev shown : Transport → Shown
 shown t = moved (t .position) (t .playing)
 
--- playing on at p, and ended at p
+-- playing at p, and ended at p
 abbrev at : ℕ → Shown
 at p = moved p true
 
@@ -90,11 +90,11 @@ rising = record {
   «time_until_empty» = 4;
 }
 
--- so many halves
+-- this many halves
 abbrev halves : ℕ → Float
 halves n = fin false n (negsuc 0)
 
--- ---- what the definitions give, and what the document says
+-- ---- what the definitions compute, and what the document says
 
 unfoldable pub table : List (Shown × Shown)
 table =

@@ -1,7 +1,7 @@
--- Blocks whose five numbers are given once. Their definition is the block over lanes that repeat the numbers, so
--- every theorem about blocks holds for them. Here by name: such a block can be cut into two such blocks, into an
--- output or into a mix; what it keeps; its steps, and how many they are at most. Sequences of such blocks are those
--- of Schedules over such lanes, and they are calls of InTheLoop.
+-- Blocks with held lanes. Their definition is the block over lanes that repeat the five numbers, so every theorem about
+-- blocks holds for them. This file names the important ones: such a block can be cut into two such blocks, into an
+-- output or into a mix; what it keeps; its steps, and their largest number. Sequences of such blocks are those of
+-- Schedules over such lanes, and they are calls of InTheLoop.
 use Prim.Native.Nat.{ℕ, _+_, _-_, _*_, _/_}
 use mathlib.Core.List.{List}
 use lib.ListN.{length, take, drop}

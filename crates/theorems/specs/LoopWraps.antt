@@ -30,7 +30,7 @@ CountsOnward backwards w = Onward backwards × (w .wraps .forward < 4294967295)
 abbrev pub CountsBack : Bool → Moving → Type 0
 CountsBack backwards w = Back backwards × (w .wraps .backward < 4294967295)
 
--- so many steps in the loop (s, e), in one direction, from m to w
+-- this many steps in the loop (s, e), in one direction, from m to w
 pub record Fits (s e : ℕ) (backwards : Bool) (steps : ℕ) (m w : Moving) : Type 0 where
   pub forward : CountsOnward backwards w
       → w .transport .position + (e - s) * (w .wraps .forward - m .wraps .forward) ≡ m .transport .position + steps

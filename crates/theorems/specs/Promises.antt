@@ -36,7 +36,7 @@ pub record Promises : Type 0 where
   -- splitting a block does not change it
   pub cut-blocks : CutBlocks
   pub cut-mixes : CutMixes
-  -- and so is a stream of blocks of any sizes, each of which is accepted
+  -- and neither does splitting a stream of blocks of any sizes, each of which is accepted
   pub any-sizes : AnySizes
   pub any-sizes-mix : AnySizesMix
   pub all-accepted : AllAccepted
@@ -71,7 +71,7 @@ pub record Promises : Type 0 where
   pub mix-budget : MixBudget
   pub stream-budget : StreamBudget
   pub two-steps : TwoSteps
-  -- the same for blocks whose numbers are given once
+  -- the same for blocks with held lanes
   pub held-blocks : HeldBlocks
   -- what the lowest count means, for a voice that comes from creation by calls with its sound
   pub creation-feeds : CreationFeeds
@@ -81,7 +81,7 @@ pub record Promises : Type 0 where
   pub blocks-tell : BlocksTell
   pub mixes-tell : MixesTell
   pub silence-tells : SilenceTells
-  -- an ended transport and a Stopped voice stay so
+  -- an ended transport stays ended, and a Stopped voice stays Stopped
   pub seek-starts-nothing : SeekStartsNothing
   pub stopped-stays : StoppedStays
   -- steps in any order, and any sequence of calls without a loop command, stay inside the loop
@@ -90,11 +90,11 @@ pub record Promises : Type 0 where
   pub permutations : Permutations
   pub in-the-loop : InTheLoop
   pub archive-in-the-loop : InTheLoopC
-  -- what the counts of wraps mean inside a loop: positions, steps and wraps fit
+  -- what the counts of wraps mean inside a loop: how positions, steps and wraps fit together
   pub updates-fit : UpdatesFit
   pub blocks-fit : BlocksFit
   pub mixes-fit : MixesFit
-  -- ticks that wrap: half of them are reached, and a block starts a voice whose due tick is
+  -- ticks that wrap: half of them are reached, and a block starts a voice whose due tick is reached
   pub half-reached : HalfReached
   pub moved-together : MovedTogether
   pub tick-starts : TickStarts

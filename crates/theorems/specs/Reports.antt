@@ -27,7 +27,7 @@ use Rattle.sound_slow_path.specs.Plays.{plays}
 use Rattle.static_sound.specs.Entries.{processed, processedInto}
 use Rattle.theorems.specs.Accepted.{AcceptedBlock, AcceptedMix, Silent}
 
--- ---- how a window came about
+-- ---- the history of a window
 
 -- pushes without a frame, the last one first
 unfoldable pub nones : List ℕ → Resampler → Resampler
@@ -90,7 +90,7 @@ pub record Tail (snd : List Float) (dt : Float) (ls : List Lane) (u : StaticSoun
   pub pushes : t ≡ 4 - length (fed .since)
   pub ended : (atRead snd dt ls u read) .moving .transport .playing ≡ false
 
--- the two cases of a count: 4, and a read of the block; less
+-- the two cases of a count: 4, with a read of the block; less
 abbrev pub Full : ℕ → List Lane → ℕ → Type 0
 Full t ls k = (t ≡ 4) × (k < length ls)
 

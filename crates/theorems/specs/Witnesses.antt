@@ -95,7 +95,7 @@ ending =
 abbrev pub lanes : Lanes
 lanes = let ones = one ∷ one ∷ [] in five ones ones ones ones ones
 
--- the same numbers, given once
+-- the same numbers as held lanes
 abbrev pub ones : Held
 ones = record { fade = one; volume = one; left = one; right = one; rate = one }
 
@@ -193,7 +193,7 @@ stoppingC = archive.Command ten stopC ∷ archive.Block ten one lanes fadedC out
 abbrev pub full : Frame
 full = record { left = one; right = one }
 
--- ---- the hypotheses that it meets
+-- ---- the hypotheses that they meet
 
 pub record Witnesses : Type 0 where
   pub cut-blocks : MayCut ten voice one lanes due output 1

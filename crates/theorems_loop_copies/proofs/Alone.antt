@@ -1,4 +1,4 @@
--- Each box behaves as if it stood alone: its own calls keep it like one table that nobody else uses, and nothing else touches its hall's half. By induction on the steps. Assumes nothing.
+-- Each box behaves as if it were alone: its own calls keep it equal to a table that nobody else uses, and nothing else touches its hall's half. By induction on the steps. Assumes nothing.
 use mathlib.Core.Path.{_≡_, refl, sym, ap, ap₂, _∙_, subst}
 use Prim.Native.Nat.{ℕ}
 use mathlib.Core.Bool.{Bool, true, false, _&&_, cond}
@@ -43,7 +43,7 @@ asked-world : (snd : List Float) (h : Hall) (b : Box) (a : Asked) → worldOf (a
 asked-world snd h b (OfTable q) = ap (λ (t : LoopTable). record { table = t; voices = b .voices }) (table-after h (b .copy) q)
 asked-world snd h b (OfVoice i p) = refl
 
--- ---- a merge at the hall's own box leaves its half
+-- ---- a merge at the hall's own box does not change its half
 
 pub merged-alike : (n : ℕ) (w : Boxes) (r : Reached n (copies w) (w .sent)) (h : Hall) (j : ℕ) (t : LoopTable) → Alike h (copies w h .table) t
     → Alike h ((merging (w .box h) (getD (w .sent) j (w .box h .copy))) .copy .table) t
@@ -59,7 +59,7 @@ merged-alike n w r h j t a =
       slots = ap (λ (x : LoopCopy). half h (x .table)) e ∙ ap (λ (v : View). v .slots) o ∙ a .slots;
     }
 
--- ---- a row of steps
+-- ---- a sequence of steps
 
 module _ (snd : List Float) (n : ℕ) (h : Hall) (i : ℕ) where
   abbrev R : World → World → Type 0

@@ -1,4 +1,4 @@
--- A merge by itself: it never goes back, and order, number and grouping of merges do not matter. By the views of each copy. Assumes nothing.
+-- A merge: it never goes back, and the order, number and grouping of merges do not matter. By the views of each copy. Assumes nothing.
 use mathlib.Core.Path.{_≡_, refl, sym, ap, ap₂, _∙_, subst}
 use Prim.Native.Nat.{_≤_, _<_}
 use native.Mathlib.Omega.{arith}

@@ -1,4 +1,4 @@
--- What holds of all copies that two boxes hold or have sent: each has a half of each hall's own history, and no number is above the hall's own.
+-- What holds for all copies that two boxes have or have sent: each has a half of each hall's own history, and no number is above the hall's own.
 -- By induction on the steps. Assumes nothing.
 use mathlib.Core.Path.{_≡_, refl, sym, ap, _∙_, subst}
 use Prim.Native.Nat.{ℕ, zero, suc, _+_, _≤_, _<_}
@@ -62,7 +62,7 @@ module _ (n : ℕ) (bound : Hall → ℕ) (hist : Hall → ℕ → List LoopSlot
           (sym (view-merged h c d (g .sixteen) (k .sixteen)))
           (picked (Old h) (view h c) (view h d) (λ l. (k .below h, k .from h)) (λ l. (g .below h, g .from h)))
 
-  -- at its own box a hall's half is the newest, so a merge leaves it
+  -- at its own box a hall's half is the newest, so a merge does not change it
   pub own-merged : (h : Hall) (c d : LoopCopy) → Good n bound hist c → Good n bound hist d → changesOf h c ≡ bound h → view h (merged c d) ≡ view h c
   own-merged h c d g k e =
       view-merged h c d (g .sixteen) (k .sixteen) ∙ pick-older (view h c) (view h d) (subst (λ (m : ℕ). changesOf h d ≤ m) (sym e) (k .below h))

@@ -41,7 +41,7 @@ other-call h g (Write k s e) t u d a = alike-turned h _ t (changed-one h g u t (
 other-call h g (Clear k) t u d a = alike-turned h _ t (changed-one h g u t (refusedClear u g k) k empty d (clear-passed u g k) (alike-turned h t u a))
 other-call h g (Read k) t u d a = a
 
--- ---- a row of steps
+-- ---- a sequence of steps
 
 abbrev tables : Boxes → Hall → LoopTable
 tables w h = w .box h .copy .table

@@ -1,4 +1,4 @@
--- Two boxes over a row of steps: what holds of all their copies goes on holding, as long as no number of changes is at its limit.
+-- Two boxes over a sequence of steps: what holds of all their copies goes on holding, as long as no number of changes is at its limit.
 -- By cases on the step. Assumes nothing.
 use mathlib.Core.Path.{_≡_, refl, sym, ap, _∙_, subst}
 use Prim.Native.Nat.{ℕ, _+_, _≤_, _<_}
@@ -47,7 +47,7 @@ one-at-most h c (OfTable (Clear k)) m = counted-at-most h c (refusedClear (c .ta
 one-at-most h c (OfTable (Read k)) m = omega arith
 one-at-most h c (OfVoice i p) m = omega arith
 
--- ---- a row of steps
+-- ---- a sequence of steps
 
 abbrev pub copies : Boxes → Hall → LoopCopy
 copies w h = w .box h .copy
@@ -110,7 +110,7 @@ module _ (snd : List Float) (n : ℕ) where
         room = λ h. omega (arith, e, no-changes h);
       }
 
-  -- after a whole row
+  -- after a whole sequence
   pub going-all : (ss : List Step) (w : Boxes) → Going n w ss → Going n (afterSteps snd w ss) []
   going-all [] w g = g
   going-all (s ∷ ss) w g = going-all ss (stepped snd w s) (going-on s ss w g)

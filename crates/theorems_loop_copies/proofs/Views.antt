@@ -31,7 +31,7 @@ pub record View : Type 0 where
 abbrev pub view : Hall → LoopCopy → View
 view h c = record { number = changesOf h c; slots = half h (c .table) }
 
--- the newer of two; the first where they have one number
+-- the newer of two; the first if they have the same number
 abbrev pub pick : View → View → View
 pick v w = cond (ltb (v .number) (w .number)) w v
 
@@ -48,7 +48,7 @@ pick-newer v w l = ap (λ (b : Bool). cond b w v) (lt-ltb _ _ l)
 pub pick-older : (v w : View) → w .number ≤ v .number → pick v w ≡ v
 pick-older v w l = ap (λ (b : Bool). cond b w v) (le-ltb _ _ l)
 
--- left-most newest: the grouping does not matter
+-- the leftmost newest: the grouping does not matter
 pub pick-grouping : (u v w : View) → pick (pick u v) w ≡ pick u (pick v w)
 pick-grouping u v w =
     picked (λ (x : View). pick x w ≡ pick u (pick v w)) u v (λ l. later l) (λ l. earlier l)
@@ -60,7 +60,7 @@ pick-grouping u v w =
     earlier l =
         picked (λ (x : View). pick u w ≡ pick u x) v w (λ m. refl) (λ m. pick-older u w (omega (arith, l, m)) ∙ sym (pick-older u v l))
 
--- two views with one number are one view
+-- two views with the same number are equal
 abbrev pub OneView : View → View → Type 0
 OneView v w = v .number ≡ w .number → v .slots ≡ w .slots
 
@@ -288,7 +288,7 @@ pub merged-of : (c d : LoopCopy) → refusedMerge c d ≡ 0 → mergedCopy c d �
 unfolding mergedCopy
 merged-of c d z = rw z
 
--- what holds of our copy and, where it is accepted, of the merged one
+-- what holds of our copy and, if it is accepted, of the merged one
 pub merged-either : (P : LoopCopy → Type 0) (c d : LoopCopy) → (refusedMerge c d ≡ 0 → P (merged c d)) → P c → P ((mergedCopy c d) .copy)
 unfolding mergedCopy
 merged-either P c d y z = go (eqb (refusedMerge c d) 0) refl

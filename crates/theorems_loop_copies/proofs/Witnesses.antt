@@ -1,4 +1,4 @@
--- The inputs that meet what the theorems ask, by computing. Assumes nothing.
+-- The inputs that meet the hypotheses, by computing. Assumes nothing.
 use mathlib.Core.Path.{_≡_, refl}
 use native.Mathlib.Omega.{arith}
 use Rattle.loop_table.specs.Tables.{wellFormedTable}

@@ -29,7 +29,7 @@ use Rattle.theorems_loop_table.specs.Calls.{
   after,
 }
 
--- what a box is asked: a call of the table by its own hall, or a call of one of its voices
+-- a call at a box: of the table by its own hall, or of one of its voices
 pub data Asked : Type 0 where
   OfTable : Call → Asked
   OfVoice : ℕ → Play → Asked
@@ -39,7 +39,7 @@ pub data Step : Type 0 where
   At : Hall → Asked → Step
   -- the box of a hall sends its copy
   Sends : Hall → Step
-  -- the box of a hall merges a copy that was sent: 0 is the last one, 1 the one before it; past the first, its own
+  -- the box of a hall merges a copy that was sent: 0 is the last one, 1 the one before it; past the first one, its own
   Merges : Hall → ℕ → Step
 
 pub record Box : Type 0 where
@@ -89,7 +89,7 @@ afterSteps snd w (s ∷ ss) = afterSteps snd (stepped snd w s) ss
 abbrev pub begun : ℕ → (Hall → ℕ → StaticSound) → Boxes
 begun n vs = record { box = λ h. record { copy = emptyCopy n; voices = vs h }; sent = [] }
 
--- the answers at the box of hall h to those calls that pass a test
+-- the results at the box of hall h of those calls that pass a test
 abbrev pub answersAt : List Float → Hall → (Event → Bool) → Boxes → List Step → List Answer
 answersAt snd h p w [] = []
 answersAt snd h p w (At g a ∷ ss) =
@@ -100,7 +100,7 @@ answersAt snd h p w (At g a ∷ ss) =
 answersAt snd h p w (Sends g ∷ ss) = answersAt snd h p (stepped snd w (Sends g)) ss
 answersAt snd h p w (Merges g n ∷ ss) = answersAt snd h p (stepped snd w (Merges g n)) ss
 
--- the calls at the box of hall h, as if it stood alone
+-- the calls at the box of hall h, as if it were alone
 abbrev pub aloneRow : Hall → List Step → List Event
 aloneRow h [] = []
 aloneRow h (At g a ∷ ss) = cond (same h g) (eventOf g a ∷ aloneRow h ss) (aloneRow h ss)

@@ -1,5 +1,4 @@
--- A merge of two copies by itself: it never goes back, and it does not matter in which order or how often copies are
--- merged.
+-- The merge of two copies: it never goes back, and it does not matter in which order or how often copies are merged.
 use mathlib.Core.Path.{_≡_}
 use mathlib.Core.Bool.{true}
 use Prim.Native.Nat.{_≤_}
@@ -36,7 +35,7 @@ pub record MayMergeAll (c d e : LoopCopy) : Type 0 where
   pub second : MayMerge d e
   pub third : MayMerge c e
 
--- the hall's number is as it was
+-- the hall's number does not change
 abbrev pub SameNumber : LoopCopy → LoopCopy → Hall → Type 0
 SameNumber c d h = changesOf h ((mergedCopy c d) .copy) ≡ changesOf h c
 

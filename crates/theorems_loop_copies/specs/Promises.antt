@@ -14,7 +14,7 @@ pub record Promises : Type 0 where
   pub any-grouping : AnyGrouping
   -- each box behaves as if it were alone
   pub as-alone : AsAlone
-  -- in the end both boxes hold the table that one shared table would hold
+  -- in the end both boxes have the table that one shared table would be
   pub together : Together
   pub last-copy-catches : LastCopyCatches
   pub none-refused : NoneRefused

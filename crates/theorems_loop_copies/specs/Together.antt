@@ -1,5 +1,5 @@
--- Once each box has merged the other's last copy, both hold the table that one shared table would hold. No merge on
--- the way is refused.
+-- Once each box has merged the other's last copy, both have the table that one shared table would be. No merge on the
+-- way is refused.
 use Prim.Native.Nat.{ℕ}
 use mathlib.Core.Path.{_≡_}
 use mathlib.Core.List.{List}

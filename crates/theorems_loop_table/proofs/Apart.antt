@@ -1,4 +1,4 @@
--- Two halls do not disturb each other, and a loop taken earlier stays: of the two rows only the calls that concern the hall and the voice matter.
+-- Two halls do not disturb each other, and a loop taken earlier stays: only the calls that concern the hall and the voice matter.
 -- Two worlds are alike for hall h and voice i if their tables are both well formed or neither, over the same frames and with the same half, and the voice is the same. Assumes nothing.
 use mathlib.Core.Path.{_≡_, refl, sym, ap, ap₂, _∙_, subst}
 use Prim.Native.Nat.{ℕ}
@@ -29,7 +29,7 @@ pub record Alike (h : Hall) (t u : LoopTable) : Type 0 where
 
 -- ---- one call at two tables that are alike
 
--- a read, by the two things it looks at
+-- a read, by the two values that it depends on
 abbrev foundBy : ℕ → Bool → LoopSlot → LoopFound
 foundBy k l x =
     let n = unless l 1 (unless (leb k 15) 20 (cond (isEmpty x) 22 0)) in

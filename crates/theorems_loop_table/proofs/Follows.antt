@@ -1,5 +1,5 @@
 -- A read of a slot follows the hall that writes it: what an accepted write or clear left in slot k stays there, since every other accepted change is of another slot.
--- By induction on the row of calls. Assumes nothing.
+-- By induction on the calls. Assumes nothing.
 use mathlib.Core.Path.{_≡_, refl, sym, ap, _∙_, subst}
 use Prim.Native.Nat.{ℕ, _≤_, _<_}
 use native.Mathlib.Omega.{arith}
@@ -22,7 +22,7 @@ use Rattle.theorems_loop_table.specs.Calls.{Write, Clear, Read, Event, B
 use Rattle.theorems_loop_table.specs.Apart.{spares, ReadsFollow}
 use Rattle.theorems_loop_table.proofs.Stores.{so, Passed, write-passed, clear-passed, changed-number, changed-well-formed, changed-held}
 
--- the table is well formed, and slot k holds x
+-- the table is well formed, and slot k has x
 pub record Holds (k : ℕ) (x : LoopSlot) (t : LoopTable) : Type 0 where
   pub wellFormed : wellFormedTable t ≡ true
   pub held : heldIn t k ≡ x

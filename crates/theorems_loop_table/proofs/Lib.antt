@@ -1,4 +1,4 @@
--- The theorems of two halls at one table.
+-- The theorems about two halls at one table.
 pub mod Stores
 pub mod Rows
 pub mod Apart

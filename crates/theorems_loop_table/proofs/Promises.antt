@@ -1,4 +1,4 @@
--- All theorems of two halls at one table, in one record. Assumes nothing.
+-- All theorems about two halls at one table, in one record. Assumes nothing.
 use mathlib.Core.Path.{_≡_, refl}
 use Rattle.loop_table.specs.Tables.{wellFormedTable, refusedWrite, refusedClear, written, cleared}
 use Rattle.loop_table.specs.declared.Hall.the-variants.{A}

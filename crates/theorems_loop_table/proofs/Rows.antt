@@ -1,5 +1,5 @@
--- A row of calls against those of them that pass a test: where the others leave two worlds alike, and the same call keeps them alike and is answered alike, the answers are the same.
--- By induction on the row. Assumes nothing.
+-- A sequence of calls compared with those that pass a test: if the other calls keep two worlds alike, and the same call keeps them alike and returns the same, all results are the same.
+-- By induction on the sequence. Assumes nothing.
 use mathlib.Core.Path.{_≡_, refl, sym, ap, ap₂, _∙_}
 use mathlib.Core.Bool.{Bool, true, false, cond}
 use mathlib.Core.List.{List, [], _∷_}
@@ -30,7 +30,7 @@ module _ (snd : List Float) (p q : Event → Bool) (R : World → World → Type
           (rw d (ap₂ _∷_ (m .0) (i .0)), i .1)
       go rest false d t = rest (next snd w e) u (skip e w u d r) t
 
-  -- two rows of which the same calls pass
+  -- two sequences of which the same calls pass
   pub rows-alike : (es fs : List Event) (w u x : World) → R w x → R u x → only p es ≡ only p fs → T (all q (only p es))
       → (answers snd p w es ≡ answers snd p u fs) × R (after snd w es) (after snd x (only p es)) × R (after snd u fs) (after snd x (only p es))
   rows-alike es fs w u x r s e t =

@@ -1,4 +1,4 @@
--- One change of the table, accepted or refused: it keeps the table well formed, the frames, and the other hall's slots; and it makes of h's slots what h's slots say alone.
+-- One change of the table, accepted or refused: it keeps the table well formed, the frames, and the other hall's slots; and h's slots after it depend only on h's slots.
 -- By the laws of one store into a list. Assumes nothing.
 use mathlib.Core.Path.{_≡_, refl, sym, ap, _∙_}
 use Prim.Native.Nat.{ℕ, zero, suc, _+_, _-_, _≤_}
@@ -72,7 +72,7 @@ stored-own hall.B t u k s o e = at t ∙ ap (λ (xs : List LoopSlot). set xs (k 
     at : (t : LoopTable) → drop 8 (set (t .slots) k s) ≡ set (drop 8 (t .slots)) (k - 8) s
     at t = ap (λ (j : ℕ). drop 8 (set (t .slots) j s)) (up k (leb→le 8 k o)) ∙ drop-set-add 8 (t .slots) (k - 8) s
 
--- a slot that a hall writes is seen in its half
+-- a slot that a hall writes is in its half
 pub held-half : (h : Hall) (t u : LoopTable) (k : ℕ) → T (owns h k) → half h t ≡ half h u → heldIn t k ≡ heldIn u k
 held-half hall.A t u k o e =
     let l = ltb→lt k 8 o in
@@ -92,7 +92,7 @@ module _ (n : ℕ) (k : ℕ) (s : LoopSlot) where
       go true e = sym (eqb-true n 0 e)
       go false e = refl
 
-  -- what holds of the table as it was and with the slot replaced holds after the change
+  -- what holds for the table before the change and with the slot replaced holds after it
   pub changed-either : (P : LoopTable → Type 0) (t : LoopTable) → (n ≡ 0 → P (stored t k s)) → P t → P ((changed n t k s) .table)
   changed-either P t y z = go (eqb n 0) refl
     where
@@ -118,6 +118,6 @@ module _ (n : ℕ) (k : ℕ) (s : LoopSlot) where
       go true z = stored-own h t u k s (p (eqb-true n 0 z) .2 .own) e
       go false z = e
 
-  -- another slot keeps what it holds
+  -- another slot does not change
   pub changed-held : (j : ℕ) (t : LoopTable) → (n ≡ 0 → j ≡ k → ⊥) → heldIn ((changed n t k s) .table) j ≡ heldIn t j
   changed-held j t d = changed-either (λ (x : LoopTable). heldIn x j ≡ heldIn t j) t (λ e. getD-set-other (t .slots) k j s empty (d e)) refl

@@ -1,4 +1,4 @@
--- Two given sounds of equal length: each step of version 2 answers the same but for samples, and so does a whole trace. Assumes nothing.
+-- Two given sounds of equal length: each step of version 2 returns the same except for samples, and so does a whole trace. Assumes nothing.
 use mathlib.Core.Path.{_≡_, refl, sym, ap, ap₂, _∙_}
 use Prim.Native.Nat.{ℕ, zero, suc, _+_, _-_, _*_, _≤_, min}
 use native.Mathlib.Omega.{arith}
@@ -202,7 +202,7 @@ step-long r bs ended snd given sounds out = go (eqb (refusedStepV2 r (length snd
     go true = begun-long r ended bs snd given sounds out
     go false = record { sound = refl; samples = refl }
 
--- ---- the same but for samples
+-- ---- the same except for samples
 
 -- the replay with another voice
 abbrev withVoice : CableowlReplay → CableowlState → CableowlReplay
@@ -265,7 +265,7 @@ module _ (r : CableowlReplay) (w : CableowlState) (f : mutedState (r .voice) ≡
         theirs : Commanded
         theirs = commanded (take (r .samples) tnd) (decoded w) (commandsOf vs)
 
-    -- what the player answers to a block, as a record of the kind k
+    -- the player's result for a block, as a record of the kind k
     counted-same : (k n frames : ℕ) (mine theirs : Processed) → mutedProcessed mine ≡ mutedProcessed theirs
         → mutedReplayed (ofKind k (blockC r n frames mine)) ≡ mutedReplayed (ofKind k (blockC q n frames theirs))
     unfolding blockC

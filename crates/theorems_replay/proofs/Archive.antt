@@ -1,4 +1,4 @@
--- The archive's replay and the program's, record by record: the numbers of the one mean the run of the other. Assumes nothing.
+-- The archive's replay and the program's, record by record: the numbers of the one represent the run of the other. Assumes nothing.
 use mathlib.Core.Path.{_≡_, refl, sym, ap, _∙_, subst}
 use Prim.Native.Nat.{ℕ, zero, suc, _+_, _-_, _*_, _≤_}
 use native.Mathlib.Omega.{arith}
@@ -100,7 +100,7 @@ few vs =
     let m = atMost 64 (getD vs 12 0) in
     omega (arith, stereo-long (take m (drop 13 vs)), take-few m (drop 13 vs), at-most-le 64 (getD vs 12 0))
 
--- ---- what the state after a call means: the voice after it
+-- ---- the state after a call represents the voice after it
 
 stays : (k : ℕ) (v : StaticSound) (c : CableowlState) → (eqb k 0 ≡ false → decoded c ≡ v) → decoded (after k v c) ≡ v
 unfolding after
@@ -123,7 +123,7 @@ block-means x c b out =
     stays (q .refusal) (q .voice) c
     (λ e. sym (ap (λ (o : Outcome). o .answer .voice) (processed-refused x (decoded c) (b .«time_step») (lanesOf b) (b .signals) out (eqb-false (q .refusal) 0 e))))
 
--- an answer does not depend on what the output held before
+-- a result does not depend on the output before the call
 any-output : (x : List Float) (v : StaticSound) (dt : Float) (b : Lanes) (g : Signals) (p q : List Float) → length p ≡ length q
     → processed x v dt b g p .answer ≡ processed x v dt b g q .answer
 unfolding processed
@@ -145,11 +145,11 @@ any-output x v dt b g p q e = ap (λ (n : ℕ). ofLength n p .answer) e ∙ go (
 
 -- ---- one record
 
--- the run that the numbers of a replay mean, over the lent sound
+-- the run that the numbers of a replay represent, over the sound
 abbrev replayC : CableowlReplay → List Float → Replay
 replayC r snd = record { voice = decoded (r .voice); sound = take (r .samples) snd; blocks = r .blocks }
 
--- a record of n bytes was played, and did what it does below
+-- a record of n bytes was played, with the same effect as below
 record Goes (o : StepC) (r : CableowlReplay) (n : ℕ) (t : AfterRecord) : Type 0 where
   done : o .answer .what ≡ 0
   size : o .answer .size ≡ n
@@ -295,7 +295,7 @@ goes-on r snd out ended b bs f =
       le-leb 2048 (length out) (f .output),
     ) refl
 
--- the first line, and what is printed behind it
+-- the first line, and what is printed after it
 abbrev onwardC : List ℕ → StepC → List ℕ
 onwardC bs o =
     let a = o .answer in
@@ -304,14 +304,14 @@ onwardC bs o =
 abbrev onwardBelow : ℕ → List ℕ → below.Step → List ℕ
 onwardBelow at bs s = s .line ++ cond (s .over) [] (printed (s .replay) (suc at) (s .size - 1) bs)
 
--- the same is printed of bytes, wherever a step stands that is not refused
+-- the same is printed for bytes, whatever the step that is not refused
 abbrev Replays : List ℕ → Type 0
 Replays bs =
     (k at : ℕ) (r : CableowlReplay) (snd out : List Float) → Fit r snd out → r .offset ≡ at + k
     → at + length bs ≤ 18446744073709551615
     → printedC r snd out k bs ≡ printed (replayC r snd) at k bs
 
--- a record that was played: its line, and the same behind it
+-- a record that was played: its line, and the same after it
 record-replays : (at : ℕ) (bs : List ℕ) (r : CableowlReplay) (o : StepC) (n : ℕ) (t : AfterRecord) → Goes o r n t → Replays bs
     → r .offset ≡ at → at + suc (length bs) ≤ 18446744073709551615 → 1 ≤ n → n ≤ suc (length bs)
     → onwardC bs o ≡ t .line ++ printed (t .replay) (suc at) (n - 1) bs
@@ -390,12 +390,12 @@ pub archive-lines-alike : LinesAlikeC
 archive-lines-alike snd1 out1 snd2 out2 bs cs h =
     archive-replays snd1 out1 bs (h .first) ∙ lines-alike bs cs (h .same) ∙ sym (archive-replays snd2 out2 cs (h .second))
 
--- ---- any cutting of the stream of bytes
+-- ---- the bytes in pieces of any size
 
 none : {A : Type 0} → ⊥ → A
 none e = elim e [ ]
 
--- the bytes of the record in hand are passed
+-- the bytes of the current record are skipped
 run-on : (r : CableowlReplay) (snd out : List Float) (k : ℕ) (bs : List ℕ) → printedC r snd out k bs ≡ printedC r snd out 0 (drop k bs)
 unfolding printedC
 run-on r snd out zero bs = refl
@@ -436,7 +436,7 @@ passed b bs o h =
     (run-on (a .replay) (o .sound) (o .samples) (a .size - 1) bs
     ∙ ap (λ (n : ℕ). printedC (a .replay) (o .sound) (o .samples) 0 (drop n (b ∷ bs))) q)
 
--- what is left of an answer other than 1: the record that a step is shown decides, and whether more bytes may come does not
+-- for a result other than 1 the record decides, and not whether more bytes may come
 any-end : (r : CableowlReplay) (ended : ℕ) (d : Record) (snd out : List Float) → (judged r ended d snd out .answer .what ≡ 1 → ⊥)
     → judged r ended d snd out ≡ judged r 1 d snd out
 unfolding judged
@@ -453,7 +453,7 @@ any-end r ended d snd out = go (eqb (d .refusal) 0) (eqb (d .refusal) 18) (eqb e
     go false true false h = refl
     go false false e h = refl
 
--- a step that is shown a record: the call is refused, or the record is judged
+-- a step that gets a record: the call is refused, or the record is checked
 abbrev shown : CableowlReplay → Bool → ℕ → ℕ → List Float → List Float → Record → StepC
 shown r z k ended snd out d = cond z (judged r ended d snd out) (record { answer = unplayed r 4 k; sound = snd; samples = out })
 
@@ -484,7 +484,7 @@ first-line r true k snd out b bs s = go (eqb (d .refusal) 0) refl (eqb (d .refus
     go false e true = refl
     go false e false = refl
 
--- where the end of the record is not shown, the step asks for more bytes, or the call is refused
+-- if the end of the record is missing, the step asks for more bytes, or the call is refused
 waits : (r : CableowlReplay) (ended : ℕ) (snd out : List Float) (d : Record) → d .refusal ≡ 18 → ended ≡ 0
     → judged r ended d snd out .answer .what ≡ 1
 unfolding judged
@@ -517,7 +517,7 @@ any-window r z k ended snd out b bs e s a (cut-off h) n = go (eqb ended 0) refl
     go true q = short-window r z k ended snd out b bs (recordAt (b ∷ bs) 0) e h (eqb-true ended 0 q) n
     go false q = full-window r z k ended snd out b bs e s (a (eqb-false ended 0 q)) n
 
--- a step that is shown no bytes
+-- a step without bytes
 abbrev nothing-shown : CableowlReplay → ℕ → List Float → List Float → Bool → Bool → StepC
 nothing-shown r k snd out z e =
     cond z (record { answer = cond e (unplayed r 1 0) (unplayed r 2 0); sound = snd; samples = out })

@@ -169,7 +169,7 @@ module _ (r : CableowlReplay) (snd out : List Float) where
       go false true = record { replay = refl; line = refl }
       go false false = record { replay = refl; line = refl }
 
-  -- what is read behind a record that was played is of version 1 too
+  -- what is read after a record that was played is of version 1 too
   record Reads (bs : List ℕ) (o : StepC) : Type 0 where
     stays : Stays o
     goes-on : o .answer .what ≡ 0 → isVersion1 (o .answer .size - 1) bs ≡ true
@@ -201,7 +201,7 @@ module _ (r : CableowlReplay) (snd out : List Float) where
       go false z w e = record { stays = record { replay = refl; line = refl }; goes-on = λ (y : _≡_ {A = ℕ} 4 0). none (omega (arith, y)) }
 
 module _ (host : ℕ → Offer) where
-  -- the first line, and what is printed behind it
+  -- the first line, and what is printed after it
   abbrev onwardV2 : List ℕ → StepC → List ℕ
   onwardV2 bs o =
       let a = o .answer in

@@ -17,11 +17,11 @@ use Rattle.theorems_replay.specs.Coincide.{InUse, Coincide}
 same : {A : Type 0} {x y z : A} → x ≡ z → y ≡ z → x ≡ y
 same p q = p ∙ sym q
 
--- as long as a part is, so many were taken
+-- the length of a part is the number of its elements
 as-long : {A : Type 0} (m n : ℕ) (x y : List A) → take m x ≡ take n y → m ≤ length x → n ≤ length y → m ≡ n
 as-long m n x y e h k = sym (length-take-le m x h) ∙ ap length e ∙ length-take-le n y k
 
--- runs with the same course, each with its samples within the lent sound
+-- runs with the same replay, each with its samples within the sound
 runs-same : (r u : Run) (x y : List Float) → replayOf r x ≡ replayOf u y → r .samples ≤ length x → u .samples ≤ length y → r ≡ u
 runs-same r u x y e h k =
     let s = as-long (r .samples) (u .samples) x y (ap (λ (c : Replay). c .sound) e) h k in

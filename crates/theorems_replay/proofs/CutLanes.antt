@@ -1,4 +1,4 @@
--- A block with a value for each frame cut in two: Cut (crates/theorems) over the lanes in the records' bytes. Assumes nothing.
+-- A laned block cut in two: Cut (crates/theorems) over the lanes in the records' bytes. Assumes nothing.
 use mathlib.Core.Path.{_≡_, refl, sym, ap, ap₂, _∙_}
 use Prim.Native.Nat.{ℕ, zero, suc, _+_, _-_, _*_, _≤_}
 use native.Mathlib.Omega.{arith}

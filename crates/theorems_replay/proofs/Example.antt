@@ -31,7 +31,7 @@ pub six-read : recordAt (165 ∷ drop 56 threeFrames) 0 ≡ read 3 42 sixNumbers
 unfolding recordAt valued readRecord bodied ended possible steps step taken stands within num headRows blockRows rows rowAt headTable blockTable
 six-read = refl
 
--- a step's line, and what is printed behind it
+-- a step's line, and what is printed after it
 abbrev onward : ℕ → List ℕ → Step → List ℕ
 onward at rest s = s .line ++ cond (s .over) [] (printed (s .replay) at (s .size - 1) rest)
 
@@ -59,7 +59,7 @@ block-heard : (c : Replay) (at : ℕ) (vs : List ℕ) (n : ℕ) → judged c at 
 unfolding judged after
 block-heard c at vs n = refl
 
--- the bytes of a record are passed
+-- the bytes of a record are skipped
 to-the-block : (c : Replay) → printed c 1 54 (drop 1 threeFrames) ≡ printed c 55 0 (165 ∷ drop 56 threeFrames)
 to-the-block c = let l : length (drop 1 threeFrames) ≡ 96 = refl in run-on c 1 (drop 1 threeFrames) 54 (omega (arith, l))
 
@@ -71,7 +71,7 @@ six-frames : blockOf sixNumbers .frames ≡ 6
 unfolding blockOf
 six-frames = refl
 
--- of any course whose first block it is
+-- for any replay whose first block it is
 of-block : (c : Replay) → c .blocks ≡ 0 → printed c 55 0 (165 ∷ drop 56 threeFrames) ≡ lineOf 1 6 (answer c sixNumbers)
 of-block c e =
     from-record c 55 165 (drop 56 threeFrames) (read 3 42 sixNumbers) six-read

@@ -1,4 +1,4 @@
--- What is printed is read off the records, and a record without samples leaves a run that differs in nothing but samples (crates/theorems_sound_length).
+-- What is printed depends on the records, and a record without samples leads to a run that differs only in samples (crates/theorems_sound_length).
 -- By induction on the bytes, then on the records. Assumes nothing.
 use mathlib.Core.Path.{_≡_, refl, sym, ap, ap₂, _∙_}
 use Prim.Native.Nat.{ℕ, zero, suc, _+_, _-_, _*_, _<_}
@@ -60,7 +60,7 @@ samples-long vs =
     stereo-long (atMost 64 (getD vs 12 0)) (drop 13 vs)
     ∙ ap₂ (λ (n : ℕ) (xs : List ℕ). length (stereo (take (atMost 64 n) xs))) (sym (kept 13 12 vs (omega arith))) (sym (frames-zero 13 vs))
 
--- ---- runs that differ in nothing but samples
+-- ---- runs that differ only in samples
 
 record Alike (c d : Replay) : Type 0 where
   voices : muted (c .voice) ≡ muted (d .voice)

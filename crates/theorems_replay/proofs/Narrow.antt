@@ -1,4 +1,4 @@
--- A window that is too narrow for its record shows that the record's end is missing, and no other refusal. Assumes nothing.
+-- A window that is too narrow for its record reports that the record's end is missing, and no other refusal. Assumes nothing.
 use mathlib.Core.Path.{_≡_, refl, ap, subst}
 use Prim.Native.Nat.{ℕ, _+_, _-_, _≤_}
 use native.Mathlib.Omega.{arith}
@@ -16,7 +16,7 @@ use Rattle.trace_records.specs.declared.Record.{Record}
 use Rattle.trace_records.specs.Tables.{headRows, body}
 use Rattle.trace_records.specs.Records.{possible, Found, refused, found, ended, bodied, readRecord, valued, recordAt}
 
--- a reading of the whole beside the reading of a window, with m behind the window
+-- a reading of the whole compared with the reading of a window, with m bytes after the window
 data Beside (m : List ℕ) : Reading → Reading → Type 0 where
   short : (x : Reading) → Beside m x (bad 18)
   alike : (k : ℕ) → Beside m (bad k) (bad k)
@@ -85,7 +85,7 @@ unfolding steps
 rows-beside [] m x y h = h
 rows-beside (r ∷ rs) m x y h = rows-beside rs m (step r x) (step r y) (row-beside r m x y h)
 
--- what is found in the whole beside what is found in the window
+-- what is found in the whole compared with what is found in the window
 data FoundBeside (m : List ℕ) : Found → Found → Type 0 where
   missing : (x : Found) → FoundBeside m x (refused 18)
   refusal : (k : ℕ) → FoundBeside m (refused k) (refused k)

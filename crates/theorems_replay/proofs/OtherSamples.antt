@@ -1,4 +1,4 @@
--- The three-frame example against the same trace with NaNs for samples: the creation of each is read, and the block behind it is the same. Assumes nothing.
+-- The three-frame example compared with the same trace with NaNs for samples: the creation of each is read, and the block after it is the same. Assumes nothing.
 use mathlib.Core.Path.{_≡_, refl, sym, ap, _∙_}
 use Prim.Native.Nat.{ℕ, zero, suc, _-_}
 use mathlib.Core.Bool.{cond}
@@ -21,7 +21,7 @@ first-read : (b : ℕ) (bs : List ℕ) (r : Record) → recordAt (b ∷ bs) 0 �
 unfolding records
 first-read b bs r e = ap (λ (x : Record). x ∷ cond (eqb (x .refusal) 0) (records (x .next - 1) bs) []) e
 
--- the bytes of a record are passed
+-- the bytes of a record are skipped
 records-on : (k : ℕ) (bs : List ℕ) → records k bs ≡ records 0 (drop k bs)
 unfolding records
 records-on zero bs = refl

@@ -1,4 +1,4 @@
--- The record of promises, a proof a field. Assumes nothing.
+-- The record of promises, one proof for each field. Assumes nothing.
 use Rattle.theorems_replay.specs.Promises.{Promises}
 use Rattle.theorems_replay.proofs.Streams.{streams}
 use Rattle.theorems_replay.proofs.Cuts.{cut-records}

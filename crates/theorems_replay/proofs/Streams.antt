@@ -22,14 +22,14 @@ use Rattle.theorems_replay.specs.Streams.{Streams}
 none : {A : Type 0} → ⊥ → A
 none e = elim e [ ]
 
--- the bytes of the record in hand are passed
+-- the bytes of the current record are skipped
 pub run-on : (c : Replay) (at : ℕ) (bs : List ℕ) (k : ℕ) → k ≤ length bs → printed c at k bs ≡ printed c (at + k) 0 (drop k bs)
 unfolding printed
 run-on c at bs zero h = let e : at ≡ at + 0 = omega arith in ap (λ (z : ℕ). printed c z 0 bs) e
 run-on c at [] (suc k) h = none (omega arith)
 run-on c at (b ∷ bs) (suc k) h = let e : suc at + k ≡ at + suc k = omega arith in run-on c (suc at) bs k (omega arith) ∙ ap (λ (z : ℕ). printed c z 0 (drop k bs)) e
 
--- a run that goes on has passed a record
+-- a run that continues has read a record
 pub record Sized (s : Step) (n : ℕ) : Type 0 where
   pub some : 1 ≤ s .size
   pub few : s .size ≤ n

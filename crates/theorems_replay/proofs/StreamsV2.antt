@@ -1,4 +1,4 @@
--- A step of version 2 looks at no more bytes than the longest record has. Assumes nothing.
+-- A step of version 2 reads no more bytes than the longest record has. Assumes nothing.
 use mathlib.Core.Path.{_≡_, refl, sym, ap, ap₂, _∙_}
 use Prim.Native.Nat.{ℕ, zero, suc, _+_, _-_, _*_, _≤_}
 use native.Mathlib.Omega.{arith}

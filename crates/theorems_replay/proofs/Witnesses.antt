@@ -1,4 +1,4 @@
--- What is asked, at its inputs: by computing. Assumes nothing.
+-- The hypotheses at their inputs, by computing. Assumes nothing.
 use mathlib.Core.Path.{_≡_, refl, ap, _∙_}
 use Prim.Native.Nat.{ℕ, zero, suc, _-_, _≤_}
 use native.Mathlib.Omega.{arith}
@@ -94,7 +94,7 @@ old-first b bs d e f =
     ap (λ (t : Bool). not t && cond (eqb (recordAt (b ∷ bs) 0 .refusal) 0) (isVersion1 (recordAt (b ∷ bs) 0 .next - 1) bs) true) f
     ∙ ap (λ (x : Record). cond (eqb (x .refusal) 0) (isVersion1 (x .next - 1) bs) true) e
 
--- the bytes of a record are passed
+-- the bytes of a record are skipped
 old-on : (k : ℕ) (bs : List ℕ) → isVersion1 k bs ≡ isVersion1 0 (drop k bs)
 unfolding isVersion1
 old-on zero bs = refl

@@ -29,12 +29,12 @@ blockLineC a =
     cond (eqb (a .refusal) 0) (blockLine (r .blocks) (a .frames) (a .steps) (r .voice .state) (r .voice .position))
     (refusedBlockLine (r .blocks) (a .refusal))
 
--- of an answer: the line of a refused record, of a block, else nothing
+-- the line of an answer: of a refused record or a block; otherwise nothing
 unfoldable pub lineC : CableowlReplayed → List ℕ
 lineC a =
     cond (eqb (a .what) 3) (refusedLine (a .refusal) (a .replay .offset)) (cond (eqb (a .kind) 3) (blockLineC a) [])
 
--- all that is printed of a trace by its steps; k bytes of the record in hand are still to pass
+-- everything that the steps print for a trace; k bytes of the current record are still left
 unfoldable pub printedC : CableowlReplay → List Float → List Float → ℕ → List ℕ → List ℕ
 printedC r snd out k [] = []
 printedC r snd out (suc k) (b ∷ bs) = printedC r snd out k bs
@@ -45,14 +45,14 @@ printedC r snd out zero (b ∷ bs) =
 
 -- ---- the whole trace
 
--- what is asked: buffers long enough for a sound and for a block, and bytes whose offsets fit in 64 bits
+-- hypothesis: buffers long enough for a sound and for a block, and bytes whose offsets fit in 64 bits
 pub record Lent (snd out : List Float) (bs : List ℕ) : Type 0 where
   pub sound : 128 ≤ length snd
   pub output : 2048 ≤ length out
   pub bytes : Bytes bs
   pub short : length bs ≤ 18446744073709551615
 
--- what is printed by the steps of the entry is the whole run of trace_replay
+-- the steps of the entry print the whole run of trace_replay
 abbrev pub ArchiveReplays : Type 0
 ArchiveReplays =
     (snd out : List Float) (bs : List ℕ) → Lent snd out bs
@@ -64,7 +64,7 @@ ThreeFramesC =
     (snd out : List Float) → Lent snd out threeFrames
     → printedC blankReplay snd out 0 threeFrames ≡ printedLine
 
--- what is asked: two traces, each with buffers of its own, that differ in the samples of their creations alone
+-- hypothesis: two traces, each with its own buffers, that differ only in the samples of their creations
 pub record BothLent (snd1 out1 snd2 out2 : List Float) (bs cs : List ℕ) : Type 0 where
   pub first : Lent snd1 out1 bs
   pub second : Lent snd2 out2 cs
@@ -75,16 +75,16 @@ LinesAlikeC =
     (snd1 out1 snd2 out2 : List Float) (bs cs : List ℕ) → BothLent snd1 out1 snd2 out2 bs cs
     → printedC blankReplay snd1 out1 0 bs ≡ printedC blankReplay snd2 out2 0 cs
 
--- ---- any cutting of the stream of bytes
+-- ---- the bytes in pieces of any size
 
--- what is asked: a step gets the first w of the bytes, or all of them if it is called with `ended`; and its result is
--- not 1 (more bytes are needed)
+-- hypothesis: a step gets the first w of the bytes, or all of them if it is called with `ended`; and its result is not
+-- 1 (more bytes are needed)
 pub record WindowC (r : CableowlReplay) (snd out : List Float) (ended w : ℕ) (bs : List ℕ) : Type 0 where
   pub bytes : Bytes bs
   pub all : T (eqb ended 0 || leb (length bs) w)
   pub answers : T (not (eqb (steppedC r (take w bs) ended snd out .answer .what) 1))
 
--- the line of the step that gets these bytes, then what is printed of the bytes after its record
+-- the line of the step that gets these bytes, then what is printed for the bytes after its record
 abbrev pub StreamsC : Type 0
 StreamsC =
     (r : CableowlReplay) (snd out : List Float) (ended w : ℕ) (bs : List ℕ) → WindowC r snd out ended w bs
@@ -107,7 +107,7 @@ pub record Fit (r : CableowlReplay) (snd out : List Float) : Type 0 where
 abbrev pub BlockAt : List ℕ → List ℕ → Type 0
 BlockAt bs vs = recordAt bs 0 ≡ record { refusal = 0; kind = 3; next = 42; values = vs }
 
--- what is asked: a block that is accepted, and the bytes of its record and of the records of its two parts
+-- hypothesis: an accepted block, and the bytes of its record and of the records of its two parts
 pub record MayCutStep (q : CableowlReplay) (snd out : List Float) (ended : ℕ) (xs ys zs : List ℕ)
     (k m a v l r p t f s u : ℕ) : Type 0 where
   pub fit : Fit q snd out

@@ -1,6 +1,6 @@
--- The archive's replay of version 2. On kinds 1 to 3 its steps are those of version 1, so a trace of these kinds prints
--- the same. Two given sounds of equal length give the same answers but for samples, so the lines of a trace depend on
--- a given sound only through its frame count.
+-- The archive's replay of version 2. For kinds 1 to 3 its steps are those of version 1, so a trace of these kinds
+-- prints the same. With two given sounds of equal length the results differ only in samples, so the lines of a trace
+-- depend on a given sound only through its frame count.
 use Prim.Native.Nat.{ℕ, zero, suc, _+_, _-_, _*_, _≤_}
 use mathlib.Core.Path.{_≡_}
 use mathlib.Core.Bool.{Bool, true, false, cond, not, _&&_, _||_}
@@ -57,12 +57,12 @@ answerOfReader k a =
 abbrev pub stepOfReader : ℕ → StepC → StepC
 stepOfReader k o = record { answer = answerOfReader k (o .answer); sound = o .sound; samples = o .samples }
 
--- what is asked: bytes that do not begin with a record of kind 4 or 5
+-- hypothesis: bytes that do not begin with a record of kind 4 or 5
 pub record Unsealed (bs : List ℕ) : Type 0 where
   pub bytes : Bytes bs
   pub old : isSealed bs ≡ false
 
--- a step of version 2 is the step of version 1, whatever is given
+-- a step of version 2 is the step of version 1, whatever sound is given
 abbrev pub AsVersion1 : Type 0
 AsVersion1 =
     (r : CableowlReplay) (bs : List ℕ) (ended : ℕ) (snd given : List Float) (sounds : ℕ) (out : List Float)
@@ -90,8 +90,8 @@ lineV2 a =
     (cond (eqb (a .kind) 3 || eqb (a .kind) 5) (blockLineC a)
     (cond (eqb (a .kind) 4 && eqb (a .refusal) 26) (creationLine 26 (a .replay .offset - a .size)) []))
 
--- all that is printed of a trace by its steps. The host offers a sound at each offset; k bytes of the record in hand
--- are still to pass
+-- everything that the steps print for a trace. The host offers a sound at each offset; k bytes of the current record
+-- are still left
 unfoldable pub printedV2 : (ℕ → Offer) → CableowlReplay → List Float → List Float → ℕ → List ℕ → List ℕ
 printedV2 host r snd out k [] = []
 printedV2 host r snd out (suc k) (b ∷ bs) = printedV2 host r snd out k bs
@@ -101,7 +101,7 @@ printedV2 host r snd out zero (b ∷ bs) =
     let a = o .answer in
     lineV2 a ++ cond (eqb (a .what) 0) (printedV2 host (a .replay) (o .sound) (o .samples) (a .size - 1) bs) []
 
--- no record of kind 4 or 5 begins where reader 1 reads one; k bytes of the record in hand are still to pass
+-- no record of kind 4 or 5 begins where reader 1 reads one; k bytes of the current record are still left
 unfoldable pub isVersion1 : ℕ → List ℕ → Bool
 isVersion1 k [] = true
 isVersion1 (suc k) (b ∷ bs) = isVersion1 k bs
@@ -109,7 +109,7 @@ isVersion1 zero (b ∷ bs) =
     let d = recordAt (b ∷ bs) 0 in
     not (isSealed (b ∷ bs)) && cond (eqb (d .refusal) 0) (isVersion1 (d .next - 1) bs) true
 
--- what is asked of a whole trace
+-- hypothesis about a whole trace
 pub record OfVersion1 (snd out : List Float) (bs : List ℕ) : Type 0 where
   pub lent : Lent snd out bs
   pub kinds : isVersion1 0 bs ≡ true
@@ -146,7 +146,7 @@ mutedReplayed a =
       «lowest_count» = a .«lowest_count»;
     }
 
--- what is asked: replays that differ in nothing but samples of their voices' windows, and buffers of equal lengths
+-- hypothesis: replays that differ only in samples of their voices' windows, and buffers of equal lengths
 pub record OtherGiven (r q : CableowlReplay) (snd tnd mine theirs out into : List Float) : Type 0 where
   pub replays : mutedReplay r ≡ mutedReplay q
   pub sound : SameLength snd tnd
@@ -160,7 +160,7 @@ StepsAlike =
     → mutedReplayed (steppedV2 r bs ended snd given sounds out .answer)
     ≡ mutedReplayed (steppedV2 q bs ended tnd other sounds into .answer)
 
--- what is asked of two hosts: they offer the same but for samples, and their buffers have equal lengths
+-- hypothesis about two hosts: their offers differ only in samples, and their buffers have equal lengths
 pub record OtherHost (host other : ℕ → Offer) (snd tnd out into : List Float) : Type 0 where
   pub sounds : (at : ℕ) → host at .sounds ≡ other at .sounds
   pub given : (at : ℕ) → SameLength (host at .samples) (other at .samples)
@@ -174,25 +174,25 @@ LinesAlikeV2 =
 
 -- ---- a stream of bytes
 
--- what is asked: as many bytes as the longest record has
+-- hypothesis: as many bytes as the longest record has
 abbrev pub WideV2 : ℕ → Type 0
 WideV2 w = 24598 ≤ w
 
--- a step that gets the first w bytes of a stream does what it does with all of them
+-- a step that gets the first w bytes of a stream does the same as with all of them
 abbrev pub StreamsV2 : Type 0
 StreamsV2 =
     (r : CableowlReplay) (bs : List ℕ) (ended w : ℕ) (snd given : List Float) (sounds : ℕ) (out : List Float)
     → WideV2 w
     → steppedV2 r (take w bs) ended snd given sounds out ≡ steppedV2 r bs ended snd given sounds out
 
--- ---- a block with a value for each frame cut in two
+-- ---- a laned block cut in two
 
--- a part of it: so many frames, with these signals
+-- a part of it: this many frames, with these signals
 abbrev pub partOf : LanedBlock → ℕ → Signals → LanedBlock
 partOf b n g = record { frames = n; «time_step» = b .«time_step»; signals = g }
 
--- what is asked: an accepted block of k + m frames, whose frames begin at byte 18 of xs; and the bytes of two records,
--- ys with its first k frames, zs with the others
+-- hypothesis: an accepted block of k + m frames, whose frames begin at byte 18 of xs; and the bytes of two records, ys
+-- with its first k frames, zs with the others
 pub record MayCutLanes (snd : List Float) (v : StaticSound) (b : LanedBlock) (xs ys zs : List ℕ) (out : List Float)
     (k m : ℕ) : Type 0 where
   pub accepted : lanedOutcome snd v (partOf b (k + m) (b .signals)) xs out .answer .refusal ≡ 0

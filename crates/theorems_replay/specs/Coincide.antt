@@ -1,6 +1,6 @@
--- The same of the functions that replay a trace as crates/theorems/specs/Coincide.antt says of those below: any two
--- outcomes that one contract allows for one input coincide. Of a lent buffer the part in use is compared: the run's
--- samples, and as many bytes of the line as are written.
+-- The same for the functions that replay a trace as crates/theorems/specs/Coincide.antt says for the others: any two
+-- outcomes that one contract allows for one input coincide. Of a borrowed buffer the part in use is compared: the run's
+-- samples, and the written bytes of the line.
 use Prim.Native.Nat.{ℕ}
 use mathlib.Core.List.{List}
 use lib.ListN.{take}

@@ -1,5 +1,5 @@
--- What is printed of a trace depends on a sound only through its frame count: two traces with the same records but
--- for the samples of their creations print the same lines. So a trace can be replayed and audited without its sound.
+-- What is printed for a trace depends on a sound only through its frame count: two traces whose records differ only in
+-- the samples of their creations print the same lines. So a trace can be replayed and audited without its sound.
 use Prim.Native.Nat.{ℕ, zero, suc, _-_}
 use mathlib.Core.Path.{_≡_}
 use mathlib.Core.Bool.{cond}
@@ -9,7 +9,7 @@ use Rattle.trace_records.specs.declared.Record.{Record}
 use Rattle.trace_records.specs.Records.{recordAt}
 use Rattle.trace_replay.specs.Runs.{replayed}
 
--- the records that a replay reads, k bytes of the record in hand still to pass; one that is refused is the last
+-- the records that a replay reads, with k bytes of the current record still left; a refused record is the last
 unfoldable pub records : ℕ → List ℕ → List Record
 records k [] = []
 records (suc k) (b ∷ bs) = records k bs
@@ -17,13 +17,13 @@ records zero (b ∷ bs) =
     let r = recordAt (b ∷ bs) 0 in
     r ∷ cond (eqb (r .refusal) 0) (records (r .next - 1) bs) []
 
--- 0 in place of all numbers but the first n
+-- 0 in place of all numbers except the first n
 abbrev pub zeroAfter : ℕ → List ℕ → List ℕ
 zeroAfter zero vs = map (λ (v : ℕ). 0) vs
 zeroAfter (suc n) [] = []
 zeroAfter (suc n) (v ∷ vs) = v ∷ zeroAfter n vs
 
--- the record without samples: a creation's first thirteen numbers are settings and frame count, the others frames
+-- the record without samples: a creation's first thirteen numbers are settings and frame count, the others are frames
 abbrev pub mutedRecord : Record → Record
 mutedRecord r =
     record {
@@ -33,7 +33,7 @@ mutedRecord r =
       values = cond (eqb (r .kind) 1) (zeroAfter 13 (r .values)) (r .values);
     }
 
--- what is asked
+-- hypothesis
 abbrev pub SameButForSamples : List ℕ → List ℕ → Type 0
 SameButForSamples bs cs = map mutedRecord (records 0 bs) ≡ map mutedRecord (records 0 cs)
 

@@ -1,4 +1,4 @@
--- The theorems about a whole trace that is played again (request #104).
+-- The theorems about the replay of a whole trace (request #104).
 pub mod Streams
 pub mod Cuts
 pub mod Example

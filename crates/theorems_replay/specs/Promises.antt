@@ -1,4 +1,4 @@
--- The theorems about a whole trace that is played again, one field each.
+-- The theorems about the replay of a whole trace, one field each.
 use Rattle.theorems_replay.specs.Streams.{Streams}
 use Rattle.theorems_replay.specs.Cuts.{CutRecords}
 use Rattle.theorems_replay.specs.Example.{ThreeFrames}
@@ -15,14 +15,14 @@ pub record Promises : Type 0 where
   pub three-frames : ThreeFrames
   -- the samples of creations do not matter to what is printed
   pub lines-alike : LinesAlike
-  -- the steps of `cableowl_replay_step` print the same, and so each of these holds of that entry
+  -- the steps of `cableowl_replay_step` print the same, so each of these theorems holds for that entry
   pub archive-replays : ArchiveReplays
   pub archive-streams : StreamsC
   pub archive-cut-records : CutRecordsC
   pub archive-three-frames : ThreeFramesC
   pub archive-lines-alike : LinesAlikeC
-  -- the steps of `cableowl_replay_step_v2`: on kinds 1 to 3 as version 1; over two given sounds of equal length the
-  -- same but for samples
+  -- the steps of `cableowl_replay_step_v2`: for kinds 1 to 3 those of version 1; with two given sounds of equal length
+  -- they differ only in samples
   pub archive-as-version-1 : AsVersion1
   pub archive-replays-v2 : ArchiveReplaysV2
   pub archive-steps-alike-v2 : StepsAlike

@@ -29,7 +29,7 @@ threeNans = take 31 threeFrames ++ (replicate 24 255 ++ drop 55 threeFrames)
 abbrev pub evening : Replay
 evening = record { voice = voice; sound = ten; blocks = 0 }
 
--- buffers as large as a step asks
+-- buffers as large as a step requires
 abbrev pub lentSound : List Float
 lentSound = replicate 128 positiveZero
 

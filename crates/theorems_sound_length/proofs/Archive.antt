@@ -1,4 +1,4 @@
--- The archive's calls over two sounds of equal length: a muted record means the muted voice, before and after each call. Assumes nothing.
+-- The archive's calls over two sounds of equal length: a muted record represents the muted voice, before and after each call. Assumes nothing.
 use mathlib.Core.Path.{_≡_, refl, sym, ap, ap₂, _∙_}
 use Prim.Native.Nat.{ℕ, zero, suc}
 use mathlib.Core.Bool.{Bool, true, false, cond}
@@ -30,7 +30,7 @@ use Rattle.theorems_sound_length.proofs.Windows.{entered}
 use Rattle.theorems_sound_length.proofs.Calls.{creation-alike, commands-alike, takes-alike, blocks-alike, mixes-alike}
 use Rattle.theorems_sound_length.proofs.Rows.{over-silence, block-over-silence, stretch-begins, stretch-long}
 
--- ---- a muted record means the muted voice
+-- ---- a muted record represents the muted voice
 
 map-first : {A B : Type 0} (h : A → B) (f : A → A) (g : B → B) → ((x : A) → h (f x) ≡ g (h x)) → (t : ℕ) (xs : List A) → map h (onFirst f t xs) ≡ onFirst g t (map h xs)
 map-first h f g e zero xs = refl
@@ -90,7 +90,7 @@ archive-creation-alike snd other s e =
     ∙ ap (λ (r : Created). record { state = encoded (r .voice); refusal = r .refusal }) (creation-alike snd other (settingsOf s) e)
     ∙ ap (λ (c : CableowlState). record { state = c; refusal = b .refusal }) (sym (encoded-muted (b .voice)))
 
--- ---- rows
+-- ---- sequences of calls
 
 call-alike : (d : CallC) (c e : CableowlState) → mutedState c ≡ mutedState e → (answerC d c ≡ answerC (mutedCallC d) e) × (mutedState (afterC d c) ≡ mutedState (afterC (mutedCallC d) e))
 unfolding processedC processedIntoC commandedC takenC partC

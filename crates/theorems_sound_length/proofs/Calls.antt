@@ -1,4 +1,4 @@
--- Each call over two sounds of equal length. A refusal reads the sound's length and the muted voice; what an accepted call gives besides samples, the muted voice.
+-- Each call over two sounds of equal length. A refusal depends on the sound's length and the muted voice; what an accepted call returns besides samples depends on the muted voice.
 -- Assumes nothing.
 use mathlib.Core.Path.{_≡_, refl, sym, ap, ap₂, _∙_}
 use Prim.Native.Nat.{ℕ, _+_, _*_, _/_, _%_}
@@ -66,7 +66,7 @@ refused-alike len more v w dt b placed put l e p =
     ∙ refused-muted len w dt b placed
     ∙ ap₂ (λ (n : ℕ) (o : Bool). refusedBlock n w dt b o) l p
 
--- the answer of a block with the refusal k, from what is given besides samples
+-- the result of a block with the refusal k, from what is given besides samples
 abbrev answerOf : ℕ → Rest → StaticSound → Processed
 answerOf k r u =
     cond (eqb k 0)
@@ -209,7 +209,7 @@ obeyed-muted snd other c v =
     ∙ ap (λ (x : StaticSound). muted (soughtTo other x to)) (by-muted snd other u by ∙ ap (λ (x : StaticSound). muted (soughtBy other x by)) (told-muted c v))
     ∙ sym (to-muted other other (soughtBy other w by) to)
 
--- the answer of a command set with the refusal k
+-- the result of a command set with the refusal k
 abbrev setAnswer : ℕ → StaticSound → Float → StaticSound → Commanded
 setAnswer k done x u = cond (eqb k 0) (record { refusal = 0; voice = done; position = x }) (record { refusal = k; voice = u; position = positiveZero })
 

@@ -1,4 +1,4 @@
--- The theorems of two sounds of equal length.
+-- The theorems about two sounds of equal length.
 pub mod Windows
 pub mod Plays
 pub mod Calls

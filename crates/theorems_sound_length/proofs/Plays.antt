@@ -1,4 +1,4 @@
--- A block over any sound against the same block of the muted voice over any other: the same steps, the same counts, and voices that are alike.
+-- A block over any sound compared with the same block of the muted voice over any other: the same steps, the same counts, and voices that are alike.
 -- By induction on the lanes. Assumes nothing.
 use mathlib.Core.Path.{_≡_, sym, ap, _∙_}
 use Prim.Native.Nat.{ℕ, _+_}
@@ -17,7 +17,7 @@ use Rattle.sound_slow_path.specs.Plays.{Played, total, afterFrame, readBy, lowe
 use Rattle.theorems_sound_length.specs.Muted.{muted}
 use Rattle.theorems_sound_length.proofs.Windows.{muted-twice, updates-muted}
 
--- what a block gives besides samples
+-- what a block returns besides samples
 pub record Rest : Type 0 where
   pub voice : StaticSound
   pub steps : ℕ

@@ -1,4 +1,4 @@
--- All theorems of two sounds of equal length, in one record. Assumes nothing.
+-- All theorems about two sounds of equal length, in one record. Assumes nothing.
 use mathlib.Core.Path.{refl, sym, ap, _∙_}
 use mathlib.Core.Bool.{false}
 use Rattle.sound_creation.specs.declared.Created.{Created}

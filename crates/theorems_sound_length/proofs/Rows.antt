@@ -1,4 +1,4 @@
--- A row of calls against the row over silence: one call after the other. Assumes nothing.
+-- A sequence of calls compared with the sequence over silence: one call after the other. Assumes nothing.
 use mathlib.Core.Path.{_≡_, refl, sym, ap, ap₂, _∙_}
 use Prim.Native.Nat.{ℕ, zero, suc, _*_, _-_}
 use mathlib.Core.Bool.{Bool, true, false, cond}

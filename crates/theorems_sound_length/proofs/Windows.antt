@@ -1,4 +1,4 @@
--- A muted window: it is well formed where the window is, and a push of a frame or of none leaves the same as a push into the muted one.
+-- A muted window: it is well formed if the window is, and a push of a frame or of none has the same result as a push into the muted one.
 -- By cases on the count and the entries. Assumes nothing.
 use mathlib.Core.Path.{_≡_, refl, sym, ap, ap₂, _∙_, subst}
 use Prim.Native.Nat.{ℕ, zero, suc, _+_, _-_}
@@ -71,7 +71,7 @@ muted-well-formed-for len v = rw (muted-windowed (v .moving .resampler)) refl
 pub muted-heard : (w : Resampler) → currentFrameIndex (mutedWindow w) ≡ currentFrameIndex w
 muted-heard w = ap (λ (r : RecentFrame). r .«frame_index») (muted-index (w .«time_until_empty») (w .frames) 1)
 
--- what moves, with other entries in its window
+-- the moving part, with other entries in its window
 abbrev pub entered : Moving → List RecentFrame → Moving
 entered m rs = record { state = m .state; transport = m .transport; resampler = record { frames = rs; «time_until_empty» = m .resampler .«time_until_empty» }; wraps = m .wraps }
 
@@ -83,7 +83,7 @@ muted-twice v = ap (moved v (v .«fractional_position»)) (moving-twice (v .movi
 
 -- ---- a push
 
--- what a push leaves of the entries
+-- the entries after a push
 abbrev after : List RecentFrame → RecentFrame → List RecentFrame
 after rs e = getD rs 1 blank ∷ getD rs 2 blank ∷ getD rs 3 blank ∷ e ∷ []
 

@@ -1,5 +1,5 @@
--- The same of the archive's own entries, on records of numbers; rows of calls are those of
--- crates/theorems/specs/ArchiveInTheLoop.antt. A block with five numbers is a block over lanes that repeat them.
+-- The same for the archive's entries, on records of numbers. The sequences of calls are those of
+-- crates/theorems/specs/ArchiveInTheLoop.antt. A block with held lanes is a block over lanes that repeat them.
 use mathlib.Core.Path.{_≡_}
 use mathlib.Core.List.{List, [], _∷_, map}
 use lib.Ieee.{Float}
@@ -75,7 +75,7 @@ CreationAlikeC =
     (snd other : List Float) (s : CableowlSettings)
     → SameLength snd other → mutedCreatedC (createdC snd s) ≡ mutedCreatedC (createdC other s)
 
--- ---- rows of calls
+-- ---- sequences of calls
 
 pub data AnswerC : Type 0 where
   OfBlock : CableowlProcessed → AnswerC
@@ -101,7 +101,7 @@ mutedCallC (Command snd k) = Command (silence snd) k
 mutedCallC (Take snd t k) = Take (silence snd) t k
 mutedCallC (Stretch snd) = Stretch (silence snd)
 
--- what is asked
+-- hypothesis
 pub record OtherRowC (ds es : List CallC) (c e : CableowlState) : Type 0 where
   pub calls : map mutedCallC ds ≡ map mutedCallC es
   pub states : AlikeButForSamplesC c e

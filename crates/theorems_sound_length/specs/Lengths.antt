@@ -1,6 +1,5 @@
--- Two sounds of equal length and the same calls give the same refusals, steps, lowest counts and positions, and
--- voices that differ in nothing but samples in their windows. So a trace can be replayed and audited without its
--- sound.
+-- The same calls over two sounds of equal length return the same refusals, steps, lowest counts and positions, and
+-- voices that differ only in samples of their windows. So a trace can be replayed and audited without its sound.
 use Prim.Native.Nat.{ℕ}
 use mathlib.Core.Path.{_≡_}
 use mathlib.Core.List.{List}
@@ -23,12 +22,12 @@ use Rattle.theorems_sound_length.specs.Muted.{AlikeButForSamples, mutedC
 abbrev pub SameLength : List Float → List Float → Type 0
 SameLength xs ys = length xs ≡ length ys
 
--- what is asked of a call: another sound of the same length, and a voice that differs in nothing but samples
+-- hypothesis about a call: another sound of the same length, and a voice that differs only in samples
 pub record OtherSound (snd other : List Float) (v w : StaticSound) : Type 0 where
   pub samples : SameLength snd other
   pub voices : AlikeButForSamples v w
 
--- and of a block, an output of the same length; what is in it does not matter
+-- and about a block: an output of the same length; its contents do not matter
 pub record OtherBlock (snd other : List Float) (v w : StaticSound) (out into : List Float) : Type 0 where
   pub sound : OtherSound snd other v w
   pub output : SameLength out into
@@ -48,7 +47,7 @@ TakesAlike =
     (snd other : List Float) (v w : StaticSound) (t : LoopTable) (k : ℕ)
     → OtherSound snd other v w → mutedCommanded (taken snd t k v) ≡ mutedCommanded (taken other t k w)
 
--- the answers of two blocks, without samples
+-- the results of two blocks, without samples
 abbrev pub AnswersAlike : Outcome → Outcome → Type 0
 AnswersAlike o p = mutedProcessed (o .answer) ≡ mutedProcessed (p .answer)
 
@@ -65,7 +64,7 @@ MixesAlike =
     → OtherBlock snd other v w mix into
     → AnswersAlike (processedInto snd v dt b g mix from) (processedInto other w dt b g into from)
 
--- blocks whose five numbers are given once
+-- blocks with held lanes
 abbrev pub HeldAlike : Type 0
 HeldAlike =
     (snd other : List Float) (v w : StaticSound) (dt : Float) (x : Held) (g : Signals) (out into : List Float)

@@ -1,6 +1,6 @@
--- A voice, an answer or a call without samples: each sample that comes from a sound is replaced by +0.
--- Pushes without a frame put +0 frames into the window, whatever the sound, and a well formed voice has them
--- from its count on. So muting replaces only the entries before the count: the others show whether it is well formed.
+-- A voice, a result or a call without samples: each sample that comes from a sound is replaced by +0. A push without a
+-- frame puts a frame of +0 into the window, whatever the sound, and a well formed voice has such frames from its count
+-- on. So muting replaces only the entries before the count; the others show whether the voice is well formed.
 use Prim.Native.Nat.{ℕ, zero, suc}
 use mathlib.Core.Path.{_≡_}
 use mathlib.Core.List.{List, [], _∷_, map}
@@ -21,7 +21,7 @@ use Rattle.sound_slow_path.specs.declared.Processed.{Processed}
 abbrev pub mutedEntry : RecentFrame → RecentFrame
 mutedEntry r = record { frame = lastZero; «frame_index» = r .«frame_index» }
 
--- a function on the first t entries of a list, the others as they are
+-- a function on the first t entries of a list; the others do not change
 abbrev pub onFirst : {A : Type 0} → (A → A) → ℕ → List A → List A
 onFirst f zero xs = xs
 onFirst f (suc t) [] = []
@@ -53,11 +53,11 @@ muted v =
       moving = mutedMoving (v .moving);
     }
 
--- two voices differ in nothing but samples of a sound
+-- two voices differ only in samples of a sound
 abbrev pub AlikeButForSamples : StaticSound → StaticSound → Type 0
 AlikeButForSamples v w = muted v ≡ muted w
 
--- ---- answers
+-- ---- results
 
 abbrev pub mutedCreated : Created → Created
 mutedCreated a = record { refusal = a .refusal; voice = muted (a .voice) }
@@ -76,6 +76,6 @@ mutedProcessed a =
 
 -- ---- samples that a caller passes
 
--- as many samples, each of them +0
+-- as many samples, all +0
 abbrev pub silence : List Float → List Float
 silence xs = map (λ (x : Float). positiveZero) xs

@@ -1,5 +1,5 @@
--- All that is promised of two sounds of equal length: a field a theorem.
--- The contract of `promised` is this record, so the prover refuses a field that is false or has no proof.
+-- The theorems about two sounds of equal length, one field each. The contract of `promised` is this record, so the
+-- prover refuses a field that is false or has no proof.
 use Rattle.theorems_sound_length.specs.Lengths.{CreationAlike, CommandsAlike, TakesAlike}
 use Rattle.theorems_sound_length.specs.Lengths.{BlocksAlike, MixesAlike, HeldAlike, HeldMixesAlike}
 use Rattle.theorems_sound_length.specs.Rows.{RowsAlike}
@@ -15,10 +15,10 @@ pub record Promises : Type 0 where
   pub mixes-alike : MixesAlike
   pub held-alike : HeldAlike
   pub held-mixes-alike : HeldMixesAlike
-  -- calls in a row, each with a sound of its own
+  -- sequences of calls, each call with its own sound
   pub rows-alike : RowsAlike
-  -- the same of the archive's entries, on records of numbers
+  -- the same for the archive's entries, on records of numbers
   pub archive-creation-alike : CreationAlikeC
   pub archive-rows-alike : RowsAlikeC
-  -- an input for each that meets what it asks
+  -- one input for each hypothesis
   pub witnesses : Witnesses

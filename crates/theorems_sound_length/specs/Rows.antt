@@ -1,6 +1,6 @@
--- Rows of calls, each with a sound of its own, as in crates/theorems/specs/InTheLoop.antt. Two rows that differ in
--- nothing but samples, of the sounds and of what was in the outputs, give the same answers without samples, one after
--- the other, and voices that differ in nothing but samples.
+-- Sequences of calls, each call with its own sound, as in crates/theorems/specs/InTheLoop.antt. If two sequences differ
+-- only in samples, of the sounds and of the outputs before the calls, all results are the same without samples, and the
+-- voices differ only in samples.
 use Prim.Native.Nat.{ℕ}
 use mathlib.Core.Path.{_≡_}
 use mathlib.Core.List.{List, [], _∷_, map}
@@ -14,7 +14,7 @@ use Rattle.take_loop.specs.Taking.{taken}
 use Rattle.theorems.specs.InTheLoop.{Call, Block, Mix, Command, Take, Stretch, after, afterAll}
 use Rattle.theorems_sound_length.specs.Muted.{AlikeButForSamples, mutedCommanded, mutedProcessed, silence}
 
--- what a call answers, without samples; of a stretch, where it begins in the sound and how long it is
+-- the result of a call, without samples; for a stretch, where it begins in the sound and its length
 pub data Answer : Type 0 where
   OfBlock : Processed → Answer
   OfCommands : Commanded → Answer
@@ -27,7 +27,7 @@ answer (Command snd c) v = OfCommands (mutedCommanded (commanded snd v c))
 answer (Take snd t k) v = OfCommands (mutedCommanded (taken snd t k v))
 answer (Stretch snd) v = OfStretch (stretchAt (length snd) v) (length (stretchOf snd v))
 
--- the answers to a row of calls, each on what the one before left
+-- the results of a sequence of calls, each with the voice that the one before returned
 unfoldable pub answers : List Call → StaticSound → List Answer
 answers [] v = []
 answers (c ∷ cs) v = answer c v ∷ answers cs (after c v)
@@ -40,7 +40,7 @@ mutedCall (Command snd c) = Command (silence snd) c
 mutedCall (Take snd t k) = Take (silence snd) t k
 mutedCall (Stretch snd) = Stretch (silence snd)
 
--- what is asked
+-- hypothesis
 pub record OtherRow (cs ds : List Call) (v w : StaticSound) : Type 0 where
   pub calls : map mutedCall cs ≡ map mutedCall ds
   pub voices : AlikeButForSamples v w

@@ -1,5 +1,5 @@
--- For each theorem that asks something, an input that meets it: the examples' ten frames of +0, and ten frames of
--- NaN. The two voices differ in their windows.
+-- One input for each hypothesis: the examples' ten frames of +0, and ten frames of NaN. The two voices differ in their
+-- windows.
 use mathlib.Core.Bool.{false}
 use mathlib.Core.List.{List, [], _∷_}
 use lib.ListN.{replicate}
@@ -23,7 +23,7 @@ nans = replicate 20 nan
 abbrev pub voiceOfNans : StaticSound
 voiceOfNans = created nans (from 0 false) .voice
 
--- a stop, a block, and the same block into a mix that holds something else
+-- a stop, a block, and the same block into a mix with other contents
 abbrev pub calls : List Float → List Float → List Call
 calls snd into = Command snd stop ∷ Block snd one lanes waiting output ∷ Mix snd one lanes waiting into 1 ∷ []
 

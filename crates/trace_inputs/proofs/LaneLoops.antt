@@ -1,4 +1,4 @@
--- The loops of `singles_of` and `doubles_of`: one value more, and the last. And the numbers that they read.
+-- The loops of `singles_of` and `doubles_of`: one more value, and the last. And the numbers that they read.
 use mathlib.Core.Path.{_≡_, refl, sym, ap, _∙_}
 use Prim.Native.Nat.{ℕ, zero, suc, _+_, _-_, _*_, _≤_, _<_}
 use native.Mathlib.Omega.{arith}
@@ -12,7 +12,7 @@ use Rattle.trace_inputs.specs.Inputs.{laneOf}
 none : {A : Type 0} → ⊥ → A
 none e = elim e [ ]
 
--- no bytes from a place on
+-- no bytes from an offset on
 pub past : (bs : List ℕ) (at w : ℕ) → length bs < at → 0 ≡ num (take w (drop at bs))
 unfolding num
 past bs at w h = go (drop at bs) (omega (arith, length-drop at bs))
@@ -25,7 +25,7 @@ past bs at w h = go (drop at bs) (omega (arith, length-drop at bs))
     go [] e = nothing w
     go (x ∷ l) e = none (omega (arith, e))
 
--- fewer bytes than are asked for
+-- fewer bytes than requested
 pub fewer : (bs : List ℕ) (at w : ℕ) → length bs - at < w → num (take (length bs - at) (drop at bs)) ≡ num (take w (drop at bs))
 fewer bs at w h =
     let l = length-drop at bs in

@@ -1,3 +1,3 @@
--- Laws of what a record tells.
+-- Laws of a record's contents.
 pub mod Samples
 pub mod LaneLoops

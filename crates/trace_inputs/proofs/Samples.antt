@@ -1,4 +1,4 @@
--- The loop of `put_samples`: one frame more, and the last.
+-- The loop of `put_samples`: one more frame, and the last.
 use mathlib.Core.Path.{_≡_, refl, sym, ap, _∙_}
 use Prim.Native.Nat.{ℕ, zero, suc, _+_, _-_, _*_, _/_, _≤_, _<_}
 use native.Mathlib.Omega.{arith}

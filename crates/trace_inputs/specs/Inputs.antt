@@ -88,8 +88,8 @@ stereo (x ∷ xs) = single x ∷ single (x / 4294967296) ∷ stereo xs
 abbrev pub samplesOf : List ℕ → List Float
 samplesOf vs = stereo (take (atMost 64 (getD vs 12 0)) (drop 13 vs))
 
--- a creation over a given sound: its frame count is behind the settings, and then its samples, none if it is 0 or
--- above the limit
+-- a creation over a given sound: its frame count comes after the settings; and the number of its samples, none if the
+-- frame count is 0 or above the limit
 abbrev pub givenFrames : List ℕ → ℕ
 givenFrames vs = getD vs 12 0
 
@@ -147,7 +147,7 @@ blockOf vs =
       signals = signalsOf (getD vs 7 0) (getD vs 8 0) (getD vs 9 0);
     }
 
--- ---- a block with a value for each frame
+-- ---- a laned block
 
 -- without its lanes
 unfoldable pub lanedBlockOf : List ℕ → LanedBlock

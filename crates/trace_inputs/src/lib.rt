@@ -42,7 +42,7 @@ use sound_creation::OptionalRegion;
 use sound_creation::Settings;
 use start_time::StartSignal;
 
-// A block of equal frames.
+// A block whose frames all have the same numbers.
 pub struct Block {
     pub frames: usize,
     pub fade: f32,
@@ -54,7 +54,7 @@ pub struct Block {
     pub signals: Signals,
 }
 
-// A block with a value for each frame, without its lanes.
+// A laned block, without its lanes.
 pub struct LanedBlock {
     pub frames: usize,
     pub time_step: f64,
@@ -165,7 +165,7 @@ pub fn put_samples(values: [u64; 80], out: &mut [f32]) -> usize
     2 * n
 }
 
-// How many samples of a given sound a creation takes.
+// How many samples of a given sound a creation plays.
 pub fn given_samples_of(values: [u64; 80]) -> usize
     ensures { λ r. ⌜ r ≡ givenSamples values ⌝ }
 {
@@ -264,7 +264,7 @@ pub fn block_of(values: [u64; 80]) -> Block
     }
 }
 
-// ---- a block with a value for each frame
+// ---- a laned block
 
 pub fn laned_block_of(values: [u64; 80]) -> LanedBlock
     ensures { λ r. ⌜ r ≡ lanedBlockOf values ⌝ }
@@ -277,7 +277,7 @@ pub fn laned_block_of(values: [u64; 80]) -> LanedBlock
     }
 }
 
-// The number of the bytes from a place on; a byte past the end counts as 0.
+// The number in the bytes from an offset on; a byte past the end counts as 0.
 fn number_of(bytes: &[u8], at: usize, width: usize) -> u64
     requires { ⌜ width ≤ 8 ⌝ }
     ensures { λ r. ⌜ r ≡ num (take width (drop at (now (bytes .entry)))) ⌝ }
@@ -292,7 +292,7 @@ fn number_of(bytes: &[u8], at: usize, width: usize) -> u64
     byte_layout::number(bytes, at, width)
 }
 
-// A lane of f32 values from the bytes of its frames; the first value is at a place. Zeros follow it.
+// A lane of f32 values from the bytes of its frames, with the first value at this offset. Zeros follow it.
 pub fn singles_of(bytes: &[u8], at: usize, frames: usize) -> [f32; 1024]
     requires { ⌜ (at ≤ 64) × (frames ≤ 1024) ⌝ }
     ensures { λ r. ⌜ r ≡ sets (replicate 1024 positiveZero) 0 (singles frames (drop at (now (bytes .entry)))) ⌝ }
@@ -306,7 +306,7 @@ pub fn singles_of(bytes: &[u8], at: usize, frames: usize) -> [f32; 1024]
     lane
 }
 
-// The same of f64 values.
+// The same for f64 values.
 pub fn doubles_of(bytes: &[u8], at: usize, frames: usize) -> [f64; 1024]
     requires { ⌜ (at ≤ 64) × (frames ≤ 1024) ⌝ }
     ensures { λ r. ⌜ r ≡ sets (replicate 1024 positiveZero) 0 (doubles frames (drop at (now (bytes .entry)))) ⌝ }

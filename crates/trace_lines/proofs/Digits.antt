@@ -1,4 +1,4 @@
--- The loop that spells a number from its last digit on.
+-- The loop that writes a number from its last digit on.
 use mathlib.Core.Path.{_≡_, refl, sym, ap, _∙_}
 use Prim.Native.Nat.{ℕ, zero, suc, _+_, _-_, _*_, _/_, _%_, _^_, _≤_, _<_}
 use native.Mathlib.Omega.{arith}

@@ -4,7 +4,7 @@ use mathlib.Core.Bool.{cond}
 use mathlib.Core.List.{List, [], _∷_, _++_}
 use lib.Dec.{ltb}
 
--- the decimal digits of n in front of the digits given, at most k of them
+-- the decimal digits of n before the given digits, at most k of them
 unfoldable pub spelt : ℕ → ℕ → List ℕ → List ℕ
 spelt zero n ds = ds
 spelt (suc k) n ds = cond (ltb n 10) ((48 + n) ∷ ds) (spelt k (n / 10) ((48 + n % 10) ∷ ds))

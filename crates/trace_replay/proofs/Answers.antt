@@ -1,4 +1,4 @@
--- What the parts of the code come to: a block's answer, a block's line.
+-- The results of the code's parts: a block's result, a block's line.
 use mathlib.Core.Path.{_≡_, refl, sym, ap, _∙_}
 use Prim.Native.Nat.{ℕ, _*_}
 use mathlib.Core.Bool.{Bool, cond}

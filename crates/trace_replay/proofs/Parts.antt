@@ -20,7 +20,7 @@ lane {A} n m x l e h = ap {B = List A} (λ z. take n z) e ∙ take-replicate n m
 pub lane-long : {A : Type 0} (n m : ℕ) (x : A) (l : List A) → l ≡ replicate m x → n ≤ m → n ≡ length (take n l)
 lane-long n m x l e h = sym (ap length (lane n m x l e h) ∙ length-replicate n x)
 
--- what was put at the start of a buffer that holds it
+-- what was written to the start of a buffer with enough space
 pub prefix : {A : Type 0} (l new t : List A) (r : ℕ) → new ≡ sets l 0 t → r ≡ length t → length t ≤ length l → take r new ≡ t
 prefix {A} l new t r e q h =
     let z : 0 + length t ≤ length l = omega arith in

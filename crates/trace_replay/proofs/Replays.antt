@@ -1,4 +1,4 @@
--- The run after each kind of record, from what the calls answered.
+-- The run after each kind of record, from the results of the calls.
 use mathlib.Core.Path.{_≡_, refl, sym, ap, _∙_}
 use Prim.Native.Nat.{ℕ, _*_, _≤_}
 use native.Mathlib.Omega.{arith}

@@ -19,7 +19,7 @@ none e = elim e [ ]
 abbrev pub step : Replay → List ℕ → ℕ → Bool → Step
 step c l n b = record { replay = c; line = l; size = n; over = b }
 
--- a record, with its next place counted from its own
+-- a record, with the next offset counted from its own
 abbrev near : Record → ℕ → Record
 near r at = record { refusal = r .refusal; kind = r .kind; next = r .next - at; values = r .values }
 
@@ -44,7 +44,7 @@ at-end c place at s e =
     ap (λ (n : ℕ). step c [] n true) q ∙ sym (ap (stepOf c place) d)
 
 module _ (c : Replay) (place at : ℕ) (s : List ℕ) (r : Record) (e : r ≡ recordAt s at) (h : at ≤ length s) (g : at ≡ length s → ⊥) where
-  -- what is made of the record there is what is made of the bytes
+  -- the result for the record there is the result for the bytes
   here : (x : Step) → x ≡ judged c place (near r at) → x ≡ stepOf c place (drop at s)
   unfolding stepOf
   here x f = go (drop at s) refl
@@ -75,7 +75,7 @@ pub next-in : (s : List ℕ) (at : ℕ) (r : Record) → at ≤ length s → r �
 unfolding recordAt
 next-in s at r h e = omega (arith, ap (λ (x : Record). x .next) e, in-bytes (length s) at (readRecord (drop at s)) h)
 
--- and does not begin before its place
+-- and does not begin before its offset
 on-bytes : (len at : ℕ) (d : Found) → at ≤ len → unread d ≤ len - at → at ≤ valued len at d .next
 unfolding valued unread
 on-bytes len at (refused n) h k = le-refl at

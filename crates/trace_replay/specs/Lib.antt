@@ -1,2 +1,2 @@
--- A trace played again.
+-- The replay of a trace.
 pub mod Runs

@@ -1,4 +1,4 @@
--- A trace played again: docs/formats/TRACE.md, "What is printed". The whole run is a function of the bytes.
+-- The replay of a trace: docs/formats/TRACE.md, "What is printed". The whole run is a function of the bytes.
 use Prim.Native.Nat.{ℕ, zero, suc, _+_, _-_, _*_}
 use mathlib.Core.Bool.{Bool, true, false, cond}
 use mathlib.Core.List.{List, [], _∷_, _++_}
@@ -31,7 +31,7 @@ pub record Replay : Type 0 where
 abbrev pub blank : Replay
 blank = record { voice = blankSound; sound = []; blocks = 0 }
 
--- what the code holds, and the sound's samples
+-- the run's state in the code, and the sound's samples
 abbrev pub replayOf : Run → List Float → Replay
 replayOf r snd = record { voice = r .voice; sound = take (r .samples) snd; blocks = r .blocks }
 
@@ -55,7 +55,7 @@ lineOf k n p = cond (eqb (p .refusal) 0)
     (blockLine k n (p .steps) (number (p .voice .moving .state))
     (p .voice .moving .transport .position)) (refusedBlockLine k (p .refusal))
 
--- a record's end: the run after it, and its line
+-- the end of a record: the run after it, and its line
 pub record AfterRecord : Type 0 where
   pub replay : Replay
   pub line : List ℕ
@@ -121,8 +121,8 @@ advancedOf r at snd line = record {
   over = r .over;
 }
 
--- all that is printed from the offset `at` on, with k bytes of the current record left: each record's line, until the
--- run is over
+-- everything that is printed from the offset `at` on, with k bytes of the current record left: each record's line,
+-- until the run is over
 unfoldable pub printed : Replay → ℕ → ℕ → List ℕ → List ℕ
 printed c at k [] = []
 printed c at (suc k) (b ∷ bs) = printed c (suc at) k bs

@@ -71,7 +71,7 @@ fn silence() -> [f32; 2048]
     [0.0; 2048]
 }
 
-// The player's result for a block of equal frames.
+// The player's result for a block whose frames all have the same numbers.
 fn answer(voice: StaticSound, sound: &[f32], block: Block) -> Processed
     requires { ⌜ block .frames ≤ 1024 ⌝ }
     ensures { λ r. ⌜ r ≡ answered (now (sound .entry)) voice block ⌝ }

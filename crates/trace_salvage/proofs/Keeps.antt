@@ -1,4 +1,4 @@
--- Kept and skipped bytes are all bytes; what one turn makes of what is left.
+-- Kept and skipped bytes are all bytes; the effect of one iteration on the rest.
 use mathlib.Core.Path.{_≡_, refl, sym, ap, _∙_}
 use Prim.Native.Nat.{ℕ, zero, suc, _+_, _-_, _*_, _≤_, _<_}
 use native.Mathlib.Omega.{arith}
@@ -33,7 +33,7 @@ module _ (size : List ℕ → ℕ) where
       go true e f = omega arith
       go false e f = omega arith
 
-  -- a record begun is copied to its end
+  -- a record is copied to its end
   split : (bs : List ℕ) (k : ℕ) → k ≤ length bs → kept size bs k ≡ take k bs ++ kept size (drop k bs) 0
   unfolding kept
   split bs zero h = refl
@@ -58,7 +58,7 @@ module _ (size : List ℕ → ℕ) where
   placed-over at [] (suc k) h = none (omega arith)
   placed-over at (b ∷ bs) (suc k) h = let e : suc at + k ≡ at + suc k = omega arith in placed-over (suc at) bs k (omega arith) ∙ ap (λ (z : ℕ). first size z (drop k bs) 0) e
 
--- the turns of the code
+-- the iterations of the code
 pub record Keep (size : List ℕ → ℕ) (at : ℕ) (bs : List ℕ) : Type 0 where
   pub bytes : kept size bs 0 ≡ take (size bs) bs ++ kept size (drop (size bs) bs) 0
   pub skips : skipped size bs 0 ≡ skipped size (drop (size bs) bs) 0
@@ -103,7 +103,7 @@ pub size-le : (v : ℕ) (s : List ℕ) (at : ℕ) → sizeBy v (drop at s) ≤ l
 unfolding sizeBy
 size-le v s at = omega (arith, sizeIn-le (length (drop at s)) (readBy v (drop at s)), length-drop at s)
 
--- the length of a record that was read at a place
+-- the length of a record that was read at an offset
 abbrev taken-up : ℕ → Record → ℕ
 taken-up at r = cond (eqb (r .refusal) 0) (r .next - at) 0
 
@@ -136,7 +136,7 @@ size-2 s at = go (isSealed (drop at s))
     go true = sealed-found (length s) at (length (drop at s)) (readSealed (drop at s)) (length-drop at s)
     go false = size-1 s at
 
--- what each reader read at a place
+-- what each reader read at an offset
 pub read-1 : (v : ℕ) (s : List ℕ) (at n : ℕ) (r : Record) → v ≡ 1 → r ≡ recordAt s at → n ≡ taken-up at r → n ≡ sizeBy v (drop at s)
 unfolding sizeBy
 read-1 v s at n r h e f = f ∙ ap (taken-up at) e ∙ size-1 s at ∙ ap (sizeIn (length (drop at s))) (sym (by-1 v (drop at s) (eq-eqb v 1 h)))

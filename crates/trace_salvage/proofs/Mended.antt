@@ -1,4 +1,4 @@
--- What salvage makes of a trace, in the terms of its reader: each law by induction on the bytes, a record kept or a byte skipped a turn.
+-- What salvage makes of a trace, in the terms of its reader: each law by induction on the bytes, in each iteration a record is kept or a byte is skipped.
 use mathlib.Core.Path.{_≡_, refl, sym, ap, _∙_}
 use Prim.Native.Nat.{ℕ, zero, suc, _+_, _-_, _≤_, _<_}
 use native.Mathlib.Omega.{arith}

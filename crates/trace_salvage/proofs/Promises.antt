@@ -1,4 +1,4 @@
--- What is promised beyond the contract, by its laws. Assumes nothing.
+-- The theorems, by their laws. Assumes nothing.
 use mathlib.Core.Path.{_≡_, refl, ap, _∙_}
 use Prim.Native.Nat.{ℕ}
 use mathlib.Core.Bool.{true}
@@ -27,7 +27,7 @@ first-version : Whole 1 pauseRecord
 unfolding readBy
 first-version = record { bytes = trace_records.witnesses .trace-written-again .bytes; to-the-end = trace_records.witnesses .trace-written-again .to-the-end }
 
--- a record that is all of the bytes, and more behind it
+-- a record that is all of the bytes, and more after it
 one-record : (k : ℕ) (ws bs more : List ℕ) → Bytes bs → readBy 2 bs ≡ found k ws [] → story 2 (bs ++ more) ≡ andThen (record { kind = k; numbers = ws }) (story 2 more)
 one-record k ws bs more s e =
     let o = opens-by 2 bs k ws [] s e in

@@ -42,7 +42,7 @@ unfoldable pub sizeIn : ℕ → Found → ℕ
 sizeIn n (refused k) = 0
 sizeIn n (found k ws rest) = n - length rest
 
--- of a trace: what the reader of a version accepts
+-- for a trace: what the reader of a version accepts
 unfoldable pub sizeBy : ℕ → List ℕ → ℕ
 sizeBy v bs = sizeIn (length bs) (readBy v bs)
 
@@ -71,11 +71,11 @@ salvageBy v s out =
       output = sets out 0 (kept (sizeBy v) s 0);
     })
 
--- of a trace of version 1
+-- for a trace of version 1
 abbrev pub salvageOf : List ℕ → List ℕ → Salvaged
 salvageOf = salvageBy 1
 
--- the first offset, once something was skipped
+-- the first skipped offset, once something was skipped
 abbrev pub placed : ℕ → Salvaging → List ℕ → ℕ
 placed v t s = cond (eqb (t .skip) 0) (first (sizeBy v) (t .at) (drop (t .at) s) 0) (t .first)
 

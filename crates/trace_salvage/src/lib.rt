@@ -129,7 +129,7 @@ pub fn salvage_by(reader: u64, s: &[u8], out: &mut [u8]) -> Saved
     }
 }
 
-// The same of a trace of version 1.
+// The same for a trace of version 1.
 pub fn salvage(s: &[u8], out: &mut [u8]) -> Saved
     ensures { λ r. ⌜ savedOf r (now (out .exit)) ≡ salvageOf (now (s .entry)) (now (out .entry)) ⌝ }
 {

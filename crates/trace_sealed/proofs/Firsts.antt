@@ -1,4 +1,4 @@
--- The first number that a kind's rows read is at most what the first row takes. Assumes nothing.
+-- The first number that a kind's rows read is at most what the first row accepts. Assumes nothing.
 use mathlib.Core.Path.{_≡_, refl, ap}
 use Prim.Native.Nat.{ℕ, _-_, _≤_}
 use native.Mathlib.Omega.{arith}

@@ -1,4 +1,4 @@
--- What is promised beyond the contracts, by its laws. Assumes nothing.
+-- The theorems, by their laws. Assumes nothing.
 use mathlib.Core.Path.{_≡_, refl, sym, ap, _∙_}
 use Prim.Native.Nat.{ℕ, zero, suc, _+_, _%_, _≤_, _<_}
 use native.Mathlib.Omega.{arith}

@@ -51,7 +51,7 @@ as-reader-1 bs e = ap (λ (b : Bool). cond b (readSealed bs) (readRecord bs)) e
 pub again : (bs : List ℕ) (k : ℕ) (ws rest : List ℕ) → Begins bs k ws rest → Kept bs k ws rest
 again bs k ws rest x = written-again bs k ws rest (x .bytes) (sym (sealed-read bs (x .sealed)) ∙ x .reads)
 
--- ---- what stands at the beginning of bytes
+-- ---- the record at the beginning of bytes
 
 sealed-some : (k : ℕ) (vs lanes : List ℕ) → 0 < length (sealedOf k vs lanes)
 unfolding sealedOf unsealed

@@ -160,7 +160,7 @@ read-back k vs lanes rest x = go (payload (fieldRows k) [] vs) refl
         ∙ ap (λ (z : List ℕ). found k (vs ++ lanes) z) after in
         ap (bodied bs) heads ∙ rw (pos, fields) ended
 
--- ---- what the reader accepts, the writer gives again byte for byte
+-- ---- what the reader accepts, the writer writes again byte for byte
 
 none : {A : Type 0} → ⊥ → A
 none e = elim e [ ]
@@ -218,7 +218,7 @@ tail-facts w left input e = go (leb w left) (leb w input) (eqb w left) refl (leb
     go false b c p d q true g = none (omega arith)
     go false b c p d q false g = none (omega arith)
 
--- what closed a record: its fields, whole lanes, and the right checksum
+-- the end of a record: its fields, whole lanes, and the right checksum
 record Closed (covered : List ℕ) (k : ℕ) (d : Reading) (j : ℕ) (ws rest : List ℕ) : Type 0 where
   vs : List ℕ
   bs : List ℕ

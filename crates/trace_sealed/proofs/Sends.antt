@@ -1,4 +1,4 @@
--- The ways that a write of a sealed record can go, from the tests of the code. Assumes nothing.
+-- The results that a write of a sealed record can have, from the tests of the code. Assumes nothing.
 use mathlib.Core.Path.{_≡_, refl, sym, ap, _∙_}
 use Prim.Native.Nat.{ℕ, zero, suc, _+_, _-_, _*_, _≤_, _<_}
 use native.Mathlib.Omega.{arith}
@@ -51,7 +51,7 @@ first-fits k vals e = omega (arith, fine-low k (take (fieldCount k) vals) (sym e
     positive true = omega arith
     positive false = omega arith
 
--- ---- the bytes put one after the other
+-- ---- the bytes written one after the other
 
 unsealed-as : (k n : ℕ) (vs lanes : List ℕ) → n ≡ length (payload (fieldRows k) [] vs ++ lanes) + 4 → payload headRows [] (headOf k n) ++ (payload (fieldRows k) [] vs ++ lanes) ≡ unsealed k vs lanes
 unfolding unsealed

@@ -1,4 +1,4 @@
--- The ways that the reading of a sealed record can go, from the tests of the code. Assumes nothing.
+-- The results that the reading of a sealed record can have, from the tests of the code. Assumes nothing.
 use mathlib.Core.Path.{_≡_, refl, sym, ap, _∙_}
 use Prim.Native.Nat.{ℕ, zero, suc, _+_, _-_, _*_, _%_, _≤_, _<_}
 use native.Mathlib.Omega.{arith}
@@ -126,7 +126,7 @@ module _ (w left input : ℕ) where
   unfolding tail
   payload-missing a b = rw (lt-leb w left a, lt-leb left input b) refl
 
-  -- nothing is wrong only where lanes and checksum are there
+  -- nothing is refused only if lanes and checksum are there
   pub tail-room : tail w left input ≡ 0 → w + 4 ≤ input
   unfolding tail
   tail-room e = go (leb w left) (leb w input) (eqb w left) (leb (w + 4) input) refl (leb left input) e

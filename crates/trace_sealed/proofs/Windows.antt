@@ -1,4 +1,4 @@
--- A sealed record has at most 24,598 bytes, so from a window of as many, or of all that is left, the same is read as from the
+-- A sealed record has at most 24,598 bytes, so a window of as many bytes, or of all that is left, reads the same as the
 -- whole. Assumes nothing.
 use mathlib.Core.Path.{_≡_, refl, sym, ap, _∙_}
 use Prim.Native.Nat.{ℕ, zero, suc, _+_, _-_, _≤_, _<_}

@@ -1,6 +1,6 @@
--- What is promised of sealed records and of reader 2 beyond the contracts: what is written is read back as the same
--- fields and lanes, whatever follows it; what is read would be written again byte for byte; kinds 1 to 3 are read as
--- reader 1 reads them; and no more than 24,598 bytes are looked at.
+-- The theorems about sealed records and reader 2: what is written is read back as the same fields and lanes, whatever
+-- follows it; what is read would be written again byte for byte; kinds 1 to 3 are read as by reader 1; and at most
+-- 24,598 bytes are read.
 use Prim.Native.Nat.{ℕ, _+_, _≤_}
 use mathlib.Core.Path.{_≡_}
 use mathlib.Core.Bool.{true, false}
@@ -20,7 +20,7 @@ pub record Kept (bs : List ℕ) (k : ℕ) (ws rest : List ℕ) : Type 0 where
   pub sealable : Sealable k numbers lanes
   pub same : bs ≡ sealedOf k numbers lanes ++ rest
 
--- ---- what is asked
+-- ---- hypotheses
 
 -- bytes that begin with a sealed record
 pub record Begins (bs : List ℕ) (k : ℕ) (ws rest : List ℕ) : Type 0 where
@@ -28,7 +28,7 @@ pub record Begins (bs : List ℕ) (k : ℕ) (ws rest : List ℕ) : Type 0 where
   pub sealed : isSealed bs ≡ true
   pub reads : readAny bs ≡ found k ws rest
 
--- bytes whose third is no kind of a sealed record
+-- bytes whose third is not the kind of a sealed record
 abbrev pub Old : List ℕ → Type 0
 Old bs = isSealed bs ≡ false
 
@@ -36,7 +36,7 @@ Old bs = isSealed bs ≡ false
 abbrev pub Wide : ℕ → ℕ → Type 0
 Wide at end = at + 24598 ≤ end
 
--- and inputs that meet it: a silent block of one frame, 46 bytes long
+-- and inputs that meet them: a silent block of one frame, 46 bytes long
 abbrev pub silentNumbers : List ℕ
 silentNumbers = 1 ∷ 0 ∷ 0 ∷ 0 ∷ 0 ∷ []
 
@@ -58,5 +58,5 @@ pub record Promises : Type 0 where
   pub written-again : (bs : List ℕ) (k : ℕ) (ws rest : List ℕ) → Begins bs k ws rest → Kept bs k ws rest
   pub as-reader-1 : (bs : List ℕ) → Old bs → readAny bs ≡ readRecord bs
   pub window : (bs : List ℕ) (at end : ℕ) → Wide at end → anyAt (take end bs) at ≡ anyAt bs at
-  -- an input for each that meets what it asks
+  -- one input for each hypothesis
   pub witnesses : Witnesses

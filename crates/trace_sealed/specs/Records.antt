@@ -1,4 +1,4 @@
--- A sealed record read: docs/formats/TRACE.md, "How a sealed record is checked". Then a record of any kind.
+-- How a sealed record is read: docs/formats/TRACE.md, "How a sealed record is checked". Then a record of any kind.
 use Prim.Native.Nat.{ℕ, _+_, _-_, _%_, _≤_}
 use mathlib.Core.Path.{_≡_}
 use mathlib.Core.Bool.{Bool, _&&_, cond}
@@ -13,7 +13,7 @@ use Rattle.trace_records.specs.declared.Record.{Record}
 use Rattle.trace_records.specs.Records.{Found, refused, found, readRecord, recordAt}
 use Rattle.trace_sealed.specs.Tables.{headRows, fieldRows, fieldCount, laneBytes}
 
--- from the least to the most, in steps
+-- from `least` to `most`, in steps
 unfoldable pub inSteps : ℕ → ℕ → ℕ → ℕ → Bool
 inSteps n low high by = leb low n && leb n high && eqb ((n - low) % by) 0
 
@@ -21,8 +21,8 @@ inSteps n low high by = leb low n && leb n high && eqb ((n - low) % by) 0
 unfoldable pub possible : ℕ → ℕ → Bool
 possible k n = cond (eqb k 4) (inSteps n 65 97 8) (inSteps n 41 24593 24)
 
--- what is wrong with w bytes of lanes and the checksum's place, 0 for nothing: `left` bytes of payload are left
--- before the checksum, `input` bytes of input
+-- the refusal for w bytes of lanes and the checksum's offset, or 0: `left` bytes of payload are left before the
+-- checksum, and `input` bytes of input
 unfoldable pub tail : ℕ → ℕ → ℕ → ℕ
 tail w left input =
     cond (leb w left)
@@ -31,7 +31,7 @@ tail w left input =
     18)
     (cond (leb left input) 17 18)
 
--- the fields are read: lanes and checksum follow. `covered` is what the checksum covers
+-- after the fields come lanes and checksum. `covered` is what the checksum covers
 unfoldable pub closed : List ℕ → ℕ → Reading → Found
 closed covered k (bad n) = refused n
 closed covered k (good left vs bs) =
@@ -43,7 +43,7 @@ closed covered k (good left vs bs) =
     (refused 17))
     (refused t)
 
--- after the head: a length that is possible, then the kind's fields. The checksum covers all but the mark and itself
+-- after the head: a possible length, then the kind's fields. The checksum covers everything except the mark and itself
 unfoldable pub bodied : List ℕ → Reading → Found
 bodied bs (bad n) = refused n
 bodied bs (good l hs rest) =
@@ -53,7 +53,7 @@ bodied bs (good l hs rest) =
     (closed (take (n - 1) (drop 2 bs)) k (steps (fieldRows k) (good (n - 4) [] rest)))
     (refused 17)
 
--- the sealed record that bytes begin with
+-- the sealed record at the beginning of the bytes
 unfoldable pub readSealed : List ℕ → Found
 readSealed bs = bodied bs (steps headRows (good 5 [] bs))
 
@@ -61,11 +61,11 @@ readSealed bs = bodied bs (steps headRows (good 5 [] bs))
 abbrev pub isSealed : List ℕ → Bool
 isSealed bs = leb 4 (getD bs 2 0) && leb (getD bs 2 0) 5
 
--- the record of any kind that bytes begin with
+-- the record of any kind at the beginning of the bytes
 unfoldable pub readAny : List ℕ → Found
 readAny bs = cond (isSealed bs) (readSealed bs) (readRecord bs)
 
--- and the one that a reader of a version finds: reader 1 knows kinds 1 to 3, any other all five
+-- and the one that the reader of a version finds: reader 1 knows kinds 1 to 3, any other all five
 unfoldable pub readBy : ℕ → List ℕ → Found
 readBy v bs = cond (eqb v 1) (readRecord bs) (readAny bs)
 
@@ -80,14 +80,14 @@ valued len at (found k ws rest) =
       values = take (fieldCount k) ws ++ replicate (80 - fieldCount k) 0;
     }
 
--- the sealed record at a place of the bytes, and the record of any kind
+-- the sealed record at an offset of the bytes, and the record of any kind
 unfoldable pub sealedAt : List ℕ → ℕ → Record
 sealedAt s at = valued (length s) at (readSealed (drop at s))
 
 unfoldable pub anyAt : List ℕ → ℕ → Record
 anyAt s at = cond (isSealed (drop at s)) (sealedAt s at) (recordAt s at)
 
--- fields that were read of a record at a place: the numbers in hand, zeros behind them, and what is left of the
+-- the fields of a record at an offset after they were read: their numbers, zeros after them, and the rest of the
 -- payload
 pub record Fields (s : List ℕ) (at k n : ℕ) (p : Parsed) : Type 0 where
   pub place : at + 2 ≤ length s

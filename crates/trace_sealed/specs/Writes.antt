@@ -1,4 +1,4 @@
--- A sealed record written: its bytes, and what a write leaves of a buffer.
+-- How a sealed record is written: its bytes, and the buffer after a write.
 use Prim.Native.Nat.{ℕ, _+_, _-_}
 use mathlib.Core.Path.{_≡_}
 use mathlib.Core.Bool.{Bool, true, _&&_, cond}
@@ -20,7 +20,7 @@ bodyOf k vs lanes = payload (fieldRows k) [] vs ++ lanes
 unfoldable pub unsealed : ℕ → List ℕ → List ℕ → List ℕ
 unsealed k vs lanes = payload headRows [] (headOf k (length (bodyOf k vs lanes) + 4)) ++ bodyOf k vs lanes
 
--- the bytes of a sealed record: the checksum covers all but the mark
+-- the bytes of a sealed record: the checksum covers everything except the mark
 unfoldable pub sealedOf : ℕ → List ℕ → List ℕ → List ℕ
 sealedOf k vs lanes = unsealed k vs lanes ++ bytes 4 (checksumOf (drop 2 (unsealed k vs lanes)))
 
@@ -35,8 +35,8 @@ pub record Sealable (k : ℕ) (vs lanes : List ℕ) : Type 0 where
   pub bytes : Bytes lanes
 
 -- numbers and lanes written as a sealed record at `at`: 17 if a number is beyond its limit or the lanes have another
--- length, 19 if the buffer is too short, both with the buffer unchanged; otherwise the record's bytes, and every other
--- byte stays
+-- length, 19 if the buffer is too short, both with the buffer unchanged; otherwise the record's bytes, with every other
+-- byte unchanged
 unfoldable pub writeSealed : List ℕ → ℕ → ℕ → List ℕ → List ℕ → Written
 writeSealed buf at k vs lanes =
     cond (fine (fieldRows k) [] vs)
@@ -51,7 +51,7 @@ writeSealed buf at k vs lanes =
     (record { number = 17; next = at; buffer = buf }))
     (record { number = 17; next = at; buffer = buf })
 
--- a record of any kind written: kinds 1 to 3 as version 1 writes them, without a look at the lanes
+-- a record of any kind: kinds 1 to 3 are written as in version 1, and the lanes are ignored
 unfoldable pub writeAny : List ℕ → ℕ → ℕ → List ℕ → List ℕ → Written
 writeAny buf at k vs lanes =
     cond (sealedKind k)

@@ -88,7 +88,7 @@ fn read_fields(s: &[u8], at: usize, kind: u64, n: usize) -> Parsed
     byte_layout::read_rows(s, p, &table, LANED_ROWS)
 }
 
-// The bytes of the lanes of a kind whose first number is given.
+// The number of bytes of the lanes of a kind with this first number.
 pub(crate) fn lane_bytes(kind: u64, first: u64) -> usize
     requires { ⌜ first ≤ 4294967295 ⌝ }
     ensures { λ w. ⌜ w ≡ cond (eqb kind 4) 0 (24 * first) ⌝ }
@@ -99,7 +99,7 @@ pub(crate) fn lane_bytes(kind: u64, first: u64) -> usize
     24 * (first as usize)
 }
 
-// What is wrong with w bytes of lanes and the place of the checksum, or 0.
+// The refusal for w bytes of lanes and this offset of the checksum, or 0.
 fn tail_refusal(w: usize, left: usize, input: usize) -> u64
     ensures { λ r. ⌜ r ≡ tail w left input ⌝ }
 {
@@ -127,7 +127,7 @@ fn wide(b: u8) -> u64
     b as u64
 }
 
-// The number of the four bytes from a place, lowest first.
+// The number of the four bytes at an offset, lowest first.
 fn four_bytes(s: &[u8], at: usize) -> u64
     requires { ⌜ at + 4 ≤ length (now s) ⌝ }
     ensures { λ x. ⌜ x ≡ num (take 4 (drop at (now (s .entry)))) ⌝ }
@@ -139,7 +139,7 @@ fn four_bytes(s: &[u8], at: usize) -> u64
     a + 256 * (b + 256 * (c + 256 * d))
 }
 
-// Lanes and checksum behind the fields of a record that begins at `at` and whose payload has n bytes.
+// Lanes and checksum after the fields of a record that begins at `at` and whose payload has n bytes.
 fn close(s: &[u8], at: usize, kind: u64, n: usize, p: Parsed) -> Record
     requires { ⌜ Fields (now s) at kind n p ⌝ }
     ensures { λ r. ⌜ r ≡ valued (length (now (s .entry))) at
@@ -167,7 +167,7 @@ fn close(s: &[u8], at: usize, kind: u64, n: usize, p: Parsed) -> Record
     }
 }
 
-// The sealed record at a place within the bytes.
+// The sealed record at an offset within the bytes.
 fn read_sealed(s: &[u8], at: usize) -> Record
     requires { ⌜ at + 2 < length (now s) ⌝ }
     ensures { λ r. ⌜ r ≡ sealedAt (now (s .entry)) at ⌝ }
@@ -204,7 +204,7 @@ fn is_sealed(s: &[u8], at: usize) -> bool
     (4 <= kind) & (kind <= 5)
 }
 
-// The record of any of the five kinds at a place of the bytes: any bytes, any place.
+// The record of any of the five kinds at an offset. It accepts any bytes and any offset.
 pub fn read(s: &[u8], at: usize) -> Record
     ensures { λ r. ⌜ r ≡ anyAt (now (s .entry)) at ⌝ }
 {
@@ -214,7 +214,7 @@ pub fn read(s: &[u8], at: usize) -> Record
     trace_records::read(s, at)
 }
 
-// What is promised beyond the contracts.
+// An empty function whose contract collects the theorems, so that the checker must prove them.
 pub fn promised()
     ensures { λ r. ⌜ Promises ⌝ }
 {}

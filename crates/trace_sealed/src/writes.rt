@@ -1,4 +1,4 @@
-// A record of any of the five kinds written, from the same tables as it is read.
+// Writes a record of any of the five kinds, by the tables by which it is read.
 ghost use mathlib.Core.Path.{_≡_};
 ghost use Prim.Native.Nat.{_+_, _≤_};
 ghost use mathlib.Core.Bool.{true};
@@ -28,7 +28,7 @@ fn is_sealed_kind(kind: u64) -> bool
     (4 <= kind) & (kind <= 5)
 }
 
-// Whether the kind's rows take the numbers.
+// Whether the kind's rows accept the numbers.
 fn fits(kind: u64, values: [u64; 80]) -> bool
     ensures { λ b. ⌜ b ≡ fine (fieldRows kind) [] (take (fieldCount kind) values) ⌝ }
 {
@@ -40,7 +40,7 @@ fn fits(kind: u64, values: [u64; 80]) -> bool
     byte_layout::rows_fit(values, &table, LANED_ROWS)
 }
 
-// The bytes of the fields.
+// The number of bytes of the fields.
 fn fields_length(kind: u64, values: [u64; 80]) -> usize
     ensures { λ n. ⌜ n ≡ length (payload (fieldRows kind) [] (take (fieldCount kind) values)) ⌝ }
 {
@@ -91,7 +91,7 @@ fn put_sum(buf: &mut [u8], at: usize, sum: u64) -> usize
     byte_layout::put_rows(buf, at, values, &table, SUM_ROWS)
 }
 
-// Writes a record whose payload has n bytes, and returns the place after it.
+// Writes a record whose payload has n bytes, and returns the offset after it.
 fn seal(buf: &mut [u8], at: usize, kind: u64, n: usize, values: [u64; 80], lanes: &[u8]) -> usize
     requires { ⌜ (at + 5 + n ≤ length (now buf))
         × (n ≡ length (payload (fieldRows kind) [] (take (fieldCount kind) values)) + length (now lanes) + 4) ⌝ }
@@ -141,8 +141,8 @@ fn write_sealed(buf: &mut [u8], at: usize, kind: u64, values: [u64; 80], lanes: 
     Sent { refusal: 0, next }
 }
 
-// Writes a record of any kind at a place of a buffer: any kind, any numbers, any lanes, any place. The lanes are the
-// bytes of the frames of kind 5; kind 4 has none, and kinds 1 to 3 do not look at them.
+// Writes a record of any kind at an offset of a buffer. It accepts any kind, numbers, lanes and offset. The lanes are
+// the bytes of the frames of a laned block; a record of kind 4 has none, and kinds 1 to 3 ignore them.
 pub fn write(buf: &mut [u8], at: usize, kind: u64, values: [u64; 80], lanes: &[u8]) -> Sent
     ensures { λ a. ⌜ sentOf a (now (buf .exit))
         ≡ writeAny (now (buf .entry)) at kind values (now (lanes .entry)) ⌝ }

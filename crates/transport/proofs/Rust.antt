@@ -1,5 +1,5 @@
--- Where a loop is not empty, kira's `while` wraps and the remainders agree, in every move and for every place.
--- By induction on the turns: one turn takes a length from the place, and so from the number whose remainder it is. Assumes nothing.
+-- If a loop is not empty, kira's `while` wraps and the remainders agree, in every move and for every position.
+-- By induction on the iterations: each subtracts one length from the position. Assumes nothing.
 use Prim.Native.Nat.{ℕ, zero, suc, _+_, _-_, _%_, _≤_, _<_}
 use mathlib.Core.Path.{_≡_, refl, sym, ap, ap₂, _∙_}
 use mathlib.Core.Bool.{Bool, true, false, not, cond}
@@ -18,7 +18,7 @@ use Rattle.transport.proofs.Steps.{moved}
 
 -- ---- down
 
--- one turn changes nothing of where the place lies in the end
+-- one iteration does not change the final position
 lower-turn : (s e p : ℕ) → s < e → e ≤ p → under (Frames s e) (p - (e - s)) ≡ under (Frames s e) p
 lower-turn s e p l h = go (leb e (p - (e - s))) refl
   where
@@ -37,7 +37,7 @@ lower-turn s e p l h = go (leb e (p - (e - s))) refl
         under-inside s e (p - (e - s)) k
         ∙ sym (under-wrap s e p l h ∙ ap (λ (x : ℕ). s + x) (shift ∙ mod-eq-of-lt (omega arith)) ∙ (omega arith))
 
--- as many turns as the place, or more, end it where the remainder says
+-- as many iterations as the position, or more, end at the remainder
 pub lowered-under : (k s e p : ℕ) → s < e → p ≤ k → lowered k e (e - s) p ≡ under (Frames s e) p
 unfolding lowered
 lowered-under zero s e p l h = sym (under-inside s e p (omega arith))
@@ -48,7 +48,7 @@ lowered-under (suc k) s e p l h =
 
 -- ---- up
 
--- the first place from b on that p reaches by steps of l
+-- the first position from b on that p reaches by steps of l
 abbrev pub lifted : ℕ → ℕ → ℕ → ℕ
 lifted b l p = cond (ltb p b) (b + (l - 1 - (b - p - 1) % l)) p
 
@@ -74,7 +74,7 @@ raise-turn b l p z h = go (ltb (p + l) b) refl
         let k = ltb-false (p + l) b t in
         lifted-past b l (p + l) k ∙ sym (lifted-below b l p h ∙ ap (λ (x : ℕ). b + (l - 1 - x)) (mod-eq-of-lt (omega arith)) ∙ (omega arith))
 
--- as many turns as the bound, or more, end it where the remainder says
+-- as many iterations as the bound, or more, end at the remainder
 pub raised-lifted : (k b l p : ℕ) → 0 < l → b ≤ p + k → raised k b l p ≡ lifted b l p
 unfolding raised
 raised-lifted zero b l p z h = sym (lifted-past b l p (omega arith))

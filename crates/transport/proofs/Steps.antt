@@ -1,4 +1,4 @@
--- The three moves case by case, as the code meets them: playing or not, a seek up or not, a step back at the loop's start or not; and whether a step takes the wrap.
+-- The three moves case by case, as the code meets them: playing or not, a seek up or not, a step back at the loop's start or not; and whether a step wraps.
 -- By deciding each test of the definitions. Assumes nothing.
 use Prim.Native.Nat.{ℕ, _+_, _-_, _≤_, _<_}
 use mathlib.Core.Path.{_≡_, refl, sym, ap, ap₂, _∙_}
@@ -73,7 +73,7 @@ pub seek-down : (n : ℕ) (t : Transport) (q : ℕ) → q ≤ t .position → se
 unfolding seek
 seek-down n t q h = ap (λ (b : Bool). landed n t (cond b (under (t .«loop_region») q) (over (t .«loop_region») q))) (le-ltb (t .position) q h)
 
--- ---- whether a step takes the wrap
+-- ---- whether a step wraps
 
 pub wraps-still : (b : Bool) (t : Transport) → t .playing ≡ false → false ≡ wraps b t
 unfolding wraps

@@ -1,5 +1,5 @@
--- Each move keeps a transport well formed, a playing one inside its loop stays inside, and a seek starts nothing.
--- By the bounds of a wrapped place. Assumes nothing.
+-- Each move keeps a transport well formed, a playing one inside its loop stays inside, and a seek never starts playing.
+-- By the bounds of a wrapped position. Assumes nothing.
 use Prim.Native.Nat.{ℕ, suc, _+_, _-_, _≤_, _<_}
 use mathlib.Core.Path.{_≡_, refl, sym, ap, _∙_, subst}
 use mathlib.Core.Bool.{Bool, true, false, false≢true, not, _&&_, _||_}
@@ -49,15 +49,15 @@ well-formed-transport-of n t h =
     (and-i a b (h .loop) (here-or (t .playing) (ltb (t .position) n) (λ e. lt→ltb (t .position) n (h .here e))))
     (le→leb (t .position) most (h .low))
 
--- ---- bounds of a wrapped place
+-- ---- bounds of a wrapped position
 
--- a wrapped place is inside the n frames
+-- a wrapped position is inside the n frames
 wrapped-in : (n s e a b : ℕ) → T (within n (Frames s e)) → s + cycled a b (e - s) < n
 wrapped-in n s e a b h =
     let r = ranged-parts n s e h in
     lt-of-lt-of-le (wrapped-lt s e a b (r .more)) (r .inside)
 
--- under and over keep a place at most m, where the n frames are
+-- under and over keep a position at most m, if n is
 pub under-le : (n m : ℕ) (r : FrameRange) (p : ℕ) → n ≤ m → T (within n r) → p ≤ m → under r p ≤ m
 under-le n m Absent p k h l = l
 under-le n m (Frames s e) p k h l =

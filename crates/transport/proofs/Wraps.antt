@@ -1,4 +1,4 @@
--- Where a place lands by its loop, case by case as the code meets them, and the bounds of a remainder.
+-- Where a loop puts a position, case by case as the code meets them, and the bounds of a remainder.
 -- By deciding each test of the definitions. Assumes nothing.
 use Prim.Native.Nat.{ℕ, suc, _+_, _-_, _%_, _≤_, _<_}
 use mathlib.Core.Path.{_≡_, refl, ap, _∙_}
@@ -10,7 +10,7 @@ use borrow.Author.Tests.{lt-ltb, le-ltb, le-leb, lt-leb}
 use Rattle.playback_position.specs.declared.FrameRange.the-variants.{Frames}
 use Rattle.transport.specs.Moves.{cycled, under, over, back}
 
--- what holds of both picks, each under its test, holds of the pick
+-- what holds for both branches, each under its test, holds for the result
 pub picked : (P : ℕ → Type 0) (b : Bool) (x y : ℕ) → (b ≡ true → P x) → (b ≡ false → P y) → P (cond b x y)
 picked P true x y f g = f refl
 picked P false x y f g = g refl
@@ -32,7 +32,7 @@ cycled-lt a b l h = go (leb b a)
     go true = mod-lt (a - b) h
     go false = less ((b - a - 1) % l) h
 
--- so a wrapped place is below the loop's end
+-- so a wrapped position is below the loop's end
 pub wrapped-lt : (s e a b : ℕ) → s < e → s + cycled a b (e - s) < e
 wrapped-lt s e a b h = go (cycled a b (e - s)) (cycled-lt a b (e - s) (omega arith))
   where

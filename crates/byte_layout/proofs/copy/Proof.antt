@@ -1,4 +1,4 @@
--- `byte_layout::copy`: what is still to copy, copied, gives the whole part copied.
+-- `byte_layout::copy`: what is still to copy, copied, is the whole part copied.
 use Prim.Native.Nat.{ℕ, _+_, _-_, _*_, _≤_, _<_}
 use native.Mathlib.Omega.{arith}
 use native.Mathlib.Numerals.{unary-clauses}

@@ -1,4 +1,4 @@
--- `byte_layout::guarding`: past the first i numbers the answer is 0.
+-- `byte_layout::guarding`: past the first i numbers the result is 0.
 use Prim.Native.Nat.{ℕ}
 use native.Mathlib.Nat.{min-le-left}
 use native.Mathlib.Omega.{arith}

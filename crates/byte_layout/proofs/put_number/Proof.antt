@@ -1,4 +1,4 @@
--- `byte_layout::put_number`: what is still to store, stored, gives the whole number stored.
+-- `byte_layout::put_number`: what is still to store, stored, is the whole number stored.
 use Prim.Native.Nat.{_+_, _-_, _≤_}
 use native.Mathlib.Omega.{arith}
 use native.Mathlib.Nat.{mod-lt}

@@ -1,4 +1,4 @@
--- `byte_layout::put_row`: a row that stands is its number's bytes, any other is none.
+-- `byte_layout::put_row`: a row that is present is its number's bytes, any other is none.
 use Prim.Native.Nat.{_+_, _≤_}
 use native.Mathlib.Omega.{arith}
 use mathlib.Core.Path.{_≡_, refl, sym, ap, _∙_}

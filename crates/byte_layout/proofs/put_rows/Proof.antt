@@ -1,4 +1,4 @@
--- `byte_layout::put_rows`: what is still to store, stored, gives the whole payload stored.
+-- `byte_layout::put_rows`: what is still to store, stored, is the whole payload stored.
 use Prim.Native.Nat.{_+_, _-_, _≤_, _<_}
 use native.Mathlib.Omega.{arith}
 use mathlib.Core.Path.{_≡_, refl, sym, ap, _∙_}

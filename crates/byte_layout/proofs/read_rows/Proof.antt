@@ -1,4 +1,4 @@
--- `byte_layout::read_rows`: the rows still to read give what all of them give.
+-- `byte_layout::read_rows`: the rest of the rows, read, has the result of all of them.
 use Prim.Native.Nat.{ℕ, _+_, _-_, _≤_}
 use native.Mathlib.Omega.{arith}
 use native.Mathlib.Numerals.{unary-clauses}

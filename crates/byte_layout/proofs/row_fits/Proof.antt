@@ -1,4 +1,4 @@
--- `byte_layout::row_fits`: by whether the row stands.
+-- `byte_layout::row_fits`: by whether the row is present.
 use mathlib.Core.Path.{refl, sym, _∙_}
 use Rattle.byte_layout.specs.Writes.{fits}
 use borrow.Author.Needs.{needs}

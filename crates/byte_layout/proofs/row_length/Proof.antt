@@ -1,4 +1,4 @@
--- `byte_layout::row_length`: the row's width where it stands.
+-- `byte_layout::row_length`: the row's width if it is present.
 use mathlib.Core.Path.{sym, ap, _∙_}
 use lib.ListN.{length}
 use Rattle.byte_layout.proofs.Numbers.{length-bytes}

@@ -1,4 +1,4 @@
--- `byte_layout::rows_fit`: the rows still to judge judge as all of them do.
+-- `byte_layout::rows_fit`: the rest of the rows decides as all of them do.
 use Prim.Native.Nat.{_+_, _-_, _≤_}
 use mathlib.Core.Path.{_≡_, sym, ap, _∙_}
 use mathlib.Core.Bool.{false, cond}

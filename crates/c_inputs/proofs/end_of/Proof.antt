@@ -1,4 +1,4 @@
--- `c_inputs::end_of` meets its contract: the end of audio, or a place.
+-- `c_inputs::end_of` meets its contract: the end of audio, or a position.
 use borrow.Author.Tests.{ne-eqb}
 use borrow.Author.Needs.{needs}
 use Rattle.c_inputs.proofs.end_of.Statement.{statement}

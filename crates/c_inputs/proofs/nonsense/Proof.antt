@@ -1,4 +1,4 @@
--- `c_inputs::nonsense` meets its contract: zero by zero is no number.
+-- `c_inputs::nonsense` meets its contract: zero divided by zero is a NaN.
 use mathlib.Core.Path.{refl}
 use lib.Ieee.{ofBits, div}
 use Rattle.c_inputs.proofs.nonsense.Statement.{statement}

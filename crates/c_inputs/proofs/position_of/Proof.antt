@@ -1,4 +1,4 @@
--- `c_inputs::place_of` meets its contract, kind by kind.
+-- `c_inputs::position_of` meets its contract, kind by kind.
 use borrow.Author.Tests.{ne-eqb}
 use borrow.Author.Needs.{needs}
 use Rattle.c_inputs.proofs.position_of.Statement.{statement}

@@ -1,4 +1,4 @@
--- `c_state::is_lawful` meets its contract, test by test.
+-- `c_state::is_well_formed` meets its contract, test by test.
 use Rattle.c_state.specs.Records.{wellFormedState}
 use borrow.Author.Needs.{needs}
 use Rattle.c_state.proofs.is_well_formed.Statement.{statement}

@@ -12,7 +12,7 @@ use Rattle.c_state.proofs.window_of.Tie as tie
 abbrev start : tie.After-recent-of4 → tie.Start
 start c = c .before .before .before .before .before .before .before .before
 
--- what the logic reads where an array has no entry
+-- the value that the logic reads outside an array
 abbrev unread : CableowlEntry
 unread = record { left = nan; right = nan; number = 0 }
 

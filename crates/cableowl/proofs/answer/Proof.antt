@@ -1,4 +1,4 @@
--- `cableowl::answer` meets its contract, by the state that comes back.
+-- `cableowl::answer` meets its contract, by the returned state.
 use borrow.Author.Needs.{needs}
 use Rattle.cableowl.proofs.answer.Statement.{statement}
 use Rattle.cableowl.proofs.answer.Tie as tie

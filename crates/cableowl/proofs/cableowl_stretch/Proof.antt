@@ -1,4 +1,4 @@
--- `cableowl_stretch` meets its contract: `stretch` gives no sample exactly where the state is refused, and else begins twice the slice's start in.
+-- `cableowl_stretch` meets its contract: `stretch` returns no sample exactly if the state is refused, and otherwise begins at twice the slice's start.
 use native.Mathlib.Omega.{arith}
 use denote.Ref.{now}
 use Rattle.cableowl.proofs.Parts.{part-none, part-fits, part-is}

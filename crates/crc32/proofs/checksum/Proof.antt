@@ -1,4 +1,4 @@
--- `crc32::checksum` meets its contract: the bytes that are there. Assumes nothing.
+-- `crc32::checksum` meets its contract: the bytes that exist. Assumes nothing.
 use mathlib.Core.Path.{_≡_, ap, _∙_}
 use Prim.Native.Nat.{ℕ, _+_, _-_}
 use native.Mathlib.Omega.{arith}

@@ -1,4 +1,4 @@
--- `crc32::promised` meets its contract: what is promised beyond the contracts is kept. Assumes nothing.
+-- `crc32::promised` meets its contract: it proves the theorems. Assumes nothing.
 use Rattle.crc32.proofs.Promises.{kept}
 use Rattle.crc32.proofs.promised.Statement.{statement}
 use Rattle.crc32.proofs.promised.Tie as tie

@@ -1,4 +1,4 @@
--- `crc32::whole` meets its contract: what the bytes left make of the register stays the same. Assumes nothing.
+-- `crc32::whole` meets its contract: the final register does not change. Assumes nothing.
 use mathlib.Core.Path.{_≡_, refl, sym, ap, _∙_}
 use Prim.Native.Nat.{ℕ, _+_, _-_, _≤_}
 use native.Mathlib.Omega.{arith}

@@ -1,4 +1,4 @@
--- `decibels::fill` meets its contract: the frames so far stand at the lane's start. Assumes nothing.
+-- `decibels::fill` meets its contract: the frames so far are at the lane's start. Assumes nothing.
 use mathlib.Core.Path.{_≡_, refl, sym, _∙_}
 use Prim.Native.Nat.{_-_, _≤_}
 use native.Mathlib.Omega.{arith}

@@ -1,4 +1,4 @@
--- `decibels::level_at` meets its contract: what is divided is at most 601 * 65,535. Assumes nothing.
+-- `decibels::level_at` meets its contract: the dividend is at most 601 * 65,535. Assumes nothing.
 use mathlib.Core.Path.{sym, subst, _∙_}
 use Prim.Native.Nat.{ℕ, _+_, _-_, _*_, _≤_}
 use native.Mathlib.Omega.{arith}

@@ -1,4 +1,4 @@
--- `decibels::promised` meets its contract: what is promised beyond the contracts is kept. Assumes nothing.
+-- `decibels::promised` meets its contract: it proves the theorems. Assumes nothing.
 use Rattle.decibels.proofs.Promises.{kept}
 use Rattle.decibels.proofs.promised.Statement.{statement}
 use Rattle.decibels.proofs.promised.Tie as tie

@@ -1,4 +1,4 @@
--- `interpolate` meets its contract: its operations are the cubic's, one by one, but for the third coefficient, which is a
+-- `interpolate` meets its contract: its operations are the cubic's, one by one, except for the third coefficient, which is a
 -- difference (`cubic-turned`).
 use mathlib.Core.Path.{sym, subst}
 use lib.Dec.{T}

@@ -1,4 +1,4 @@
--- `loop_copies::are_same_slots` meets its contract. The loop's invariant: `ok` is the test over the slots passed.
+-- `loop_copies::are_same_slots` meets its contract. The loop's invariant: `ok` is the test over the slots so far.
 use mathlib.Core.Path.{_≡_, refl, ap, _∙_}
 use Prim.Native.Nat.{ℕ, _-_, _≤_}
 use native.Mathlib.Omega.{arith}

@@ -1,5 +1,5 @@
--- `numbers::advance_by` meets its contract. The invariant: the steps made and what is left make the sum (`Spinning`).
--- The measure is the whole part of what is left. Assumes nothing.
+-- `numbers::advance_by` meets its contract. The invariant: the steps made plus the rest are the sum (`Spinning`).
+-- The measure is the whole part of the rest. Assumes nothing.
 use native.Mathlib.Omega.{arith}
 use lib.Ieee.{binary64, add, ofBits}
 use Rattle.numbers.specs.Words.{whole}

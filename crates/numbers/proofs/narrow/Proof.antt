@@ -1,4 +1,4 @@
--- `numbers::narrow` meets its contract: `proofs/Narrowing.antt` has the whole. Assumes nothing.
+-- `numbers::narrow` meets its contract: `proofs/Narrowing.antt` has the proof. Assumes nothing.
 use mathlib.Core.Path.{sym, subst}
 use mathlib.Core.Logic.{inl, inr, ⊎-elim}
 use mathlib.Core.Bool.{not, _&&_}

@@ -1,4 +1,4 @@
--- `replay::replay`: the window stays in its buffer, and the turns left go down.
+-- `replay::replay`: the window stays in its buffer, and the remaining iterations decrease.
 use mathlib.Core.Path.{_≡_, refl, sym, ap, _∙_}
 use Prim.Native.Nat.{ℕ, _≤_}
 use native.Mathlib.Omega.{arith}

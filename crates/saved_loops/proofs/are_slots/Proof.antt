@@ -1,4 +1,4 @@
--- `saved_loops::are_slots` meets its contract. The loop's invariant: `ok` is the test over the slots passed.
+-- `saved_loops::are_slots` meets its contract. The loop's invariant: `ok` is the test over the slots so far.
 use mathlib.Core.Path.{_≡_, refl}
 use Prim.Native.Nat.{ℕ, _-_, _≤_}
 use native.Mathlib.Omega.{arith}

@@ -1,4 +1,4 @@
--- `saved_loops::is_lawful` meets its contract. Assumes nothing.
+-- `saved_loops::is_well_formed` meets its contract. Assumes nothing.
 use mathlib.Core.Path.{refl}
 use borrow.Author.Needs.{needs}
 use Rattle.saved_loops.proofs.is_well_formed.Statement.{statement}

@@ -1,4 +1,4 @@
--- `saved_loops::promised` meets its contract: what is promised beyond the contracts is kept. Assumes nothing.
+-- `saved_loops::promised` meets its contract: it proves the theorems. Assumes nothing.
 use Rattle.saved_loops.proofs.Promises.{all-kept}
 use Rattle.saved_loops.proofs.promised.Statement.{statement}
 use Rattle.saved_loops.proofs.promised.Tie as tie

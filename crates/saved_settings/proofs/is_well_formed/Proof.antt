@@ -1,4 +1,4 @@
--- `saved_settings::is_lawful` meets its contract. Assumes nothing.
+-- `saved_settings::is_well_formed` meets its contract. Assumes nothing.
 use mathlib.Core.Path.{_≡_, refl, sym, ap, _∙_}
 use borrow.Author.Needs.{needs}
 use Rattle.saved_settings.proofs.is_well_formed.Statement.{statement}

@@ -1,4 +1,4 @@
--- `semitones::promised` meets its contract: what is promised beyond the contracts is kept. Assumes nothing.
+-- `semitones::promised` meets its contract: it proves the theorems. Assumes nothing.
 use Rattle.semitones.proofs.Promises.{kept}
 use Rattle.semitones.proofs.promised.Statement.{statement}
 use Rattle.semitones.proofs.promised.Tie as tie

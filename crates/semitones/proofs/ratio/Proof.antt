@@ -1,4 +1,4 @@
--- `semitones::ratio` meets its contract: what is divided is a whole f64, and its quotient by 2^50 is exact. Assumes nothing.
+-- `semitones::ratio` meets its contract: the dividend is a whole f64, and its quotient by 2^50 is exact. Assumes nothing.
 use Prim.Native.Nat.{_*_, _%_}
 use native.Mathlib.Omega.{arith}
 use lib.ListN.{getD}

@@ -1,4 +1,4 @@
--- `sound_commands::tell` meets its contract: each command by its function, in the order of `beforeSeeks`.
+-- `sound_commands::before_seeks` meets its contract: each command by its function, in the order of `beforeSeeks`.
 use mathlib.Core.Path.{_≡_}
 use mathlib.Core.Bool.{cond}
 use lib.Ieee.{Float}

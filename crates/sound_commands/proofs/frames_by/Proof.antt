@@ -1,4 +1,4 @@
--- `sound_commands::frames_by` meets its contract: an f64 holds a position in range exactly.
+-- `sound_commands::frames_by` meets its contract: an f64 represents a position in range exactly.
 use mathlib.Core.Path.{refl}
 use borrow.Author.Needs.{needs}
 use Rattle.numbers.proofs.Frames.{number-held}

@@ -1,4 +1,4 @@
--- `sound_commands::last_played_position` meets its contract: an f64 holds a number in range exactly.
+-- `sound_commands::last_played_position` meets its contract: an f64 represents a number in range exactly.
 use mathlib.Core.Path.{sym, subst}
 use Prim.Native.Nat.{ℕ, _≤_}
 use borrow.Author.Needs.{needs}

@@ -1,4 +1,4 @@
--- `sound_commands::on_start_processing` meets its contract: refused or obeyed, by the number that it was judged to have.
+-- `sound_commands::on_start_processing` meets its contract: refused or obeyed, by its refusal.
 use mathlib.Core.Path.{_≡_, sym, _∙_}
 use Prim.Native.Nat.{ℕ}
 use mathlib.Core.List.{List}

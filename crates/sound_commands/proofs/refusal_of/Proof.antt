@@ -1,4 +1,4 @@
--- `sound_commands::refusal_of` meets its contract: its tests are those of `refusedSet`, in the same order.
+-- `sound_commands::refusal_of` meets its contract: it makes the tests of `refusedSet` in the same order.
 use mathlib.Core.Path.{_≡_, refl, sym, ap₂, _∙_, subst}
 use Prim.Native.Nat.{ℕ}
 use mathlib.Core.Bool.{Bool, _&&_}

@@ -1,4 +1,4 @@
--- `sound_commands::seek_by` meets its contract: each arm is a case of `soughtBy`, and a seek's frames are cut to a number in range.
+-- `sound_commands::seek_by` meets its contract: each arm is a case of `soughtBy`, and a seek's frames are cut to a frame index in range.
 use mathlib.Core.Path.{sym, ap, _∙_, subst}
 use Prim.Native.Nat.{ℕ, _≤_}
 use borrow.Author.Needs.{needs}

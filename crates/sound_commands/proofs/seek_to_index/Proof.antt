@@ -1,5 +1,5 @@
--- `sound_commands::seek_to_index` meets its contract: by whether the state advances once the transport has sought the frame.
--- The sought transport is formed, so a frame may be pushed.
+-- `sound_commands::seek_to_index` meets its contract: by whether the state advances after the transport's seek.
+-- The transport after the seek is well formed, so a frame may be pushed.
 use mathlib.Core.Path.{_≡_, sym, ap, _∙_}
 use Prim.Native.Nat.{ℕ, _≤_}
 use mathlib.Core.Bool.{true, false}
@@ -26,7 +26,7 @@ use Rattle.sound_commands.proofs.Orders.{jumped-kept}
 use Rattle.sound_commands.proofs.seek_to_index.Statement.{statement}
 use Rattle.sound_commands.proofs.seek_to_index.Tie as tie
 
--- the moving parts with another transport, and with another window besides
+-- the moving part with another transport, and also with another window
 abbrev with : StaticSound → Transport → Resampler → Moving
 with v t w = record { state = v .moving .state; transport = t; resampler = w; wraps = v .moving .wraps }
 

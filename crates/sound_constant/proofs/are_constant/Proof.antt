@@ -1,4 +1,4 @@
--- `are_constant`: where every lane repeats its first number, the lanes are constant.
+-- `are_constant`: if every lane repeats its first number, the lanes are constant.
 use Prim.Native.Nat.{ℕ, _≤_, _<_}
 use mathlib.Core.Path.{_≡_, sym, _∙_, subst}
 use mathlib.Core.Bool.{Bool, true, false, false≢true, not, _&&_}
@@ -78,7 +78,7 @@ is-constant-requires-3 c κs = let s = c .before .before .before .before .before
 is-constant-requires-4 : tie.Need-is-constant-requires-4
 is-constant-requires-4 c κs = let s = c .before .before .before .before .before .before .before .before .before in lane-some _ _ (sized-parts (lent s) (is-sized s) .right) (some s)
 
--- five answers at once
+-- five results at once
 record Five (a b c d e : Bool) : Type 0 where
   one : a ≡ true
   two : b ≡ true

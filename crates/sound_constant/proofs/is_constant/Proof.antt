@@ -1,4 +1,4 @@
--- `is_constant` compares every number with the first, which is not 0. The invariant: where all so far were equal, each is the first.
+-- `is_constant` compares every number with the first, which is not 0. The invariant: if all so far were equal, each is the first.
 use Prim.Native.Nat.{ℕ, _+_, _-_, _≤_, _<_}
 use mathlib.Core.Path.{_≡_}
 use mathlib.Core.Bool.{true, false≢true}

@@ -1,4 +1,4 @@
--- `sound_creation::is_lawful` meets its contract: each arm is a case of `allowed`.
+-- `sound_creation::is_well_formed` meets its contract: each arm is a case of `allowed`.
 use borrow.Author.Needs.{needs}
 use Rattle.sound_creation.proofs.is_well_formed.Statement.{statement}
 use Rattle.sound_creation.proofs.is_well_formed.Tie as tie

@@ -1,4 +1,4 @@
--- `sound_creation::make` meets its contract: the opened voice is well formed over its sound, so its three updates may be asked for.
+-- `sound_creation::make` meets its contract: the voice before its updates is well formed over its sound, so its three updates may be made.
 use mathlib.Core.Path.{_≡_, sym, ap, _∙_, subst}
 use Prim.Native.Nat.{ℕ, _*_, _/_, _%_}
 use native.Mathlib.Omega.{arith}
@@ -21,7 +21,7 @@ use Rattle.sound_creation.proofs.Makes.{setup-of, opened-well-formed, t
 use Rattle.sound_creation.proofs.make.Statement.{statement}
 use Rattle.sound_creation.proofs.make.Tie as tie
 
--- the opened voice
+-- the voice before its updates
 abbrev first : ℕ → Settings → StaticSound
 first len s = opened (setupOf len s) (transportOf (setupOf len s) s) (s .«playback_rate») (s .«start_waits»)
 
@@ -44,7 +44,7 @@ unfolding made
 made-of snd s v c m e f g =
     ap (moved v (v .«fractional_position»)) (g ∙ ap (λ (c : Slice). updates 3 snd c (v .moving)) f) ∙ ap (filled snd) e
 
--- an update may be asked for again
+-- another update may be made
 updatable-on : (snd : List Float) (c : Slice) (m x : Moving) → x ≡ updated snd c m → Updatable snd c m → Updatable snd c x
 updatable-on snd c m x e h = subst (Updatable snd c) (sym e) (updated-updatable snd c m h)
 

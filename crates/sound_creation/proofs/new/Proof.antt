@@ -1,4 +1,4 @@
--- `sound_creation::new` meets its contract: refused or made, by the number that it was judged to have.
+-- `sound_creation::new` meets its contract: refused or made, by its refusal.
 use mathlib.Core.Path.{_≡_, sym, _∙_}
 use Prim.Native.Nat.{ℕ}
 use mathlib.Core.List.{List}

@@ -1,4 +1,4 @@
--- `sound_creation::refusal_of` meets its contract: its tests are those of `refusedNew`, in the same order.
+-- `sound_creation::refusal_of` meets its contract: it makes the tests of `refusedNew` in the same order.
 use mathlib.Core.Path.{_≡_, refl, ap, _∙_}
 use Prim.Native.Nat.{ℕ}
 use borrow.Author.Needs.{needs}

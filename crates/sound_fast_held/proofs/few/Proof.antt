@@ -1,4 +1,4 @@
--- `few` rides the next frames as a ride of their own, over a list of the one rate.
+-- `few` plays the next frames as a scan of their own, over a list of the one rate.
 use Prim.Native.Nat.{ℕ, _+_, _-_, _*_, _^_, _≤_, _<_}
 use mathlib.Core.Path.{_≡_, sym, _∙_, subst}
 use mathlib.Core.List.{List}

@@ -1,4 +1,4 @@
--- `scan_held` goes on while frames are read and some are left. The invariant: the ride so far, and that a block that goes on has frames.
+-- `scan_held` continues while frames are read and some are left. The invariant: the scan so far, and that a block with remaining frames has frames.
 use Prim.Native.Nat.{ℕ, suc, _-_, _≤_, _<_}
 use mathlib.Core.Path.{_≡_, refl, sym, _∙_, subst}
 use mathlib.Core.Bool.{Bool, true, false, _&&_, cond}

@@ -1,4 +1,4 @@
--- `is_steady` compares every rate with the first. The invariant: where all so far were the same, each of them is.
+-- `is_steady` compares every rate with the first. The invariant: if all so far were the same, each of them is.
 use Prim.Native.Nat.{ℕ, _+_, _-_, _≤_, _<_}
 use mathlib.Core.Path.{_≡_}
 use mathlib.Core.Bool.{true, false≢true}

@@ -1,4 +1,4 @@
--- `magnitude_of` takes the top bit off a number's bits.
+-- `magnitude_of` clears the top bit of a number.
 use mathlib.Core.Path.{sym, subst}
 use lib.Dec.{T}
 use Rattle.numbers.proofs.Signs.{by-bits, number-bits}

@@ -1,4 +1,4 @@
--- `by_frame` scales one frame a turn. The invariant: the frames so far are scaled, and the rest is as it was.
+-- `by_frame` scales one frame per iteration. The invariant: the frames so far are scaled, and the rest is unchanged.
 use Prim.Native.Nat.{ℕ, _+_, _-_, _*_, _≤_, _<_}
 use mathlib.Core.Path.{_≡_, refl, ap, _∙_}
 use mathlib.Core.List.{List}

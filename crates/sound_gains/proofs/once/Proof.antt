@@ -1,4 +1,4 @@
--- `once` scales one frame per iteration. The invariant: the frames so far are scaled, and the rest is as it was.
+-- `once` scales one frame per iteration. The invariant: the frames so far are scaled, and the rest is unchanged.
 use Prim.Native.Nat.{ℕ, _+_, _-_, _*_, _≤_, _<_}
 use mathlib.Core.Path.{_≡_, refl, sym, ap, _∙_}
 use mathlib.Core.List.{List}

@@ -1,4 +1,4 @@
--- `sound_lanes::all_finite` meets its contract. The loop's invariant: `ok` is the test over the rates passed. Assumes nothing.
+-- `sound_lanes::all_finite` meets its contract. The loop's invariant: `ok` is the test over the rates so far. Assumes nothing.
 use Prim.Native.Nat.{_-_, _≤_}
 use mathlib.Core.Path.{_≡_, refl}
 use native.Mathlib.Omega.{arith}

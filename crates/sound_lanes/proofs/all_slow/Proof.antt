@@ -1,4 +1,4 @@
--- `sound_lanes::all_slow` meets its contract. The loop's invariant: `ok` is the test over the rates passed. Assumes nothing.
+-- `sound_lanes::all_slow` meets its contract. The loop's invariant: `ok` is the test over the rates so far. Assumes nothing.
 use Prim.Native.Nat.{ℕ, _-_, _≤_}
 use mathlib.Core.Path.{_≡_, refl, ap}
 use native.Mathlib.Omega.{arith}

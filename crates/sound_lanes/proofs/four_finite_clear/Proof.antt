@@ -1,4 +1,4 @@
--- `sound_lanes::four_finite_clear` meets its contract. The loop's invariant: the words' top bit is clear where the four lanes pass as far as they are read.
+-- `sound_lanes::four_finite_clear` meets its contract. The loop's invariant: the words' top bit is clear if the four lanes pass as far as they are read.
 -- Assumes nothing.
 use Prim.Native.Nat.{_-_, _≤_}
 use mathlib.Core.Path.{_≡_, refl}

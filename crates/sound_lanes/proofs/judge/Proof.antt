@@ -20,7 +20,7 @@ levels st = let b = given st in fourFiniteClear (b .fade) (b .volume) (b .left) 
 abbrev slows : tie.Start → Bool
 slows st = all (slow (st .args .«sample-rate») (st .args .dt)) (given st .rate)
 
--- the answer, by what the passes said
+-- the result, by the results of the passes
 answer : (st : tie.Start) (a s f : Bool) → levels st ≡ a → slows st ≡ s → all finite (given st .rate) ≡ f
     → _≡_ {A = ℕ} (cond a (cond s 0 (cond f 12 11)) 11) (judged (st .args .«sample-rate») (st .args .dt) (given st))
 answer st a s f p q r =

@@ -1,4 +1,4 @@
--- `after` is the place after: onto the end it goes round.
+-- `after` is the next position: onto the end it wraps.
 use Rattle.sound_track.proofs.Tracks.{next-ends, after-turn, after-on}
 use borrow.Author.Needs.{needs}
 use Rattle.sound_track.proofs.after.Statement.{statement}

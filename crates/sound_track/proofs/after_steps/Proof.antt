@@ -1,4 +1,4 @@
--- `after_steps` makes n steps at once: by a sum, once round, or by a remainder.
+-- `after_steps` makes n steps at once: by a sum, with one wrap, or by a remainder.
 use mathlib.Core.Path.{sym}
 use native.Mathlib.Omega.{arith}
 use Prim.Native.Nat.{_+_, _-_}

@@ -1,4 +1,4 @@
--- `before` is the place before: from the start it goes round.
+-- `before` is the previous position: from the start it wraps.
 use native.Mathlib.Omega.{arith}
 use Rattle.sound_track.proofs.Tracks.{next-ends, before-turn, before-on}
 use borrow.Author.Needs.{needs}

@@ -1,4 +1,4 @@
--- `before_steps` makes n steps at once: by a difference, once round, or by a remainder.
+-- `before_steps` makes n steps at once: by a difference, with one wrap, or by a remainder.
 use mathlib.Core.Path.{sym}
 use native.Mathlib.Omega.{arith}
 use Prim.Native.Nat.{_+_, _-_}

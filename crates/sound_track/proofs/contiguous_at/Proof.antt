@@ -1,4 +1,4 @@
--- `contiguous_at` puts the contiguous window together, place by place.
+-- `contiguous_at` assembles the contiguous window, position by position.
 use denote.Ref.{now}
 use Rattle.sound_track.proofs.Contiguous.{contiguous-made}
 use borrow.Author.Needs.{needs}

@@ -1,4 +1,4 @@
--- `entry_at` is the frame with its number.
+-- `entry_at` is the frame with its frame index.
 use mathlib.Core.Path.{ap}
 use Rattle.frame.specs.declared.Frame.{Frame}
 use borrow.Author.Needs.{needs}

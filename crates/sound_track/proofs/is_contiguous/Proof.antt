@@ -1,4 +1,4 @@
--- `is_contiguous`: what moves is the contiguous window from the first entry on, answer by answer.
+-- `is_contiguous`: the moving part has the contiguous window from the first entry on, result by result.
 use mathlib.Core.Path.{sym, ap, ap₂, _∙_}
 use Prim.Native.Nat.{ℕ}
 use mathlib.Core.Bool.{Bool, _&&_, false≢true}

@@ -1,4 +1,4 @@
--- `is_on` tests the side that the direction asks for.
+-- `is_on` tests the side that the direction needs.
 use mathlib.Core.Path.{sym, ap, ap₂, _∙_}
 use mathlib.Core.Bool.{Bool, true, false, false≢true, _&&_, _||_, cond}
 use lib.Dec.{leb, ltb, eqb}

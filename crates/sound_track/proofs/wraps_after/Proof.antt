@@ -1,4 +1,4 @@
--- `wraps_after` raises the count of the direction by the rounds.
+-- `wraps_after` raises the count of the direction by the wraps.
 use mathlib.Core.Path.{sym, ap, _∙_}
 use Prim.Native.Nat.{ℕ}
 use Rattle.sound_track.specs.Tracks.{raisedBy}

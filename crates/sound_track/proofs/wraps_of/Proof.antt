@@ -1,4 +1,4 @@
--- `rounds` counts by a division how often the steps go round.
+-- `wraps_of` counts by a division how often the steps wrap.
 use mathlib.Core.Path.{_≡_, sym, _∙_}
 use native.Mathlib.Omega.{arith}
 use native.Mathlib.Nat.{div-le-self}

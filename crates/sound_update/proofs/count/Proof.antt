@@ -1,4 +1,4 @@
--- `count` meets its contract: it asks the transport, and raises the count of the step's direction.
+-- `count` meets its contract: it calls the transport, and raises the count of the step's direction.
 use mathlib.Core.Path.{_≡_, refl, sym, ap, ap₂, _∙_}
 use mathlib.Core.Bool.{Bool, true, false, not, _&&_}
 use Prim.Native.Nat.{ℕ}
@@ -11,7 +11,7 @@ use Rattle.sound_update.specs.Updates.{raised, counted}
 use Rattle.sound_update.proofs.count.Statement.{statement}
 use Rattle.sound_update.proofs.count.Tie as tie
 
--- with the answer w to whether the step wraps, and its direction d
+-- with the result w of whether the step wraps, and its direction d
 counted-by : (c : Slice) (t : Transport) (k : Wraps) (w d : Bool) → w ≡ wraps (c .backwards) t → c .backwards ≡ d
     → _≡_ {A = Wraps} (record { forward = raised (w && not d) (k .forward); backward = raised (w && d) (k .backward) }) (counted c t k)
 unfolding counted

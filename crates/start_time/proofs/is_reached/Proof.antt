@@ -1,4 +1,4 @@
--- `is_reached` tests the wrapped difference: std's is the one number that due added to wraps to now.
+-- `is_reached` tests the wrapped difference: std's difference is the only number such that due plus it wraps to now.
 use borrow.Author.Needs.{needs}
 use mathlib.Core.Path.{ap}
 use Prim.Native.Nat.{ℕ}

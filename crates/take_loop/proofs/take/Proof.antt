@@ -1,4 +1,4 @@
--- `take_loop::take` meets its contract: the table's refusal, or the command set's answer to the loop that was found. Assumes nothing.
+-- `take_loop::take` meets its contract: the table's refusal, or the command set's result for the loop of the slot. Assumes nothing.
 use mathlib.Core.Path.{_≡_, ap, _∙_}
 use Prim.Native.Nat.{ℕ}
 use mathlib.Core.List.{List}

@@ -1,4 +1,4 @@
--- `test_exports::cableowl_test_narrow` meets its contract: the test is what `narrow` asks. Assumes nothing.
+-- `test_exports::cableowl_test_narrow` meets its contract: the test is what `narrow` requires. Assumes nothing.
 use borrow.Author.Needs.{needs}
 use mathlib.Core.Path.{_≡_, sym, ap, subst, _∙_}
 use mathlib.Core.Bool.{Bool, true, cond}

@@ -1,4 +1,4 @@
--- `test_leaf_examples::backward` is safe and ends: its loop is not empty, which is what a step back asks. Assumes nothing.
+-- `test_leaf_examples::backward` is safe and ends: its loop is not empty, which is what a step back requires. Assumes nothing.
 use borrow.Author.Needs.{needs}
 use lib.Dec.{lt→ltb}
 use Rattle.test_leaf_examples.proofs.backward.Statement.{statement}

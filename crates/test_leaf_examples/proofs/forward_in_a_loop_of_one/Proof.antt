@@ -1,4 +1,4 @@
--- `test_leaf_examples::forward_in_a_loop_of_one` is safe and ends: 4 lies below 10 and the loop (4, 5) in 10 frames, which is what a step forward asks. Assumes nothing.
+-- `test_leaf_examples::forward_in_a_loop_of_one` is safe and ends: 4 lies below 10 and the loop (4, 5) in 10 frames, which is what a step forward requires. Assumes nothing.
 use mathlib.Core.Path.{sym, subst}
 use lib.Dec.{lit<, lit≤}
 use Rattle.transport.specs.WellFormed.{WellFormedTransport}

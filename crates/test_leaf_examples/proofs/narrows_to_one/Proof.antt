@@ -1,4 +1,4 @@
--- `test_leaf_examples::narrows_to_one` is safe and ends: 1 - 2^-25 is a proper fraction, which is what `narrow` asks. Assumes nothing.
+-- `test_leaf_examples::narrows_to_one` is safe and ends: 1 - 2^-25 is a proper fraction, which is what `narrow` requires. Assumes nothing.
 use lib.Ieee.{ofBits, lt}
 use borrow.Author.Needs.{needs}
 use Rattle.test_leaf_examples.proofs.narrows_to_one.Statement.{statement}

@@ -1,4 +1,4 @@
--- `test_leaf_examples::seek_9_to_8` is safe and ends: the loop (3, 6) is not empty, which is what a seek asks. Assumes nothing.
+-- `test_leaf_examples::seek_9_to_8` is safe and ends: the loop (3, 6) is not empty, which is what a seek requires. Assumes nothing.
 use borrow.Author.Needs.{needs}
 use Rattle.test_leaf_examples.proofs.seek_9_to_8.Statement.{statement}
 use Rattle.test_leaf_examples.proofs.seek_9_to_8.Tie as tie

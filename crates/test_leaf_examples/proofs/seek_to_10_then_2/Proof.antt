@@ -1,4 +1,4 @@
--- `test_leaf_examples::seek_to_10_then_2` is safe and ends: no loop is none that is empty, and a seek keeps it. Assumes nothing.
+-- `test_leaf_examples::seek_to_10_then_2` is safe and ends: no loop is not an empty loop, and a seek keeps it. Assumes nothing.
 use Rattle.transport.specs.Moves.{seek}
 use borrow.Author.Needs.{needs}
 use Rattle.test_leaf_examples.proofs.seek_to_10_then_2.Statement.{statement}

@@ -1,4 +1,4 @@
--- `test_numbers_list::field` meets its contract. The invariant: the value is that of the digits passed. The measure is how many are left.
+-- `test_numbers_list::field` meets its contract. The invariant: the value is that of the digits so far. The measure is how many are left.
 -- Assumes nothing.
 use borrow.Author.Needs.{needs}
 use mathlib.Core.Path.{_≡_, refl, sym, ap, ap₂, subst, _∙_}
@@ -19,7 +19,7 @@ abbrev μ-loop : tie.MeasureT-loop
 loop-holds : tie.Need-loop-holds Inv-loop μ-loop
 loop-holds c = (omega arith, unfold number in refl)
 
--- the digits passed leave room for one more
+-- the digits so far leave space for one more
 small : (c : tie.In-loop Inv-loop μ-loop) → c .before .loop .value < 2 ^ 60
 small c =
     subst (λ (v : ℕ). v < 2 ^ 60) (sym (c .before .loop .inv .1))

@@ -1,4 +1,4 @@
--- `test_numbers_list::narrows_to` meets its contract: the test is what `narrow` asks, and its answer is a number. Assumes nothing.
+-- `test_numbers_list::narrows_to` meets its contract: the test is what `narrow` requires, and its result is a number. Assumes nothing.
 use mathlib.Core.Path.{_≡_, sym, ap, subst, _∙_}
 use Prim.Native.Nat.{_^_, _<_}
 use native.Mathlib.Omega.{arith}
@@ -20,7 +20,7 @@ is-proper-requires c κs = search needs
 proper-here : (c : tie.Then1) → proper (c .before .before .args .x) ≡ true
 proper-here c = sym (c .before .is-proper .ensures) ∙ c .if1 .taken
 
--- the answer, as an f32
+-- the result, as an f32
 good : (c : tie.After-narrow) → T (fits binary32 (c .narrow .result) && not (isNan (c .narrow .result)))
 good c =
     subst (λ (z : Float). T (fits binary32 z && not (isNan z))) (sym (c .narrow .ensures))

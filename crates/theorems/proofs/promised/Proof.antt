@@ -1,4 +1,4 @@
--- `promised` does nothing, and what it ensures is the record of all theorems.
+-- `promised` is empty; its contract is the record of all theorems.
 use Rattle.theorems.proofs.Promises.{promises}
 use Rattle.theorems.proofs.promised.Statement.{statement}
 use Rattle.theorems.proofs.promised.Tie as tie

@@ -1,4 +1,4 @@
--- `theorems_loop_copies::promised` does nothing, and what it ensures is the record of all theorems.
+-- `theorems_loop_copies::promised` is empty; its contract is the record of all theorems.
 use Rattle.theorems_loop_copies.proofs.Promises.{promises}
 use Rattle.theorems_loop_copies.proofs.promised.Statement.{statement}
 use Rattle.theorems_loop_copies.proofs.promised.Tie as tie

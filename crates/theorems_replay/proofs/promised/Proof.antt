@@ -1,4 +1,4 @@
--- `theorems_replay::promised` meets its contract: what is promised is kept. Assumes nothing.
+-- `theorems_replay::promised` meets its contract: it proves the theorems. Assumes nothing.
 use Rattle.theorems_replay.proofs.Promises.{all-kept}
 use Rattle.theorems_replay.proofs.promised.Statement.{statement}
 use Rattle.theorems_replay.proofs.promised.Tie as tie

@@ -1,4 +1,4 @@
--- `theorems_sound_length::promised` does nothing, and what it ensures is the record of all theorems.
+-- `theorems_sound_length::promised` is empty; its contract is the record of all theorems.
 use Rattle.theorems_sound_length.proofs.Promises.{promises}
 use Rattle.theorems_sound_length.proofs.promised.Statement.{statement}
 use Rattle.theorems_sound_length.proofs.promised.Tie as tie

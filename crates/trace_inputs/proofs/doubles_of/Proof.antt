@@ -1,4 +1,4 @@
--- `trace_inputs::doubles_of`: what is still to store, stored, gives the whole lane stored.
+-- `trace_inputs::doubles_of`: what is still to store, stored, is the whole lane stored.
 use mathlib.Core.Path.{_≡_, refl, sym, ap, _∙_}
 use Prim.Native.Nat.{ℕ, _+_, _-_, _*_, _≤_, _<_}
 use native.Mathlib.Omega.{arith}

@@ -1,4 +1,4 @@
--- `trace_inputs::number_of`: no bytes, fewer than are asked for, as many.
+-- `trace_inputs::number_of`: no bytes, fewer than requested, as many.
 use mathlib.Core.Path.{_∙_}
 use denote.Ref.{now}
 use borrow.Author.Needs.{needs}

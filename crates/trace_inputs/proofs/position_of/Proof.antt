@@ -1,4 +1,4 @@
--- `trace_inputs::place_of` meets its contract, unit by unit.
+-- `trace_inputs::position_of` meets its contract, unit by unit.
 use borrow.Author.Tests.{eq-eqb, ne-eqb, lt-ltb, le-ltb, le-leb, lt-leb}
 use borrow.Author.Needs.{needs}
 use Rattle.trace_inputs.proofs.position_of.Statement.{statement}

@@ -1,4 +1,4 @@
--- `trace_lines::put_decimal`: the digits still to spell in front of those spelt are the whole number.
+-- `trace_lines::put_decimal`: the remaining digits before the written ones are the whole number.
 use mathlib.Core.Path.{_≡_, refl, sym, ap, _∙_}
 use Prim.Native.Nat.{ℕ, _+_, _-_, _*_, _%_, _^_, _≤_, _<_}
 use native.Mathlib.Omega.{arith}

@@ -1,4 +1,4 @@
--- `trace_lines::tell`: a word, then its number.
+-- `trace_lines::put_labelled`: a word, then its number.
 use native.Mathlib.Omega.{arith}
 use denote.Ref.{now}
 use mathlib.Core.List.{[], _∷_, _++_}

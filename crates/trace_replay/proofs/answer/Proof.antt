@@ -1,4 +1,4 @@
--- `trace_replay::answer`: each lane is its value over and over.
+-- `trace_replay::answer`: each lane repeats its value.
 use mathlib.Core.Path.{_≡_, refl, sym, ap, _∙_}
 use native.Mathlib.Omega.{arith}
 use denote.Ref.{now}

@@ -1,4 +1,4 @@
--- `trace_replay::command`: what the command set answered.
+-- `trace_replay::command`: the result of the command set.
 use mathlib.Core.Path.{_≡_, refl, sym, ap, _∙_}
 use native.Mathlib.Omega.{arith}
 use borrow.Author.Needs.{needs}

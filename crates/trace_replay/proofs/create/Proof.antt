@@ -1,4 +1,4 @@
--- `trace_replay::create`: the samples put are the sound that is created.
+-- `trace_replay::create`: the written samples are the sound of the creation.
 use mathlib.Core.Path.{_≡_, refl, sym, ap, _∙_}
 use Prim.Native.Nat.{_≤_}
 use native.Mathlib.Omega.{arith}

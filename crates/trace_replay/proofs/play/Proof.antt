@@ -1,4 +1,4 @@
--- `trace_replay::play`: what the player answered, counted, and its line.
+-- `trace_replay::play`: the player's result, counted, and its line.
 use mathlib.Core.Path.{_≡_, refl, sym, ap, _∙_}
 use native.Mathlib.Omega.{arith}
 use borrow.Author.Needs.{needs}

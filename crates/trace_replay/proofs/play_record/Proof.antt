@@ -1,4 +1,4 @@
--- `trace_replay::turn`: by the kind.
+-- `trace_replay::play_record`: by the kind.
 use mathlib.Core.Path.{_≡_, refl, sym, ap, _∙_}
 use native.Mathlib.Omega.{arith}
 use borrow.Author.Needs.{needs}

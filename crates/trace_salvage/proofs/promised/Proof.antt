@@ -1,4 +1,4 @@
--- `trace_salvage::promised` meets its contract: what is promised beyond the contracts is kept. Assumes nothing.
+-- `trace_salvage::promised` meets its contract: it proves the theorems. Assumes nothing.
 use Rattle.trace_salvage.proofs.Promises.{all-kept}
 use Rattle.trace_salvage.proofs.promised.Statement.{statement}
 use Rattle.trace_salvage.proofs.promised.Tie as tie

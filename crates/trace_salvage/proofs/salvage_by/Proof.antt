@@ -1,4 +1,4 @@
--- `trace_salvage::salvage_by`: what is still to do, done, gives the whole salvage.
+-- `trace_salvage::salvage_by`: the rest, done, completes the whole salvage.
 use Prim.Native.Nat.{ℕ, _+_, _-_, _*_, _≤_, _<_}
 use native.Mathlib.Omega.{arith}
 use mathlib.Core.Path.{_≡_, refl, sym, ap, _∙_}

@@ -1,4 +1,4 @@
--- `trace_sealed::is_in_steps` meets its contract: the tests in turn. Assumes nothing.
+-- `trace_sealed::is_in_steps` meets its contract: the tests one after the other. Assumes nothing.
 use Rattle.trace_sealed.proofs.Ways.{too-short, too-long, in-steps}
 use borrow.Author.Needs.{needs}
 use Rattle.trace_sealed.proofs.is_in_steps.Statement.{statement}

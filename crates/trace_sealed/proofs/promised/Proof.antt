@@ -1,4 +1,4 @@
--- `trace_sealed::promised` meets its contract: what is promised beyond the contracts is kept. Assumes nothing.
+-- `trace_sealed::promised` meets its contract: it proves the theorems. Assumes nothing.
 use Rattle.trace_sealed.proofs.Promises.{kept}
 use Rattle.trace_sealed.proofs.promised.Statement.{statement}
 use Rattle.trace_sealed.proofs.promised.Tie as tie

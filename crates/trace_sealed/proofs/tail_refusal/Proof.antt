@@ -1,4 +1,4 @@
--- `trace_sealed::tail_refusal` meets its contract: the tests in turn. Assumes nothing.
+-- `trace_sealed::tail_refusal` meets its contract: the tests one after the other. Assumes nothing.
 use Rattle.trace_sealed.proofs.Ways.{lanes-missing, not-at-the-checksum, checksum-missing, tail-there, in-the-checksum, payload-missing}
 use borrow.Author.Needs.{needs}
 use Rattle.trace_sealed.proofs.tail_refusal.Statement.{statement}

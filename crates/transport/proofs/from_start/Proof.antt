@@ -13,7 +13,7 @@ use Rattle.transport.proofs.Wraps.{over-inside, over-wrap}
 use Rattle.transport.proofs.from_start.Statement.{statement}
 use Rattle.transport.proofs.from_start.Tie as tie
 
--- in the loop's arm: its start and end, the place, and that the loop is not empty
+-- in the loop's arm: its start and end, the position, and that the loop is not empty
 module _ (c : tie.After-loop-region) where
   abbrev s : ℕ
   s = c .loop-region .given .0 .0

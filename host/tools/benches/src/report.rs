@@ -122,7 +122,9 @@ pub fn document(rows: &[Row], players: &str) -> String {
     format!(
         "# Benchmark
 
-Nanoseconds a stereo frame at 48 kHz: ours with every check, through the C entry and through the safe crate (which sets the float mode of each call), against kira's own text (`host/judges/timed`: no checks, no counts, no copies), in turns in one process; 200 repetitions of 8,192 frames. A negative rate plays backward. \"Subnormal\" is the long loop over samples of about 2^-130, the tail of a decay. Such a frame costs x86-64 some forty times as much, kira's text as ours, and a host's flush-to-zero does not help, since each call of the safe crate runs in the plain mode: clear subnormal samples when a sound is loaded, if it has any. The last column is how many of our voices one core plays at 48 kHz. Machines differ: use the ratios.
+This page has nanoseconds per stereo frame at 48 kHz. Our code makes every check; it is called through the C entry and through the safe crate, which sets the float mode of each call. kira's own text (`host/judges/timed`) makes no checks, counts or copies. All are timed in turn in one process, with 200 repetitions of 8,192 frames. A negative rate plays backward. The last column is how many of our voices one core plays at 48 kHz. Machines differ, so use the ratios.
+
+\"Subnormal\" is the long loop over samples of about 2^-130, the tail of a decay. On x86-64 such a frame costs about forty times as much, for kira's text and for ours. A host's flush-to-zero does not help, since each call of the safe crate runs in the plain mode. So clear subnormal samples when a sound is loaded.
 
 Measured on {}.
 
@@ -135,7 +137,7 @@ tools/instructions                                                        # inst
 tools/divisions                                                           # divisions in a loop of 3 frames, by callgrind
 ```
 
-Ours over kira's text, the least and the most of rates 0.5, 0.93 and 1, forward and backward, in the long loop. \"Given once\" is `cableowl_process_held` with amplitudes and gains of 1, 0.5, 0.8 and 0.9; \"constant\" are lanes of ones through `cableowl_process`; \"per frame\" are lanes of random amplitudes and gains, the rate one number or a number for each frame. Ratios depend on the processor: kira's text gained more than ours from a Neoverse N1 to a Neoverse V1, so a ratio of 0.65 on the one was 0.85 on the other.
+Our time divided by that of kira's text: the smallest and the largest ratio of rates 0.5, 0.93 and 1, forward and backward, in the long loop. \"Given once\" is held lanes, `cableowl_process_held` with amplitudes and gains of 1, 0.5, 0.8 and 0.9; \"constant\" are lanes of ones through `cableowl_process`; \"per frame\" are lanes of random amplitudes and gains, the rate one number or a number for each frame. Ratios depend on the processor: kira's text gained more than ours from a Neoverse N1 to a Neoverse V1, so a ratio of 0.65 on the one was 0.85 on the other.
 
 {}
 The nanoseconds of a call that do not depend on its frames, at rate 0.93 in the long loop, from the times of blocks of 64 and of 4,096:
@@ -158,7 +160,7 @@ fn players_section(table: &str) -> String {
     format!(
         "## Many players into one buffer
 
-64 voices a call, loops of a second at rate 0.93, each added to one buffer: voices a core at 48 kHz, and nanoseconds a frame of one voice, the least call of 819,200 frames a voice, in turns. A bare voice has constant lanes and is played into a buffer of its own, then added. A player at rest is `Player::mix` with no parameter in motion; in motion, fade, volume, rate and panning all go on for hours, so that every lane has a number for each frame.
+64 voices per call, with loops of a second at rate 0.93, are added to one buffer. The table has voices per core at 48 kHz, and nanoseconds per frame of one voice: the shortest call of 819,200 frames a voice, all timed in turn. A bare voice has constant lanes and is played into its own buffer, then added. A player at rest is `Player::mix` with no moving parameter. For a player in motion, fade, volume, rate and panning all move for hours, so that every lane has a number for each frame.
 
 Measured on {}.
 
@@ -170,11 +172,23 @@ Measured on {}.
 /// Where the rest of the time is, and what others take.
 const REST: &str = "## Where the time is
 
-A frame costs these instructions, counted by callgrind in blocks of 512 at rate 0.93. On Arm: 48.8 with one rate for the whole block (kira's text 121), 51.6 if the rates vary, 74.8 in a loop of 3 frames, which goes round two frames per iteration. On x86-64: 68.2, 68.8 and, at rate -1, 109.2 (kira's text 135 in each); with numbers given once 48.6, and 69.2 in blocks of 64 (193.0 and 207.0 before they had the fast path). A call costs about 1,000 instructions of its own: the state's check and its translation, the window's check, the answer. Most of a call's fixed time is spent on copies of the voice between functions. A short loop with one rate goes 16 frames at a time, which costs 12 instructions a frame more than before. What is left to half of kira's time: the fixed part of a call, and the check of each lane. Below 1 a rate spares kira's text updates and ours nothing: our frames cost the same at 0.5 as at 1. A block is played frame by frame, at 1.25 to 1.5 of kira's time, if its window is not four neighbouring frames of the track: the first block after creation, one after a seek, the last frames of a sound without a loop, a window with a NaN.
+Instructions per frame, counted by callgrind in blocks of 512 at rate 0.93:
 
-Ratios differ between processors more than instructions do. With the form before this one a Neoverse N1 took 0.65 of kira's time at 0.93 and 512, and a Neoverse V1 0.85: kira's text is twice as fast on the V1, ours 1.45 times.
+| | Arm | x86-64 |
+|---|---|---|
+| one rate for the whole block | 48.8 | 68.2 |
+| rates that vary | 51.6 | 68.8 |
+| a loop of 3 frames | 74.8, two frames per iteration | 109.2, at rate -1 |
+| held lanes | | 48.6; 69.2 in blocks of 64 (193.0 and 207.0 before they had the fast path) |
+| kira's text | 121 | 135 in each |
 
-The first table's ratios, on both processors. The Intel Xeon (x86-64, \"Intel(R) Xeon(R) Processor\", rustc 1.95.0, 2026-11-16) was shared with other work, so only its least times count. Numbers given once were measured on the V1 before they had the fast path, and on the Xeon with it [20ddcd2]; the V1's rows of \"given once\" above are of the plain loop too.
+A call costs about 1,000 more instructions: the check and the translation of the state, the check of the window, the answer. Most of a call's fixed time is spent on copies of the voice between functions. A short loop with one rate is played 16 frames at a time, which costs 12 instructions per frame more than before. To reach half of kira's time, the fixed part of a call and the check of each lane must become cheaper. A rate below 1 saves kira's text some updates, and our code nothing: our frames cost the same at 0.5 as at 1.
+
+A block is played frame by frame, at 1.25 to 1.5 of kira's time, if its window is not contiguous: the first block after creation, one after a seek, the last frames of a sound without a loop, a window with a NaN.
+
+Ratios differ between processors more than instructions do. With the version before this one a Neoverse N1 took 0.65 of kira's time at 0.93 and 512, and a Neoverse V1 0.85: kira's text is twice as fast on the V1, ours 1.45 times.
+
+The first table's ratios, on both processors. The Intel Xeon (x86-64, \"Intel(R) Xeon(R) Processor\", rustc 1.95.0, 2026-11-16) was shared with other work, so only its shortest times count. Held lanes (\"given once\") were measured on the V1 before they had the fast path, and on the Xeon with it [20ddcd2]. The V1's rows of \"given once\" above are also from before the fast path.
 
 | lanes | V1, 512 and 4,096 | V1, 64 | Xeon, 512 and 4,096 | Xeon, 64 |
 |---|---|---|---|---|
@@ -189,7 +203,7 @@ On the Xeon the part of a call that does not depend on its frames took 145 to 19
 
 ## Beside others
 
-Time a frame over that of kira's text in the same run, stereo, looped, rate 0.93; all but the last row were measured together on x86-64 with Debian 12's packages, one more voice each, and do less or more as said.
+Time per frame divided by that of kira's text in the same run: stereo, looped, rate 0.93. All rows except the last were measured together on x86-64 with Debian 12's packages, one more voice each. The last column says what each does.
 
 | | blocks 64 / 512 / 4,096 | does |
 |---|---|---|

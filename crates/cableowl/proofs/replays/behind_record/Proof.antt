@@ -1,4 +1,4 @@
--- `behind_record`: the offset behind the record.
+-- `behind_record`: the offset after the record.
 use borrow.Author.Needs.{needs}
 use Rattle.cableowl.proofs.replays.behind_record.Statement.{statement}
 use Rattle.cableowl.proofs.replays.behind_record.Tie as tie

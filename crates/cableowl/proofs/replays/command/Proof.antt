@@ -1,4 +1,4 @@
--- `command`: what the command set answered.
+-- `command`: the result of the command set.
 use denote.Ref.{now}
 use Rattle.cableowl.proofs.ReplaySteps.{obeyed-count, commands-is}
 use borrow.Author.Needs.{needs}

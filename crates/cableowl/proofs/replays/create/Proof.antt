@@ -1,4 +1,4 @@
--- `create`: the samples put are the sound that is created.
+-- `create`: the written samples are the sound of the creation.
 use mathlib.Core.Path.{_≡_}
 use Prim.Native.Nat.{_≤_}
 use native.Mathlib.Omega.{arith}

@@ -1,4 +1,4 @@
--- `play`: what the player answered, counted.
+-- `play`: the result of the player, counted.
 use Prim.Native.Nat.{_*_, _≤_}
 use native.Mathlib.Omega.{arith}
 use denote.Ref.{now}

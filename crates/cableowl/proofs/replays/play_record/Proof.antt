@@ -1,4 +1,4 @@
--- `turn`: by the kind.
+-- `play_record`: by the kind.
 use denote.Ref.{now}
 use Rattle.cableowl.proofs.ReplaySteps.{part-long, turned-creation, turned-commands, turned-block}
 use borrow.Author.Needs.{needs}

@@ -1,4 +1,4 @@
--- `play_lanes`: what the player answered, counted.
+-- `play_lanes`: the result of the player, counted.
 use Prim.Native.Nat.{_*_, _≤_}
 use native.Mathlib.Omega.{arith}
 use denote.Ref.{now}

@@ -1,4 +1,4 @@
--- `cableowl_read_record` meets its contract: the record that `trace_records::read` gives. Assumes nothing.
+-- `cableowl_read_record` meets its contract: the record that `trace_records::read` returns. Assumes nothing.
 use borrow.Author.Needs.{needs}
 use Rattle.cableowl.proofs.traces.cableowl_read_record.Statement.{statement}
 use Rattle.cableowl.proofs.traces.cableowl_read_record.Tie as tie

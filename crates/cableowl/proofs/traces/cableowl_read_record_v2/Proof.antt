@@ -1,4 +1,4 @@
--- `cableowl_read_record_v2` meets its contract: the record that `trace_sealed::read` gives. Assumes nothing.
+-- `cableowl_read_record_v2` meets its contract: the record that `trace_sealed::read` returns. Assumes nothing.
 use borrow.Author.Needs.{needs}
 use Rattle.cableowl.proofs.traces.cableowl_read_record_v2.Statement.{statement}
 use Rattle.cableowl.proofs.traces.cableowl_read_record_v2.Tie as tie

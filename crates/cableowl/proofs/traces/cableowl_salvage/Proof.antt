@@ -1,4 +1,4 @@
--- `cableowl_salvage` meets its contract: what `trace_salvage::salvage` answers and leaves. Assumes nothing.
+-- `cableowl_salvage` meets its contract: the result of `trace_salvage::salvage`, and the buffer after it. Assumes nothing.
 use borrow.Author.Needs.{needs}
 use Rattle.cableowl.proofs.traces.cableowl_salvage.Statement.{statement}
 use Rattle.cableowl.proofs.traces.cableowl_salvage.Tie as tie

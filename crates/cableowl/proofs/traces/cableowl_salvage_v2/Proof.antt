@@ -1,4 +1,4 @@
--- `cableowl_salvage_v2` meets its contract: what `trace_salvage::salvage_by` of reader 2 answers and leaves. Assumes nothing.
+-- `cableowl_salvage_v2` meets its contract: the result of `trace_salvage::salvage_by` of reader 2, and the buffer after it. Assumes nothing.
 use borrow.Author.Needs.{needs}
 use Rattle.cableowl.proofs.traces.cableowl_salvage_v2.Statement.{statement}
 use Rattle.cableowl.proofs.traces.cableowl_salvage_v2.Tie as tie

@@ -1,4 +1,4 @@
--- `cableowl_write_record` meets its contract: what `trace_records::write` answers and leaves. Assumes nothing.
+-- `cableowl_write_record` meets its contract: the result of `trace_records::write`, and the buffer after it. Assumes nothing.
 use borrow.Author.Needs.{needs}
 use Rattle.cableowl.proofs.traces.cableowl_write_record.Statement.{statement}
 use Rattle.cableowl.proofs.traces.cableowl_write_record.Tie as tie

@@ -1,4 +1,4 @@
--- `cableowl_write_record_v2` meets its contract: what `trace_sealed::write` answers and leaves. Assumes nothing.
+-- `cableowl_write_record_v2` meets its contract: the result of `trace_sealed::write`, and the buffer after it. Assumes nothing.
 use borrow.Author.Needs.{needs}
 use Rattle.cableowl.proofs.traces.cableowl_write_record_v2.Statement.{statement}
 use Rattle.cableowl.proofs.traces.cableowl_write_record_v2.Tie as tie

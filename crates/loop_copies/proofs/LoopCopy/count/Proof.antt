@@ -1,4 +1,4 @@
--- `loop_copies::LoopCopy::count` meets its contract: refused, the copy as it was; accepted, the hall's number raised.
+-- `loop_copies::LoopCopy::count` meets its contract: if refused, the copy unchanged; if accepted, the hall's number raised.
 use mathlib.Core.Path.{_≡_, sym, subst}
 use mathlib.Core.Bool.{true, false}
 use Prim.Native.Nat.{ℕ}

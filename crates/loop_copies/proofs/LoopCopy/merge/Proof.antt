@@ -1,4 +1,4 @@
--- `loop_copies::LoopCopy::merge` meets its contract: refused, our copy; accepted, each hall's newer half.
+-- `loop_copies::LoopCopy::merge` meets its contract: if refused, our copy; if accepted, each hall's newer half.
 use mathlib.Core.Path.{_≡_, sym, _∙_}
 use mathlib.Core.List.{List, _++_}
 use lib.ListN.{take, drop}
@@ -12,7 +12,7 @@ use Rattle.loop_copies.specs.Copies.{refusedMerge, newer, mergedCopy}
 use Rattle.loop_copies.proofs.LoopCopy.merge.Statement.{statement}
 use Rattle.loop_copies.proofs.LoopCopy.merge.Tie as tie
 
--- what is built of two newer copies and their halves
+-- the copy made from two newer copies and their halves
 joined : (c d a b : LoopCopy) (slots : List LoopSlot) → refusedMerge c d ≡ 0 → a ≡ newer hall.A c d → b ≡ newer hall.B c d → slots ≡ take 8 (a .table .slots) ++ drop 8 (b .table .slots)
     → _≡_ {A = CopyChanged} (record { copy = record { table = record { «num_frames» = c .table .«num_frames»; slots = slots }; «changes_a» = a .«changes_a»; «changes_b» = b .«changes_b» }; refusal = 0 }) (mergedCopy c d)
 unfolding mergedCopy

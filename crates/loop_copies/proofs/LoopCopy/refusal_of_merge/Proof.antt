@@ -1,4 +1,4 @@
--- `loop_copies::LoopCopy::refusal_of_merge` meets its contract: its tests are those of `refusedMerge`, in the same order.
+-- `loop_copies::LoopCopy::refusal_of_merge` meets its contract: it makes the tests of `refusedMerge` in the same order.
 use mathlib.Core.Path.{_≡_, sym, _∙_}
 use mathlib.Core.Bool.{true, false}
 use borrow.Author.Needs.{needs}

@@ -1,4 +1,4 @@
--- `loop_table::LoopSlot::is_lawful` meets its contract: both tests by their own contracts. Assumes nothing.
+-- `loop_table::LoopSlot::is_well_formed` meets its contract: both tests by their own contracts. Assumes nothing.
 use mathlib.Core.Path.{ap₂}
 use mathlib.Core.Bool.{_||_}
 use borrow.Author.Needs.{needs}

@@ -1,4 +1,4 @@
--- `loop_table::LoopTable::change` meets its contract: refused, the given table; else one store into its sixteen slots. Assumes nothing.
+-- `loop_table::LoopTable::change` meets its contract: if refused, the given table; otherwise one store into its sixteen slots. Assumes nothing.
 use Prim.Native.Nat.{_<_}
 use native.Mathlib.Omega.{arith}
 use borrow.Author.Tests.{eq-eqb, ne-eqb}

@@ -1,4 +1,4 @@
--- `loop_table::LoopTable::is_lawful` meets its contract. The loop's invariant: `ok` is the test over the slots passed, and an array of sixteen has sixteen.
+-- `loop_table::LoopTable::is_well_formed` meets its contract. The loop's invariant: `ok` is the test over the slots so far, and an array of sixteen has sixteen.
 -- Assumes nothing.
 use Prim.Native.Nat.{_-_, _≤_}
 use mathlib.Core.Path.{_≡_, refl}

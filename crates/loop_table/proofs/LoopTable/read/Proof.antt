@@ -1,4 +1,4 @@
--- `loop_table::LoopTable::read` meets its contract: its tests are those of `refusedRead`, in the same order. Assumes nothing.
+-- `loop_table::LoopTable::read` meets its contract: it makes the tests of `refusedRead` in the same order. Assumes nothing.
 use mathlib.Core.Path.{_≡_, sym, _∙_}
 use mathlib.Core.Bool.{true, false}
 use borrow.Author.Needs.{needs}

@@ -1,4 +1,4 @@
--- `loop_table::LoopTable::refusal_of_write` meets its contract: its tests are those of `refusedWrite`, in the same order. Assumes nothing.
+-- `loop_table::LoopTable::refusal_of_write` meets its contract: it makes the tests of `refusedWrite` in the same order. Assumes nothing.
 use mathlib.Core.Path.{_≡_, sym, _∙_}
 use mathlib.Core.Bool.{true, false}
 use borrow.Author.Needs.{needs}

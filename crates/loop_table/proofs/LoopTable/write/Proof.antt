@@ -1,4 +1,4 @@
--- `loop_table::LoopTable::write` meets its contract: its number, and the change that goes with it. Assumes nothing.
+-- `loop_table::LoopTable::write` meets its contract: its refusal, and the change. Assumes nothing.
 use mathlib.Core.Path.{sym, ap, _∙_}
 use Prim.Native.Nat.{ℕ}
 use borrow.Author.Needs.{needs}

@@ -1,4 +1,4 @@
--- `playback_position::Region::is_lawful` meets its contract: the three tests of `wellFormedRegion`, each by its function's contract.
+-- `playback_position::Region::is_well_formed` meets its contract: the three tests of `wellFormedRegion`, each by its function's contract.
 -- Assumes nothing.
 use mathlib.Core.Path.{_≡_, sym, ap, _∙_}
 use mathlib.Core.Bool.{Bool, true, false, _&&_}
@@ -17,7 +17,7 @@ second-fails a b d e f = rw (e, f)
 both-pass : (a b d : Bool) → a ≡ true → b ≡ true → d ≡ (a && b && d)
 both-pass a b d e f = rw (e, f)
 
--- what the two answers so far say of the region's start and end
+-- what the two results so far say about the region's start and end
 placed-not : (c : tie.Then1) → finitePosition (c .before .before .args .self .start) ≡ false
 placed-not c = sym (c .before .is-finite-position .ensures) ∙ not-true _ (c .if1 .taken)
 

@@ -1,4 +1,4 @@
--- `Resampler::get` meets its contract: the four entries' frames go to `interpolate_frame` in order, and the count goes beside.
+-- `Resampler::get` meets its contract: the four entries' frames go to `interpolate_frame` in order, and the count is returned with the frame.
 use borrow.Author.Needs.{needs}
 use Rattle.resampler.specs.Windows.{reading}
 use Rattle.resampler.proofs.Resampler.get.Statement.{statement}

@@ -1,4 +1,4 @@
--- `Setup::is_set_up` meets its contract: test by test.
+-- `Setup::is_well_formed_setup` meets its contract: test by test.
 use borrow.Author.Needs.{needs}
 use Rattle.sound_state.proofs.Setup.is_well_formed_setup.Statement.{statement}
 use Rattle.sound_state.proofs.Setup.is_well_formed_setup.Tie as tie

@@ -1,4 +1,4 @@
--- `StaticSound::course` meets its contract: field by field.
+-- `StaticSound::slice` meets its contract: field by field.
 use borrow.Author.Needs.{needs}
 use Rattle.sound_state.proofs.StaticSound.slice.Statement.{statement}
 use Rattle.sound_state.proofs.StaticSound.slice.Tie as tie

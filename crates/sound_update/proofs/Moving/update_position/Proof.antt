@@ -1,4 +1,4 @@
--- `Moving::update_position` meets its contract: by whether anything plays or is left to hear after the push and the step.
+-- `Moving::update_position` meets its contract: by whether the transport plays or the window is not empty after the push and the step.
 use mathlib.Core.Path.{_≡_, sym, ap, ap₂, _∙_}
 use mathlib.Core.Bool.{Bool, not, _&&_, cond}
 use mathlib.Core.List.{List}
@@ -15,7 +15,7 @@ use Rattle.sound_update.specs.Updates.{pushed, stepped, counted, updated
 use Rattle.sound_update.proofs.Moving.update_position.Statement.{statement}
 use Rattle.sound_update.proofs.Moving.update_position.Tie as tie
 
--- after the push and the step, with the answer e to whether the window is empty
+-- after the push and the step, with the result e of whether the window is empty
 updated-by : (snd : List Float) (c : Slice) (m : Moving) (t : Transport) (k : Wraps) (w : Resampler) (e b : Bool)
     → t ≡ stepped c (m .transport) → k ≡ counted c (m .transport) (m .wraps) → w ≡ pushed snd c m → e ≡ isEmpty w → not (t .playing) && e ≡ b
     → _≡_ {A = Moving} (record { state = cond b state.Stopped (m .state); transport = t; resampler = w; wraps = k }) (updated snd c m)

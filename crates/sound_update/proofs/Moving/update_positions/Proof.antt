@@ -1,5 +1,5 @@
--- `update_positions` makes as many updates as it is told. The invariant: those that are left, from where it is, are all from where it began.
--- What moves is in parts, and each update is put together again beside the same loop.
+-- `update_positions` makes as many updates as it is asked to. The invariant: the remaining updates from the current state lead to the same result.
+-- The moving part is in pieces, and is assembled for each update with the same loop.
 use mathlib.Core.Path.{_≡_, refl, sym, ap, _∙_, subst}
 use native.Mathlib.Omega.{arith}
 use lib.ListN.{length, length-map}
@@ -21,7 +21,7 @@ Inv-loop slice sound steps loop-region state₀ position₀ playing₀ wraps₀ 
 abbrev μ-loop : tie.MeasureT-loop
 μ-loop slice sound steps loop-region state₀ position₀ playing₀ wraps₀ frames₀ numbers₀ left₀ state position playing wraps frames numbers left = left
 
--- ---- the places
+-- ---- the positions
 
 abbrev start : tie.After-numbers-of Inv-loop μ-loop → tie.Start Inv-loop μ-loop
 start c = c .before .before .before .before .before .before
@@ -31,7 +31,7 @@ moving c =
     let l = c .loop in
     movingOf (start (c .before) .args .self .transport .«loop_region») (l .state) (l .position) (l .playing) (l .wraps) (windowOf (l .frames) (l .numbers))
 
--- what goes round the loop at first: the window is an array of four
+-- what the loop starts with: the window is an array of four
 begins : (c : tie.After-numbers-of Inv-loop μ-loop)
     → let m = start c .args .self in
     movingOf (m .transport .«loop_region») (m .state) (m .transport .position) (m .transport .playing) (m .wraps) (windowOf (c .before .frames-of .result) (c .numbers-of .result)) ≡ m

@@ -1,4 +1,4 @@
--- `window_of` puts each number beside its frame.
+-- `window_of` puts each frame index with its frame.
 use borrow.Author.Needs.{needs}
 use Rattle.sound_update.proofs.window.window_of.Statement.{statement}
 use Rattle.sound_update.proofs.window.window_of.Tie as tie

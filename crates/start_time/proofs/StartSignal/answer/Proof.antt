@@ -1,4 +1,4 @@
--- `answer` gives a signal's answer, arm by arm.
+-- `answer` returns a signal's answer, arm by arm.
 use borrow.Author.Needs.{needs}
 use mathlib.Core.Path.{sym, _∙_}
 use Rattle.start_time.proofs.Ticks.{answering-reached, answering-waiting}

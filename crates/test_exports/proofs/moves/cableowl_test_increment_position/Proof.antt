@@ -1,4 +1,4 @@
--- `test_exports::moves::cableowl_test_increment_position` meets its contract: the test is what `increment_position` asks. Assumes nothing.
+-- `test_exports::moves::cableowl_test_increment_position` meets its contract: the test is what `increment_position` requires. Assumes nothing.
 use mathlib.Core.Path.{sym, ap, subst, _∙_}
 use lib.Dec.{T}
 use Rattle.transport.specs.WellFormed.{wellFormedTransport}

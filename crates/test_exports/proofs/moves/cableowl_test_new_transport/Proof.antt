@@ -1,4 +1,4 @@
--- `test_exports::moves::cableowl_test_new_transport` meets its contract: the test is what `new` asks. Assumes nothing.
+-- `test_exports::moves::cableowl_test_new_transport` meets its contract: the test is what `new` requires. Assumes nothing.
 use mathlib.Core.Path.{ap, ap₂, _∙_}
 use mathlib.Core.Bool.{Bool}
 use borrow.Author.Tests.{lt-ltb, le-ltb}

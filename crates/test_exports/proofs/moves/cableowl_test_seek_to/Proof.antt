@@ -1,4 +1,4 @@
--- `test_exports::moves::cableowl_test_seek_to` meets its contract: the test is what `seek_to` asks. Assumes nothing.
+-- `test_exports::moves::cableowl_test_seek_to` meets its contract: the test is what `seek_to` requires. Assumes nothing.
 use mathlib.Core.Path.{sym, ap, subst, _∙_}
 use lib.Dec.{T}
 use Rattle.transport.specs.declared.Transport.{Transport}

@@ -1,4 +1,4 @@
--- `test_exports::moves::is_formed_transport` meets its contract: the three tests of `wellFormedTransport`. Assumes nothing.
+-- `test_exports::moves::is_well_formed_transport` meets its contract: the three tests of `wellFormedTransport`. Assumes nothing.
 use borrow.Author.Needs.{needs}
 use Rattle.test_exports.proofs.moves.is_well_formed_transport.Statement.{statement}
 use Rattle.test_exports.proofs.moves.is_well_formed_transport.Tie as tie

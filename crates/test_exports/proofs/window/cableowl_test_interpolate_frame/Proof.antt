@@ -9,7 +9,7 @@ use borrow.Author.Needs.{needs}
 use Rattle.test_exports.proofs.window.cableowl_test_interpolate_frame.Statement.{statement}
 use Rattle.test_exports.proofs.window.cableowl_test_interpolate_frame.Tie as tie
 
--- the answer, once the frames and what is made of them are known
+-- the result, once the frames are known
 answer : {a b c d p q r s m : Frame} {x : PlainFrame} (f : Float) → a ≡ p → b ≡ q → c ≡ r → d ≡ s → m ≡ interpolated a b c d f → x ≡ plainFrame m → x ≡ plainFrame (interpolated p q r s f)
 answer f h i j k l n = rw (← h, ← i, ← j, ← k, ← l) n
 

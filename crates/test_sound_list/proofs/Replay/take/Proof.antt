@@ -1,4 +1,4 @@
--- `test_sound_list::Replay::take` is safe: no more samples are lent than there are. Assumes nothing.
+-- `test_sound_list::Replay::take` is safe: no more samples are passed than there are. Assumes nothing.
 use borrow.Author.Needs.{needs}
 use native.Mathlib.Omega.{arith}
 use mathlib.Core.Path.{sym}

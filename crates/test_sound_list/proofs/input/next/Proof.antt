@@ -1,4 +1,4 @@
--- `test_sound_list::input::next` is safe and ends. Nothing has to hold from turn to turn; the measure is how many digits may follow.
+-- `test_sound_list::input::next` is safe and ends. The loop needs no invariant; the measure is how many digits may follow.
 -- Assumes nothing.
 use borrow.Author.Needs.{needs}
 use Rattle.test_sound_list.proofs.input.next.Statement.{statement}

@@ -1,4 +1,4 @@
--- `transport::Transport::decrement_position` meets its contract: each way out is a case of `backward`.
+-- `transport::Transport::decrement_position` meets its contract: each return is a case of `backward`.
 -- Assumes nothing.
 use Prim.Native.Nat.{ℕ, _-_, _<_}
 use mathlib.Core.Path.{_≡_, sym}
@@ -67,7 +67,7 @@ enum-told c = search needs
 sub-self-5 : tie.Need-sub-self-5
 sub-self-5 c = search needs
 
--- no place above a loop's start is 0
+-- no position above a loop's start is 0
 never : {s p : ℕ} → s < p → p ≡ 0 → ⊥
 never h z = omega arith
 

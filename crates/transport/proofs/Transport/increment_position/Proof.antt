@@ -1,4 +1,4 @@
--- `transport::Transport::increment_position` meets its contract: the place from `below_end`, the end from `ended_from`.
+-- `transport::Transport::increment_position` meets its contract: the position from `below_end`, the end from `ended_from`.
 -- Assumes nothing.
 use mathlib.Core.Path.{sym, ap, _∙_}
 use borrow.Author.Needs.{needs}

@@ -1,4 +1,4 @@
--- `transport::Transport::seek_to` meets its contract: the place from the side that the seek goes to, the end from `ended_from`.
+-- `transport::Transport::seek_to` meets its contract: the position from the side that the seek goes to, the end from `ended_from`.
 -- Assumes nothing.
 use mathlib.Core.Path.{sym, ap, _∙_}
 use mathlib.Core.Logic.{⊎-elim}
