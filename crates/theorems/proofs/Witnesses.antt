@@ -110,9 +110,9 @@ frames : sliceLength (voice .setup) ≡ 10
 unfolding created made refusedNew positionInFrames endInFrames regionInFrames wellFormedRegion rounded mul lt ofInt
 frames = refl
 
-wellFormed : T (wellFormed voice)
+voice-well-formed : T (wellFormed voice)
 unfolding wellFormed created made refusedNew positionInFrames endInFrames regionInFrames wellFormedRegion rounded mul lt ofInt
-wellFormed = tt
+voice-well-formed = tt
 
 no-loop-command : T (not (someAccepted reloops stopping voice))
 unfolding someAccepted processed refusedBlock wellFormedFor wellFormed block begun zeros plays total afterFrame frameWithGains lower updates updated stepped pushed created made refusedNew positionInFrames endInFrames regionInFrames wellFormedRegion rounded cutOff magnitude narrowed whole taken part advance forward backward push reading cubic interpolated refusedSet commanded targetBy targetTo obeyed beforeSeeks add sub mul div lt le ofInt
@@ -249,8 +249,8 @@ unfolding seek
 seek-plays = refl
 
 -- the archive's row of calls means the other
-wellFormedC : T (wellFormed (decoded state))
-wellFormedC = subst (λ (v : StaticSound). T (wellFormed v)) (sym decoded-state) wellFormed
+voice-well-formedC : T (wellFormed (decoded state))
+voice-well-formedC = subst (λ (v : StaticSound). T (wellFormed v)) (sym decoded-state) voice-well-formed
 
 insideC : Inside 3 6 (decoded state .moving .transport)
 insideC = subst (λ (v : StaticSound). Inside 3 6 (v .moving .transport)) (sym decoded-state) inside
@@ -326,8 +326,8 @@ witnesses =
       any-order = in-loop;
       there-and-back = in-loop;
       permutations = record { loop = in-loop; permuted = swapped Forward Backward [] };
-      in-the-loop = (record { wellFormed = wellFormed; inside = inside; no-loop-command = no-loop-command }, stopped);
-      archive-in-the-loop = (record { wellFormed = wellFormedC; inside = insideC; no-loop-command = no-loop-commandC }, stoppedC);
+      in-the-loop = (record { wellFormed = voice-well-formed; inside = inside; no-loop-command = no-loop-command }, stopped);
+      archive-in-the-loop = (record { wellFormed = voice-well-formedC; inside = insideC; no-loop-command = no-loop-commandC }, stoppedC);
       updates-fit = (record { fits = omega (arith, frames); inside = inside }, counts, counts-back, onward, back);
       blocks-fit = (record { accepted = accepted; inside = inside }, counts-block, counts-back-block, onward, back);
       mixes-fit = (record { accepted = accepted-mix; inside = inside }, counts-mix, counts-back-mix, onward, back);
