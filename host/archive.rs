@@ -324,7 +324,7 @@ impl Proved {
         }
         let _ = fs::remove_file(&proved.from);
         let shadow = kit.that_keeps_the_module(&kept.join(format!("kit-{name}")))?;
-        told(&format!(
+        report(&format!(
             "proving {name} and what it depends on, {} crates; this takes minutes if nothing is proved yet",
             crates.len()
         ));
@@ -393,7 +393,7 @@ impl<'a> Progress<'a> {
     }
 
     /// The message for a line of `rt` that says that a crate is proved now: the crate, and how many are proved.
-    fn told(&mut self, line: &str) -> Option<String> {
+    fn message(&mut self, line: &str) -> Option<String> {
         let (name, _) = line.strip_prefix("rt: ")?.split_once(" proved (")?;
         self.proved.insert(self.crates.get(name)?);
         let (proved, all) = (self.proved.len(), self.crates.len());
@@ -425,8 +425,8 @@ fn rt(
     let mut said = String::new();
     for line in BufReader::new(reader).lines() {
         let line = line?;
-        if let Some(line) = progress.told(&line) {
-            told(&line);
+        if let Some(line) = progress.message(&line) {
+            report(&line);
         }
         if !is_noise(&line) {
             writeln!(said, "{line}")?;
@@ -463,7 +463,7 @@ fn is_noise(line: &str) -> bool {
 
 /// Prints the progress of long work. Cargo does not show a build script's output, so this goes to a file or the
 /// terminal.
-fn told(line: &str) {
+fn report(line: &str) {
     let to = env::var("CABLEOWL_PROGRESS").unwrap_or_else(|_| "/dev/tty".to_owned());
     if let Ok(mut file) = OpenOptions::new().append(true).open(to) {
         let _ = writeln!(file, "cableowl: {line}");

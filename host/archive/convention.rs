@@ -255,7 +255,7 @@ fn number(kind: &str) -> Option<Number> {
 }
 
 /// The target of `&T` or `&mut T`, and whether it is only read.
-fn lent(kind: &str) -> Option<(&str, bool)> {
+fn target_of(kind: &str) -> Option<(&str, bool)> {
     let rest = kind.strip_prefix('&')?.trim_start();
     let written = rest.strip_prefix("mut ");
     Some((written.unwrap_or(rest), written.is_none()))
@@ -263,15 +263,15 @@ fn lent(kind: &str) -> Option<(&str, bool)> {
 
 /// The element of `&[T]` or `&mut [T]`, and whether it is only read.
 fn slice(kind: &str) -> Option<(&str, bool)> {
-    let (lent, constant) = lent(kind)?;
-    let element = lent.strip_prefix('[')?.strip_suffix(']')?;
+    let (target, constant) = target_of(kind)?;
+    let element = target.strip_prefix('[')?.strip_suffix(']')?;
     Some((element, constant))
 }
 
 /// The number type that a reference to a number or to an array of numbers refers to, and whether it is only read.
 fn place(kind: &str) -> Option<(&str, bool)> {
-    let (lent, constant) = lent(kind)?;
-    let (element, _) = array(lent);
+    let (target, constant) = target_of(kind)?;
+    let (element, _) = array(target);
     number(element).map(|_| (element, constant))
 }
 

@@ -247,10 +247,10 @@ fn retarget(text: &str, exports: &convention::Exports, arch: &str) -> Result<Str
             writeln!(body, "{line}")?;
         }
     }
-    let told: Vec<&str> = exports.names().collect();
-    if !calls.keys().map(String::as_str).eq(told.iter().copied()) {
+    let marked: Vec<&str> = exports.names().collect();
+    if !calls.keys().map(String::as_str).eq(marked.iter().copied()) {
         return Err(not_this_kit(&format!(
-            "it exports the functions {:?}, and src/ marks {told:?}",
+            "it exports the functions {:?}, and src/ marks {marked:?}",
             calls.keys().collect::<Vec<_>>()
         )));
     }

@@ -91,7 +91,7 @@ fn an_archive_of_another_text_is_not_used() {
 fn the_progress_says_how_many_of_how_many() {
     let crates = ["low", "middle", "high"].map(str::to_owned).into();
     let mut progress = Progress::new(&crates);
-    for (line, told) in [
+    for (line, expected) in [
         ("rt: low proved (3 s)", Some("1 of 3: low proved (3 s)")),
         ("fn low::id: proved", None),
         (
@@ -102,6 +102,6 @@ fn the_progress_says_how_many_of_how_many() {
         ("rt: low proved (unchanged since it was last proved)", None),
         ("rt: high proved (57 s)", Some("3 of 3: high proved (57 s)")),
     ] {
-        assert_eq!(progress.told(line).as_deref(), told, "{line}");
+        assert_eq!(progress.message(line).as_deref(), expected, "{line}");
     }
 }

@@ -249,14 +249,14 @@ impl<'a> BlockLanes<'a> {
         })
     }
 
-    pub(crate) fn lend(self) -> ffi::Lanes<'a> {
+    pub(crate) fn into_ffi(self) -> ffi::Lanes<'a> {
         let (room, frames) = (self.room, self.frames);
         ffi::Lanes {
-            fade: room.fade.lend(self.fade, frames),
-            volume: room.volume.lend(self.volume, frames),
-            left: room.left.lend(self.left, frames),
-            right: room.right.lend(self.right, frames),
-            rate: room.rate.lend(self.rate, frames),
+            fade: room.fade.slice(self.fade, frames),
+            volume: room.volume.slice(self.volume, frames),
+            left: room.left.slice(self.left, frames),
+            right: room.right.slice(self.right, frames),
+            rate: room.rate.slice(self.rate, frames),
         }
     }
 }
@@ -303,7 +303,7 @@ impl<T: Number> Spread<T> {
         }
     }
 
-    fn lend<'a>(&'a mut self, lane: Lane<'a, T>, frames: usize) -> &'a [T] {
+    fn slice<'a>(&'a mut self, lane: Lane<'a, T>, frames: usize) -> &'a [T] {
         match lane {
             Lane::PerFrame(numbers) => numbers,
             Lane::Constant(number) => self.spread(number, frames.min(Self::ROOM)),
@@ -379,9 +379,9 @@ mod test {
             (0.0, 4),
             (-0.0, 4),
         ] {
-            let lent = lanes.frames(frames).fade(number).lend();
-            assert_eq!(lent.fade.len(), frames);
-            for held in lent.fade {
+            let lanes_of = lanes.frames(frames).fade(number).into_ffi();
+            assert_eq!(lanes_of.fade.len(), frames);
+            for held in lanes_of.fade {
                 assert_eq!(held.to_bits(), f32::to_bits(number));
             }
         }
@@ -391,16 +391,16 @@ mod test {
     fn room_is_made_once() {
         room_of(Lanes::new());
         let mut used = Lanes::new();
-        let _ = used.frames(5).fade(0.5).lend();
+        let _ = used.frames(5).fade(0.5).into_ffi();
         room_of(used.clone());
     }
 
     fn room_of(mut lanes: Lanes) {
         let room = lanes.rate.held.as_ptr();
         for frames in [0, 1, 4_096, usize::MAX] {
-            let lent = lanes.frames(frames).rate(0.5 + frames as f64).lend();
-            assert_eq!(lent.rate.len(), frames.min(4_097));
-            assert_eq!(lent.rate.as_ptr(), room);
+            let lanes_of = lanes.frames(frames).rate(0.5 + frames as f64).into_ffi();
+            assert_eq!(lanes_of.rate.len(), frames.min(4_097));
+            assert_eq!(lanes_of.rate.as_ptr(), room);
         }
     }
 }

@@ -115,9 +115,9 @@ impl StartSignal {
     /// ```
     /// use cableowl::{StartAnswer, StartSignal};
     ///
-    /// let told = |due, now| StartSignal::Tick { due, now }.answer();
-    /// assert_eq!(told(3, u32::MAX), StartAnswer::Waiting);
-    /// assert_eq!(told(u32::MAX, 3), StartAnswer::Now);
+    /// let answer = |due, now| StartSignal::Tick { due, now }.answer();
+    /// assert_eq!(answer(3, u32::MAX), StartAnswer::Waiting);
+    /// assert_eq!(answer(u32::MAX, 3), StartAnswer::Now);
     /// ```
     #[must_use]
     pub fn answer(self) -> StartAnswer {

@@ -20,7 +20,7 @@ use crate::{Hall, LoopHalf, LoopTable, Refusal};
 /// lock and no daemon is needed: a file is written beside its place and renamed, so a reader sees the
 /// old half or the new one, and a half that comes late, twice or out of order does no harm.
 ///
-/// If a call fails, the table is as it was before. There is one exception: if the file was replaced
+/// If a call fails, the table does not change. There is one exception: if the file was replaced
 /// and only the folder could not be synced, the change stays, because the other box may have read it.
 ///
 /// These calls read and write files, so call them on a thread of your own and not on the audio
@@ -299,7 +299,7 @@ impl SharedLoops {
     /// # Errors
     ///
     /// A file that cannot be read or holds no half of its hall over this sound, or
-    /// [`Refusal::TwoHalves`]. The table stays as it was.
+    /// [`Refusal::TwoHalves`]. The table does not change.
     pub fn refresh(&mut self) -> Result<Theirs, LoopsFault> {
         let Some(half) = LoopHalf::read_from(&self.folder, self.theirs.hall())? else {
             return Ok(Theirs::Absent);

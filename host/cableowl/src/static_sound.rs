@@ -253,7 +253,7 @@ impl StaticSound {
                 return Ok(self.keep(answer, frames, still));
             }
         }
-        let lanes = lanes.lend();
+        let lanes = lanes.into_ffi();
         let answer = float_mode::plain(|| ffi::process(self.state, sound, lanes, dt, signals, out));
         self.take(answer, dt, lanes, still)
     }
@@ -298,7 +298,7 @@ impl StaticSound {
                 return Ok(self.keep(answer, frames, still));
             }
         }
-        let lanes = lanes.lend();
+        let lanes = lanes.into_ffi();
         let answer = float_mode::plain(|| {
             ffi::process_into(self.state, sound, lanes, dt, signals, mix, from)
         });
@@ -315,7 +315,7 @@ impl StaticSound {
     /// let voice = StaticSound::new(Settings::new(1).slice(Frames(1)..Frames(3)), &sound)?;
     /// let part = voice.stretch(&sound);
     /// assert_eq!(part, [1.0, 1.5, 2.0, 2.5]);
-    /// assert_eq!(part.as_ptr(), sound[2..].as_ptr(), "the lent samples themselves");
+    /// assert_eq!(part.as_ptr(), sound[2..].as_ptr(), "the same memory");
     /// let none = voice.stretch(&sound[2..]);
     /// assert!(none.is_empty());
     /// assert_eq!(none.as_ptr(), sound[2..].as_ptr(), "the empty part at their start");

@@ -99,8 +99,8 @@ fn records_are_the_second_implementation_s() {
         accepted += 1;
         let half = loaded.expect("a well formed record");
         let hall = [Hall::A, Hall::B][usize::from(fields.hall)];
-        let told = (half.hall(), half.num_frames(), half.changes());
-        assert_eq!(told, (hall, fields.frames, fields.changes));
+        let found = (half.hall(), half.num_frames(), half.changes());
+        assert_eq!(found, (hall, fields.frames, fields.changes));
         for (place, ((start, end), name)) in fields.slots.iter().zip(fields.names).enumerate() {
             let slot = place + 8 * usize::from(fields.hall);
             assert_eq!(half.read(slot), (start < end).then_some(*start..*end));
@@ -141,8 +141,8 @@ fn example() -> Vec<u8> {
 #[test]
 fn the_page_s_example() {
     let half = LoopHalf::load(&example()).expect("the example");
-    let told = (half.hall(), half.num_frames(), half.changes());
-    assert_eq!(told, (Hall::A, 480_690, 2));
+    let found = (half.hall(), half.num_frames(), half.changes());
+    assert_eq!(found, (Hall::A, 480_690, 2));
     let slots = [half.read(0), half.read(1), half.read(2)];
     assert_eq!(slots, [Some(0..24_000), Some(273_420..480_690), None]);
     assert_eq!((half.name(0), half.name(1)), ("first", "Lücke"));

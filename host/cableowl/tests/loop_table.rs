@@ -55,14 +55,14 @@ fn a_taken_loop_is_the_command_s() {
     let mut table = LoopTable::new(FRAMES);
     table.write(Hall::B, 9, 2..12).unwrap();
     let voice = StaticSound::new(Settings::new(1), &sound).unwrap();
-    let (mut taker, mut told) = (voice.clone(), voice.clone());
+    let (mut taker, mut commanded) = (voice.clone(), voice.clone());
     let commands = Commands::new()
         .set_loop_region(PlaybackPosition::Samples(2)..PlaybackPosition::Samples(12));
     assert_eq!(
         taker.take_loop(&sound, &table, 9),
-        told.on_start_processing(&sound, commands)
+        commanded.on_start_processing(&sound, commands)
     );
-    assert_eq!(taker.state(), told.state());
+    assert_eq!(taker.state(), commanded.state());
     assert_eq!(taker.state().loop_region, Some((2, 12)));
 }
 
@@ -127,11 +127,11 @@ impl World {
             Call::Block(frames, rate) => {
                 let mut lanes = Lanes::new();
                 let mut out = vec![0.0; 2 * frames];
-                let lent = lanes.frames(frames).rate(rate);
+                let block_lanes = lanes.frames(frames).rate(rate);
                 let signals = Signals::default();
                 let block = self
                     .voice
-                    .process(&self.sound, lent, 1.0, signals, &mut out);
+                    .process(&self.sound, block_lanes, 1.0, signals, &mut out);
                 let bits = out.iter().map(|x| x.to_bits()).collect();
                 Answer::Played(block.map(|block| block.steps), bits)
             }

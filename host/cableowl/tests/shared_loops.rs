@@ -118,11 +118,11 @@ impl Voice {
             "{taken:?}"
         );
         let mut out = [0.0; 16];
-        let lent = self.lanes.frames(8).rate(0.7);
+        let block_lanes = self.lanes.frames(8).rate(0.7);
         let signals = Signals::default();
         let block = self
             .voice
-            .process(&self.sound, lent, 1.0, signals, &mut out);
+            .process(&self.sound, block_lanes, 1.0, signals, &mut out);
         block.expect("a block");
         for sample in out {
             self.digest = (self.digest ^ u64::from(sample.to_bits())).wrapping_mul(0x100_0000_01b3);
@@ -170,11 +170,11 @@ fn a_process_of_its_own() {
     println!("\nedited {:016x}", voice.digest);
     let _ = std::io::stdin().read_line(&mut String::new());
     loops.refresh().expect("the other hall");
-    let slots: Vec<String> = (0..16).map(|slot| told(&loops.table(), slot)).collect();
+    let slots: Vec<String> = (0..16).map(|slot| shown(&loops.table(), slot)).collect();
     println!("ended {}", slots.join(" "));
 }
 
-fn told(table: &LoopTable, slot: usize) -> String {
+fn shown(table: &LoopTable, slot: usize) -> String {
     table
         .read(slot)
         .map_or("-".into(), |held| format!("{}..{}", held.start, held.end))
@@ -261,7 +261,7 @@ fn shared(seeds: [u64; 2], edits: usize) -> String {
             }
         }
     }
-    let slots: Vec<String> = (0..16).map(|slot| told(&table, slot)).collect();
+    let slots: Vec<String> = (0..16).map(|slot| shown(&table, slot)).collect();
     slots.join(" ")
 }
 

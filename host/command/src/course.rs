@@ -1,6 +1,6 @@
 //! The course of an evening, for the plots, in at most a fixed number of intervals of time, whatever its length.
 
-use crate::figures::{REFUSALS, Told};
+use crate::figures::{Added, REFUSALS};
 
 /// How many intervals are enough for one evening on a page.
 pub const STRETCHES: usize = 480;
@@ -160,39 +160,39 @@ impl Course {
     }
 
     /// Adds a line.
-    pub fn add(&mut self, told: &Told) {
-        let leapt = told.jumped || told.rounds > 0 || told.seeks > 0;
-        if let Some(stretch) = self.stretches.at(told.clock) {
+    pub fn add(&mut self, added: &Added) {
+        let leapt = added.jumped || added.rounds > 0 || added.seeks > 0;
+        if let Some(stretch) = self.stretches.at(added.clock) {
             stretch.join(Stretch {
-                places: told.position.map(|place| (place, place, place)),
+                places: added.position.map(|place| (place, place, place)),
                 leapt,
-                paused: told.usage.paused,
-                silent: told.usage.silent,
-                frames: told.frames,
-                seeks: told.seeks,
-                lowest: told.lowest,
-                refused: refusals(told.refusal),
+                paused: added.usage.paused,
+                silent: added.usage.silent,
+                frames: added.frames,
+                seeks: added.seeks,
+                lowest: added.lowest,
+                refused: refusals(added.refusal),
             });
         }
-        if let Some(rounds) = self.rounds.at(told.clock) {
-            rounds.join(told.rounds);
+        if let Some(rounds) = self.rounds.at(added.clock) {
+            rounds.join(added.rounds);
         }
-        self.frames = told.clock.saturating_add(told.frames);
-        let Some(place) = told.position else {
+        self.frames = added.clock.saturating_add(added.frames);
+        let Some(place) = added.position else {
             return;
         };
         self.highest = self.highest.max(place);
-        if told.rounds > 0 {
-            self.turn(told, place);
+        if added.rounds > 0 {
+            self.turn(added, place);
         }
         self.last = Some(place);
     }
 
     /// A wrap belongs to the loop before it if the length is the same.
-    fn turn(&mut self, told: &Told, place: u64) {
+    fn turn(&mut self, added: &Added, place: u64) {
         let high = self.last.unwrap_or_default().max(place);
         if let Some(last) = self.loops.last_mut()
-            && told.length.is_none_or(|length| length == last.length)
+            && added.length.is_none_or(|length| length == last.length)
         {
             // The first wrap may come from outside the loop.
             last.high = if last.rounds == 1 {
@@ -201,18 +201,18 @@ impl Course {
                 last.high.max(high)
             };
             last.until = self.frames;
-            last.rounds = last.rounds.saturating_add(told.rounds);
+            last.rounds = last.rounds.saturating_add(added.rounds);
             return;
         }
-        if let Some(length) = told.length
+        if let Some(length) = added.length
             && self.loops.len() < self.most_loops
         {
             self.loops.push(Loop {
-                from: told.clock,
+                from: added.clock,
                 until: self.frames,
                 high,
                 length,
-                rounds: told.rounds,
+                rounds: added.rounds,
             });
         }
     }

@@ -63,7 +63,7 @@ impl Figures {
 
 /// What one line adds, for the plots.
 #[derive(Debug, Clone, Copy, PartialEq, Eq)]
-pub struct Told {
+pub struct Added {
     /// The frames before this line.
     pub clock: u64,
     /// The frames of this line.
@@ -125,7 +125,7 @@ impl Count {
     }
 
     /// Adds a line.
-    pub fn add(&mut self, line: &Line) -> Option<Told> {
+    pub fn add(&mut self, line: &Line) -> Option<Added> {
         match *line {
             Line::Broken { refusal, at } => {
                 self.figures.broken = Some((refusal, at));
@@ -138,14 +138,14 @@ impl Count {
         }
     }
 
-    fn refused(&mut self, refusal: u8, before: Option<Before>) -> Told {
+    fn refused(&mut self, refusal: u8, before: Option<Before>) -> Added {
         let figures = &mut self.figures;
         raise(&mut figures.blocks, 1);
         match REFUSALS.iter().position(|number| *number == refusal) {
             Some(column) => raise(&mut figures.refused[column], 1),
             None => raise(&mut figures.refused_otherwise, 1),
         }
-        Told {
+        Added {
             clock: figures.frames,
             frames: 0,
             position: None,
@@ -159,7 +159,7 @@ impl Count {
         }
     }
 
-    fn accepted(&mut self, block: &Block) -> Told {
+    fn accepted(&mut self, block: &Block) -> Added {
         let usage = usage(block);
         let before = block.more.map(|more| more.before);
         let seeks = self.before(before);
@@ -194,7 +194,7 @@ impl Count {
         figures.ended = figures.ended.map(|before| before.max(ended.into()));
         let lowest = block.more.map(|more| more.lowest);
         figures.lowest = figures.lowest.min(lowest.map(u64::from));
-        Told {
+        Added {
             clock,
             frames: block.frames,
             position: Some(block.position),
@@ -338,10 +338,10 @@ mod tests {
             assert_eq!(quantile(&[7], hundredths), Some(7));
         }
         let four = [40, 10, 30, 20];
-        let told = QUANTILES.map(|(_, hundredths)| quantile(&four, hundredths));
-        assert_eq!(told, [10, 10, 20, 30, 40].map(Some));
+        let quantiles = QUANTILES.map(|(_, hundredths)| quantile(&four, hundredths));
+        assert_eq!(quantiles, [10, 10, 20, 30, 40].map(Some));
         let five = [5, 4, 3, 2, 1];
-        let told = QUANTILES.map(|(_, hundredths)| quantile(&five, hundredths));
-        assert_eq!(told, [1, 2, 3, 4, 5].map(Some));
+        let quantiles = QUANTILES.map(|(_, hundredths)| quantile(&five, hundredths));
+        assert_eq!(quantiles, [1, 2, 3, 4, 5].map(Some));
     }
 }

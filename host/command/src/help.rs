@@ -76,21 +76,21 @@ fn columns(rows: impl Iterator<Item = (String, &'static str)>) -> String {
     let right = widest + 4;
     let mut text = String::new();
     for (name, says) in rows {
-        let told = lines(says, right, right);
-        text += &format!("  {name:<widest$}  {}", told.trim_start());
+        let wrapped = lines(says, right, right);
+        text += &format!("  {name:<widest$}  {}", wrapped.trim_start());
     }
     text
 }
 
 /// A paragraph in lines, with the indents of the first line and of the others.
 fn lines(text: &str, first: usize, others: usize) -> String {
-    let mut told = String::new();
+    let mut wrapped = String::new();
     let mut line = " ".repeat(first);
     let mut begun = false;
     for word in text.split(' ') {
         if begun && line.chars().count() + 1 + word.chars().count() > WIDTH {
-            told += &line;
-            told.push('\n');
+            wrapped += &line;
+            wrapped.push('\n');
             line = " ".repeat(others);
             begun = false;
         }
@@ -100,5 +100,5 @@ fn lines(text: &str, first: usize, others: usize) -> String {
         line += word;
         begun = true;
     }
-    told + &line + "\n"
+    wrapped + &line + "\n"
 }

@@ -100,8 +100,8 @@ mod tests {
             (0, 20, "0.0000", "0.1611"),
             (1, 29, "0.0061", "0.1718"),
         ] {
-            let told = rounded(share(of, all).estimate());
-            assert_eq!(told, (low.into(), high.into()), "{of} of {all}");
+            let ours = rounded(share(of, all).estimate());
+            assert_eq!(ours, (low.into(), high.into()), "{of} of {all}");
         }
     }
 
@@ -119,14 +119,14 @@ mod tests {
             ((10, 10), (0, 10), "0.6075", "1.0000"),
         ] {
             let (later, earlier) = (share(later.0, later.1), share(earlier.0, earlier.1));
-            let told = rounded(Share::rise(earlier, later));
-            assert_eq!(told, (low.into(), high.into()), "{later:?} {earlier:?}");
+            let ours = rounded(Share::rise(earlier, later));
+            assert_eq!(ours, (low.into(), high.into()), "{later:?} {earlier:?}");
         }
     }
 
-    fn is_near(told: f64, exact: i128, what: &str) {
-        let apart = told - exact as f64 / exact::ONE as f64;
-        assert!(apart.abs() < 5e-9, "{what}: {told} {exact}");
+    fn is_near(ours: f64, exact: i128, what: &str) {
+        let apart = ours - exact as f64 / exact::ONE as f64;
+        assert!(apart.abs() < 5e-9, "{what}: {ours} {exact}");
     }
 
     #[test]
@@ -148,8 +148,8 @@ mod tests {
                 let rise = Share::rise(share(k, n), share(j, m)).expect("both");
                 let (value, low, high) = exact::newcombe((k, n), (j, m));
                 let what = format!("{k} of {n}, {j} of {m}");
-                for (told, exact) in [(rise.value, value), (rise.low, low), (rise.high, high)] {
-                    is_near(told, exact, &what);
+                for (ours, exact) in [(rise.value, value), (rise.low, low), (rise.high, high)] {
+                    is_near(ours, exact, &what);
                 }
             }
         }

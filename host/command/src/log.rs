@@ -530,7 +530,7 @@ mod tests {
 
     #[test]
     fn what_is_no_line_is_told_by_its_column() {
-        for (text, told) in [
+        for (text, expected) in [
             ("", "column 1: 'block=' must stand here"),
             ("block=", "column 7: 'block=' has no number"),
             (
@@ -558,7 +558,7 @@ mod tests {
                 "column 32: the number of 'state=' is above 6",
             ),
         ] {
-            assert_eq!(first(text), Err(told.into()), "{text:?}");
+            assert_eq!(first(text), Err(expected.into()), "{text:?}");
         }
     }
 }

@@ -260,7 +260,7 @@ mod tests {
             0xbf, 0xfb,
         ];
         assert!(SavedSettings::load(SettingsVersion::Second, &record).is_ok());
-        for (at, byte, told) in [
+        for (at, byte, expected) in [
             (0, 0, 0),
             (1, 0, 1),
             (2, 3, 2),
@@ -272,7 +272,7 @@ mod tests {
             let mut wrong = record;
             wrong[at] = byte;
             let refusal = SavedSettings::load(SettingsVersion::Second, &wrong).unwrap_err();
-            assert_eq!(place(&wrong, refusal), told, "byte {at}");
+            assert_eq!(place(&wrong, refusal), expected, "byte {at}");
         }
         let mut wrong = record;
         wrong[23..25].copy_from_slice(&[0xf0, 0x7f]);

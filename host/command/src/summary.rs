@@ -217,12 +217,12 @@ impl<'a> Teller<'a> {
 
     /// A speed is printed once two blocks have it, so not for each step of a slow change.
     fn speed(&mut self, block: &Block, out: &mut Out<'_>) -> Result<()> {
-        let (told, last, since) = self.speeds;
+        let (printed, last, since) = self.speeds;
         if block.rate != last {
-            self.speeds = (told, block.rate, self.seconds);
+            self.speeds = (printed, block.rate, self.seconds);
             return Ok(());
         }
-        if block.rate == told {
+        if block.rate == printed {
             return Ok(());
         }
         self.speeds.0 = block.rate;

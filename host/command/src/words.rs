@@ -607,7 +607,7 @@ mod tests {
     #[test]
     fn wrong_words_are_told() {
         let all = "replay, salvage, sound, settings, loops, report, audit, explain, help, version, man or completions";
-        for (words, told) in [
+        for (words, expected) in [
             ("", &*format!("say what to do: {all}")),
             (
                 "play",
@@ -696,7 +696,7 @@ mod tests {
                 "--speed must be a number, such as 0.75, and not 'inf'",
             ),
         ] {
-            assert_eq!(said(words), Err(told.into()), "{words}");
+            assert_eq!(said(words), Err(expected.into()), "{words}");
         }
     }
 }

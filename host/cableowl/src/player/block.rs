@@ -25,7 +25,7 @@ pub trait Watch {
     const CUTS: bool = false;
 
     /// The voice got these commands.
-    fn told(&mut self, _: Commands) {}
+    fn commanded(&mut self, _: Commands) {}
 
     /// The voice, as it is now, played a block with these lanes, time step and signals.
     fn played(&mut self, _: BlockLanes<'_>, _: f64, _: Signals, _: &StaticSound, _: Processed) {}

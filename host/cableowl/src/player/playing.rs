@@ -65,7 +65,7 @@ impl Player {
             commands.playback_rate = turn.take();
             if commands != Commands::new() {
                 self.voice.on_start_processing(sound, commands)?;
-                watch.told(commands);
+                watch.commanded(commands);
             }
         }
         if let Some(presses) = self.queue.presses() {

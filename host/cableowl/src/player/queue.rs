@@ -44,7 +44,7 @@ pub struct Presses {
 ///   the position of the first has the same outcome.
 ///
 /// This leaves at most 64 seeks, 65 loop commands and one of pause, resume and stop. The tests compare
-/// it with applying each command by itself (`tests/player/order.rs`).
+/// it with applying each command separately (`tests/player/order.rs`).
 #[derive(Debug, Clone)]
 pub struct Queue {
     steps: Box<[Step; MAX_SEEKS]>,

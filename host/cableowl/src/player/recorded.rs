@@ -208,7 +208,7 @@ impl<F: FnMut(Line), const CUTS: bool> Watch for Logged<'_, '_, F, CUTS> {
     const RECORDS: bool = true;
     const CUTS: bool = CUTS;
 
-    fn told(&mut self, commands: Commands) {
+    fn commanded(&mut self, commands: Commands) {
         self.tape.keep(Ok(Record::Commands(commands)));
     }
 

@@ -175,16 +175,21 @@ impl<'a> Tape<'a> {
         signals: Signals,
     ) -> Result<(), Refusal> {
         self.close()?;
-        let lent = lanes.lend();
-        let frames = lent.rate.len();
-        let gains = [lent.fade, lent.volume, lent.left, lent.right];
+        let borrowed = lanes.into_ffi();
+        let frames = borrowed.rate.len();
+        let gains = [
+            borrowed.fade,
+            borrowed.volume,
+            borrowed.left,
+            borrowed.right,
+        ];
         if gains.iter().any(|lane| lane.len() != frames) {
             return Err(Refusal::Record);
         }
         let (rooms, _) = self.lanes.as_chunks_mut();
         for (frame, room) in rooms.iter_mut().enumerate().take(frames) {
             let [fade, volume, left, right] = gains.map(|lane| lane[frame]);
-            let rate = lent.rate[frame];
+            let rate = borrowed.rate[frame];
             let numbers = FrameNumbers {
                 fade,
                 volume,

@@ -27,7 +27,7 @@ fn difference(evening: &Evening, seed: u64) -> Option<&'static str> {
             (other.samples == whole.samples, "the samples differ"),
             (other.answers == whole.answers, "the answers differ"),
             (
-                other.told == whole.told,
+                other.reported == whole.reported,
                 "state, position or parameters differ",
             ),
             (other.counts == whole.counts, "the counts differ"),

@@ -13,7 +13,7 @@ pub trait Plays {
     fn command(&mut self, command: Command) -> Result<(), Refusal>;
     fn process(&mut self, sound: &[f32], out: &mut [f32]) -> Result<Processed, Refusal>;
     /// Everything that it reports, by bits.
-    fn told(&self) -> Vec<u8>;
+    fn reported(&self) -> Vec<u8>;
 }
 
 impl Plays for Player {
@@ -25,8 +25,8 @@ impl Plays for Player {
         self.process(sound, out)
     }
 
-    fn told(&self) -> Vec<u8> {
-        let mut told = self.to_bytes();
+    fn reported(&self) -> Vec<u8> {
+        let mut reported = self.to_bytes();
         let numbers = [
             self.position().to_bits(),
             self.playback_rate().to_bits(),
@@ -39,8 +39,8 @@ impl Plays for Player {
             self.wraps().forward.into(),
             self.wraps().backward.into(),
         ];
-        told.extend(numbers.iter().flat_map(|number| number.to_le_bytes()));
-        told
+        reported.extend(numbers.iter().flat_map(|number| number.to_le_bytes()));
+        reported
     }
 }
 
@@ -62,7 +62,7 @@ pub struct Outcome {
     pub samples: Vec<u32>,
     pub answers: Vec<Result<(), Refusal>>,
     /// What the player reports before each command's frame and at the end.
-    pub told: Vec<Vec<u8>>,
+    pub reported: Vec<Vec<u8>>,
     pub counts: Processed,
 }
 
@@ -107,7 +107,7 @@ impl Evening {
         let mut outcome = Outcome {
             samples: Vec::new(),
             answers: Vec::new(),
-            told: Vec::new(),
+            reported: Vec::new(),
             counts: Player::play(Settings::new(1), 1, &[0.0; 2])
                 .unwrap()
                 .counts(),
@@ -127,7 +127,7 @@ impl Evening {
             if cut() == 0 {
                 player.process(&self.sound, &mut []).unwrap();
             }
-            outcome.told.push(player.told());
+            outcome.reported.push(player.reported());
             outcome
                 .answers
                 .extend(commands.next().map(|command| player.command(command)));

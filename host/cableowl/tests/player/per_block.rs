@@ -127,7 +127,7 @@ pub trait Voice {
         finished: bool,
         out: &mut [f32],
     ) -> Processed;
-    fn told(&self) -> Vec<u8>;
+    fn reported(&self) -> Vec<u8>;
     fn place(&self) -> Place;
 }
 
@@ -180,7 +180,7 @@ impl Voice for Ours {
         self.0.process(sound, block, step, signals, out).unwrap()
     }
 
-    fn told(&self) -> Vec<u8> {
+    fn reported(&self) -> Vec<u8> {
         self.0.state().to_bytes()
     }
 
@@ -264,7 +264,7 @@ impl Voice for oracle::Oracle {
         counts
     }
 
-    fn told(&self) -> Vec<u8> {
+    fn reported(&self) -> Vec<u8> {
         format!("{:?}", self.state()).into()
     }
 
@@ -291,7 +291,7 @@ struct Over {
 }
 
 /// A command as the voice gets it, and its fade.
-type Told = (Commands, Option<(f64, Over)>);
+type CommandWithFade = (Commands, Option<(f64, Over)>);
 
 /// How the commands before one frame are applied.
 #[derive(Debug, Clone, Copy, PartialEq)]
@@ -311,7 +311,7 @@ pub struct PerBlock<V> {
     fade: Parameter,
     rate: Parameter,
     panning: Parameter,
-    commands: Vec<Told>,
+    commands: Vec<CommandWithFade>,
 }
 
 impl<V: Voice> PerBlock<V> {
@@ -347,7 +347,7 @@ fn over(tween: Tween, output_rate: u32) -> Over {
 }
 
 /// The last command of each kind. Of the fades, the one that comes last in a command set.
-fn like_kira(row: &[Told]) -> Told {
+fn like_kira(row: &[CommandWithFade]) -> CommandWithFade {
     let mut set = Commands::new();
     let mut fades = [None; 3];
     for (commands, fade) in row {
@@ -377,7 +377,7 @@ impl<V: Voice> Plays for PerBlock<V> {
     fn command(&mut self, command: Command) -> Result<(), Refusal> {
         let over = |tween| over(tween, self.output_rate);
         let none = Commands::new();
-        let told = match command {
+        let given = match command {
             Command::Pause(tween) => (none.pause(), Some((601.0, over(tween)))),
             Command::Resume(tween) => (none.resume(), Some((0.0, over(tween)))),
             Command::Stop(tween) => (none.stop(), Some((601.0, over(tween)))),
@@ -399,7 +399,7 @@ impl<V: Voice> Plays for PerBlock<V> {
             Command::SeekTo(seconds) => (none.seek_to(seconds), None),
             _ => unreachable!("no start here"),
         };
-        self.commands.push(told);
+        self.commands.push(given);
         Ok(())
     }
 
@@ -447,8 +447,8 @@ impl<V: Voice> Plays for PerBlock<V> {
         Ok(self.voice.block(sound, &lanes, step, finished, out))
     }
 
-    fn told(&self) -> Vec<u8> {
-        self.voice.told()
+    fn reported(&self) -> Vec<u8> {
+        self.voice.reported()
     }
 }
 
@@ -467,7 +467,7 @@ fn one_command(command: Command, frames: usize) -> Evening {
 fn differs(evening: &Evening, new: impl Fn() -> Box<dyn Plays>) -> bool {
     let one = evening.played(new().as_mut(), &mut || usize::MAX);
     let ones = evening.played(new().as_mut(), &mut || 1);
-    (one.samples, one.told.last()) != (ones.samples, ones.told.last())
+    (one.samples, one.reported.last()) != (ones.samples, ones.reported.last())
 }
 
 /// Every evening of one command, those with few frames and short tweens first.

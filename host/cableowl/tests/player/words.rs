@@ -138,10 +138,10 @@ fn position_and_counts() {
     let (sound, mut player) = counting(5, |settings| settings);
     assert_eq!(player.position(), 0.0);
     heard(&mut player, &sound, 3);
-    let told = |player: &Player| (player.position(), player.counts().lowest_count);
-    assert_eq!(told(&player), (0.003, 4));
+    let reported = |player: &Player| (player.position(), player.counts().lowest_count);
+    assert_eq!(reported(&player), (0.003, 4));
     heard(&mut player, &sound, 1);
-    assert_eq!(told(&player), (0.004, 3));
+    assert_eq!(reported(&player), (0.004, 3));
     // It stops in its sixth frame. What comes after that is no step.
     let (sound, mut player) = counting(5, |settings| settings);
     heard(&mut player, &sound, 1_000_000);
@@ -240,7 +240,7 @@ fn what_a_player_refuses_is_what_its_voice_would() {
             .unwrap();
         // Several commands before one frame; the voice gets each separately.
         let mut voice = player.voice().clone();
-        let mut told = |commands| voice.on_start_processing(&sound, commands).map(|_| ());
+        let mut reported = |commands| voice.on_start_processing(&sound, commands).map(|_| ());
         for _ in 0..1 + random.below(4) {
             let region = Region {
                 start: any_place(random, frames),
@@ -265,7 +265,7 @@ fn what_a_player_refuses_is_what_its_voice_would() {
                 2 => (1, player.seek_to(seconds), none.seek_to(seconds)),
                 _ => (1, player.seek_by(seconds), none.seek_by(seconds)),
             };
-            assert_eq!(answer, told(commands), "{commands:?}");
+            assert_eq!(answer, reported(commands), "{commands:?}");
             counts[kind] += 1;
             refused[kind] += usize::from(answer.is_err());
         }

@@ -166,18 +166,18 @@ impl Segment {
             return Some(What::Steps);
         }
         let more = |part: &Part| part.last.and_then(|block| block.more);
-        let (Some(given), Some(told)) = (more(rule), more(said)) else {
+        let (Some(given), Some(logged)) = (more(rule), more(said)) else {
             return None;
         };
-        if (given.forward, given.backward) != (told.forward, told.backward) {
+        if (given.forward, given.backward) != (logged.forward, logged.backward) {
             return Some(What::Turns);
         }
         if !rule.ran_off && rule.lowest != said.lowest {
             return Some(What::Lowest);
         }
         let voice = |third: Third| (third.loop_region, third.is_backward, third.ended);
-        let voices = (given.third.map(voice), told.third.map(voice));
-        if given.started != told.started || matches!(voices, (Some(a), Some(b)) if a != b) {
+        let voices = (given.third.map(voice), logged.third.map(voice));
+        if given.started != logged.started || matches!(voices, (Some(a), Some(b)) if a != b) {
             return Some(What::Voice);
         }
         let spent = matches!((rule.spent, said.spent), (Some(a), Some(b)) if a != b);

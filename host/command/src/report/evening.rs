@@ -74,8 +74,8 @@ fn read_log(input: Input, rates: Rates, mut course: Course) -> Result<Read> {
     let mut log = Log::new(input)?;
     let mut count = Count::new(log.form());
     while let Some(line) = log.next_line()? {
-        if let Some(told) = count.add(&line) {
-            course.add(&told);
+        if let Some(added) = count.add(&line) {
+            course.add(&added);
         }
     }
     let evening = Evening {
@@ -97,8 +97,8 @@ fn read_log(input: Input, rates: Rates, mut course: Course) -> Result<Read> {
 fn read_trace(mut input: Input, rates: Rates, mut course: Course) -> Result<Read> {
     let mut count = Count::new(Form::Third);
     let mut add = |line: &Line| {
-        if let Some(told) = count.add(line) {
-            course.add(&told);
+        if let Some(added) = count.add(line) {
+            course.add(&added);
         }
     };
     let mut run = Run::new();

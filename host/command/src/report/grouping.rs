@@ -348,13 +348,16 @@ mod tests {
             let date = named.date.map_or(String::new(), |date| date.to_string());
             Some((named.box_name.unwrap_or_default(), date))
         };
-        let told = |name: &str, date: &str| Some((name.to_owned(), date.to_owned()));
+        let found = |name: &str, date: &str| Some((name.to_owned(), date.to_owned()));
         assert_eq!(
             fit("{box}_{date}", "hall_7_2026-11-15"),
-            told("hall_7", "2026-11-15")
+            found("hall_7", "2026-11-15")
         );
-        assert_eq!(fit("{date}-{box}", "20261115-b2"), told("b2", "2026-11-15"));
-        assert_eq!(fit("{any}.{box}", "a.b.c"), told("c", ""));
+        assert_eq!(
+            fit("{date}-{box}", "20261115-b2"),
+            found("b2", "2026-11-15")
+        );
+        assert_eq!(fit("{any}.{box}", "a.b.c"), found("c", ""));
         assert_eq!(fit("{box}_{date}", "hall7"), None);
         assert_eq!(fit("{box}_{date}", "_2026-11-15"), None);
         for pattern in ["{box}_{date}", "{any}-{date}.{box}", "a"] {

@@ -7,7 +7,7 @@ use cableowl::Refusal;
 use super::{
     evening::{Evening, Rates},
     groups::Groups,
-    rows::{COLUMNS, Row, Told, csv, lacking, minutes},
+    rows::{COLUMNS, PrintedRow, Row, csv, lacking, minutes},
     text::refused,
 };
 use crate::{
@@ -43,7 +43,7 @@ const FIRST: [&str; FEW - 1] = [
 /// The report's page.
 pub fn page(
     evenings: &[Drawn],
-    rows: &[Told],
+    rows: &[PrintedRow],
     groups: Option<&Groups>,
     rates: Rates,
     put: &mut Sink<'_>,
@@ -82,7 +82,7 @@ pub fn page(
 /// The table of evenings, with all of them together and the quantiles.
 fn table(
     evenings: &[Drawn],
-    rows: &[Told],
+    rows: &[PrintedRow],
     folder: &str,
     rate: u32,
     put: &mut Sink<'_>,
@@ -96,9 +96,9 @@ fn table(
     let others = COLUMNS.iter().map(|(column, _)| *column);
     let others = others.filter(|column| !FIRST.contains(column));
     let shown: Vec<&str> = FIRST.into_iter().chain(others).collect();
-    let row = |(index, told): (usize, &Told)| page::Row {
-        opens: (told.row == Row::Log && evenings.len() > 1).then_some(index + 1),
-        cells: cells(told, &shown, folder),
+    let row = |(index, printed): (usize, &PrintedRow)| page::Row {
+        opens: (printed.row == Row::Log && evenings.len() > 1).then_some(index + 1),
+        cells: cells(printed, &shown, folder),
     };
     let logs = evenings.len();
     let table = Table {
@@ -124,10 +124,10 @@ fn table(
 }
 
 /// The cells of a row, in the order in which the page shows them.
-fn cells(told: &Told, shown: &[&str], folder: &str) -> Vec<Option<String>> {
-    let name = told.name.strip_prefix(folder).unwrap_or(&told.name);
-    let figures = shown.iter().map(|column| told.cell(column));
-    let form = told
+fn cells(printed: &PrintedRow, shown: &[&str], folder: &str) -> Vec<Option<String>> {
+    let name = printed.name.strip_prefix(folder).unwrap_or(&printed.name);
+    let figures = shown.iter().map(|column| printed.cell(column));
+    let form = printed
         .form
         .map_or(String::new(), |form| form.number().to_string());
     [Some(name.to_owned())]

@@ -95,7 +95,7 @@ fn cells(figures: &Figures) -> Cells {
 }
 
 /// A row as it is printed: its kind, its name, its form, its figures.
-pub struct Told {
+pub struct PrintedRow {
     /// What it is.
     pub row: Row,
     /// Its name.
@@ -106,7 +106,7 @@ pub struct Told {
     pub cells: [Option<String>; COLUMNS.len()],
 }
 
-impl Told {
+impl PrintedRow {
     fn new(row: Row, name: &str, form: Option<Form>, cells: Cells, rate: u32) -> Self {
         let mut index = 0;
         let cells = cells.map(|cell| {
@@ -141,28 +141,34 @@ pub fn minutes(frames: u64, rate: u32) -> String {
 }
 
 /// The rows: one for each log. If there are several, one for all of them together, and the quantiles.
-pub fn rows<'a>(evenings: impl Iterator<Item = &'a Evening>, rate: u32) -> Vec<Told> {
+pub fn rows<'a>(evenings: impl Iterator<Item = &'a Evening>, rate: u32) -> Vec<PrintedRow> {
     let (mut all, mut rows) = (Vec::new(), Vec::new());
     for evening in evenings {
         let (form, cells) = (Some(evening.form), cells(&evening.figures));
         all.push(cells);
-        rows.push(Told::new(Row::Log, &evening.name, form, cells, rate));
+        rows.push(PrintedRow::new(Row::Log, &evening.name, form, cells, rate));
     }
     if rows.len() < 2 {
         return rows;
     }
-    let told = columns_of(&all);
-    let sums = over(&told, |column, numbers| match column {
+    let printed = columns_of(&all);
+    let sums = over(&printed, |column, numbers| match column {
         "lowest_count" => numbers.iter().copied().min(),
         _ => numbers.iter().copied().reduce(u64::saturating_add),
     });
-    rows.push(Told::new(Row::Total, "total", None, sums, rate));
+    rows.push(PrintedRow::new(Row::Total, "total", None, sums, rate));
     for (name, hundredths) in QUANTILES {
-        let cells = over(&told, |_, numbers| quantile(numbers, hundredths));
-        rows.push(Told::new(Row::Quantile, name, None, cells, rate));
+        let cells = over(&printed, |_, numbers| quantile(numbers, hundredths));
+        rows.push(PrintedRow::new(Row::Quantile, name, None, cells, rate));
     }
-    let counts = over(&told, |_, numbers| Some(numbers.len() as u64));
-    rows.push(Told::new(Row::Logs, "logs that say it", None, counts, rate));
+    let counts = over(&printed, |_, numbers| Some(numbers.len() as u64));
+    rows.push(PrintedRow::new(
+        Row::Logs,
+        "logs that say it",
+        None,
+        counts,
+        rate,
+    ));
     rows
 }
 
@@ -191,9 +197,12 @@ fn over(columns: &Columns, figure: impl Fn(&str, &[u64]) -> Option<u64>) -> Cell
 
 /// Which totals and quantiles lack a log: a sentence for each number of logs. The columns have the names under which
 /// they are shown.
-pub fn lacking(rows: &[Told], columns: &[(&str, &str)]) -> Vec<String> {
-    let logs = rows.iter().filter(|told| told.row == Row::Log).count();
-    let Some(counts) = rows.iter().find(|told| told.row == Row::Logs) else {
+pub fn lacking(rows: &[PrintedRow], columns: &[(&str, &str)]) -> Vec<String> {
+    let logs = rows
+        .iter()
+        .filter(|printed| printed.row == Row::Log)
+        .count();
+    let Some(counts) = rows.iter().find(|printed| printed.row == Row::Logs) else {
         return Vec::new();
     };
     let mut named: Vec<(usize, Vec<&str>)> = Vec::new();
@@ -217,17 +226,18 @@ pub fn lacking(rows: &[Told], columns: &[(&str, &str)]) -> Vec<String> {
 }
 
 /// The rows as comma separated values.
-pub fn csv(rows: &[Told], rate: u32) -> String {
+pub fn csv(rows: &[PrintedRow], rate: u32) -> String {
     let columns = COLUMNS.map(|(column, _)| column);
     let mut text = csv_line(&[&["row", "name", "form", "rate"][..], &columns].concat());
-    for told in rows {
-        let form = told
+    for printed in rows {
+        let form = printed
             .form
             .map_or(String::new(), |form| form.number().to_string());
-        let mut cells = vec![told.row.name().to_owned(), told.name.clone(), form];
+        let mut cells = vec![printed.row.name().to_owned(), printed.name.clone(), form];
         cells.push(rate.to_string());
         cells.extend(
-            told.cells
+            printed
+                .cells
                 .iter()
                 .map(|cell| cell.clone().unwrap_or_default()),
         );

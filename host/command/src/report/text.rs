@@ -2,7 +2,7 @@
 
 use super::{
     evening::Evening,
-    rows::{Row, Told, lacking, minutes},
+    rows::{PrintedRow, Row, lacking, minutes},
 };
 use crate::{
     fault::Result,
@@ -17,7 +17,7 @@ const NOT_LOGGED: &str = "not in the log";
 /// One log, a line for each figure.
 pub fn put_one(evening: &Evening, rate: u32, out: &mut Out<'_>) -> Result<()> {
     let figures = &evening.figures;
-    let told = |number: Option<u64>| number.map_or(NOT_LOGGED.into(), grouped);
+    let printed = |number: Option<u64>| number.map_or(NOT_LOGGED.into(), grouped);
     let time = |frames| format!("{} minutes", minutes(frames, rate));
     let source = match evening.trace {
         true => "a trace".into(),
@@ -49,11 +49,11 @@ pub fn put_one(evening: &Evening, rate: u32, out: &mut Out<'_>) -> Result<()> {
         ("steps", steps(figures.steps, evening.sound_rate)),
     ];
     let more = [
-        ("wraps", told(figures.rounds)),
-        ("seeks", told(figures.seeks)),
-        ("restarts by hand", told(figures.restarts)),
-        ("pauses", told(figures.pauses)),
-        ("lowest window count", told(figures.lowest)),
+        ("wraps", printed(figures.rounds)),
+        ("seeks", printed(figures.seeks)),
+        ("restarts by hand", printed(figures.restarts)),
+        ("pauses", printed(figures.pauses)),
+        ("lowest window count", printed(figures.lowest)),
         ("refused blocks", refused(figures)),
     ];
     for (name, says) in lines.into_iter().chain(jumps).chain(more).chain(ended) {
@@ -136,8 +136,11 @@ const SHORT: [(&str, &str); 11] = [
 ];
 
 /// Several logs, a row each.
-pub fn put_table(rows: &[Told], rate: u32, out: &mut Out<'_>) -> Result<()> {
-    let logs = rows.iter().filter(|told| told.row == Row::Log).count();
+pub fn put_table(rows: &[PrintedRow], rate: u32, out: &mut Out<'_>) -> Result<()> {
+    let logs = rows
+        .iter()
+        .filter(|printed| printed.row == Row::Log)
+        .count();
     out.put(format!(
         "{} logs, read at {} frames a second; - means that the log does not contain it\n",
         grouped(logs as u64),
@@ -149,11 +152,13 @@ pub fn put_table(rows: &[Told], rate: u32, out: &mut Out<'_>) -> Result<()> {
             .chain(SHORT.map(|(_, name)| name.to_owned()))
             .collect(),
     ];
-    for told in rows.iter().filter(|told| told.row != Row::Logs) {
-        let cells = SHORT
-            .iter()
-            .map(|(column, _)| told.cell(column).map_or("-".into(), |cell| spaced(&cell)));
-        let row: Vec<String> = [told.name.clone()].into_iter().chain(cells).collect();
+    for printed in rows.iter().filter(|printed| printed.row != Row::Logs) {
+        let cells = SHORT.iter().map(|(column, _)| {
+            printed
+                .cell(column)
+                .map_or("-".into(), |cell| spaced(&cell))
+        });
+        let row: Vec<String> = [printed.name.clone()].into_iter().chain(cells).collect();
         table.push(row);
     }
     for (index, line) in laid_out(&table).iter().enumerate() {

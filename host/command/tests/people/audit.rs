@@ -28,7 +28,7 @@ pub fn evening(blocks: usize) -> Vec<Record<'static>> {
 
 /// The log of a box that clears its fraction at block edges: the plausible slip.
 pub fn creeping(records: &[Record]) -> String {
-    let mut told = String::new();
+    let mut expected = String::new();
     let (mut lanes, mut out) = (Lanes::new(), [0.0; 2_048]);
     let (mut voice, mut sound, mut number) = (None, ShortSound::EMPTY, 0);
     for record in records {
@@ -36,11 +36,11 @@ pub fn creeping(records: &[Record]) -> String {
             (
                 Record::Creation {
                     settings,
-                    sound: lent,
+                    sound: recorded,
                 },
                 _,
             ) => {
-                sound = *lent;
+                sound = *recorded;
                 voice = Some(StaticSound::new(*settings, sound.samples()).unwrap());
             }
             (Record::Block(block), Some(voice)) => {
@@ -53,7 +53,7 @@ pub fn creeping(records: &[Record]) -> String {
                     &mut out,
                 );
                 number += 1;
-                told += &format!("{}\n", Line::of_block(number, block.frames, voice, answer));
+                expected += &format!("{}\n", Line::of_block(number, block.frames, voice, answer));
                 let mut state = voice.state();
                 state.fractional_position = 0.0;
                 *voice = StaticSound::from_state(state, sound.samples()).unwrap();
@@ -61,7 +61,7 @@ pub fn creeping(records: &[Record]) -> String {
             _ => {}
         }
     }
-    told
+    expected
 }
 
 #[test]
@@ -125,8 +125,8 @@ fn nothing_compared_is_not_agreement() {
         room.put("a.log", room.run(&["replay", "a.trace"]).out);
         let ran = room.run(&["audit", trace, log]);
         assert_eq!((ran.status, &*ran.err), (3, ""));
-        let told = format!("UNKNOWN: {trace} and {log}: {why}: nothing is said of the box\n");
-        assert_eq!(ran.out, told);
+        let expected = format!("UNKNOWN: {trace} and {log}: {why}: nothing is said of the box\n");
+        assert_eq!(ran.out, expected);
     }
 }
 
@@ -220,8 +220,8 @@ fn a_creeping_box_is_found_though_its_log_is_cut_otherwise() {
     room.put("creeping.log", joined(&creeping(&records), 7));
     let ran = room.run(&["audit", "a.trace", "creeping.log"]);
     assert_eq!((ran.status, &*ran.err), (1, ""));
-    let told = "DIFFERS: creeping.log: the loop creeps: 2.6 s later after an hour; first at block 1, 0.15 s into the evening";
-    assert_eq!(ran.out.lines().next(), Some(told));
+    let expected = "DIFFERS: creeping.log: the loop creeps: 2.6 s later after an hour; first at block 1, 0.15 s into the evening";
+    assert_eq!(ran.out.lines().next(), Some(expected));
     let rows = csv(&room.run(&["audit", "--csv", "a.trace", "creeping.log"]).out);
     assert_eq!(rows.len(), 58);
     assert_eq!(
@@ -292,14 +292,14 @@ fn what_differs_is_told() {
         room.put("said.log", &said);
         let ran = room.run(&["audit", "--html", "page.html", "a.trace", "said.log"]);
         assert_eq!((ran.status, &*ran.err), (1, ""), "{said}");
-        let told = format!("DIFFERS: said.log: {sentence}");
-        assert_eq!(ran.out.lines().next(), Some(&*told));
+        let expected = format!("DIFFERS: said.log: {sentence}");
+        assert_eq!(ran.out.lines().next(), Some(&*expected));
         assert!(
             ran.out.lines().any(|held| held == line),
             "{line} in {}",
             ran.out
         );
-        let plain = told.replace("DIFFERS: ", "");
+        let plain = expected.replace("DIFFERS: ", "");
         assert!(room.read("page.html").contains(&plain), "{plain}");
     }
     // The host counts what it asked of the voice, and no trace contains a call refused with 9.
@@ -386,10 +386,10 @@ fn a_damaged_trace_is_not_the_box_s_fault() {
     for name in ["live.log", "replayed.log"] {
         let ran = room.run(&["audit", "--html", "page.html", "a.trace", name]);
         assert_eq!((ran.status, &*ran.err), (3, ""));
-        let told = format!(
+        let expected = format!(
             "a.trace and {name}: the trace is damaged at byte {at}, a hole of 42 bytes: nothing is said of the box after block 5, not even behind the hole: a log of form 1 does not say where a voice was created; what was compared agrees, block by block: 5 blocks, 14.0 s"
         );
-        assert_eq!(ran.out, format!("UNKNOWN: {told}\n"));
+        assert_eq!(ran.out, format!("UNKNOWN: {expected}\n"));
         assert!(room.read("page.html").contains("class=\"lede bad\""));
     }
     // A difference before the damage is reported all the same.
@@ -442,16 +442,16 @@ fn behind_a_hole_the_audit_goes_on_only_with_a_new_voice() {
     };
     // The hole is in the second block of the first student. After the hole the second student is compared.
     let at = starts[2];
-    let told = format!(
+    let expected = format!(
         "UNKNOWN: a.trace and a.log: the trace is damaged at byte {at}, a hole of 42 bytes: nothing is said of the box after block 1 and before block 4, where a voice is created behind the hole; what was compared agrees, at all 4 frames where a block of the one and a line of the other end together (4 blocks, 6 lines, 0.0083 s)\n"
     );
-    assert_eq!(damaged(2), (3, told));
+    assert_eq!(damaged(2), (3, expected));
     // The hole is in the second student's creation. No voice is created after it.
     let (at, length) = (starts[4], starts[5] - starts[4]);
-    let told = format!(
+    let expected = format!(
         "UNKNOWN: a.trace and a.log: the trace is damaged at byte {at}, a hole of {length} bytes: nothing is said of the box after block 3, not even behind the hole: the trace creates no voice behind it; what was compared agrees, block by block: 3 blocks, 0.0063 s\n"
     );
-    assert_eq!(damaged(4), (3, told));
+    assert_eq!(damaged(4), (3, expected));
     // A box that is wrong after the hole is found.
     let last = log.lines().last().unwrap();
     room.put(

@@ -87,13 +87,13 @@ fn same_figures(values: &[Vec<(String, String)>], shown: &[Vec<(String, String)>
     let mut compared = 0;
     for (values, shown) in values.iter().zip(shown) {
         for (column, text) in shown {
-            let told = cell(values, column);
-            let told = if told.is_empty() && column != "form" {
+            let expected = cell(values, column);
+            let expected = if expected.is_empty() && column != "form" {
                 "–"
             } else {
-                told
+                expected
             };
-            assert_eq!(text, told, "{column}");
+            assert_eq!(text, expected, "{column}");
             compared += 1;
         }
     }

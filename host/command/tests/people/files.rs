@@ -108,9 +108,9 @@ fn a_file_without_permission() {
                 break;
             }
         };
-        let told = String::from_utf8_lossy(&output.stderr).into_owned();
+        let message = String::from_utf8_lossy(&output.stderr).into_owned();
         assert_eq!(
-            told, "cableowl: secret: cannot be read: permission denied\n",
+            message, "cableowl: secret: cannot be read: permission denied\n",
             "{words:?}"
         );
         assert_eq!(output.status.code(), Some(1));
@@ -128,9 +128,9 @@ fn a_disk_that_is_full() {
     ] {
         let full = OpenOptions::new().write(true).open("/dev/full").unwrap();
         let output = room.command(words).stdout(full).output().unwrap();
-        let told = String::from_utf8_lossy(&output.stderr).into_owned();
+        let message = String::from_utf8_lossy(&output.stderr).into_owned();
         assert_eq!(
-            told,
+            message,
             "cableowl: standard output: cannot be written: no space left on device\n"
         );
         assert_eq!(output.status.code(), Some(1));
@@ -183,7 +183,7 @@ fn an_audit_keeps_its_verdict_when_its_reader_goes() {
 fn wrong_words() {
     let room = room("words");
     let all = "replay, salvage, sound, settings, loops, report, audit, explain, help, version, man or completions";
-    for (words, told, verb) in [
+    for (words, message, verb) in [
         (&[][..], &*format!("say what to do: {all}"), ""),
         (
             &["listen"],
@@ -212,7 +212,7 @@ fn wrong_words() {
             "audit",
         ),
     ] {
-        room.run(words).is_no_use(told, verb);
+        room.run(words).is_no_use(message, verb);
     }
     let help = room.run(&["help"]);
     for words in [&["--help"][..], &["-h"]] {
@@ -227,7 +227,7 @@ fn progress_is_shown_on_a_terminal_alone() {
     let room = Room::new("progress");
     let slow =
         "(printf 'block=1 refused=1\\n'; sleep 2.6; printf 'block=2 refused=1\\n'; sleep 0.4)";
-    let told = |command: &str| {
+    let message = |command: &str| {
         let output = Command::new("sh")
             .args(["-c", command])
             .current_dir(&room.0)
@@ -237,11 +237,11 @@ fn progress_is_shown_on_a_terminal_alone() {
         let all = [output.stdout, output.stderr].concat();
         String::from_utf8_lossy(&all).into_owned()
     };
-    let plain = told(&format!("{slow} | {CABLEOWL} report - >/dev/null"));
+    let plain = message(&format!("{slow} | {CABLEOWL} report - >/dev/null"));
     assert_eq!(plain, "");
-    if told("script --version").contains("script from") {
+    if message("script --version").contains("script from") {
         let within = format!("{slow} | {CABLEOWL} report - >/dev/null");
-        let shown = told(&format!(
+        let shown = message(&format!(
             "script -qec \"{}\" /dev/null",
             within.replace('"', "\\\"")
         ));
@@ -259,9 +259,9 @@ fn progress_is_shown_on_a_terminal_alone() {
 fn a_page_takes_no_other_file_s_place() {
     let room = room("page-names");
     room.put("letter.html", "<!DOCTYPE html>\nDear tutor");
-    let told = "letter.html: exists already and is no page of this command, so it is not overwritten: name another file";
+    let message = "letter.html: exists already and is no page of this command, so it is not overwritten: name another file";
     room.run(&["report", "--html", "letter.html", "good.log"])
-        .refuses(told);
+        .refuses(message);
     assert_eq!(room.read("letter.html"), "<!DOCTYPE html>\nDear tutor");
     for _ in 0..2 {
         let ran = room.run(&["report", "--html", "page.html", "good.log"]);

@@ -81,8 +81,8 @@ fn audit_names_a_file_of_another_kind() {
         ),
     ] {
         let ran = room.run(&words);
-        let told = format!("cableowl: {sentence}: nothing is said of the box\n");
-        assert_eq!((ran.status, &*ran.err, &*ran.out), (3, &*told, ""));
+        let message = format!("cableowl: {sentence}: nothing is said of the box\n");
+        assert_eq!((ran.status, &*ran.err, &*ran.out), (3, &*message, ""));
     }
 }
 
@@ -98,12 +98,12 @@ fn audit_says_that_its_files_are_swapped() {
 #[test]
 fn report_reads_a_trace_as_its_log() {
     let room = room("hints-report");
-    let told = |file: &str| {
+    let message = |file: &str| {
         let ran = room.run(&["report", "--csv", "--rate", "1", file]);
         assert_eq!((ran.status, &*ran.err), (0, ""), "{file}");
         csv(&ran.out).remove(0)
     };
-    let (trace, log) = (told("evening.trace"), told("evening.log"));
+    let (trace, log) = (message("evening.trace"), message("evening.log"));
     for (column, value) in &log {
         if column != "name" {
             assert_eq!(cell(&trace, column), value, "{column}");

@@ -321,10 +321,10 @@ fn another_sound_than_the_recorded_one() {
     ]
     .concat();
     let ran = room.run(&words);
-    let told = format!(
+    let expected = format!(
         "cableowl: {wanted}; {given}\ncableowl: heard.f32: is not written, since not all of it was heard\n"
     );
-    assert_eq!((ran.status, &*ran.err), (1, &*told));
+    assert_eq!((ran.status, &*ran.err), (1, &*expected));
     let mut lines = ran.out.lines();
     assert_eq!(lines.next(), Some("creation=26 at=0"));
     assert_eq!(lines.next(), Some("block=1 refused=1"), "there is no voice");
@@ -390,8 +390,9 @@ fn another_sound_than_the_recorded_one() {
     assert_eq!(ran.status, 1);
     assert!(ran.out.contains(&format!("\ncreation=26 at={at}\n")));
     assert!(ran.out.ends_with(" refused=1\n"));
-    let told = format!("two.trace: the creation at byte {at} is over a sound that was not given");
-    assert!(ran.err.contains(&told), "{}", ran.err);
+    let expected =
+        format!("two.trace: the creation at byte {at} is over a sound that was not given");
+    assert!(ran.err.contains(&expected), "{}", ran.err);
 }
 
 #[test]
@@ -592,7 +593,7 @@ fn lines_of_refused_creations() {
         ("creation=x at=1", "column 10: 'creation=' has no number"),
     ] {
         room.put("a.log", format!("{block}{line}\n"));
-        let told = format!("a.log: line 2 (byte 44): {says}");
-        room.run(&["report", "a.log"]).refuses(&told);
+        let expected = format!("a.log: line 2 (byte 44): {says}");
+        room.run(&["report", "a.log"]).refuses(&expected);
     }
 }

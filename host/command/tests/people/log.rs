@@ -88,9 +88,9 @@ fn damage_is_told_by_its_line() {
             "line 1 (byte 0): no line of a log has more than 576 bytes: this is no log",
         ),
     ];
-    for (log, told) in cases {
+    for (log, expected) in cases {
         room.run_on(&["report", "-"], log.as_bytes())
-            .refuses(&format!("standard input: {told}"));
+            .refuses(&format!("standard input: {expected}"));
     }
 }
 

@@ -96,8 +96,9 @@ fn a_damaged_trace_is_told_by_its_place_and_number() {
         let printed =
             format!("block=1 frames=6 steps=6 state=6 position=3\nrefused={number} at=97\n");
         assert_eq!(ran.out, printed);
-        let told = format!("cableowl: standard input: the record at byte 97: refusal {number}: ");
-        assert!(ran.err.starts_with(&told), "{}", ran.err);
+        let expected =
+            format!("cableowl: standard input: the record at byte 97: refusal {number}: ");
+        assert!(ran.err.starts_with(&expected), "{}", ran.err);
         assert_eq!((ran.status, ran.err.lines().count()), (1, 1));
     }
 }

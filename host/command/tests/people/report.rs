@@ -212,9 +212,12 @@ fn is_told(row: &[(String, String)], column: &str, number: u64) {
     let minutes = format!("minutes_{column}");
     match row.iter().any(|(held, _)| *held == minutes) {
         true => {
-            let told: f64 = cell(row, &minutes).parse().unwrap();
+            let printed: f64 = cell(row, &minutes).parse().unwrap();
             let ours = number as f64 / 60_000.0;
-            assert!((told - ours).abs() < 0.00051, "{column}: {told} {ours}");
+            assert!(
+                (printed - ours).abs() < 0.00051,
+                "{column}: {printed} {ours}"
+            );
         }
         false => assert_eq!(cell(row, column), number.to_string(), "{column}"),
     }
@@ -318,21 +321,21 @@ fn a_line_whose_steps_turns_and_places_disagree_is_named() {
         block(4, 1, 2, "created=0 seeks=1"),
         block(5, 9, 9, still),
     ];
-    let told = |log: String| {
+    let printed = |log: String| {
         room.put("a.log", log);
         let ran = room.run(&["report", "a.log"]);
         assert_eq!((ran.status, &*ran.err), (0, ""));
         let last = ran.out.lines().last().unwrap_or_default().to_owned();
         last.trim_start().to_owned()
     };
-    assert_eq!(told(fits.concat()), "reached the end      no");
+    assert_eq!(printed(fits.concat()), "reached the end      no");
     let says = "1 line does not fit: steps, wraps and positions disagree, first at block 3";
     let mut wrong = fits.clone();
     wrong[3] = block(3, 7, 1, still);
-    assert_eq!(told(wrong[..4].concat()), says);
+    assert_eq!(printed(wrong[..4].concat()), says);
     let mut wrong = fits.clone();
     wrong[3] = block(3, 6, 2, still);
-    assert_eq!(told(wrong[..4].concat()), says);
+    assert_eq!(printed(wrong[..4].concat()), says);
     // With several logs, and with groups, it is named too.
     room.put("hall_2026-11-09.log", wrong[..4].concat());
     room.put("hall_2026-11-10.log", fits.concat());

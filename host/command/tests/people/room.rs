@@ -112,10 +112,10 @@ impl Ran {
     /// It must refuse with this one sentence.
     #[track_caller]
     pub fn refuses(&self, sentence: &str) {
-        let told = format!("cableowl: {sentence}\n");
+        let expected = format!("cableowl: {sentence}\n");
         assert_eq!(
             (self.status, &*self.err),
-            (1, &*told),
+            (1, &*expected),
             "it said {:?}",
             self.out
         );
@@ -125,8 +125,8 @@ impl Ran {
     #[track_caller]
     pub fn is_no_use(&self, sentence: &str, verb: &str) {
         let help = format!("cableowl help {verb}");
-        let told = format!("cableowl: {sentence}; '{}' says more\n", help.trim_end());
-        assert_eq!((self.status, &*self.err, &*self.out), (2, &*told, ""));
+        let expected = format!("cableowl: {sentence}; '{}' says more\n", help.trim_end());
+        assert_eq!((self.status, &*self.err, &*self.out), (2, &*expected, ""));
     }
 }
 

@@ -119,13 +119,13 @@ fn settings_are_saved_in_seconds_or_frames() {
     let seconds =
         "settings save --start 1s --loop 6.2s..10.9s --speed 0.75 --pitch=-2 --rate 44100 a";
     let frames = "settings save --start 44100f --loop 273420f..480690f --speed 0.75 --pitch -2 --rate 44100 b";
-    let told = |words: &str| {
+    let printed = |words: &str| {
         let words: Vec<&str> = words.split(' ').collect();
         let ran = room.run(&words);
         assert_eq!((ran.status, &*ran.err), (0, ""), "{words:?}");
         ran.out
     };
-    let (by_seconds, by_frames) = (told(seconds), told(frames));
+    let (by_seconds, by_frames) = (printed(seconds), printed(frames));
     assert_eq!(
         by_seconds.replace("to          a", "to          b"),
         by_frames
@@ -141,10 +141,10 @@ fn settings_are_saved_in_seconds_or_frames() {
         let bytes = fs::read(room.0.join(name)).unwrap();
         let loaded = SavedSettings::load(SettingsVersion::Second, &bytes).unwrap();
         assert_eq!(loaded, (expected, SettingsVersion::Second));
-        let shown = told(&format!("settings show --rate 44100 {name}"));
+        let shown = printed(&format!("settings show --rate 44100 {name}"));
         assert!(by_seconds.starts_with(&shown), "{by_seconds}");
     }
-    told("settings save --format 1 --reverse c");
+    printed("settings save --format 1 --reverse c");
     assert_eq!(fs::read(room.0.join("c")).unwrap().len(), 25);
     room.run(&["settings", "save", "a"])
         .refuses("a: exists already, and nothing is overwritten: name another file");
@@ -192,8 +192,8 @@ fn damaged_settings_are_told_by_their_place_and_number() {
             bytes[23] = 0xf0;
         }
         let ran = room.run_on(&["settings", "show", "-"], &bytes);
-        let told = format!("cableowl: standard input: at byte {at}: refusal {number}: ");
-        assert!(ran.err.starts_with(&told), "{} for {told}", ran.err);
+        let printed = format!("cableowl: standard input: at byte {at}: refusal {number}: ");
+        assert!(ran.err.starts_with(&printed), "{} for {printed}", ran.err);
         assert_eq!((ran.status, ran.err.lines().count(), &*ran.out), (1, 1, ""));
     }
 }

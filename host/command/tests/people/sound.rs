@@ -239,9 +239,9 @@ fn a_sound_without_permission() {
     }
     match run.output() {
         Ok(output) => {
-            let told = String::from_utf8_lossy(&output.stderr).into_owned();
+            let message = String::from_utf8_lossy(&output.stderr).into_owned();
             assert_eq!(
-                told,
+                message,
                 "cableowl: secret.f32: cannot be read: permission denied\n"
             );
             assert_eq!(output.status.code(), Some(1));

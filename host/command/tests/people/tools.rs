@@ -207,12 +207,12 @@ fn shell(room: &Room, words: &str) -> String {
         all += &ran.err;
         status = ran.status;
     }
-    let told = if tells {
+    let status = if tells {
         format!("{status}\n")
     } else {
         String::new()
     };
-    input + &all + &told
+    input + &all + &status
 }
 
 #[test]

@@ -120,9 +120,9 @@ fn share_of(row: &[(String, String)]) -> exact::Share {
 /// Compares the ends of an interval with the second computation, as precisely as the values show them.
 fn has_ends(row: &[(String, String)], ends: [(&str, i128); 3]) {
     for (column, end) in ends {
-        let told: f64 = cell(row, column).parse().unwrap();
-        let apart = told / 100.0 - end as f64 / exact::ONE as f64;
-        assert!(apart.abs() < 6e-7, "{column}: {told}, {end}");
+        let printed: f64 = cell(row, column).parse().unwrap();
+        let apart = printed / 100.0 - end as f64 / exact::ONE as f64;
+        assert!(apart.abs() < 6e-7, "{column}: {printed}, {end}");
     }
 }
 

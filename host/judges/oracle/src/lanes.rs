@@ -45,7 +45,7 @@ impl LaneBuffers {
 
     /// These lanes, borrowed.
     #[must_use]
-    pub fn lend(&self) -> Lanes<'_> {
+    pub fn as_lanes(&self) -> Lanes<'_> {
         Lanes {
             fade: &self.fade,
             volume: &self.volume,

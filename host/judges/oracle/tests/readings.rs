@@ -18,10 +18,10 @@ fn at(sample_rate: u32, position: usize) -> Oracle {
     Oracle::inject(&state, &samples)
 }
 
-fn told(voice: &mut Oracle, n: usize, signals: Signals) -> Vec<f32> {
+fn play_signalled(voice: &mut Oracle, n: usize, signals: Signals) -> Vec<f32> {
     let lanes = LaneBuffers::constant(n, 1.0, 1.0, (1.0, 1.0), 1.0);
     let mut out = vec![f32::NAN; 2 * n];
-    voice.block(&lanes.lend(), 1.0, signals, &mut out);
+    voice.block(&lanes.as_lanes(), 1.0, signals, &mut out);
     out
 }
 
@@ -56,14 +56,14 @@ fn states_then_start() {
         resume: Answer::Waiting,
     };
     let mut voice = Oracle::inject(&state, &samples);
-    told(&mut voice, 1, signals);
+    play_signalled(&mut voice, 1, signals);
     assert_eq!(voice.state().playback, PlaybackState::Stopped);
     assert!(!voice.state().started);
     let now = Signals {
         start: Answer::Now,
         ..Signals::default()
     };
-    let out = told(&mut voice, 3, now);
+    let out = play_signalled(&mut voice, 3, now);
     assert!(voice.state().started);
     assert_eq!(voice.state().playback, PlaybackState::Stopped);
     assert!(out.iter().all(|sample| sample.to_bits() == 0));
@@ -78,7 +78,7 @@ fn a_start_that_has_come_stays_so() {
         finished: true,
     };
     let before = voice.state();
-    told(&mut voice, 0, never);
+    play_signalled(&mut voice, 0, never);
     assert!(voice.state().same_bits(&before));
 }
 
@@ -97,9 +97,9 @@ fn an_empty_block_takes_its_signals() {
         resume: Answer::Now,
         ..Signals::default()
     };
-    told(&mut voice, 0, now);
+    play_signalled(&mut voice, 0, now);
     assert_eq!(voice.state().playback, PlaybackState::Resuming);
-    told(&mut voice, 0, now);
+    play_signalled(&mut voice, 0, now);
     assert_eq!(voice.state().playback, PlaybackState::Playing);
 }
 
@@ -108,7 +108,7 @@ fn a_negative_reading_times_zero_is_minus_zero() {
     let mut voice = Oracle::create(&Settings::new(1), &[-1.0; 8]);
     let lanes = LaneBuffers::constant(1, 0.0, 1.0, (1.0, 1.0), 1.0);
     let mut out = [f32::NAN; 2];
-    voice.block(&lanes.lend(), 1.0, Signals::default(), &mut out);
+    voice.block(&lanes.as_lanes(), 1.0, Signals::default(), &mut out);
     assert_eq!(out.map(f32::to_bits), [(-0.0f32).to_bits(); 2]);
 }
 

@@ -91,14 +91,14 @@ impl<'a, R: Rules> Voice<'a, R> {
 
     /// Plays a block into interleaved samples and returns what it reports. A block that reads no window has a lowest
     /// count of 4.
-    pub fn block(&mut self, lanes: &Lanes, dt: f64, told: Signals, out: &mut [f32]) -> Reported {
+    pub fn block(&mut self, lanes: &Lanes, dt: f64, signals: Signals, out: &mut [f32]) -> Reported {
         let mut reported = Reported {
             steps: 0,
             lowest_count: 4,
         };
-        let settled = self.rules.states(self.state.playback, told);
+        let settled = self.rules.states(self.state.playback, signals);
         (self.state.started, self.state.playback) =
-            self.rules.start(self.state.started, settled, told.start);
+            self.rules.start(self.state.started, settled, signals.start);
         if !self.state.started || !self.rules.is_advancing(self.state.playback) {
             out.fill(0.0);
             return reported;

@@ -90,7 +90,7 @@ pub struct Block {
 impl Block {
     /// The signals with the answer for the tick by these rules.
     #[must_use]
-    pub fn told(&self, rules: &impl Rules) -> Signals {
+    pub fn signals_by(&self, rules: &impl Rules) -> Signals {
         let start = self
             .tick
             .map_or(self.signals.start, |(due, now)| rules.ticked(due, now));
@@ -179,7 +179,7 @@ impl Call {
 
     /// The output or mix before the call, a [`pattern`].
     #[must_use]
-    pub fn lent(&self) -> Vec<f32> {
+    pub fn output(&self) -> Vec<f32> {
         pattern(self.block().map_or(0, |block| block.place.samples()))
     }
 
@@ -205,7 +205,7 @@ impl Outcome {
             lowest_count: 4,
             position: 0.0,
             part: (0, 0),
-            samples: call.lent(),
+            samples: call.output(),
         }
     }
 

@@ -65,7 +65,7 @@ fn our_block(
 ) -> raw::CableowlProcessed {
     let given = convert::state_in(state);
     let signals = convert::signals_in(block.signals, block.tick);
-    let lanes = block.lanes.lend();
+    let lanes = block.lanes.as_lanes();
     match block.place {
         Place::Whole(_) => raw::process(given, sound, &lanes, block.dt, signals, samples),
         Place::Mix(_, from) => {
@@ -98,7 +98,7 @@ impl Player for OursHeld {
         let signals = convert::signals_in(block.signals, block.tick);
         let (frames, dt) = (block.lanes.rate.len(), block.dt);
         let answer = match block.place {
-            Place::Whole(lent) if lent / 2 != frames => return None,
+            Place::Whole(samples) if samples / 2 != frames => return None,
             Place::Whole(_) => raw::process_held(given, sound, held, dt, signals, samples),
             Place::Mix(_, from) => {
                 let (from, frames) = (from as u64, frames as u64);
@@ -182,7 +182,12 @@ impl<R: Rules + Sync> Player for Model<R> {
                 let mut voice = voice(state);
                 let written = block.place.written(block.lanes.rate.len());
                 let out = &mut outcome.samples[written];
-                let reported = voice.block(&block.lanes.lend(), block.dt, block.told(rules), out);
+                let reported = voice.block(
+                    &block.lanes.as_lanes(),
+                    block.dt,
+                    block.signals_by(rules),
+                    out,
+                );
                 (outcome.steps, outcome.lowest_count) = (reported.steps, reported.lowest_count);
                 outcome.state = Some(voice.state);
             }
@@ -209,7 +214,7 @@ pub fn refusal(call: &Call) -> u32 {
                 Place::Whole(samples) => refusals::holds(samples, n),
                 Place::Mix(samples, from) => refusals::has_room(samples, from, n),
             };
-            refusals::of_block(state, samples, &block.lanes.lend(), block.dt, placed)
+            refusals::of_block(state, samples, &block.lanes.as_lanes(), block.dt, placed)
         }
     }
 }
@@ -241,8 +246,12 @@ impl Player for Kira {
                 let mut voice = found(state);
                 let written = block.place.written(block.lanes.rate.len());
                 let out = &mut outcome.samples[written];
-                let reported =
-                    voice.block(&block.lanes.lend(), block.dt, block.told(&Document), out);
+                let reported = voice.block(
+                    &block.lanes.as_lanes(),
+                    block.dt,
+                    block.signals_by(&Document),
+                    out,
+                );
                 (outcome.steps, outcome.lowest_count) = (reported.steps, reported.lowest_count);
                 voice
             }

@@ -29,13 +29,13 @@ pub fn shrink(call: &Call, fails: &dyn Fn(&Call) -> Option<String>) -> (Call, St
 
 /// How large a call is: the numbers in its lists, then, if they are few, its text.
 fn size_of(call: &Call) -> (usize, usize) {
-    let lent = call.block().map_or(0, |block| {
+    let output = call.block().map_or(0, |block| {
         let lanes = &block.lanes;
         let amplitudes = [&lanes.fade, &lanes.volume, &lanes.left, &lanes.right];
         let lengths = amplitudes.map(|lane| lane.len());
         lengths.iter().sum::<usize>() + lanes.rate.len() + block.place.samples()
     });
-    let numbers = call.sound.samples().len() + lent;
+    let numbers = call.sound.samples().len() + output;
     let text = if numbers < 300 {
         call.to_string().len()
     } else {

@@ -38,7 +38,7 @@ fn after(state: CableowlState, frames: usize, due: u32, now: u32) -> CableowlSta
     };
     let lanes = LaneBuffers::constant(frames, 1.0, 1.0, (1.0, 1.0), 1.0);
     let out = &mut [0.0; 2][..2 * frames];
-    let answer = raw::process(state, &SOUND, &lanes.lend(), 1.0, signals, out);
+    let answer = raw::process(state, &SOUND, &lanes.as_lanes(), 1.0, signals, out);
     assert_eq!(answer.refusal, 0);
     answer.state
 }
@@ -48,7 +48,7 @@ fn ticks_near_every_power_of_two_are_reached_as_the_rule_says() {
     let state = waiting();
     assert_eq!(state.started, 0);
     let lanes = LaneBuffers::constant(0, 1.0, 1.0, (1.0, 1.0), 1.0);
-    let lent = lanes.lend();
+    let borrowed = lanes.as_lanes();
     let (mut asked, mut reached) = (0u64, 0u64);
     let ahead = near_powers(24);
     let differences: Vec<u32> = ahead.iter().flat_map(|&n| [n, n.wrapping_neg()]).collect();
@@ -61,7 +61,7 @@ fn ticks_near_every_power_of_two_are_reached_as_the_rule_says() {
                 now,
                 ..CableowlSignals::default()
             };
-            let answer = raw::process(state, &SOUND, &lent, 1.0, signals, &mut []);
+            let answer = raw::process(state, &SOUND, &borrowed, 1.0, signals, &mut []);
             let expected = Document.ticked(due, now) == Answer::Now;
             let (got, refusal) = (answer.state.started, answer.refusal);
             assert_eq!(

@@ -31,7 +31,7 @@ pub struct Case {
     sound: Arc<Sound>,
     lanes: LaneBuffers,
     /// The samples of the output.
-    lent: usize,
+    output: usize,
 }
 
 /// A raw result.
@@ -57,7 +57,7 @@ impl Case {
         let sound = Sound::new((0..samples).map(|_| any_f32(random)).collect());
         let n = random.below(6);
         let lanes = lanes(random, n);
-        let lent = match random.below(8) {
+        let output = match random.below(8) {
             0 => random.below(16),
             _ => 2 * n,
         };
@@ -73,13 +73,13 @@ impl Case {
             kind,
             sound,
             lanes,
-            lent,
+            output,
         }
     }
 
     /// The same block with held lanes, which are the first frame's numbers. With no frames they are any.
     pub fn held(&self) -> Option<Self> {
-        let lanes = self.lanes.lend();
+        let lanes = self.lanes.as_lanes();
         let first = |lane: &[f32]| lane.first().copied().unwrap_or(f32::NAN);
         let held = Held {
             fade: first(lanes.fade),
@@ -90,7 +90,7 @@ impl Case {
         };
         let (kind, frames) = match self.kind {
             Kind::Process(state, signals, dt) => {
-                (Kind::Held(state, signals, dt, held), self.lent / 2)
+                (Kind::Held(state, signals, dt, held), self.output / 2)
             }
             Kind::Into(state, signals, dt, from) => {
                 let kind = Kind::HeldInto(state, signals, dt, held, from);
@@ -119,7 +119,7 @@ impl Case {
             part: (0, 0),
             samples: self.pattern(),
         };
-        let lanes = self.lanes.lend();
+        let lanes = self.lanes.as_lanes();
         match self.kind {
             Kind::New(settings) => {
                 let raw = raw::new(settings, sound);
@@ -240,11 +240,11 @@ impl Case {
                 Ask::Command(held(state)?, convert::commands_out(commands))
             }
             Kind::Process(state, signals, dt) | Kind::Held(state, signals, dt, _) => {
-                let place = Place::Whole(self.lent);
+                let place = Place::Whole(self.output);
                 Ask::Block(held(state)?, block(signals, *dt, place))
             }
             Kind::Into(state, signals, dt, from) | Kind::HeldInto(state, signals, dt, _, from) => {
-                let place = Place::Mix(self.lent, *from as usize);
+                let place = Place::Mix(self.output, *from as usize);
                 Ask::Block(held(state)?, block(signals, *dt, place))
             }
             Kind::Stretch(state) => Ask::Stretch(held(state)?),
@@ -259,7 +259,7 @@ impl Case {
     fn pattern(&self) -> Vec<f32> {
         match self.kind {
             Kind::Process(..) | Kind::Into(..) | Kind::Held(..) | Kind::HeldInto(..) => {
-                differential::pattern(self.lent)
+                differential::pattern(self.output)
             }
             _ => Vec::new(),
         }

@@ -230,8 +230,8 @@ fn a_take_is_a_read_and_a_command_set() {
                 loop_region: region(read.slot.start, read.slot.end),
                 ..CableowlCommands::default()
             };
-            let told = raw::on_start_processing(state, &sound, commands);
-            (told.refusal, told.state, told.position)
+            let commanded = raw::on_start_processing(state, &sound, commands);
+            (commanded.refusal, commanded.state, commanded.position)
         };
         assert_eq!(taken.refusal, number);
         assert_eq!(taken.state.to_bytes(), after.to_bytes());

@@ -32,7 +32,7 @@ fn states_agree_with_kira() {
             let resumed = number(original::resume(given, waits));
             count("resume", states::resume(state, waits.into()), resumed);
         }
-        for (told, resume) in (0..).zip(ANSWERS) {
+        for (answer, resume) in (0..).zip(ANSWERS) {
             for finished in [false, true] {
                 let signals = Signals {
                     finished,
@@ -40,7 +40,7 @@ fn states_agree_with_kira() {
                     resume,
                 };
                 let updated = number(original::update(given, signals).0);
-                let ours = states::update(state, finished.into(), told);
+                let ours = states::update(state, finished.into(), answer);
                 count("update", ours, updated);
             }
         }

@@ -52,7 +52,7 @@ pub fn process(
     signals: CableowlSignals,
     out: &mut [f32],
 ) -> CableowlProcessed {
-    cableowl_sys::process(state, sound, lent(lanes), dt, signals, out)
+    cableowl_sys::process(state, sound, sys_lanes(lanes), dt, signals, out)
 }
 
 /// A block into the middle of a longer mix, from the given frame on.
@@ -67,10 +67,10 @@ pub fn process_into(
     mix: &mut [f32],
     from: u64,
 ) -> CableowlProcessed {
-    cableowl_sys::process_into(state, sound, lent(lanes), dt, signals, mix, from)
+    cableowl_sys::process_into(state, sound, sys_lanes(lanes), dt, signals, mix, from)
 }
 
-fn lent<'a>(lanes: &Lanes<'a>) -> cableowl_sys::Lanes<'a> {
+fn sys_lanes<'a>(lanes: &Lanes<'a>) -> cableowl_sys::Lanes<'a> {
     cableowl_sys::Lanes {
         fade: lanes.fade,
         volume: lanes.volume,

@@ -196,8 +196,8 @@ fn heads(megabytes: usize) -> Vec<Input> {
 
 /// The processor seconds of this thread, if Linux reports them. Other threads do not count.
 fn processor_seconds() -> f64 {
-    let told = fs::read_to_string("/proc/thread-self/schedstat").unwrap_or_default();
-    let nanoseconds = told.split(' ').next().and_then(|word| word.parse().ok());
+    let stat = fs::read_to_string("/proc/thread-self/schedstat").unwrap_or_default();
+    let nanoseconds = stat.split(' ').next().and_then(|word| word.parse().ok());
     nanoseconds.unwrap_or(0.0) / 1e9
 }
 

@@ -183,8 +183,8 @@ impl Case {
             let kept = did.replay.to_bytes() == before.to_bytes();
             let nothing = (did.size, did.frames, did.steps, did.kind, did.lowest_count);
             let idle = kept && nothing == (0, 0, 0, 0, 4);
-            let lent = same(&self.sound, &sound) && same(&self.out, &out);
-            return match idle && lent {
+            let unchanged = same(&self.sound, &sound) && same(&self.out, &out);
+            return match idle && unchanged {
                 true => Ok(did.refusal),
                 false => Err("it did not play, and changed something".to_owned()),
             };
@@ -229,8 +229,8 @@ impl Case {
         } else {
             0
         };
-        let lent = same(&self.sound[kept..], &sound[kept..]) && same(&self.out, &samples);
-        match after.to_bytes() == expected.to_bytes() && lent && did.size == read.next {
+        let unchanged = same(&self.sound[kept..], &sound[kept..]) && same(&self.out, &samples);
+        match after.to_bytes() == expected.to_bytes() && unchanged && did.size == read.next {
             true => Ok(did.refusal),
             false => Err(format!("{did:?} against {expected:?}")),
         }

@@ -52,7 +52,7 @@ fn a_cut_block_prints_the_same_sum_and_position() {
             let at = random.below(block.frames + 1);
             let mut parts = before;
             let mut heard = Vec::new();
-            let told = cut(block, at).map(|part| match parts.play(&part) {
+            let printed = cut(block, at).map(|part| match parts.play(&part) {
                 Some(Line::Block {
                     steps,
                     state,
@@ -64,7 +64,7 @@ fn a_cut_block_prints_the_same_sum_and_position() {
                 }
                 line => panic!("a part of an accepted block: {part:?}, {line:?}"),
             });
-            let [(first, state, _), (rest, _, last)] = told;
+            let [(first, state, _), (rest, _, last)] = printed;
             assert_eq!(last, position, "{block:?} cut at {at}");
             if state != PlaybackState::Stopped {
                 assert_eq!(first + rest, steps, "{block:?} cut at {at}");
@@ -92,11 +92,11 @@ fn a_voice_that_has_stopped_by_the_cut_makes_fewer_steps() {
     ] {
         let mut replay = Replay::new();
         replay.play(&Record::Creation { settings, sound });
-        let told = cut(Block::new(6, 1.0), at).map(|part| match replay.play(&part) {
+        let printed = cut(Block::new(6, 1.0), at).map(|part| match replay.play(&part) {
             Some(Line::Block { steps, .. }) => steps,
             line => panic!("{line:?}"),
         });
-        assert_eq!(told, steps, "cut after {at}");
+        assert_eq!(printed, steps, "cut after {at}");
     }
 }
 

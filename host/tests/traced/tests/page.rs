@@ -147,10 +147,10 @@ fn blocks_before_a_creation_and_after_a_refused_one() {
 #[test]
 fn false_records() {
     let part = below("\n## Salvage\n");
-    let told: Vec<&str> = part.split(" bytes skipped, the first at ").collect();
+    let counts: Vec<&str> = part.split(" bytes skipped, the first at ").collect();
     let examples = codes_of(part);
-    assert_eq!((told.len(), examples.len()), (3, 2));
-    for (words, bytes) in told.windows(2).zip(&examples) {
+    assert_eq!((counts.len(), examples.len()), (3, 2));
+    for (words, bytes) in counts.windows(2).zip(&examples) {
         let mut out = vec![0; bytes.len()];
         let salvaged = salvage(bytes, &mut out).unwrap();
         let skipped = salvaged.skipped.to_string();

@@ -225,13 +225,13 @@ fn machine() -> String {
     };
     let processor = || {
         let text = fs::read_to_string("/proc/cpuinfo").ok()?;
-        let told = |name: &str| {
+        let field = |name: &str| {
             let line = text.lines().find(|line| line.starts_with(name))?;
             Some(line.split_once(':')?.1.trim().to_string())
         };
         // Arm's file has numbers and no name.
-        told("model name").or_else(|| {
-            let [implementer, part] = [told("CPU implementer")?, told("CPU part")?];
+        field("model name").or_else(|| {
+            let [implementer, part] = [field("CPU implementer")?, field("CPU part")?];
             let name = arm_name(&implementer, &part);
             Some(name.map_or(format!("processor {implementer} {part}"), str::to_owned))
         })

@@ -36,8 +36,8 @@ fn faults(landings: &str, claims: &str) -> Vec<String> {
     let mut faults = Vec::new();
     let sections: Vec<&str> = landings.split("\n## ").skip(1).collect();
     let headings = sections.iter().filter_map(|section| section.lines().next());
-    let told: BTreeSet<String> = headings.flat_map(requests).collect();
-    for request in requests(claims).difference(&told) {
+    let named: BTreeSet<String> = headings.flat_map(requests).collect();
+    for request in requests(claims).difference(&named) {
         faults.push(format!("#{request}: no section"));
     }
     for section in sections {

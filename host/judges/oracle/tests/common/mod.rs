@@ -22,7 +22,7 @@ pub fn frames(start: usize, end: usize) -> Region {
 pub fn play(voice: &mut Oracle, n: usize, rate: f64, dt: f64) -> (Vec<f32>, u64) {
     let lanes = LaneBuffers::constant(n, 1.0, 1.0, (1.0, 1.0), rate);
     let mut out = vec![f32::NAN; 2 * n];
-    let reported = voice.block(&lanes.lend(), dt, Signals::default(), &mut out);
+    let reported = voice.block(&lanes.as_lanes(), dt, Signals::default(), &mut out);
     let left = out.chunks(2).map(|frame| frame[0]).collect();
     (left, reported.steps)
 }

@@ -144,13 +144,13 @@ fn muted(state: &State) -> State {
 
 /// What differs besides samples, if anything.
 fn difference(a: &Outcome, b: &Outcome) -> Option<String> {
-    let told = |outcome: &Outcome| {
+    let reported = |outcome: &Outcome| {
         let position = outcome.position.to_bits();
         let (steps, count) = (outcome.steps, outcome.lowest_count);
         (outcome.refusal, steps, count, position, outcome.part)
     };
-    if told(a) != told(b) {
-        return Some(format!("{:?} against {:?}", told(a), told(b)));
+    if reported(a) != reported(b) {
+        return Some(format!("{:?} against {:?}", reported(a), reported(b)));
     }
     match (a.state, b.state) {
         (Some(one), Some(other)) if is_identical(&muted(&one), &muted(&other)) => None,

@@ -51,16 +51,16 @@ impl Asked<'_, '_> {
 
     /// A rate command, then a block.
     fn commanded(&mut self, state: &State, rate: f64) {
-        let told = self.command(*state, rate);
-        self.block(told, 0..4);
+        let commanded = self.command(*state, rate);
+        self.block(commanded, 0..4);
     }
 
     /// A block with the rate command between its two parts.
     fn commanded_at_the_cut(&mut self, state: &State, rate: f64) {
         for cut in 0..=4 {
             let first = self.block(*state, 0..cut);
-            let told = self.command(first, rate);
-            self.block(told, cut..4);
+            let commanded = self.command(first, rate);
+            self.block(commanded, cut..4);
         }
     }
 

@@ -151,12 +151,12 @@ fn command_sets(list: &mut Words) {
             scene.command_refused(commands, number);
         });
     }
-    scene.lend(18);
+    scene.pass(18);
     scene.command_refused(&busy, 1);
     faulty(&busy, &COMMANDS, |commands, _| {
         scene.command_refused(commands, 1);
     });
-    scene.lend(20);
+    scene.pass(20);
     scene.command(&busy);
     scene.give(&State {
         position: LIMIT - 1,
@@ -246,12 +246,12 @@ fn blocks(list: &mut Words) {
         spoil(&mut given);
         scene.block_refused(&given.block, given.samples, number);
     }
-    scene.lend(18);
+    scene.pass(18);
     scene.block_refused(&unit(3, 1.0), 6, 1);
     faulty(&placed(3), &BLOCKS[..18], |given, _| {
         scene.block_refused(&given.block, given.samples, 1);
     });
-    scene.lend(20);
+    scene.pass(20);
     scene.block(&unit(3, 1.0));
     // At 2 Hz only the first product is infinite.
     scene.give(&State {
@@ -295,9 +295,9 @@ fn mixes(list: &mut Words) {
         spoil(&mut given);
         scene.mix_refused(&given.block, 12, 2, *number);
     }
-    scene.lend(18);
+    scene.pass(18);
     scene.mix_refused(&unit(3, 1.0), 12, 4, 1);
-    scene.lend(20);
+    scene.pass(20);
     scene.mix(&unit(3, 1.0), 12, 3);
 }
 
@@ -387,13 +387,13 @@ fn other_sounds(list: &mut Words) {
             position: 1,
             ..created(1, 10)
         });
-        for lent in [0, 10, 18, 19] {
-            scene.lend(lent);
+        for passed in [0, 10, 18, 19] {
+            scene.pass(passed);
             scene.command_refused(&Commands::default(), 1);
             scene.block_refused(&unit(1, 1.0), 2, 1);
             scene.stretch();
         }
-        scene.lend(20);
+        scene.pass(20);
         scene.command(&Commands::default());
         scene.block(&unit(2, 1.0));
         scene.stretch();

@@ -7,7 +7,7 @@ use super::words::Words;
 // The kinds of records.
 const SOUND: u64 = 1;
 const STATE: u64 = 2;
-const LENT: u64 = 3;
+const PASSED: u64 = 3;
 const CREATION: u64 = 4;
 const COMMAND_SET: u64 = 5;
 const BLOCK: u64 = 6;
@@ -26,7 +26,7 @@ pub struct Block {
 pub struct Scene<'a> {
     list: &'a mut Words,
     sound: Vec<f32>,
-    lent: usize,
+    passed: usize,
     voice: Option<Oracle>,
     state: State,
 }
@@ -39,7 +39,7 @@ impl<'a> Scene<'a> {
         Self {
             list,
             sound: sound.to_vec(),
-            lent: sound.len(),
+            passed: sound.len(),
             voice: None,
             state: State::BLANK,
         }
@@ -59,10 +59,10 @@ impl<'a> Scene<'a> {
     }
 
     /// From now on each call gets this many of the sound's samples.
-    pub fn lend(&mut self, samples: usize) {
-        self.list.number(LENT);
+    pub fn pass(&mut self, samples: usize) {
+        self.list.number(PASSED);
         self.list.index(samples);
-        self.lent = samples;
+        self.passed = samples;
     }
 
     pub fn create(&mut self, settings: &Settings) {
@@ -124,7 +124,7 @@ impl<'a> Scene<'a> {
     /// The stretch of the voice; empty if the state is not well formed or does not fit the sound.
     pub fn stretch(&mut self) {
         let state = self.state;
-        let fits = state.is_well_formed() && self.lent == 2 * state.total_frames;
+        let fits = state.is_well_formed() && self.passed == 2 * state.total_frames;
         let (start, end) = state.slice.unwrap_or((0, state.total_frames));
         self.list.number(STRETCH);
         self.list.counted(if fits {
@@ -141,7 +141,7 @@ impl<'a> Scene<'a> {
     fn play(&mut self, block: &Block) -> (Reported, Vec<f32>) {
         let mut out = untouched(2 * block.lanes.rate.len());
         let voice = self.voice();
-        let reported = voice.block(&block.lanes.lend(), block.dt, block.signals, &mut out);
+        let reported = voice.block(&block.lanes.as_lanes(), block.dt, block.signals, &mut out);
         self.state = voice.state();
         (reported, out)
     }
