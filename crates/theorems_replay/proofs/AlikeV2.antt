@@ -227,8 +227,8 @@ module _ (r : CableowlReplay) (w : CableowlState) (f : mutedState (r .voice) ≡
       made : Created → CableowlReplayed
       made c = playedAs (behind (playing 1 r) n (encoded (c .voice)) (givenSamples vs) (r .blocks)) n 4 (c .refusal) 0 0 4
 
-      sameAnswers : CableowlState → ℕ → CableowlReplayed
-      told v k = playedAs (behind (playing 1 r) n v (givenSamples vs) (r .blocks)) n 4 k 0 0 4
+      answers : CableowlState → ℕ → CableowlReplayed
+      answers v k = playedAs (behind (playing 1 r) n v (givenSamples vs) (r .blocks)) n 4 k 0 0 4
 
       mine : Created
       mine = created (take (givenSamples vs) given) (settingsOf vs)
@@ -239,10 +239,10 @@ module _ (r : CableowlReplay) (w : CableowlState) (f : mutedState (r .voice) ≡
       go : (b : Bool) → mutedReplayed (cond b (refusedGiven r n) (made mine)) ≡ mutedReplayed (cond b (refusedGiven q n) (made theirs))
       go true = refl
       go false =
-          ap (λ (v : CableowlState). told v (mine .refusal)) (encoded-muted (mine .voice))
-          ∙ ap (λ (c : Created). told (encoded (c .voice)) (c .refusal))
+          ap (λ (v : CableowlState). answers v (mine .refusal)) (encoded-muted (mine .voice))
+          ∙ ap (λ (c : Created). answers (encoded (c .voice)) (c .refusal))
           (creation-alike (take (givenSamples vs) given) (take (givenSamples vs) other) (settingsOf vs) (taken (givenSamples vs) given other l))
-          ∙ ap (λ (v : CableowlState). told v (theirs .refusal)) (sym (encoded-muted (theirs .voice)))
+          ∙ ap (λ (v : CableowlState). answers v (theirs .refusal)) (sym (encoded-muted (theirs .voice)))
 
   module _ (snd tnd : List Float) (l : SameLength snd tnd) where
     alike : (n : ℕ) → OtherSound (take n snd) (take n tnd) (decoded (r .voice)) (decoded w)
@@ -251,13 +251,13 @@ module _ (r : CableowlReplay) (w : CableowlState) (f : mutedState (r .voice) ≡
     commands-same : (n : ℕ) (vs : List ℕ) → mutedReplayed (commandsC (take (r .samples) snd) r n vs) ≡ mutedReplayed (commandsC (take (r .samples) tnd) q n vs)
     unfolding commandsC
     commands-same n vs =
-        ap (λ (v : CableowlState). told v (mine .refusal)) (after-muted (mine .refusal) (mine .voice) (r .voice))
-        ∙ ap₂ (λ (a : Commanded) (v : CableowlState). told (after (a .refusal) (a .voice) v) (a .refusal))
+        ap (λ (v : CableowlState). answers v (mine .refusal)) (after-muted (mine .refusal) (mine .voice) (r .voice))
+        ∙ ap₂ (λ (a : Commanded) (v : CableowlState). answers (after (a .refusal) (a .voice) v) (a .refusal))
         (commands-alike (take (r .samples) snd) (take (r .samples) tnd) (decoded (r .voice)) (decoded w) (commandsOf vs) (alike (r .samples))) f
-        ∙ ap (λ (v : CableowlState). told v (theirs .refusal)) (sym (after-muted (theirs .refusal) (theirs .voice) w))
+        ∙ ap (λ (v : CableowlState). answers v (theirs .refusal)) (sym (after-muted (theirs .refusal) (theirs .voice) w))
       where
-        sameAnswers : CableowlState → ℕ → CableowlReplayed
-        told v k = playedAs (behind r n v (r .samples) (r .blocks)) n 2 k 0 0 4
+        answers : CableowlState → ℕ → CableowlReplayed
+        answers v k = playedAs (behind r n v (r .samples) (r .blocks)) n 2 k 0 0 4
 
         mine : Commanded
         mine = commanded (take (r .samples) snd) (decoded (r .voice)) (commandsOf vs)
@@ -270,12 +270,12 @@ module _ (r : CableowlReplay) (w : CableowlState) (f : mutedState (r .voice) ≡
         → mutedReplayed (ofKind k (blockC r n frames mine)) ≡ mutedReplayed (ofKind k (blockC q n frames theirs))
     unfolding blockC
     counted-same k n frames mine theirs e =
-        ap (λ (v : CableowlState). told v mine) (after-muted (mine .refusal) (mine .voice) (r .voice))
-        ∙ ap₂ (λ (a : Processed) (v : CableowlState). told (after (a .refusal) (a .voice) v) a) e f
-        ∙ ap (λ (v : CableowlState). told v theirs) (sym (after-muted (theirs .refusal) (theirs .voice) w))
+        ap (λ (v : CableowlState). answers v mine) (after-muted (mine .refusal) (mine .voice) (r .voice))
+        ∙ ap₂ (λ (a : Processed) (v : CableowlState). answers (after (a .refusal) (a .voice) v) a) e f
+        ∙ ap (λ (v : CableowlState). answers v theirs) (sym (after-muted (theirs .refusal) (theirs .voice) w))
       where
-        sameAnswers : CableowlState → Processed → CableowlReplayed
-        told v p = playedAs (behind r n v (r .samples) (more (r .blocks))) n k (p .refusal) frames (p .steps) (p .«lowest_count»)
+        answers : CableowlState → Processed → CableowlReplayed
+        answers v p = playedAs (behind r n v (r .samples) (more (r .blocks))) n k (p .refusal) frames (p .steps) (p .«lowest_count»)
 
     module _ (out into : List Float) (m : SameLength out into) where
       block-same : (n : ℕ) (vs : List ℕ) → mutedReplayed (blockStep r n vs snd out .answer) ≡ mutedReplayed (blockStep q n vs tnd into .answer)
