@@ -20,7 +20,7 @@ use tables::COMMANDS;
 use tables::CREATION_ROWS;
 use tables::HEAD;
 use tables::HEAD_ROWS;
-use tables::creation_table;
+use tables::fill_creation;
 pub use writes::Sent;
 pub use writes::write;
 
@@ -93,7 +93,8 @@ fn read_body(s: &[u8], at: usize, kind: u64, n: usize) -> Parsed
 {
     let p = byte_layout::begin(at, n);
     if kind == 1 {
-        let table = creation_table();
+        let mut table = [0u64; 462];
+        fill_creation(&mut table);
         return byte_layout::read_rows(s, p, &table, CREATION_ROWS);
     }
     if kind == 2 {

@@ -1,5 +1,6 @@
 // The layouts of docs/formats/TRACE.md: six numbers per row, width, guard, low, least, most, refusal.
 ghost use mathlib.Core.Path.{_≡_};
+ghost use lib.ListN.{length};
 ghost use Rattle.trace_records.specs.Tables.{creationTable};
 use refusals::words;
 
@@ -122,13 +123,13 @@ const CREATION_SETTINGS: [u64; 78] = [
     words::RECORD,
 ];
 
-// The rows of a creation: those up to its number of frames, then one for each frame. Frame k is present if there are
-// more than k.
-pub(crate) fn creation_table() -> [u64; 462]
-    ensures { λ t. ⌜ t ≡ creationTable ⌝ }
+// Fills in the rows of a creation: those up to its number of frames, then one for each frame. Frame k is present if
+// there are more than k.
+pub(crate) fn fill_creation(table: &mut [u64])
+    requires { ⌜ length (now table) ≡ 462 ⌝ }
+    ensures { λ _. ⌜ now (table .exit) ≡ creationTable ⌝ }
 {
     let settings = CREATION_SETTINGS;
-    let mut table = [0u64; 462];
     let mut i: usize = 0;
     while i < 78 {
         table[i] = settings[i];
@@ -145,7 +146,6 @@ pub(crate) fn creation_table() -> [u64; 462]
         i += 6;
         k += 1;
     }
-    table
 }
 
 pub(crate) const COMMAND_ROWS: usize = 12;

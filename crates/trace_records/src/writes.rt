@@ -14,7 +14,7 @@ use crate::tables::COMMANDS;
 use crate::tables::CREATION_ROWS;
 use crate::tables::HEAD;
 use crate::tables::HEAD_ROWS;
-use crate::tables::creation_table;
+use crate::tables::fill_creation;
 use refusals::words;
 
 // The result of a write: 0 or a refusal, and the offset after the record, or its own.
@@ -35,7 +35,8 @@ fn fits(kind: u64, values: [u64; 80]) -> bool
     ensures { λ b. ⌜ b ≡ fine (body kind) [] (take (fields kind) values) ⌝ }
 {
     if kind == 1 {
-        let table = creation_table();
+        let mut table = [0u64; 462];
+        fill_creation(&mut table);
         return byte_layout::rows_fit(values, &table, CREATION_ROWS);
     }
     if kind == 2 {
@@ -51,7 +52,8 @@ fn payload_length(kind: u64, values: [u64; 80]) -> usize
     ensures { λ n. ⌜ n ≡ length (payload (body kind) [] (take (fields kind) values)) ⌝ }
 {
     if kind == 1 {
-        let table = creation_table();
+        let mut table = [0u64; 462];
+        fill_creation(&mut table);
         return byte_layout::rows_length(values, &table, CREATION_ROWS);
     }
     if kind == 2 {
@@ -83,7 +85,8 @@ fn put_body(buf: &mut [u8], at: usize, kind: u64, values: [u64; 80]) -> usize
         × (a ≡ at + length (payload (body kind) [] (take (fields kind) values))) ⌝ }
 {
     if kind == 1 {
-        let table = creation_table();
+        let mut table = [0u64; 462];
+        fill_creation(&mut table);
         return byte_layout::put_rows(buf, at, values, &table, CREATION_ROWS);
     }
     if kind == 2 {

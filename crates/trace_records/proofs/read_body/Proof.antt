@@ -16,19 +16,24 @@ use Rattle.byte_layout.proofs.read_rows.Reads as read-rows-reads
 begin-requires : tie.Need-begin-requires
 begin-requires c κs = search needs
 
-creation-table-requires : tie.Need-creation-table-requires
-creation-table-requires c κs = search needs
+slice-aggregate-fill-creation : tie.Need-slice-aggregate-fill-creation
+slice-aggregate-fill-creation c = search needs
+
+fill-creation-requires : tie.Need-fill-creation-requires
+fill-creation-requires c κs = search needs
 
 slice-aggregate-read-rows : tie.Need-slice-aggregate-read-rows
 slice-aggregate-read-rows c = search needs
 
 read-rows-requires : tie.Need-read-rows-requires
-read-rows-requires c κs = (omega (arith, ap (λ (x : Parsed). x .at) (c .before .before .before .begin .ensures), c .before .before .before .before .before .pre), search needs, search needs, creation-sound (c .before .creation-table .result) (c .before .creation-table .ensures))
+read-rows-requires c κs =
+    let t = (c .before .before) .fill-creation in
+    (omega (arith, ap (λ (x : Parsed). x .at) ((c .before .before .before .before .before) .begin .ensures), (c .before .before .before .before .before .before .before) .pre), search needs, search needs, creation-sound (t .last .0) (t .ensures))
 
 returns : tie.Need-returns
 returns c =
-    let t = c .before .before .creation-table in
-    read-creation _ _ _ _ _ (c .read-rows .result) (c .before .before .before .before .begin .ensures) (t .result) (t .ensures) (c .before .before .before .if1 .taken) (c .read-rows .ensures)
+    let t = (c .before .before .before) .fill-creation in
+    read-creation _ _ _ _ _ (c .read-rows .result) ((c .before .before .before .before .before .before) .begin .ensures) (t .last .0) (t .ensures) ((c .before .before .before .before .before) .if1 .taken) (c .read-rows .ensures)
 
 slice-aggregate-read-rows-2 : tie.Need-slice-aggregate-read-rows-2
 slice-aggregate-read-rows-2 c = search needs
@@ -57,7 +62,8 @@ read-body-spec =
     tie.close
     (tie.spec
     begin-requires
-    creation-table-requires
+    slice-aggregate-fill-creation
+    fill-creation-requires
     slice-aggregate-read-rows
     read-rows-requires
     returns

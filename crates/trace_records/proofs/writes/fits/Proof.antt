@@ -22,8 +22,11 @@ use Rattle.trace_records.proofs.writes.fits.Reads as reads
 use Rattle.trace_records.proofs.writes.fits.Lts as lts
 use Rattle.byte_layout.proofs.rows_fit.Reads as rows-fit-reads
 
-creation-table-requires : tie.Need-creation-table-requires
-creation-table-requires c κs = search needs
+slice-aggregate-fill-creation : tie.Need-slice-aggregate-fill-creation
+slice-aggregate-fill-creation c = search needs
+
+fill-creation-requires : tie.Need-fill-creation-requires
+fill-creation-requires c κs = search needs
 
 slice-aggregate-rows-fit : tie.Need-slice-aggregate-rows-fit
 slice-aggregate-rows-fit c = search needs
@@ -33,9 +36,9 @@ rows-fit-requires c κs = search needs
 
 returns : tie.Need-returns
 returns c =
-    let t = c .before .before .creation-table in
-    let a = c .before .before .before .before .args in
-    c .rows-fit .ensures ∙ of-creation (λ (rs : List Row) (m : ℕ). fine rs [] (take m (a .values))) (a .kind) (t .result) (t .ensures) (c .before .before .before .if1 .taken)
+    let t = (c .before .before .before) .fill-creation in
+    let a = (c .before .before .before .before .before .before) .args in
+    c .rows-fit .ensures ∙ of-creation (λ (rs : List Row) (m : ℕ). fine rs [] (take m (a .values))) (a .kind) (t .last .0) (t .ensures) ((c .before .before .before .before .before) .if1 .taken)
 
 slice-aggregate-rows-fit-2 : tie.Need-slice-aggregate-rows-fit-2
 slice-aggregate-rows-fit-2 c = search needs
@@ -61,7 +64,8 @@ pub fits-spec : {M : Type 1} → statement M
 fits-spec =
     tie.close
     (tie.spec
-    creation-table-requires
+    slice-aggregate-fill-creation
+    fill-creation-requires
     slice-aggregate-rows-fit
     rows-fit-requires
     returns

@@ -22,20 +22,23 @@ use Rattle.trace_records.proofs.writes.payload_length.Reads as reads
 use Rattle.trace_records.proofs.writes.payload_length.Lts as lts
 use Rattle.byte_layout.proofs.rows_length.Reads as rows-length-reads
 
-creation-table-requires : tie.Need-creation-table-requires
-creation-table-requires c κs = search needs
+slice-aggregate-fill-creation : tie.Need-slice-aggregate-fill-creation
+slice-aggregate-fill-creation c = search needs
+
+fill-creation-requires : tie.Need-fill-creation-requires
+fill-creation-requires c κs = search needs
 
 slice-aggregate-rows-length : tie.Need-slice-aggregate-rows-length
 slice-aggregate-rows-length c = search needs
 
 rows-length-requires : tie.Need-rows-length-requires
-rows-length-requires c κs = (search needs, search needs, creation-sound (c .before .creation-table .result) (c .before .creation-table .ensures))
+rows-length-requires c κs = (search needs, search needs, creation-sound ((c .before .before) .fill-creation .last .0) ((c .before .before) .fill-creation .ensures))
 
 returns : tie.Need-returns
 returns c =
-    let t = c .before .before .creation-table in
-    let a = c .before .before .before .before .args in
-    c .rows-length .ensures ∙ of-creation (λ (rs : List Row) (m : ℕ). length (payload rs [] (take m (a .values)))) (a .kind) (t .result) (t .ensures) (c .before .before .before .if1 .taken)
+    let t = (c .before .before .before) .fill-creation in
+    let a = (c .before .before .before .before .before .before) .args in
+    c .rows-length .ensures ∙ of-creation (λ (rs : List Row) (m : ℕ). length (payload rs [] (take m (a .values)))) (a .kind) (t .last .0) (t .ensures) ((c .before .before .before .before .before) .if1 .taken)
 
 slice-aggregate-rows-length-2 : tie.Need-slice-aggregate-rows-length-2
 slice-aggregate-rows-length-2 c = search needs
@@ -63,7 +66,8 @@ pub payload-length-spec : {M : Type 1} → statement M
 payload-length-spec =
     tie.close
     (tie.spec
-    creation-table-requires
+    slice-aggregate-fill-creation
+    fill-creation-requires
     slice-aggregate-rows-length
     rows-length-requires
     returns

@@ -22,17 +22,20 @@ use Rattle.trace_records.proofs.writes.put_body.Reads as reads
 use Rattle.trace_records.proofs.writes.put_body.Lts as lts
 use Rattle.byte_layout.proofs.put_rows.Reads as put-rows-reads
 
-creation-table-requires : tie.Need-creation-table-requires
-creation-table-requires c κs = search needs
+slice-aggregate-fill-creation : tie.Need-slice-aggregate-fill-creation
+slice-aggregate-fill-creation c = search needs
+
+fill-creation-requires : tie.Need-fill-creation-requires
+fill-creation-requires c κs = search needs
 
 slice-aggregate-put-rows : tie.Need-slice-aggregate-put-rows
 slice-aggregate-put-rows c = search needs
 
 put-rows-requires : tie.Need-put-rows-requires
 put-rows-requires c κs =
-    let t = c .before .before .creation-table in
-    let a = c .before .before .before .before .before .args in
-    (search needs, search needs, omega (arith, ap length (of-creation (λ (rs : List Row) (m : ℕ). payload rs [] (take m (a .values))) (a .kind) (t .result) (t .ensures) (c .before .before .before .if1 .taken)), c .before .before .before .before .before .pre))
+    let t = (c .before .before .before) .fill-creation in
+    let a = (c .before .before .before .before .before .before .before) .args in
+    (search needs, search needs, omega (arith, ap length (of-creation (λ (rs : List Row) (m : ℕ). payload rs [] (take m (a .values))) (a .kind) (t .last .0) (t .ensures) ((c .before .before .before .before .before) .if1 .taken)), (c .before .before .before .before .before .before .before) .pre))
 
 same-length : tie.Need-same-length
 same-length c = search needs
@@ -40,9 +43,9 @@ same-length c = search needs
 returns : tie.Need-returns
 returns c =
     let q = c .before .before in
-    let t = q .before .before .before .creation-table in
-    let a = q .before .before .before .before .before .before .args in
-    let e = of-creation (λ (rs : List Row) (m : ℕ). payload rs [] (take m (a .values))) (a .kind) (t .result) (t .ensures) (q .before .before .before .before .if1 .taken) in
+    let t = (c .before .before .before .before .before .before) .fill-creation in
+    let a = (c .before .before .before .before .before .before .before .before .before .before) .args in
+    let e = of-creation (λ (rs : List Row) (m : ℕ). payload rs [] (take m (a .values))) (a .kind) (t .last .0) (t .ensures) ((c .before .before .before .before .before .before .before .before) .if1 .taken) in
     (q .put-rows .ensures .0 ∙ ap (λ (z : List ℕ). sets (now (a .buf)) (a .at) z) e, q .put-rows .ensures .1 ∙ ap (λ (z : List ℕ). a .at + length z) e)
 
 slice-aggregate-put-rows-2 : tie.Need-slice-aggregate-put-rows-2
@@ -91,7 +94,8 @@ pub put-body-spec : {M : Type 1} → statement M
 put-body-spec =
     tie.close
     (tie.spec
-    creation-table-requires
+    slice-aggregate-fill-creation
+    fill-creation-requires
     slice-aggregate-put-rows
     put-rows-requires
     same-length

@@ -1,22 +1,22 @@
--- `trace_records::tables::creation_table`: the settings by the first loop, the frames by the second.
+-- `trace_records::tables::fill_creation`: the settings by the first loop, the frames by the second.
 use mathlib.Core.Path.{_≡_, refl}
-use Prim.Native.Nat.{ℕ, _+_, _-_, _*_, _≤_}
+use Prim.Native.Nat.{_+_, _-_, _*_, _≤_}
 use native.Mathlib.Omega.{arith}
-use mathlib.Core.List.{List, _++_}
-use lib.ListN.{length, drop}
+use mathlib.Core.List.{_++_}
+use lib.ListN.{length, drop, length-set}
 use Rattle.trace_records.specs.Tables.{creationTable, frameTable}
 use Rattle.trace_records.proofs.CreationTable.{Fills, setting, settings-end, frame-row, frames-end}
 use borrow.Author.Needs.{needs}
-use Rattle.trace_records.proofs.tables.creation_table.Statement.{statement}
-use Rattle.trace_records.proofs.tables.creation_table.Tie as tie
-use Rattle.trace_records.proofs.tables.creation_table.Reads as reads
-use Rattle.trace_records.proofs.tables.creation_table.Lts as lts
+use Rattle.trace_records.proofs.tables.fill_creation.Statement.{statement}
+use Rattle.trace_records.proofs.tables.fill_creation.Tie as tie
+use Rattle.trace_records.proofs.tables.fill_creation.Reads as reads
+use Rattle.trace_records.proofs.tables.fill_creation.Lts as lts
 
 abbrev Inv-loop : tie.InvT-loop
-Inv-loop settings table₀ i₀ table i = (i ≤ 78) × (length settings ≡ 78) × Fills table i (drop i settings ++ frameTable 0 64)
+Inv-loop table₀ settings i₀ table i = (i ≤ 78) × (length settings ≡ 78) × Fills table i (drop i settings ++ frameTable 0 64)
 
 abbrev μ-loop : tie.MeasureT-loop
-μ-loop settings table₀ i₀ table i = 78 - i
+μ-loop table₀ settings i₀ table i = 78 - i
 
 abbrev Inv-loop2 : tie.InvT-loop2
 Inv-loop2 table₀ i₀ k₀ table i k = (k ≤ 64) × (i ≡ 78 + 6 * k) × Fills table i (frameTable k (64 - k))
@@ -26,7 +26,7 @@ abbrev μ-loop2 : tie.MeasureT-loop2
 
 loop-holds : tie.Need-loop-holds Inv-loop μ-loop Inv-loop2 μ-loop2
 unfolding creationTable
-loop-holds c = (omega arith, refl, (refl, refl))
+loop-holds c = (omega arith, refl, (c .pre, refl))
 
 mul-table : tie.Need-mul-table Inv-loop μ-loop Inv-loop2 μ-loop2
 mul-table c = search needs
@@ -37,8 +37,8 @@ array-read-table c = search needs
 mul-table-2 : tie.Need-mul-table-2 Inv-loop μ-loop Inv-loop2 μ-loop2
 mul-table-2 c = search needs
 
-array-write-table : tie.Need-array-write-table Inv-loop μ-loop Inv-loop2 μ-loop2
-array-write-table c = search needs
+slice-write-table : tie.Need-slice-write-table Inv-loop μ-loop Inv-loop2 μ-loop2
+slice-write-table c = search needs
 
 add-i : tie.Need-add-i Inv-loop μ-loop Inv-loop2 μ-loop2
 add-i c = search needs
@@ -61,8 +61,8 @@ loop2-holds c =
 mul-table-3 : tie.Need-mul-table-3 Inv-loop μ-loop Inv-loop2 μ-loop2
 mul-table-3 c = search needs
 
-array-write-table-2 : tie.Need-array-write-table-2 Inv-loop μ-loop Inv-loop2 μ-loop2
-array-write-table-2 c = search needs
+slice-write-table-2 : tie.Need-slice-write-table-2 Inv-loop μ-loop Inv-loop2 μ-loop2
+slice-write-table-2 c = search needs
 
 add-table : tie.Need-add-table Inv-loop μ-loop Inv-loop2 μ-loop2
 add-table c = search needs
@@ -70,8 +70,8 @@ add-table c = search needs
 mul-table-4 : tie.Need-mul-table-4 Inv-loop μ-loop Inv-loop2 μ-loop2
 mul-table-4 c = search needs
 
-array-write-table-3 : tie.Need-array-write-table-3 Inv-loop μ-loop Inv-loop2 μ-loop2
-array-write-table-3 c = search needs
+slice-write-table-3 : tie.Need-slice-write-table-3 Inv-loop μ-loop Inv-loop2 μ-loop2
+slice-write-table-3 c = let l = c .before .loop2 in simp length-set (omega (arith, l .inv .1, l .inv .2 .0, c .loop2-test .taken))
 
 add-table-2 : tie.Need-add-table-2 Inv-loop μ-loop Inv-loop2 μ-loop2
 add-table-2 c = search needs
@@ -82,8 +82,8 @@ add-table-3 c = search needs
 mul-table-5 : tie.Need-mul-table-5 Inv-loop μ-loop Inv-loop2 μ-loop2
 mul-table-5 c = search needs
 
-array-write-table-4 : tie.Need-array-write-table-4 Inv-loop μ-loop Inv-loop2 μ-loop2
-array-write-table-4 c = search needs
+slice-write-table-4 : tie.Need-slice-write-table-4 Inv-loop μ-loop Inv-loop2 μ-loop2
+slice-write-table-4 c = let l = c .before .loop2 in simp length-set (omega (arith, l .inv .1, l .inv .2 .0, c .loop2-test .taken))
 
 add-table-4 : tie.Need-add-table-4 Inv-loop μ-loop Inv-loop2 μ-loop2
 add-table-4 c = search needs
@@ -91,8 +91,8 @@ add-table-4 c = search needs
 mul-table-6 : tie.Need-mul-table-6 Inv-loop μ-loop Inv-loop2 μ-loop2
 mul-table-6 c = search needs
 
-array-write-table-5 : tie.Need-array-write-table-5 Inv-loop μ-loop Inv-loop2 μ-loop2
-array-write-table-5 c = search needs
+slice-write-table-5 : tie.Need-slice-write-table-5 Inv-loop μ-loop Inv-loop2 μ-loop2
+slice-write-table-5 c = let l = c .before .loop2 in simp length-set (omega (arith, l .inv .1, l .inv .2 .0, c .loop2-test .taken))
 
 add-table-5 : tie.Need-add-table-5 Inv-loop μ-loop Inv-loop2 μ-loop2
 add-table-5 c = search needs
@@ -100,8 +100,8 @@ add-table-5 c = search needs
 mul-table-7 : tie.Need-mul-table-7 Inv-loop μ-loop Inv-loop2 μ-loop2
 mul-table-7 c = search needs
 
-array-write-table-6 : tie.Need-array-write-table-6 Inv-loop μ-loop Inv-loop2 μ-loop2
-array-write-table-6 c = search needs
+slice-write-table-6 : tie.Need-slice-write-table-6 Inv-loop μ-loop Inv-loop2 μ-loop2
+slice-write-table-6 c = let l = c .before .loop2 in simp length-set (omega (arith, l .inv .1, l .inv .2 .0, c .loop2-test .taken))
 
 add-table-6 : tie.Need-add-table-6 Inv-loop μ-loop Inv-loop2 μ-loop2
 add-table-6 c = search needs
@@ -109,8 +109,8 @@ add-table-6 c = search needs
 mul-table-8 : tie.Need-mul-table-8 Inv-loop μ-loop Inv-loop2 μ-loop2
 mul-table-8 c = search needs
 
-array-write-table-7 : tie.Need-array-write-table-7 Inv-loop μ-loop Inv-loop2 μ-loop2
-array-write-table-7 c = search needs
+slice-write-table-7 : tie.Need-slice-write-table-7 Inv-loop μ-loop Inv-loop2 μ-loop2
+slice-write-table-7 c = let l = c .before .loop2 in simp length-set (omega (arith, l .inv .1, l .inv .2 .0, c .loop2-test .taken))
 
 add-i-2 : tie.Need-add-i-2 Inv-loop μ-loop Inv-loop2 μ-loop2
 add-i-2 c = search needs
@@ -127,13 +127,16 @@ loop2-again c =
     let t = c .loop2-test .taken in
     (omega (arith, t), omega (arith, l .inv .1), frame-row (l .table) (l .i) (l .k) t (l .inv .1) (l .inv .2))
 
+same-length : tie.Need-same-length Inv-loop μ-loop Inv-loop2 μ-loop2
+same-length c = search needs
+
 returns : tie.Need-returns Inv-loop μ-loop Inv-loop2 μ-loop2
 returns c =
     let l = c .before .loop2 in
     frames-end (l .table) (l .i) (l .k) (omega (arith, c .loop2-test .left, l .inv .0)) (l .inv .1) (l .inv .2)
 
-pub creation-table-spec : {M : Type 1} → statement M
-creation-table-spec =
+pub fill-creation-spec : {M : Type 1} → statement M
+fill-creation-spec =
     tie.close
     (tie.spec
     Inv-loop
@@ -144,31 +147,32 @@ creation-table-spec =
     mul-table
     array-read-table
     mul-table-2
-    array-write-table
+    slice-write-table
     add-i
     loop-less
     loop-again
     loop2-holds
     mul-table-3
-    array-write-table-2
+    slice-write-table-2
     add-table
     mul-table-4
-    array-write-table-3
+    slice-write-table-3
     add-table-2
     add-table-3
     mul-table-5
-    array-write-table-4
+    slice-write-table-4
     add-table-4
     mul-table-6
-    array-write-table-5
+    slice-write-table-5
     add-table-5
     mul-table-7
-    array-write-table-6
+    slice-write-table-6
     add-table-6
     mul-table-8
-    array-write-table-7
+    slice-write-table-7
     add-i-2
     add-k
     loop2-less
     loop2-again
+    same-length
     returns)
