@@ -530,7 +530,7 @@ fn edits_of_fields_that_can_disturb_each_other_are_checked_apart() {
         assert_eq!(room.tried(&[]).1, 2, "{name}");
     }
     // An error that another may have made is no field's own.
-    for words in ["`x` was not admitted", "ran out of the steps"] {
+    for words in ["`x` was not admitted", "it\\n  ran out of the steps"] {
         let room = Room::new("field-words", &[]);
         room.promises(RECORD, VALUE, &[LOW, HIGH]);
         let (said, checks) = room.tried(&[("WORDS", words)]);
