@@ -1,6 +1,7 @@
 //! tools/from-proved and tools/together: only the check of an edit begins with what was checked before, with its own crate's
-//! modules; edits that cannot disturb each other are checked once, and each is judged by its own errors. Tried with a kit that
-//! says what it was called with, and refuses each function whose body has a 9.
+//! modules; edits that cannot disturb each other are checked once, and each is judged by its own errors; edits are checked as
+//! soon as their crate is proved. Tried with a kit that says what it was called with, and refuses each function whose body has
+//! a 9 and each field of a record whose type has one.
 
 use std::{
     fs,
@@ -10,10 +11,13 @@ use std::{
 };
 
 /// In place of `rattle`: tells its words, and checks the crate `leaf` over the modules in the folder given to keep them in.
-/// The file `calls` gets a line for each such check. `third` calls `first`, so it falls with it.
+/// The file `calls` gets a line for each such check. `third` calls `first`, so it falls with it. With SLOW, a check ahead does
+/// not end; the file that SLOW names gets its process. With PROVES, each proof ends well.
 const RATTLE: &str = r#"#!/bin/sh
 echo "$*"
+[ "$1 $PROVES" != 'build yes' ] || exit 0
 root=$4 kept=''
+case $SLOW$root in /*/edits/leaf/*) echo $$ >"$SLOW" && exec sleep 100 ;; esac
 while [ $# -gt 0 ]; do
   [ "$1" != --incremental ] || { kept=$2/modules-3 && mkdir -p "$kept" && echo "kept: $(ls "$kept" | wc -l)"; }
   shift
@@ -21,12 +25,15 @@ done
 case $root in */must-fail/leaf/* | */edits/leaf/*) ;; *) exit 7 ;; esac
 where=${root%/src/*}
 echo check >>"$CALLS"
-awk -v kept="$kept" -v where="$where" -v blamed="$BLAMED" -v beside="$BESIDE" '
+files=$root
+[ ! -d "$where/specs" ] || files="$root $where/specs/Promises.antt $where/proofs/Promises.antt"
+awk -v kept="$kept" -v where="$where" -v blamed="$BLAMED" -v beside="$BESIDE" -v words="${WORDS:-expected}" '
+  function whole(name) { return "Rattle·leaf·" (name ~ /^specs/ ? "" : "proofs.proofs.") name }
   function write(name, text, imported) {
-    file = kept "/Rattle.leaf.proofs." name ".oantt"
+    file = kept "/" whole(name) ".oantt"
     system("rm -f \"" file "\"")
-    printf "--@ module Rattle.leaf.proofs.%s\n--@ source %s\n", name, text >file
-    if (imported != "") printf "--@ import Rattle.leaf.proofs.%s -\n", imported >file
+    printf "--@ module %s\n--@ source %s\n", whole(name), text >file
+    if (imported != "") printf "--@ import %s -\n", whole(imported) >file
     print "--@ body 0" >file
     close(file)
   }
@@ -42,24 +49,55 @@ awk -v kept="$kept" -v where="$where" -v blamed="$BLAMED" -v beside="$BESIDE" '
     write(name ".Proof", "proof", name ".Code")
     if (text ~ /9/) { refuse(blamed == "" ? name : blamed, "`returns`"); wrong[name] }
   }
+  FILENAME ~ /specs.Promises.antt$/ {
+    specs = specs "." $0; gsub(/ /, "", specs)
+    if ($1 == "pub" && $3 == ":") field = $2
+    if ($0 ~ /9/) wrong_fields[++fields] = field
+  }
+  FILENAME ~ /proofs.Promises.antt$/ && $2 == "=" { proof_at[$1] = FNR }
   END {
+    if (specs != "") {
+      write("Promises", "proof", "specs.specs.Promises")
+      write("specs.specs.Promises", specs)
+      for (k = 1; k <= fields; k++) {
+        print where "/proofs/Promises.antt:" proof_at[wrong_fields[k]] ":14: error: `kept`: " words
+        print "  of " wrong_fields[k]
+        bad = 1
+      }
+    }
     if ("first" in wrong) refuse("third", "`first` was not admitted")
     if (beside != "") write("Beside", bad + 0)
     print "logic=" (bad ? "not-proved" : "proved")
     exit bad
-  }' "$root"
+  }' $files
 "#;
 
-/// In place of `rt`: tries each edit of leaf and tells its status, or calls the kit's `rattle` with its own words.
+/// In place of `rt`: tries each edit of leaf and tells its status, or calls the kit's `rattle` with its own words. `ci` proves
+/// leaf first, waits until AHEAD checks have begun, does what THEN says, and tries the edits with the words in ASKED.
 const RT: &str = r#"#!/bin/sh
 rattle=$RATTLE_HOME/on/$(uname -m)/bin/rattle
-[ "$1" = edits ] || exec "$rattle" "$@"
-for edit in crates/leaf/must-fail/*.edit; do
-  label=$(basename "$edit" .edit) where=$PWD/target/must-fail/leaf/$(basename "$edit" .edit)
-  mkdir -p "$where" && cp -R crates/leaf/src "$where" && "$APPLY" "$edit" "$where" >/dev/null || exit
-  "$rattle" check --crate-name leaf "$where/src/lib.rt" >"$where.log" 2>&1
-  echo "$label $?"
-done
+edits() {
+  for edit in crates/leaf/must-fail/*.edit; do
+    label=$(basename "$edit" .edit) where=$PWD/target/must-fail/leaf/$(basename "$edit" .edit)
+    mkdir -p "$where" && cp -R crates/leaf/* "$where" && rm -r "$where/must-fail" || exit
+    "$APPLY" "$edit" "$where" >/dev/null || exit
+    "$rattle" check --crate-name leaf "$where/src/lib.rt" "$@" >"$where.log" 2>&1
+    echo "$label $?"
+  done
+}
+case $1 in
+edits) edits ;;
+ci)
+  "$rattle" build --crate-name leaf "$PWD/crates/leaf/src/lib.rt" --extern one -o "$PWD/target/rlib/leaf.rlib" >built || exit
+  for _ in $(seq 200); do
+    [ "$(cat "$CALLS" 2>/dev/null | wc -l)" -lt "$AHEAD" ] || break
+    sleep 0.05
+  done
+  eval "$THEN"
+  edits $ASKED
+  ;;
+*) exec "$rattle" "$@" ;;
+esac
 "#;
 
 struct Room(PathBuf);
@@ -129,6 +167,36 @@ impl Room {
         room
     }
 
+    /// Gives leaf a record of promises, its one value, and these edits of it: label, old and new text.
+    fn promises(&self, record: &str, value: &str, edits: &[(&str, &str, &str)]) {
+        let leaf = self.0.join("crates/leaf");
+        let checked = self.0.join("target/rlib/leaf.rlib/toolchain/checked");
+        for (folder, text) in [("specs", record), ("proofs", value)] {
+            fs::create_dir_all(leaf.join(folder)).unwrap();
+            fs::write(leaf.join(folder).join("Promises.antt"), text).unwrap();
+        }
+        let specs: String = record
+            .lines()
+            .map(|line| format!(".{}", line.replace(' ', "")))
+            .collect();
+        let of_specs = "Rattle.leaf.specs.Promises";
+        let of_proofs = "Rattle.leaf.proofs.Promises";
+        for (module, text) in [
+            (of_specs, format!("--@ source {specs}\n")),
+            (
+                of_proofs,
+                format!("--@ source proof\n--@ import {of_specs} -\n"),
+            ),
+        ] {
+            let text = format!("--@ module {module}\n{text}--@ body 0\n");
+            fs::write(checked.join(format!("{module}.oantt")), text).unwrap();
+        }
+        for (label, old, new) in edits {
+            let text = format!("file: specs/Promises.antt\nold: {old}\nnew: {new}\n");
+            fs::write(leaf.join(format!("must-fail/{label}.edit")), text).unwrap();
+        }
+    }
+
     fn edit(&self, file: &str, function: &str, body: &str) {
         let number = ["first", "second", "third"]
             .iter()
@@ -142,6 +210,8 @@ impl Room {
 
     /// What `rt WORDS` says through tools/from-proved, and its status.
     fn said(&self, words: &[&str], settings: &[(&str, &str)]) -> (String, Option<i32>) {
+        let left = self.0.join("left");
+        fs::create_dir_all(&left).unwrap();
         let tools = Path::new(env!("CARGO_MANIFEST_DIR")).join("../../../tools");
         let bin = self.0.join("kit/bin");
         let run = Command::new("bash")
@@ -153,23 +223,43 @@ impl Room {
             .env("PATH", format!("{}:/usr/bin:/bin", bin.display()))
             .env("CALLS", self.0.join("calls"))
             .env("APPLY", tools.join("apply-edit"))
-            .env("BLAMED", "")
-            .env("BESIDE", "")
+            .env("TMPDIR", &left)
+            .env_remove("CABLEOWL_EDITS")
+            .envs(["BLAMED", "BESIDE", "SLOW", "PROVES", "WORDS"].map(|name| (name, "")))
+            .envs([("AHEAD", "0"), ("THEN", ""), ("ASKED", "--extern one")])
             .envs(settings.iter().copied())
             .output()
             .unwrap();
         assert!(run.stderr.is_empty(), "{run:?}");
+        assert_eq!(fs::read_dir(left).unwrap().count(), 0, "something is left");
         (
             String::from_utf8_lossy(&run.stdout).into_owned(),
             run.status.code(),
         )
     }
 
+    fn checks(&self) -> usize {
+        let calls = fs::read_to_string(self.0.join("calls")).unwrap_or_default();
+        calls.lines().count()
+    }
+
     /// Tries all edits, and counts the checks.
     fn tried(&self, settings: &[(&str, &str)]) -> (String, usize) {
         let (said, _) = self.said(&["edits"], settings);
-        let calls = fs::read_to_string(self.0.join("calls")).unwrap_or_default();
-        (said, calls.lines().count())
+        (said, self.checks())
+    }
+
+    /// Proves leaf, waits for this many checks ahead, does what `then` says, tries all edits, and counts the checks.
+    fn proved_and_tried(&self, ahead: &str, then: &str, asked: &str) -> (String, usize) {
+        let settings = [
+            ("PROVES", "yes"),
+            ("AHEAD", ahead),
+            ("THEN", then),
+            ("ASKED", asked),
+        ];
+        let (said, status) = self.said(&["ci"], &settings);
+        assert_eq!(status, Some(0), "{said}");
+        (said, self.checks())
     }
 
     fn log(&self, label: &str) -> String {
@@ -279,4 +369,174 @@ fn errors_given_to_the_wrong_edit_are_seen_by_the_control() {
     let (said, _) = room.tried(&[("BLAMED", "second")]);
     assert_eq!(said, "one 2\n");
     assert!(room.log("one").contains("a control has an error"));
+}
+
+#[test]
+fn edits_are_checked_as_soon_as_their_crate_is_proved() {
+    let edits = [
+        ("again", "first", "8 + 1"),
+        ("one", "first", "9"),
+        ("two", "second", "9 + 9"),
+    ];
+    // `again` is harmless, and in one copy with `two`: it is tried once more, alone.
+    let verdicts = "again 0\none 1\ntwo 1\n";
+    let room = Room::new("ahead", &edits);
+    let (said, checks) = room.proved_and_tried("3", "", "--extern one");
+    assert_eq!((said.as_str(), checks), (verdicts, 3));
+    assert!(room.log("one").ends_with("logic=not-proved\n"));
+    assert!(
+        room.log("one")
+            .contains("must-fail/leaf/one/proofs/first/Proof.antt:1:1: error: `returns`")
+    );
+    // rt may ask before they are checked.
+    let room = Room::new("soon", &edits);
+    let (said, checks) = room.proved_and_tried("0", "", "--extern one");
+    assert_eq!((said.as_str(), checks), (verdicts, 3));
+}
+
+#[test]
+fn an_edit_of_a_contract_is_checked_ahead() {
+    let room = Room::new("contract", &[]);
+    let text = "file: src/lib.rt\nold: r ≡ 1\nnew: r ≡ 2\n";
+    fs::write(room.0.join("crates/leaf/must-fail/contract.edit"), text).unwrap();
+    let (said, checks) = room.proved_and_tried("1", "", "--extern one");
+    assert_eq!((said.as_str(), checks), ("contract 0\n", 1));
+}
+
+#[test]
+fn an_answer_counts_for_the_text_and_the_words_that_were_checked() {
+    let one = [("one", "first", "9")];
+    let two = [("one", "first", "9"), ("two", "second", "9 + 9")];
+    // An edit that is another one by now.
+    let then = "sed -i 's/new:     9$/new:     8/' crates/leaf/must-fail/one.edit";
+    let room = Room::new("edit-changed", &one);
+    let (said, checks) = room.proved_and_tried("1", then, "--extern one");
+    assert_eq!((said.as_str(), checks), ("one 0\n", 2));
+    let room = Room::new("edit-changed-beside", &two);
+    let (said, _) = room.proved_and_tried("1", then, "--extern one");
+    assert_eq!(said, "one 0\ntwo 1\n");
+    // Another line or another file of the crate; other words.
+    let line = "sed -i 's/2 + 0/2 + 00/' crates/leaf/src/lib.rt";
+    let file = "touch crates/leaf/src/more.rt";
+    for (name, then, words) in [
+        ("line", line, "--extern one"),
+        ("file", file, "--extern one"),
+        ("words", "", "--extern two"),
+    ] {
+        let room = Room::new(&format!("{name}-changed"), &one);
+        let (said, checks) = room.proved_and_tried("1", then, words);
+        assert_eq!((said.as_str(), checks), ("one 1\n", 2), "{name}");
+        let room = Room::new(&format!("{name}-changed-beside"), &two);
+        let (said, checks) = room.proved_and_tried("1", then, words);
+        assert_eq!(said, "one 1\ntwo 1\n", "{name}");
+        assert!(checks >= 3, "{name}");
+    }
+}
+
+#[test]
+fn nothing_is_checked_ahead_where_edits_are_checked_alone() {
+    let room = Room::new("not-ahead", &[("one", "first", "9")]);
+    let settings = [
+        ("PROVES", "yes"),
+        ("CABLEOWL_EDITS", "alone"),
+        ("THEN", "sleep 1; cat \"$CALLS\" 2>/dev/null"),
+    ];
+    assert_eq!(room.said(&["ci"], &settings).0, "one 1\n");
+}
+
+/// Is this process there?
+fn runs(process: &str) -> bool {
+    // One that has ended and that nobody has asked for has no words.
+    fs::read(format!("/proc/{}/cmdline", process.trim())).is_ok_and(|words| !words.is_empty())
+}
+
+#[test]
+fn a_check_ahead_keeps_no_proof_waiting_and_ends_with_the_command() {
+    for (name, then, status) in [
+        ("fails", "exit 5", Some(5)),
+        ("stopped", "kill -TERM $PPID; sleep 1; exit", None),
+    ] {
+        let room = Room::new(&format!("slow-{name}"), &[("one", "first", "9")]);
+        let slow = room.0.join("slow");
+        let then = format!(
+            "until [ -s \"$SLOW\" ]; do sleep 0.05; done
+             timeout 20 \"$rattle\" build --crate-name twig \"$PWD/crates/twig/src/lib.rt\" -o twig.rlib >proof || exit 6
+             {then}"
+        );
+        let settings = [
+            ("PROVES", "yes"),
+            ("SLOW", slow.to_str().unwrap()),
+            ("RT_JOBS", "1"),
+            ("THEN", then.as_str()),
+        ];
+        let (said, ended) = room.said(&["ci"], &settings);
+        assert_eq!((said.as_str(), ended), ("", status), "{name}");
+        let process = fs::read_to_string(slow).unwrap();
+        assert!(!runs(&process), "{name}: {process} is still there");
+    }
+}
+
+const RECORD: &str = "use lib.{a}\n\npub record Promises : Type 0 where\n  pub low : a ≡ 1\n  -- words\n  pub high : (k : a)\n      → k ≡ 2\n  pub both : high ≡ 3\n";
+const VALUE: &str = "use Rattle.leaf.specs.Promises.{Promises}\n\npub kept : Promises\nkept =\n    record {\n      low = one;\n      high =\n        two;\n      both = three;\n    }\n";
+const LOW: (&str, &str, &str) = ("low_is_nine", "a ≡ 1", "a ≡ 9");
+const HIGH: (&str, &str, &str) = ("high_is_nine", "k ≡ 2", "k ≡ 9");
+
+#[test]
+fn edits_of_two_fields_are_checked_once_and_have_their_own_errors() {
+    let room = Room::new("fields", &[]);
+    room.promises(RECORD, VALUE, &[LOW, HIGH]);
+    let (said, checks) = room.tried(&[("WORDS", "expected")]);
+    assert_eq!(
+        (said.as_str(), checks),
+        ("high_is_nine 1\nlow_is_nine 1\n", 1)
+    );
+    for (label, line, own, other) in [
+        ("low_is_nine", 6, "low", "high"),
+        ("high_is_nine", 7, "high", "low"),
+    ] {
+        let log = room.log(label);
+        let error = format!("must-fail/leaf/{label}/proofs/Promises.antt:{line}:14: error: `kept`");
+        assert!(log.contains(&error), "{log}");
+        assert!(log.contains(&format!("  of {own}\n")), "{log}");
+        assert!(!log.contains(&format!("  of {other}\n")), "{log}");
+    }
+}
+
+#[test]
+fn a_harmless_edit_of_a_field_among_wrong_ones_is_not_refused() {
+    let room = Room::new("field-harmless", &[]);
+    room.promises(RECORD, VALUE, &[LOW, ("high_again", "k ≡ 2", "k ≡ 1 + 1")]);
+    let (said, checks) = room.tried(&[]);
+    assert_eq!(
+        (said.as_str(), checks),
+        ("high_again 0\nlow_is_nine 1\n", 2)
+    );
+}
+
+#[test]
+fn edits_of_fields_that_can_disturb_each_other_are_checked_apart() {
+    let both = ("both_is_nine", "high ≡ 3", "high ≡ 9");
+    let plain = ("name_changed", "use lib.{a}", "use lib.{ a}");
+    let lemma = format!("{VALUE}\nweaker : Promises → a\nweaker x = a\n");
+    for (name, value, edits) in [
+        // A type that names another field; a line of the file that is in no field; a record that a law needs; one field twice.
+        ("named", VALUE, [LOW, both]),
+        ("beside", VALUE, [LOW, plain]),
+        ("law", lemma.as_str(), [LOW, HIGH]),
+        ("twice", VALUE, [LOW, ("low_is_90", "a ≡ 1", "a ≡ 90")]),
+    ] {
+        let room = Room::new(&format!("field-{name}"), &[]);
+        room.promises(RECORD, value, &edits);
+        assert_eq!(room.tried(&[]).1, 2, "{name}");
+    }
+    // An error that another may have made is no field's own.
+    for words in ["`x` was not admitted", "it\\n  ran out of the steps"] {
+        let room = Room::new("field-words", &[]);
+        room.promises(RECORD, VALUE, &[LOW, HIGH]);
+        let (said, checks) = room.tried(&[("WORDS", words)]);
+        assert_eq!(
+            (said.as_str(), checks),
+            ("high_is_nine 1\nlow_is_nine 1\n", 3)
+        );
+    }
 }

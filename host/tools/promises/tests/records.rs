@@ -114,6 +114,48 @@ fn each_theorem_that_asks_something_has_a_witness() {
     assert!(asking > 60, "only {asking} theorems ask something");
 }
 
+/// The fields of a record whose type names another field of it, in words.
+fn named_in_another(fields: &[Field]) -> Vec<String> {
+    let is_between = |c: char| c.is_whitespace() || "(){}[];,.".contains(c);
+    let mut wrong = Vec::new();
+    for field in fields {
+        for other in fields.iter().filter(|other| other.name != field.name) {
+            if field.says.split(is_between).any(|word| word == other.name) {
+                wrong.push(format!("{} names {}", field.name, other.name));
+            }
+        }
+    }
+    wrong
+}
+
+/// tools/together checks edits of different fields in one copy: what is wrong with one field must not change another.
+#[test]
+fn no_field_mentions_another_of_its_record() {
+    let crates = crates();
+    let mut count = 0;
+    for entry in fs::read_dir(&crates).expect("crates/") {
+        let krate = entry.expect("a crate").file_name();
+        if !crates.join(&krate).join("specs").is_dir() {
+            continue;
+        }
+        for (file, text) in Specs::of(&crates, &krate.to_string_lossy()).0 {
+            for name in ["Promises", "Witnesses", "Coincide"] {
+                let Some(fields) = fields(&text, name) else {
+                    continue;
+                };
+                count += fields.len();
+                let wrong = named_in_another(&fields);
+                assert!(wrong.is_empty(), "{krate:?}, {file}, {name}: {wrong:?}");
+            }
+        }
+    }
+    assert!(count > 200, "only {count} fields found");
+    let text =
+        "pub record Promises : Type 0 where\n  pub low : a ≡ 1\n  pub both : T (f\n      low)\n";
+    let wrong = named_in_another(&fields(text, "Promises").expect("the record"));
+    assert_eq!(wrong, ["both names low"]);
+}
+
 #[test]
 fn a_contract_that_is_one_name_is_found() {
     let source = "ghost use Rattle.k.specs.All.{Other, Promises};\nfn low()\n    ensures { λ r. ⌜ r ≡ low x ⌝ }\n{}\n\npub fn promised()\n    ensures { λ r. ⌜ Promises ⌝ }\n{}\n";
