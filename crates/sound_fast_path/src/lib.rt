@@ -3,7 +3,11 @@
 // Otherwise, and after the track's end, the block is played by sound_slow_path.
 ghost use mathlib.Core.Path.{_≡_};
 ghost use Prim.Native.Nat.{_≤_};
+ghost use mathlib.Core.Bool.{true};
+ghost use lib.Dec.{T};
 ghost use lib.ListN.{length};
+ghost use Rattle.sound_fast_reading.specs.Moves.{number, Same};
+ghost use Rattle.numbers.specs.Lists.{all};
 ghost use Rattle.sound_lanes.specs.Lanes.{lanesNow, lanesAtEntry, rows};
 ghost use Rattle.sound_fast_reading.specs.Scans.{begun, Scannable, Scanned};
 ghost use Rattle.sound_slow_path.specs.Plays.{plays, acceptedAs};
@@ -17,6 +21,7 @@ use sound_fast_reading::Reached;
 use sound_fast_reading::Way;
 use sound_slow_path::Processed;
 use sound_state::StaticSound;
+use sound_track::Track;
 
 // The straight loop, then the wrapping loop.
 fn stretch(way: Way, from: Reached, sound: &[f32], rate: &[f64], out: &mut [f32]) -> Reached
@@ -55,13 +60,35 @@ fn scan_varied(way: Way, sound: &[f32], rate: &[f64], out: &mut [f32]) -> Reache
     r
 }
 
+// Whether a loop is so short that nearly every 16 frames wrap.
+fn is_short(track: Track) -> bool {
+    if !track.looped {
+        return false;
+    }
+    if track.high <= track.low {
+        return true;
+    }
+    track.high - track.low < 16
+}
+
+// Whether the advance is computed once: all rates are the same, and the loop is not short.
+fn goes_steadily(track: Track, rate: &[f64]) -> bool
+    requires { ⌜ T (all number (now rate)) ⌝ }
+    ensures { λ r. ⌜ (r ≡ true → Same (now (rate .entry))) ⌝ }
+{
+    if is_short(track) {
+        return false;
+    }
+    sound_fast_reading::is_steady(rate)
+}
+
 // To the track's end. If all rates are the same, the advance is computed once.
 fn scan(way: Way, sound: &[f32], rate: &[f64], out: &mut [f32]) -> Reached
     requires { ⌜ Scannable (now sound) way (now rate) ⌝ }
     requires { ⌜ Scanned (now sound) way (now rate) (begun way) (now out) ⌝ }
     ensures { λ r. ⌜ Scanned (now (sound .entry)) way (now (rate .entry)) r (now (out .exit)) ⌝ }
 {
-    if sound_fast_reading::is_steady(rate) {
+    if goes_steadily(way.track, rate) {
         return sound_fast_held::scan_held(way, sound, rate[0], rate.len(), out);
     }
     scan_varied(way, sound, rate, out)
