@@ -97,7 +97,7 @@ impl Kit {
                 "-mllvm",
                 "-no-trap-after-noreturn",
                 "-mllvm",
-                "-inline-threshold=1000",
+                "-inline-threshold=2000",
                 "--no-default-config",
                 "-Werror",
             ]);

@@ -129,7 +129,7 @@ This page has nanoseconds per stereo frame at 48 kHz. Our code makes every check
 Measured on {}.
 
 ```
-cd host && cargo run --release --offline -p benches -- --write ../docs    # writes this page and the plot
+cd host && cargo run --release --offline -p benches -- --write ../docs/performance    # writes this page and the plot
 cd host && cargo run --release --offline -p benches -- --tables           # prints its tables alone
 cd host && cargo run --release --offline -p benches -- --modes            # what the float mode costs a call
 cd host && cargo run --release --offline -p benches -- --players          # many players into one buffer, below
@@ -176,30 +176,33 @@ Instructions per frame, counted by callgrind in blocks of 512 at rate 0.93:
 
 | | Arm | x86-64 |
 |---|---|---|
-| one rate for the whole block | 48.8 | 68.2 |
-| rates that vary | 51.6 | 68.8 |
-| a loop of 3 frames | 74.8, two frames per iteration | 109.2, at rate -1 |
-| held lanes | | 48.6; 69.2 in blocks of 64 (193.0 and 207.0 before they had the fast path) |
+| one rate for the whole block | 49.2 | 68.4 |
+| rates that vary | 53.4 | 69.0 |
+| a loop of 3 frames, at rate -0.93 | 79.0 | 109.5, before short loops took the path below |
+| constant lanes | 42.2 | 55.8 |
+| held lanes | 37.7; 50.7 in blocks of 64 | 48.7; 69.2 in blocks of 64 |
 | kira's text | 121 | 135 in each |
 
-A call costs about 1,000 more instructions: the check and the translation of the state, the check of the window, the answer. Most of a call's fixed time is spent on copies of the voice between functions. A short loop with one rate is played 16 frames at a time, which costs 12 instructions per frame more than before. To reach half of kira's time, the fixed part of a call and the check of each lane must become cheaper. A rate below 1 saves kira's text some updates, and our code nothing: our frames cost the same at 0.5 as at 1.
+A call costs about 1,000 more instructions: the check and the translation of the state, the check of the window, the answer. Much of a call's fixed time is spent on copies of the voice between functions, so the Arm archive is compiled with more inlining than clang's default. A loop of fewer than 16 frames is played two frames per iteration, by the path whose rates may differ.
+
+What is still above half of kira's time: a rate below 1 saves kira's text some updates, and our code nothing, so the highest ratios are at 0.5. Constant lanes cost 4.6 instructions per frame to recognise, and their gains are multiplied even if all are 1. With one rate for the whole block, every rate is still checked. In calls of 64 frames a player at rest needs 1.2 times the time of its bare voice.
 
 A block is played frame by frame, at 1.25 to 1.5 of kira's time, if its window is not contiguous: the first block after creation, one after a seek, the last frames of a sound without a loop, a window with a NaN.
 
 Ratios differ between processors more than instructions do. With the version before this one a Neoverse N1 took 0.65 of kira's time at 0.93 and 512, and a Neoverse V1 0.85: kira's text is twice as fast on the V1, ours 1.45 times.
 
-The first table's ratios, on both processors. The Intel Xeon (x86-64, \"Intel(R) Xeon(R) Processor\", rustc 1.95.0, 2026-11-16) was shared with other work, so only its shortest times count. Held lanes (\"given once\") were measured on the V1 before they had the fast path, and on the Xeon with it [20ddcd2]. The V1's rows of \"given once\" above are also from before the fast path.
+The first table's ratios, on both processors. The Intel Xeon (x86-64, \"Intel(R) Xeon(R) Processor @ 2.50GHz\", rustc 1.95.0, 2026-11-16) was idle but on a shared host, and had the version before short loops took their own path.
 
 | lanes | V1, 512 and 4,096 | V1, 64 | Xeon, 512 and 4,096 | Xeon, 64 |
 |---|---|---|---|---|
-| given once | 1.98 to 2.24 (plain loop) | 2.07 to 2.34 (plain loop) | 0.32 to 0.44 | 0.52 to 0.67 |
-| constant | 0.58 to 0.70 | 0.76 to 0.91 | 0.47 to 0.62 | 0.68 to 0.87 |
-| per frame, one rate | 0.58 to 0.70 | 0.76 to 0.92 | 0.48 to 0.62 | 0.68 to 0.87 |
-| per frame, rates vary | 0.64 to 0.77 | 0.83 to 0.97 | 0.49 to 0.65 | 0.69 to 0.88 |
-| rate 2, any of these | 0.50 to 1.80 | 0.67 to 1.85 | 0.34 to 1.02 | 0.47 to 1.12 |
-| loops of 3 frames, per frame | 0.76 to 1.06 | 0.95 to 1.25 | 0.60 to 0.77 | 0.78 to 0.97 |
+| given once | 0.40 to 0.48 | 0.52 to 0.60 | 0.32 to 0.46 | 0.52 to 0.65 |
+| constant | 0.46 to 0.56 | 0.60 to 0.68 | 0.35 to 0.52 | 0.52 to 0.76 |
+| per frame, one rate | 0.58 to 0.69 | 0.68 to 0.80 | 0.50 to 0.67 | 0.74 to 0.93 |
+| per frame, rates vary | 0.64 to 0.76 | 0.75 to 0.86 | 0.56 to 0.73 | 0.77 to 0.96 |
+| rate 2, any of these | 0.37 to 0.59 | 0.46 to 0.67 | 0.24 to 0.48 | 0.38 to 0.65 |
+| loops of 3 frames, per frame | 0.75 to 0.88 | 0.85 to 1.00 | 0.73 to 0.98 | 1.01 to 1.33 |
 
-On the Xeon the part of a call that does not depend on its frames took 145 to 197 ns (108 to 129 ns on the V1), and a player at rest 1.11 to 1.29 times its bare voice, one in motion 1.61 to 2.22 times.
+On the Xeon the part of a call that does not depend on its frames took 196 to 332 ns (75 to 90 ns on the V1), and a player at rest 1.04 to 1.17 times its bare voice, one in motion 2.16 to 2.62 times.
 
 ## Beside others
 
