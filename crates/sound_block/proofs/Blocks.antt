@@ -1,4 +1,4 @@
--- A block, by whether it is silent: what it gives, a count of at most 4, and what it leaves as it is; and the signals of a later part change nothing.
+-- A silent block and one that plays: the samples, a count of at most 4, and what stays unchanged. The signals of a later part change nothing.
 -- By cases. Assumes nothing.
 use mathlib.Core.Path.{_≡_, refl, ap, ap₂, _∙_}
 use Prim.Native.Nat.{_+_, _*_, _≤_}

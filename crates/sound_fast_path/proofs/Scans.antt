@@ -122,7 +122,7 @@ beside-first (suc i) fs vs ls rs [] = refl
 beside-first (suc i) fs vs ls rs (q ∷ qs) =
     ap (λ (r : List Lane). record { fade = getD fs 0 nan; volume = getD vs 0 nan; left = getD ls 0 nan; right = getD rs 0 nan; rate = q } ∷ r) (beside-first i (drop 1 fs) (drop 1 vs) (drop 1 ls) (drop 1 rs) qs)
 
--- what is heard so far is the definition's of the lanes so far, and what moves is the contiguous window from r's place on
+-- the frames so far are the definition's for the lanes so far, and the moving part has the contiguous window at r's position
 pub record Heard (snd : List Float) (dt : Float) (b : Lanes) (v : StaticSound) (k : Track) (r : Reached) (out : List Float) : Type 0 where
   pub within : r .next ≤ length (b .rate)
   pub few : r .steps ≤ 257 * r .next

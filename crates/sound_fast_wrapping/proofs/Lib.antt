@@ -1,3 +1,3 @@
--- Laws of a scan round a track.
+-- Laws of a scan that wraps.
 pub mod Readings
 pub mod TwoFrames

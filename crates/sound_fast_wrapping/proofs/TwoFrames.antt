@@ -1,4 +1,4 @@
--- One iteration of a scan round a track, two frames more. What the code is asked for names places of the track and not the direction, so both directions cite the same laws. Assumes nothing.
+-- One iteration of a scan that wraps: two frames more. What the code is asked for names places of the track and not the direction, so both directions cite the same laws. Assumes nothing.
 use mathlib.Core.Path.{_≡_, refl, sym, _∙_, subst}
 use Prim.Native.Nat.{ℕ, _+_, _-_, _*_, _≤_, _<_}
 use native.Mathlib.Omega.{arith}

@@ -27,7 +27,7 @@ advance-is hz r dt m e = ap (λ (x : Float). product hz x dt) e
 pub asks : (hz : ℕ) (r dt m : Float) → m ≡ magnitude r → T (lt positiveZero dt) → T (slow hz dt r) → T (finiteClear (product hz m dt)) × T (le (product hz m dt) (fin false 1 (pos 8)))
 asks hz r dt m e t s = rw (advance-is hz r dt m e) (advance-finite-clear hz r dt t s, s)
 
--- the steps and the rest of the sum, and the updates, are the frame's
+-- the steps, the sum's fractional part and the updates are the frame's
 pub turned-as : (snd : List Float) (c : Slice) (hz : ℕ) (r dt m : Float) (mo : Moving) (f : Float) (a : Stepped) (u : Moving)
     → m ≡ magnitude r → a ≡ stepped (add binary64 f (product hz m dt)) → u ≡ updates (a .steps) snd c mo
     → record { moving = u; «fractional_position» = a .fraction; steps = a .steps } ≡ frameSteps snd c hz r dt mo f

@@ -24,7 +24,7 @@ use Rattle.sound_slow_path.specs.Plays.{total, afterFrame, plays}
 module _ (snd : List Float) (dt : Float) (t : T (lt positiveZero dt)) where
   -- ---- one frame
 
-  -- the sum's rest is a fraction again
+  -- the sum's fractional part is a proper fraction again
   pub rest-proper : (v : StaticSound) (l : Lane) → T (near (v .setup .«sample_rate») dt l) → T (proper (v .«fractional_position»)) → T (proper (part (total dt v l)))
   unfolding total
   rest-proper v l k h =

@@ -1,4 +1,4 @@
--- A block's call, from its parts: the number that it gives, and what it plays.
+-- A block's call, from its parts: its refusal, and what it plays.
 use mathlib.Core.Path.{_≡_, sym, ap, _∙_}
 use mathlib.Core.Bool.{Bool, true, false, not, cond}
 use mathlib.Core.List.{List, _++_}

@@ -1,4 +1,4 @@
--- What each entry gives, by whether it is refused: an answer of 0 comes only from no refusal, and then it is the accepted one's.
+-- What each entry returns, refused or accepted: refusal 0 means that the call was accepted.
 -- By whether there is a number. And an accepted block leaves a well formed state. Assumes nothing.
 use mathlib.Core.Path.{_≡_, refl, sym, ap, _∙_}
 use Prim.Native.Nat.{ℕ, _*_}

@@ -1,4 +1,4 @@
--- A block whose numbers are given once, from its parts: the number that it gives, and what it plays. Assumes nothing.
+-- A block with held lanes, from its parts: its refusal, and what it plays. Assumes nothing.
 use mathlib.Core.Path.{_≡_, refl, sym, ap, ap₂, _∙_, subst}
 use mathlib.Core.Bool.{Bool, true, false, _&&_, cond}
 use mathlib.Core.List.{List, _++_}

@@ -116,7 +116,7 @@ read-record k ws rest y e = go (payload (body k) [] ws) refl
         let i : steps (body k) (good n [] (p ++ rest)) ≡ good 0 ws rest = ap (λ (z : ℕ). steps (body k) (good z [] (p ++ rest))) (omega arith) ∙ (rw q at j) in
         rw (append-assoc (payload headRows [] (headOf k n)) p rest, g, f, i) (ended-found k ws rest)
 
--- ---- what the reader accepts, the writer gives again byte for byte
+-- ---- what the reader accepts, the writer writes again byte for byte
 
 row-always : (r : Row) (rs : List Row) (vs ws : List ℕ) (x : ℕ) → r .low ≡ 0 → fine (r ∷ rs) vs (x ∷ ws) ≡ true → (within r x ≡ true) × (fine rs (vs ++ (x ∷ [])) ws ≡ true)
 unfolding fine fits

@@ -61,7 +61,7 @@ module _ (read : List ℕ → Found) where
 pub read-one : (k : ℕ) (ws rest : List ℕ) → known k ≡ true → fine (body k) [] ws ≡ true → readAll 0 (recordOf k ws ++ rest) ≡ andThen (entry k ws) (readAll 0 rest)
 read-one k ws rest y e = one-first readRecord k ws (recordOf k ws) rest (read-record k ws rest y e) (omega (arith, record-some k ws))
 
--- what stands at the beginning of bytes
+-- the record at the beginning of bytes
 pub read-found : (bs : List ℕ) (k : ℕ) (ws rest : List ℕ) → Small bs → readRecord bs ≡ found k ws rest → readAll 0 bs ≡ andThen (entry k ws) (readAll 0 rest)
 read-found bs k ws rest s e = let w = written-record bs k ws rest s e in ap (readAll 0) (w .same) ∙ read-one k ws rest (w .kind) (w .takes)
 

@@ -18,7 +18,7 @@ use Rattle.trace_records.specs.declared.Record.{Record}
 use Rattle.trace_records.specs.Tables.{headTable, creationTable, frameTable, commandTable, blockTable, headRows, creationRows, commandRows, blockRows, body, fields}
 use Rattle.trace_records.specs.Records.{possible, Found, refused, found, ended, bodied, readRecord, valued, recordAt}
 
--- ---- tests turned round
+-- ---- tests, from their results
 
 pub not-true : (b : Bool) → not b ≡ true → b ≡ false
 not-true false e = refl

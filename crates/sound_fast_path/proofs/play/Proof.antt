@@ -1,4 +1,4 @@
--- `play` scans where the window is the contiguous window, and plays the rest, if any, frame by frame.
+-- `play` scans where the window is contiguous, and plays the other frames, if any, one by one.
 use Prim.Native.Nat.{ℕ, _+_, _-_, _*_, _^_, _≤_, _<_}
 use mathlib.Core.Path.{_≡_, sym, ap, _∙_, subst}
 use native.Mathlib.Omega.{arith}
@@ -46,7 +46,7 @@ few-steps a i n h l m = omega arith
 contiguous : (c : tie.Else1) → Contiguous (now (start (c .before .before) .args .sound)) (c .before .before .track-of .result) (start (c .before .before) .args .voice .moving)
 contiguous c = c .before .is-contiguous .ensures .1 (not-false _ (c .if1 .left))
 
--- what is heard once the gains are in
+-- the frames after the gains are applied
 heard : (c : tie.After-by-frame)
     → (let t = c .before .before .before .before .before .before .before .before .before .before in
     let a = start t .args in

@@ -1,4 +1,4 @@
--- `play_from` lends the rest of every lane and of the output.
+-- `play_from` passes on every lane and the output from the next frame on.
 use native.Mathlib.Omega.{arith}
 use denote.Ref.{now}
 use Rattle.sound_lanes.specs.Lanes.{lanesNow}

@@ -1,4 +1,4 @@
--- `scan` goes by one rate where all rates are the same.
+-- `scan` takes the path of one rate where all rates are the same.
 use mathlib.Core.Path.{_≡_, sym, subst}
 use mathlib.Core.List.{List}
 use lib.Ieee.{Float}

@@ -1,4 +1,4 @@
--- `turn` moves the fraction on by the advance and makes as many updates as its sum has steps.
+-- `frame_steps` adds the advance to the fraction and makes as many updates as the sum has steps.
 use Prim.Native.Nat.{ℕ}
 use mathlib.Core.Path.{_≡_, refl, sym, ap, _∙_, subst}
 use borrow.Author.Needs.{needs}

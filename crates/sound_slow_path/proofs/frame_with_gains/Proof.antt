@@ -1,4 +1,4 @@
--- `frame_heard` is the reading times the amplitudes, as its callees give them.
+-- `frame_with_gains` returns the reading times its gains.
 use borrow.Author.Needs.{needs}
 use Rattle.resampler.specs.Windows.{reading}
 use Rattle.sound_slow_path.specs.FrameSteps.{frameAt}

@@ -55,14 +55,14 @@ given c = let a = start c .args in lanesNow (a .fade) (a .volume) (a .left) (a .
 abbrev lent : tie.At-loop Inv-loop μ-loop → Lanes
 lent c = spread (length (now (start c .args .out)) / 2) (given c)
 
--- the turn of the loop that a frame's steps belong to
+-- the iteration of the loop that a frame's steps belong to
 abbrev after-frame-steps : tie.After-frame-steps Inv-loop μ-loop → tie.In-loop Inv-loop μ-loop
 after-frame-steps c = c .before .before .before .before .before .before
 
 abbrev after-lane : tie.After-frame-steps Inv-loop μ-loop → tie.After-lane-frame Inv-loop μ-loop
 after-lane c = c .before .before .before .before
 
--- what a turn knows of its numbers
+-- what is known of the numbers in an iteration
 record Numbers (n i m steps : ℕ) : Type 0 where
   below : i < n
   most : n ≤ 4096

@@ -1,4 +1,4 @@
--- `trace_records::is_possible`: the tests in turn.
+-- `trace_records::is_possible`: one test after the other.
 use mathlib.Core.Path.{_≡_, refl, sym, ap, _∙_}
 use mathlib.Core.Bool.{false, true}
 use Prim.Native.Nat.{ℕ, _-_, _%_, _≤_, _<_}

@@ -44,7 +44,7 @@ const RECORDED: [(&str, [Option<f64>; 7]); 2] = [
         [
             Some(69.4),
             Some(92.1),
-            Some(109.5),
+            Some(97.2),
             Some(48.6),
             Some(69.2),
             Some(56.8),

@@ -1,4 +1,4 @@
--- `play_held` scans where the window is the contiguous window, and plays the rest, if any, frame by frame.
+-- `play_held` scans where the window is contiguous, and plays the other frames, if any, one by one.
 use Prim.Native.Nat.{ℕ, _+_, _-_, _*_, _/_, _^_, _≤_, _<_}
 use mathlib.Core.Path.{_≡_, sym, ap, _∙_, subst}
 use native.Mathlib.Omega.{arith}
@@ -70,7 +70,7 @@ few-frames c = let a = start c .args in most (now (a .sound)) (a .voice) (a .dt)
 inside : (c : tie.After-once) → reached c .scan-held .result .next ≤ frames (track c)
 inside c = subst (λ (n : ℕ). reached c .scan-held .result .next ≤ n) (length-replicate (frames (track c)) (start (track c) .args .held .rate)) (reached c .scan-held .ensures .within)
 
--- what is heard once the gains are in
+-- the frames after the gains are applied
 heard : (c : tie.After-once)
     → (let t = track c in
     let a = start t .args in

@@ -1,4 +1,4 @@
--- `held_back` reads four frames a turn at consecutive places, all of one advance. The invariant: the scan so far, and room for the window.
+-- `held_back` reads four frames per iteration at consecutive positions, all of one advance. The invariant: the scan so far, and room for the window.
 use Prim.Native.Nat.{ℕ, _-_, _*_}
 use mathlib.Core.Path.{_≡_, sym, ap, _∙_}
 use native.Mathlib.Omega.{arith}

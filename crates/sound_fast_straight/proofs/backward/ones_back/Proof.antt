@@ -1,4 +1,4 @@
--- `ones_back` reads one frame a turn at consecutive places. The invariant: the scan so far.
+-- `ones_back` reads one frame per iteration at consecutive positions. The invariant: the scan so far.
 use Prim.Native.Nat.{ℕ, _+_, _-_, _*_, _≤_, _<_}
 use mathlib.Core.Path.{_≡_, refl, sym, _∙_, subst}
 use native.Mathlib.Omega.{arith}

@@ -1,4 +1,4 @@
--- `straight_back` reads four frames a turn at consecutive places. The invariant: the scan so far, and room for the window.
+-- `straight_back` reads four frames per iteration at consecutive positions. The invariant: the scan so far, and room for the window.
 use Prim.Native.Nat.{_-_}
 use mathlib.Core.Path.{refl, sym, _∙_}
 use native.Mathlib.Omega.{arith}

@@ -1,4 +1,4 @@
--- `wrapping_on` reads two frames a turn, each place chosen round the loop. The invariant: the scan so far.
+-- `wrapping_on` reads two frames per iteration and chooses each position, so that it wraps at the loop's edge. The invariant: the scan so far.
 use Prim.Native.Nat.{_+_, _-_}
 use mathlib.Core.Path.{sym, _∙_}
 use native.Mathlib.Omega.{arith}

@@ -1,4 +1,4 @@
--- `process_lanes` gives its number, or plays its block into its part of the mix.
+-- `process_lanes` returns a refusal, or plays its block into its part of the mix.
 use mathlib.Core.Path.{_≡_, sym, ap, _∙_}
 use native.Mathlib.Omega.{arith}
 use denote.Ref.{now}

@@ -1,4 +1,4 @@
--- `process_held_into` gives its number, or plays its block into its part of the mix.
+-- `process_held_into` returns a refusal, or plays its block into its part of the mix.
 use mathlib.Core.Path.{_≡_, sym, ap, _∙_}
 use native.Mathlib.Omega.{arith}
 use denote.Ref.{now}
