@@ -11,7 +11,7 @@ use refusals::words;
 
 // A row: a number of `width` bytes, from `least` to `most` or refused with `refusal`. It is present if the number of
 // row `guard` is at least `low`.
-#[derive(Drop)]
+#[derive(Clone, Copy)]
 pub struct Row {
     pub width: usize,
     pub guard: usize,
@@ -23,7 +23,7 @@ pub struct Row {
 
 // A parse in progress: refused with a number, or at offset `at` with `left` bytes of payload left, and the numbers
 // read.
-#[derive(Drop)]
+#[derive(Clone, Copy)]
 pub struct Parsed {
     pub refused: u64,
     pub at: usize,

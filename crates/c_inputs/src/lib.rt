@@ -25,7 +25,7 @@ use start_time::StartSignal;
 
 // A position in a sound: kind 0 is seconds, 1 samples, and for an end 2 the end of audio.
 #[repr(C)]
-#[derive(Drop)]
+#[derive(Clone, Copy)]
 pub struct CableowlPlace {
     pub seconds: f64,
     pub samples: u64,
@@ -33,7 +33,7 @@ pub struct CableowlPlace {
 }
 
 #[repr(C)]
-#[derive(Drop)]
+#[derive(Clone, Copy)]
 pub struct CableowlRegion {
     pub start: CableowlPlace,
     pub end: CableowlPlace,
@@ -41,7 +41,7 @@ pub struct CableowlRegion {
 
 // The settings of a creation.
 #[repr(C)]
-#[derive(Drop)]
+#[derive(Clone, Copy)]
 pub struct CableowlSettings {
     pub sample_rate: u32,
     pub has_slice: u32,
@@ -56,7 +56,7 @@ pub struct CableowlSettings {
 
 // A command set. The loop command is 0 keep, 1 clear, 2 set; resume is 0 no, 1 at once, 2 waits.
 #[repr(C)]
-#[derive(Drop)]
+#[derive(Clone, Copy)]
 pub struct CableowlCommands {
     pub has_rate: u32,
     pub loop_command: u32,
@@ -74,7 +74,7 @@ pub struct CableowlCommands {
 // The signals of a block. An answer is 0 still waiting, 1 now, 2 never; a start can also be 3: due at a tick, with
 // the current tick.
 #[repr(C)]
-#[derive(Drop)]
+#[derive(Clone, Copy)]
 pub struct CableowlSignals {
     pub finished: u32,
     pub start: u32,

@@ -28,7 +28,7 @@ use transport::Transport;
 
 // An entry of the window.
 #[repr(C)]
-#[derive(Drop)]
+#[derive(Clone, Copy)]
 pub struct CableowlEntry {
     pub left: f32,
     pub right: f32,
@@ -37,7 +37,7 @@ pub struct CableowlEntry {
 
 // A voice. The state is 0 to 6, each flag 0 or 1. If a slice or a loop is absent, its two numbers are 0.
 #[repr(C)]
-#[derive(Drop)]
+#[derive(Clone, Copy)]
 pub struct CableowlState {
     pub sample_rate: u32,
     pub state: u32,

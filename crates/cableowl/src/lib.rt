@@ -47,14 +47,14 @@ pub use traces::{
 };
 
 #[repr(C)]
-#[derive(Drop)]
+#[derive(Clone, Copy)]
 pub struct CableowlCreated {
     pub state: CableowlState,
     pub refusal: u32,
 }
 
 #[repr(C)]
-#[derive(Drop)]
+#[derive(Clone, Copy)]
 pub struct CableowlCommanded {
     pub state: CableowlState,
     pub position: f64,
@@ -62,7 +62,7 @@ pub struct CableowlCommanded {
 }
 
 #[repr(C)]
-#[derive(Drop)]
+#[derive(Clone, Copy)]
 pub struct CableowlProcessed {
     pub state: CableowlState,
     pub steps: u64,
@@ -72,7 +72,7 @@ pub struct CableowlProcessed {
 
 // A part of the sound, in samples.
 #[repr(C)]
-#[derive(Drop)]
+#[derive(Clone, Copy)]
 pub struct CableowlPart {
     pub offset: u64,
     pub length: u64,

@@ -29,7 +29,7 @@ use trace_records::Record;
 // number of blocks so far, and the offset of the next record in the trace. `reader` is 1, the trace version that it
 // reads. `given` is 0: reader 1 plays only the recorded sound.
 #[repr(C)]
-#[derive(Drop)]
+#[derive(Clone, Copy)]
 pub struct CableowlReplay {
     pub voice: CableowlState,
     pub samples: u64,
@@ -43,7 +43,7 @@ pub struct CableowlReplay {
 // the record is refused and 4 if the call is refused. For a record: its size in bytes, its kind and the player's
 // refusal. For a block also its frames, its steps and its lowest count.
 #[repr(C)]
-#[derive(Drop)]
+#[derive(Clone, Copy)]
 pub struct CableowlReplayed {
     pub replay: CableowlReplay,
     pub size: u64,

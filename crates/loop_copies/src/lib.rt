@@ -22,7 +22,7 @@ use loop_table::{Hall, LoopChanged, LoopSlot, LoopTable};
 
 // The table, and how many writes and clears each hall has made.
 #[repr(C)]
-#[derive(Drop)]
+#[derive(Clone, Copy)]
 pub struct LoopCopy {
     pub table: LoopTable,
     pub changes_a: u64,
@@ -31,7 +31,7 @@ pub struct LoopCopy {
 
 // A copy after a write, a clear or a merge.
 #[repr(C)]
-#[derive(Drop)]
+#[derive(Clone, Copy)]
 pub struct CopyChanged {
     pub copy: LoopCopy,
     pub refusal: u32,

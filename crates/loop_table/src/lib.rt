@@ -17,7 +17,7 @@ ghost use Rattle.loop_table.specs.Tables.{
   found,
 };
 
-#[derive(Drop)]
+#[derive(Clone, Copy)]
 pub enum Hall {
     A,
     B,
@@ -25,7 +25,7 @@ pub enum Hall {
 
 // A loop in frames, end exclusive. An empty slot has start 0 and end 0, which no loop has.
 #[repr(C)]
-#[derive(Drop)]
+#[derive(Clone, Copy)]
 pub struct LoopSlot {
     pub start: u64,
     pub end: u64,
@@ -33,7 +33,7 @@ pub struct LoopSlot {
 
 // The frame count of the sound, inside which every loop must lie, and the slots.
 #[repr(C)]
-#[derive(Drop)]
+#[derive(Clone, Copy)]
 pub struct LoopTable {
     pub num_frames: u64,
     pub slots: [LoopSlot; 16],
@@ -41,7 +41,7 @@ pub struct LoopTable {
 
 // After a write or a clear.
 #[repr(C)]
-#[derive(Drop)]
+#[derive(Clone, Copy)]
 pub struct LoopChanged {
     pub table: LoopTable,
     pub refusal: u32,
@@ -49,7 +49,7 @@ pub struct LoopChanged {
 
 // After a read.
 #[repr(C)]
-#[derive(Drop)]
+#[derive(Clone, Copy)]
 pub struct LoopFound {
     pub slot: LoopSlot,
     pub refusal: u32,

@@ -1,6 +1,6 @@
 -- Laws of `all`: over two lists joined, over what is dropped, and over a list shifted by one, for every length.
 -- Shifted, what held of each entry from the t-th on holds from the one before it on. Assumes nothing.
-use Rattle.std.proofs.Common.{◌≡◌, ℕ, zero, suc, ◌+◌, ◌-◌, ◌<◌, Bool, true, T, List, [], ◌∷◌, ◌++◌, length, drop, sym, ◌∙◌, subst, arith, length_append, length-drop}
+use Rattle.std.proofs.Common.{◌≡◌, ℕ, zero, suc, ◌+◌, ◌-◌, ◌<◌, Bool, true, T, List, [], ◌∷◌, ◌++◌, length, drop, sym, ◌∙◌, subst, arith, length-append, length-drop}
 use native.Mathlib.Nat.{zero-sub, suc-sub-suc, sub-zero}
 use lib.Ieee.Fits.{and_i, and_l, and_r}
 use Rattle.numbers.specs.Lists.{all}
@@ -41,7 +41,7 @@ module _ {A : Type 0} (p : A → Bool) where
       go (x ∷ xs) h = snoc t xs z h k
 
   pub shifted_length : (xs : List A) (z : A) → 0 < length xs → length (drop 1 xs ++ z ∷ []) ≡ length xs
-  shifted_length xs z h = length_append (drop 1 xs) (z ∷ []) ∙ go (length (drop 1 xs)) (length xs) (length-drop 1 xs) h
+  shifted_length xs z h = length-append (drop 1 xs) (z ∷ []) ∙ go (length (drop 1 xs)) (length xs) (length-drop 1 xs) h
     where
       go : (a b : ℕ) → a ≡ b - 1 → 0 < b → a + 1 ≡ b
       go a b e h = omega arith

@@ -6,7 +6,7 @@ use native.Mathlib.Nat.{mul-mod_left, add-mul-div_right, add-mul-mod_self_right}
 use lib.Dec.{not_T}
 use lib.Arith.{lt→nleb}
 use lib.Ieee.{Float, nan, inf, fin, Format, binary32, binary64, prec, low, up, down, size, nearest, odd, units, round, add, sub, fits, is_nan, of_fields, of_bits, to_bits, nan_bits}
-use lib.Ieee.Digits.{size-lt, size_le, size_reaches}
+use lib.Ieee.Digits.{size-lt, size-le, size_reaches}
 use lib.Ieee.Fits.{nearest-le, kept-lt, round-fits, sub-fits, fits_widens, and_i, down_pos}
 use lib.Ieee.Bits.{is_false, cond_no, nan_bits_is}
 use lib.Ieee.Exact.{HasValue, round_exact, odd_sign}
@@ -45,7 +45,7 @@ none z p i a b = omega arith
 drop_is : (p n den i : ℕ) → 0 < p → 0 < den → n < 2 ^ (p + i) * den → (i ≡ 0) ⊎ (2 ^ (p - 1 + i) * den ≤ n) → drop p n den ≡ i
 drop_is p n den i P D hi lo =
     let z = size (n / den) in
-    let le : z ≤ p + i = size_le (n / den) (p + i) ((div-lt_iff_lt-mul D).1 hi) in
+    let le : z ≤ p + i = size-le (n / den) (p + i) ((div-lt_iff_lt-mul D).1 hi) in
     elim lo [
       | inl e ↦ none z p i le e
       | inr g ↦ dropped z p i le (size_gt (n / den) (p - 1 + i) ((le-div_iff_mul-le D).1 g)) P
@@ -260,7 +260,7 @@ narrows (fin false m e) at t u c =
     lt_of_mul-lt-mul_right (down e)
     (lt_of_le_of_lt (le_of_eq (sym un.1)) (lt_of_lt_of_le (mul-lt-mul_of_pos_right (proper_lt m e u) (pow_pos 1074)) (le_of_eq (mul_comm (down e) (2 ^ 1074))))) in
     let i = at - 897 in
-    let fb = field_bounds (size n) (n / 2 ^ (size n - 53)) (to_bits binary64 (fin false m e) / 2 ^ 52) at same-field (kept-lt 53 n) (leading n) (size_le n 1074 n-lt) c.least c.field c.which in
+    let fb = field_bounds (size n) (n / 2 ^ (size n - 53)) (to_bits binary64 (fin false m e) / 2 ^ 52) at same-field (kept-lt 53 n) (leading n) (size-le n 1074 n-lt) c.least c.field c.which in
     let hi : n < 2 ^ 24 * 2 ^ (925 + i) = lt_of_lt_of_le (size-lt n) (le_trans (pow_mono fb.1) (le_of_eq (pow-add 2 24 (925 + i)))) in
     let lo : (i ≡ 0) ⊎ (2 ^ 23 * 2 ^ (925 + i) ≤ n) =
     elim fb.2 [ inl z ↦ inl z | inr g ↦ inr (le_trans (le_of_eq (sym (pow-add 2 23 (925 + i)))) (size_reaches n (23 + (925 + i)) g)) ] in

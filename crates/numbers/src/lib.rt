@@ -19,7 +19,7 @@ pub fn narrow(x: f64) -> f32
     ((x + c) - c) as f32
 }
 
-#[derive(Drop)]
+#[derive(Clone, Copy)]
 pub struct Stepped {
     pub steps: usize,
     pub fraction: f64,

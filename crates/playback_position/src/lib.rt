@@ -13,28 +13,28 @@ ghost use Rattle.playback_position.specs.Positions.{
 use numbers::{is_finite, round_half_away};
 
 // A point in time in a piece of audio.
-#[derive(Drop)]
+#[derive(Clone, Copy)]
 pub enum PlaybackPosition {
     Seconds(f64),
     Samples(usize),
 }
 
 // Where a region ends.
-#[derive(Drop)]
+#[derive(Clone, Copy)]
 pub enum EndPosition {
     EndOfAudio,
     Custom(PlaybackPosition),
 }
 
 // A part of a piece of audio. The end is exclusive.
-#[derive(Drop)]
+#[derive(Clone, Copy)]
 pub struct Region {
     pub start: PlaybackPosition,
     pub end: EndPosition,
 }
 
 // A region in frames, or none.
-#[derive(Drop)]
+#[derive(Clone, Copy)]
 pub enum FrameRange {
     Absent,
     Frames(usize, usize),

@@ -11,7 +11,7 @@ ghost use Rattle.playback_state_manager.specs.States.{
 };
 ghost use Rattle.playback_state_manager.specs.declared.PlaybackState.TheVariants.{Stopped};
 
-#[derive(Drop)]
+#[derive(Clone, Copy)]
 pub enum PlaybackState {
     Playing,
     Pausing,
@@ -23,7 +23,7 @@ pub enum PlaybackState {
 }
 
 // The host's answer for a start or a waiting resume.
-#[derive(Drop)]
+#[derive(Clone, Copy)]
 pub enum StartAnswer {
     Waiting,
     Now,

@@ -8,7 +8,7 @@ use trace_replay::Run;
 
 // The window on the input: its bytes are `at` to `end` of a buffer whose first byte has the offset `base` in the
 // trace. `ended` means that the input has ended.
-#[derive(Drop)]
+#[derive(Clone, Copy)]
 pub struct Window {
     pub at: usize,
     pub end: usize,
@@ -16,7 +16,7 @@ pub struct Window {
     pub ended: bool,
 }
 
-#[derive(Drop)]
+#[derive(Clone, Copy)]
 pub struct Play {
     pub run: Run,
     pub window: Window,

@@ -4,27 +4,27 @@ ghost use Rattle.resampler.specs.Windows.{fresh, push, reading, current_frame_in
 
 use frame::{Frame, interpolate_frame};
 
-#[derive(Drop)]
+#[derive(Clone, Copy)]
 pub struct RecentFrame {
     pub frame: Frame,
     pub frame_index: usize,
 }
 
 // A reading: the frame, and the window's count.
-#[derive(Drop)]
+#[derive(Clone, Copy)]
 pub struct Reading {
     pub frame: Frame,
     pub count: usize,
 }
 
-#[derive(Drop)]
+#[derive(Clone, Copy)]
 pub struct Resampler {
     pub frames: [RecentFrame; 4],
     pub time_until_empty: usize,
 }
 
 // A frame, or none: the sound has ended.
-#[derive(Drop)]
+#[derive(Clone, Copy)]
 pub enum MaybeFrame {
     Absent,
     Present(Frame),

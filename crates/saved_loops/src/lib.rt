@@ -27,7 +27,7 @@ use byte_layout::Parsed;
 use tables::{HALF, HALF_ROWS};
 
 // The words of a half, or a refusal's number and every word 0.
-#[derive(Drop)]
+#[derive(Clone, Copy)]
 pub struct LoadedHalf {
     pub words: [u64; 19],
     pub refusal: u32,

@@ -31,7 +31,7 @@ use byte_layout::Parsed;
 use tables::{FIRST, FIRST_ROWS, SECOND, SECOND_ROWS};
 
 // Frames, the rate by its bits, the pitch in semitones in two's complement. Without a loop both loop numbers are 0.
-#[derive(Drop)]
+#[derive(Clone, Copy)]
 pub struct SavedSettings {
     pub start: u64,
     pub has_loop: u64,
@@ -43,7 +43,7 @@ pub struct SavedSettings {
 }
 
 // The refusal, or 0. If refused, every other number is 0.
-#[derive(Drop)]
+#[derive(Clone, Copy)]
 pub struct Loaded {
     pub settings: SavedSettings,
     pub version: u64,

@@ -18,7 +18,7 @@ use start_time::StartSignal;
 
 // The signals of a block: whether the fade has finished, an answer or a tick for the sound's start, and an answer for
 // a waiting resume.
-#[derive(Drop)]
+#[derive(Clone, Copy)]
 pub struct Signals {
     pub finished: bool,
     pub start: StartSignal,

@@ -34,20 +34,20 @@ use sound_state::StaticSound;
 use sound_update::Moving;
 use transport::Transport;
 
-#[derive(Drop)]
+#[derive(Clone, Copy)]
 pub enum Amount {
     Absent,
     Given(f64),
 }
 
-#[derive(Drop)]
+#[derive(Clone, Copy)]
 pub enum LoopCommand {
     Keep,
     Clear,
     Set(Region),
 }
 
-#[derive(Drop)]
+#[derive(Clone, Copy)]
 pub enum ResumeCommand {
     Keep,
     Now,
@@ -55,7 +55,7 @@ pub enum ResumeCommand {
 }
 
 // At most one of each command.
-#[derive(Drop)]
+#[derive(Clone, Copy)]
 pub struct Commands {
     pub playback_rate: Amount,
     pub loop_region: LoopCommand,
@@ -66,7 +66,7 @@ pub struct Commands {
     pub seek_to: Amount,
 }
 
-#[derive(Drop)]
+#[derive(Clone, Copy)]
 pub struct Commanded {
     pub refusal: u32,
     pub voice: StaticSound,

@@ -22,14 +22,14 @@ use sound_update::{Moving, Wraps};
 use transport::Transport;
 
 // A region, or none: kira's Option<Region>.
-#[derive(Drop)]
+#[derive(Clone, Copy)]
 pub enum OptionalRegion {
     Absent,
     Present(Region),
 }
 
 // The settings of a creation.
-#[derive(Drop)]
+#[derive(Clone, Copy)]
 pub struct Settings {
     pub sample_rate: u32,
     pub slice: OptionalRegion,
@@ -40,7 +40,7 @@ pub struct Settings {
     pub start_waits: bool,
 }
 
-#[derive(Drop)]
+#[derive(Clone, Copy)]
 pub struct Created {
     pub refusal: u32,
     pub voice: StaticSound,

@@ -11,7 +11,7 @@ use numbers::Stepped;
 use sound_track::Track;
 
 // A track, the position and fraction where the fast path begins, the time step, and the sound's sample rate.
-#[derive(Drop)]
+#[derive(Clone, Copy)]
 pub struct Way {
     pub track: Track,
     pub at: usize,
@@ -21,7 +21,7 @@ pub struct Way {
 }
 
 // The state of the fast path: position and fraction, the steps made, and the next frame.
-#[derive(Drop)]
+#[derive(Clone, Copy)]
 pub struct Reached {
     pub at: usize,
     pub fractional_position: f64,

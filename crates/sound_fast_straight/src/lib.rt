@@ -16,7 +16,7 @@ pub use forward::{held_on, ones_on, straight_on};
 use numbers::Stepped;
 
 // The steps of four frames.
-#[derive(Drop)]
+#[derive(Clone, Copy)]
 pub struct Moves {
     pub first: Stepped,
     pub second: Stepped,

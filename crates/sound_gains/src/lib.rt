@@ -6,7 +6,7 @@ ghost use Rattle.sound_gains.specs.Gained.{gains_at, scaled, scaled_at, gained_a
 use frame::Frame;
 
 // The four numbers that a frame's reading is multiplied by.
-#[derive(Drop)]
+#[derive(Clone, Copy)]
 pub struct Gains {
     pub fade: f32,
     pub volume: f32,

@@ -9,7 +9,7 @@ use sound_slow_path::Processed;
 use sound_state::StaticSound;
 
 // The five numbers of every frame of a block.
-#[derive(Drop)]
+#[derive(Clone, Copy)]
 pub struct Held {
     pub fade: f32,
     pub volume: f32,

@@ -18,7 +18,7 @@ use sound_state::StaticSound;
 use sound_update::{Moving, Slice};
 
 // The result of a block: refusal (0 for none), the voice after it, its steps, and the lowest count that it read.
-#[derive(Drop)]
+#[derive(Clone, Copy)]
 pub struct Processed {
     pub refusal: u32,
     pub voice: StaticSound,
@@ -27,7 +27,7 @@ pub struct Processed {
 }
 
 // The result of one frame: the moving part, the fraction, and its steps.
-#[derive(Drop)]
+#[derive(Clone, Copy)]
 pub struct AfterFrame {
     pub moving: Moving,
     pub fractional_position: f64,

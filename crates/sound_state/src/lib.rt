@@ -11,7 +11,7 @@ use sound_update::{Moving, Slice};
 use transport::Transport;
 
 // What creation fixes for good.
-#[derive(Drop)]
+#[derive(Clone, Copy)]
 pub struct Setup {
     pub sample_rate: u32,
     pub num_frames: usize,
@@ -19,7 +19,7 @@ pub struct Setup {
     pub reverse: bool,
 }
 
-#[derive(Drop)]
+#[derive(Clone, Copy)]
 pub struct StaticSound {
     pub setup: Setup,
     pub playback_rate: f64,

@@ -23,7 +23,7 @@ use transport::Transport;
 
 // The positions that uninterrupted playback passes: forward up to high and again from low, or backward down to low
 // and again from high - 1. Without a loop it ends there. Its `count` positions begin at `start` in the sound.
-#[derive(Drop)]
+#[derive(Clone, Copy)]
 pub struct Track {
     pub start: usize,
     pub count: usize,

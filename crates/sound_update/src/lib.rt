@@ -25,14 +25,14 @@ use transport::Transport;
 use window::{frames_of, numbers_of, window_of};
 
 // The wraps so far: forward steps that wrapped, and backward ones.
-#[derive(Drop)]
+#[derive(Clone, Copy)]
 pub struct Wraps {
     pub forward: u32,
     pub backward: u32,
 }
 
 // What an update changes.
-#[derive(Drop)]
+#[derive(Clone, Copy)]
 pub struct Moving {
     pub state: PlaybackState,
     pub transport: Transport,
@@ -41,7 +41,7 @@ pub struct Moving {
 }
 
 // What an update reads and does not change.
-#[derive(Drop)]
+#[derive(Clone, Copy)]
 pub struct Slice {
     pub start: usize,
     pub num_frames: usize,

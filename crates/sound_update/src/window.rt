@@ -6,7 +6,7 @@ use frame::Frame;
 use resampler::{RecentFrame, Resampler};
 
 // The window's four frames.
-#[derive(Drop)]
+#[derive(Clone, Copy)]
 pub struct Frames {
     pub a: Frame,
     pub b: Frame,
@@ -15,7 +15,7 @@ pub struct Frames {
 }
 
 // The window's frame indices, and the count.
-#[derive(Drop)]
+#[derive(Clone, Copy)]
 pub struct Numbers {
     pub a: usize,
     pub b: usize,

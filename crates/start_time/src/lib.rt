@@ -6,7 +6,7 @@ ghost use Rattle.start_time.specs.Ticks.{reached, answering};
 use playback_state_manager::StartAnswer;
 
 // The start signal of a block.
-#[derive(Drop)]
+#[derive(Clone, Copy)]
 pub enum StartSignal {
     Answer(StartAnswer),
     // the tick at which the start is due, and the current tick

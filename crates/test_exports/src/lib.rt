@@ -12,7 +12,7 @@ mod states;
 mod window;
 
 #[repr(C)]
-#[derive(Drop)]
+#[derive(Clone, Copy)]
 pub struct Moved {
     pub steps: u64,
     pub rest: f64,

@@ -13,7 +13,7 @@ use transport::Transport;
 
 // Playing if `playing` is not 0.
 #[repr(C)]
-#[derive(Drop)]
+#[derive(Clone, Copy)]
 pub struct PlainTransport {
     pub position: u64,
     pub loop_region: PlainRange,

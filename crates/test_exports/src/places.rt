@@ -8,7 +8,7 @@ use playback_position::{EndPosition, FrameRange, PlaybackPosition, Region};
 
 // In seconds, or in samples if `in_seconds` is 0.
 #[repr(C)]
-#[derive(Drop)]
+#[derive(Clone, Copy)]
 pub struct PlainPosition {
     pub in_seconds: u32,
     pub seconds: f64,
@@ -17,7 +17,7 @@ pub struct PlainPosition {
 
 // To the end of audio if `end_given` is 0.
 #[repr(C)]
-#[derive(Drop)]
+#[derive(Clone, Copy)]
 pub struct PlainRegion {
     pub start: PlainPosition,
     pub end_given: u32,
@@ -26,7 +26,7 @@ pub struct PlainRegion {
 
 // None if `given` is 0.
 #[repr(C)]
-#[derive(Drop)]
+#[derive(Clone, Copy)]
 pub struct PlainRange {
     pub given: u32,
     pub start: u64,

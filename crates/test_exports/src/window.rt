@@ -18,28 +18,28 @@ use frame::{Frame, interpolate_frame};
 use resampler::{MaybeFrame, Reading, RecentFrame, Resampler};
 
 #[repr(C)]
-#[derive(Drop)]
+#[derive(Clone, Copy)]
 pub struct PlainFrame {
     pub left: f32,
     pub right: f32,
 }
 
 #[repr(C)]
-#[derive(Drop)]
+#[derive(Clone, Copy)]
 pub struct PlainReading {
     pub frame: PlainFrame,
     pub count: u64,
 }
 
 #[repr(C)]
-#[derive(Drop)]
+#[derive(Clone, Copy)]
 pub struct PlainEntry {
     pub frame: PlainFrame,
     pub frame_index: u64,
 }
 
 #[repr(C)]
-#[derive(Drop)]
+#[derive(Clone, Copy)]
 pub struct PlainWindow {
     pub entries: [PlainEntry; 4],
     pub time_until_empty: u64,

@@ -9,7 +9,7 @@ use transport::Transport;
 
 const N: usize = 10;
 
-#[derive(Drop)]
+#[derive(Clone, Copy)]
 struct Tally {
     examples: u64,
     differ: u64,

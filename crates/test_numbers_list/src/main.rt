@@ -90,7 +90,7 @@ fn judge(line: &[u8; 45]) -> bool
     )
 }
 
-#[derive(Drop)]
+#[derive(Clone, Copy)]
 enum Line {
     End,
     Agrees,
@@ -110,7 +110,7 @@ fn next_line() -> Line {
     Line::Differs
 }
 
-#[derive(Drop)]
+#[derive(Clone, Copy)]
 struct Tally {
     cases: u64,
     differ: u64,

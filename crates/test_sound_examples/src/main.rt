@@ -10,7 +10,7 @@ use sound_slow_path::Processed;
 use sound_state::StaticSound;
 use start_time::StartSignal;
 
-#[derive(Drop)]
+#[derive(Clone, Copy)]
 struct Tally {
     examples: u64,
     differ: u64,

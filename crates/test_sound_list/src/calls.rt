@@ -12,7 +12,7 @@ use sound_state::StaticSound;
 use start_time::StartSignal;
 
 // The state after a call, and whether its result equals the list's.
-#[derive(Drop)]
+#[derive(Clone, Copy)]
 pub struct Answer {
     pub voice: StaticSound,
     pub same: bool,

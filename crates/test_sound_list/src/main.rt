@@ -10,7 +10,7 @@ use sound_state::StaticSound;
 const MOST: u64 = 1_000_000;
 
 // What is kept from record to record: the voice, how much of the sound is passed, and the counts.
-#[derive(Drop)]
+#[derive(Clone, Copy)]
 struct Replay {
     voice: StaticSound,
     lent: usize,

@@ -36,7 +36,7 @@ use sound_creation::{OptionalRegion, Settings};
 use start_time::StartSignal;
 
 // A block whose frames all have the same numbers.
-#[derive(Drop)]
+#[derive(Clone, Copy)]
 pub struct Block {
     pub frames: usize,
     pub fade: f32,
@@ -49,7 +49,7 @@ pub struct Block {
 }
 
 // A laned block, without its lanes.
-#[derive(Drop)]
+#[derive(Clone, Copy)]
 pub struct LanedBlock {
     pub frames: usize,
     pub time_step: f64,

@@ -18,7 +18,7 @@ pub use writes::{Sent, write};
 // A record by value: its kind, its numbers in the layout's order and then zeros, and the offset after it. If it is
 // refused: the refusal, every other number 0, and the record's own offset.
 #[repr(C)]
-#[derive(Drop)]
+#[derive(Clone, Copy)]
 pub struct Record {
     pub refusal: u64,
     pub kind: u64,

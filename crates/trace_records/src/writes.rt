@@ -12,7 +12,7 @@ use refusals::words;
 
 // The result of a write: 0 or a refusal, and the offset after the record, or its own.
 #[repr(C)]
-#[derive(Drop)]
+#[derive(Clone, Copy)]
 pub struct Sent {
     pub refusal: u64,
     pub next: usize,

@@ -20,7 +20,7 @@ use sound_state::StaticSound;
 use trace_inputs::Block;
 
 // The run so far: the voice, how many of the buffer's samples are its sound, and the number of blocks.
-#[derive(Drop)]
+#[derive(Clone, Copy)]
 pub struct Run {
     pub voice: StaticSound,
     pub samples: usize,
@@ -28,14 +28,14 @@ pub struct Run {
 }
 
 // A run after a record, and the length of its line.
-#[derive(Drop)]
+#[derive(Clone, Copy)]
 pub struct PlayedRecord {
     pub run: Run,
     pub written: usize,
 }
 
 // A run after the record at an offset: the offset after it, the length of its line, and whether the run is over.
-#[derive(Drop)]
+#[derive(Clone, Copy)]
 pub struct Advanced {
     pub run: Run,
     pub next: usize,

@@ -8,7 +8,7 @@ use trace_records::Record;
 
 // A salvage in progress: the offsets in the input and in the output, the bytes skipped, the records kept, and the
 // offset of the first skipped byte.
-#[derive(Drop)]
+#[derive(Clone, Copy)]
 pub struct Salvaging {
     pub at: usize,
     pub w: usize,
@@ -19,7 +19,7 @@ pub struct Salvaging {
 
 // The result of a salvage: 0 or a refusal, the records kept, the bytes skipped, and the offset of the first of them.
 #[repr(C)]
-#[derive(Drop)]
+#[derive(Clone, Copy)]
 pub struct Saved {
     pub refusal: u64,
     pub records: usize,

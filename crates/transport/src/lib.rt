@@ -20,7 +20,7 @@ ghost use Rattle.transport.specs.WellFormed.{WellFormedTransport};
 
 use playback_position::FrameRange;
 
-#[derive(Drop)]
+#[derive(Clone, Copy)]
 pub struct Transport {
     pub position: usize,
     // The frames that are looped. The end is exclusive.

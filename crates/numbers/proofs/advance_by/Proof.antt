@@ -16,7 +16,7 @@ decreases-loop fraction advance rest₀ steps₀ rest steps = whole rest
 loop-holds : tie.Need-loop-init invariant-loop decreases-loop
 loop-holds c = spinning c.args.fraction c.args.advance c.requires.0 c.requires.1.0 c.requires.1.1
 
-add-steps : tie.Need-overflow-add-steps invariant-loop decreases-loop
+add-steps : tie.Need-overflow_add-steps invariant-loop decreases-loop
 unfolding of_bits
 add-steps c =
     let s = spun _ _ _ c.before.loop.invariant c.loop-test.true in

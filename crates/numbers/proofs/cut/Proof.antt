@@ -9,7 +9,7 @@ here : (c : tie.Then2) → Under (2 ^ 32) c.before.before.args.x
 unfolding of_bits
 here c = middle c.before.before.args.x c.before.if1.false c.if2.true
 
-truncating-f64-to-u64-requires : tie.Need-truncating-f64-to-u64-requires
+truncating-f64-to-u64-requires : tie.Need-truncating_f64_to_u64-requires
 truncating-f64-to-u64-requires c κs = asked c.before.before.args.x (wider (2 ^ 32) (2 ^ 64) c.before.before.args.x (lit≤ tt) (here c))
 
 returns : tie.Need-returns

@@ -5,7 +5,7 @@ use Rattle.numbers.proofs.Signs.{below_number, finite_clear_bits, not_finite_cle
 use Rattle.numbers.proofs.is_finite_clear.Statement.{statement}
 use Rattle.numbers.proofs.is_finite_clear.Tie as tie
 
-float-to-bits-result : tie.Need-float-to-bits-result
+float-to-bits-result : tie.Need-float_to_bits-result
 unfolding of_bits
 float-to-bits-result c = below_number c.before.args.x _ c.if1.true
 

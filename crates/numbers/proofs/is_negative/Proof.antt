@@ -4,7 +4,7 @@ use Rattle.numbers.proofs.Signs.{equal_number, negative_bits, not_negative}
 use Rattle.numbers.proofs.is_negative.Statement.{statement}
 use Rattle.numbers.proofs.is_negative.Tie as tie
 
-float-to-bits-result : tie.Need-float-to-bits-result
+float-to-bits-result : tie.Need-float_to_bits-result
 float-to-bits-result c = equal_number c.before.args.x _ c.if1.true
 
 returns : tie.Need-returns

@@ -5,7 +5,7 @@ use Rattle.numbers.proofs.Signs.{equal_number, positive_zero_bits, not_positive_
 use Rattle.numbers.proofs.is_positive_zero.Statement.{statement}
 use Rattle.numbers.proofs.is_positive_zero.Tie as tie
 
-float-to-bits-result : tie.Need-float-to-bits-result
+float-to-bits-result : tie.Need-float_to_bits-result
 unfolding of_bits
 float-to-bits-result c = equal_number c.before.args.x _ c.if1.true
 

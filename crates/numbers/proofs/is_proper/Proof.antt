@@ -5,7 +5,7 @@ use Rattle.numbers.proofs.Signs.{below_number, proper_bits, not_proper}
 use Rattle.numbers.proofs.is_proper.Statement.{statement}
 use Rattle.numbers.proofs.is_proper.Tie as tie
 
-float-to-bits-result : tie.Need-float-to-bits-result
+float-to-bits-result : tie.Need-float_to_bits-result
 unfolding of_bits
 float-to-bits-result c = below_number c.before.args.x _ c.if1.true
 

@@ -8,10 +8,10 @@ use Rattle.numbers.proofs.magnitude.Tie as tie
 number : (c : tie.Then1) → T (not (is_nan c.before.args.x))
 number c = equal_number c.before.args.x _ c.if1.true
 
-float-to-bits-result : tie.Need-float-to-bits-result
+float-to-bits-result : tie.Need-float_to_bits-result
 float-to-bits-result c = number c
 
-float-from-bits-result : tie.Need-float-from-bits-result
+float-from-bits-result : tie.Need-float_from_bits-result
 float-from-bits-result c = number_bits c.before.args.x (number c) (subst T (sym c.before.well-formed.0.1) tt)
 
 returns : tie.Need-returns

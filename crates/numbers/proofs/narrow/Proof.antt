@@ -5,7 +5,7 @@ use Rattle.numbers.proofs.Narrowing.{Narrows, narrows, proper_no_nan, magic_no_n
 use Rattle.numbers.proofs.narrow.Statement.{statement}
 use Rattle.numbers.proofs.narrow.Tie as tie
 
-float-to-bits-bits : tie.Need-float-to-bits-bits
+float-to-bits-bits : tie.Need-float_to_bits-bits
 float-to-bits-bits c = proper_no_nan c.args.x c.requires
 
 all : (c : tie.After-row-known) → Narrows c.before.before.args.x c.before.if1.at
@@ -17,13 +17,13 @@ all c =
     (λ w. let h = w.0.left in let e = w.1 in record { least = omega arith; field = omega arith; which = inr e })
     c.before.if1.branch)
 
-add-c : tie.Need-overflow-add-c
+add-c : tie.Need-overflow_add-c
 add-c c = let h = (all c).small in omega arith
 
-float-from-bits-c : tie.Need-float-from-bits-c
+float-from-bits-c : tie.Need-float_from_bits-c
 float-from-bits-c c = magic_no_nan c.before.if1.at (all c).small
 
-float-to-float-result : tie.Need-float-to-float-result
+float-to-float-result : tie.Need-float_to_float-result
 float-to-float-result c =
     subst (λ (z : Float). T (fits binary32 z && not (is_nan z))) (sym (all c.before).result) (narrowed_fits c.before.before.before.args.x c.before.before.before.requires)
 

@@ -11,14 +11,14 @@ here c =
     let x = c.before.before.args.x in
     doubled x (subst T (sym c.before.before.well-formed.0.1) tt) (middle x c.before.if1.false c.if2.true)
 
-truncating-f64-to-u64-requires : tie.Need-truncating-f64-to-u64-requires
+truncating-f64-to-u64-requires : tie.Need-truncating_f64_to_u64-requires
 truncating-f64-to-u64-requires c κs =
     let x = c.before.before.args.x in
     asked (add binary64 x x) (wider (2 ^ 33) (2 ^ 64) (add binary64 x x) (lit≤ tt) (here c).under)
 
-add-result : tie.Need-overflow-add-result
+add-result : tie.Need-overflow_add-result
 add-result c =
-    let e = c.truncating-f64-to-u64.ensures in
+    let e = c.truncating_f64_to_u64.ensures in
     let h = (here c.before).small in
     omega arith
 
