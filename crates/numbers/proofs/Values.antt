@@ -95,6 +95,12 @@ zero_not n e g h = lt_irrefl 0 (subst (λ (x : ℕ). 0 < x) (sym h ∙ ap (λ (y
 
 -- a fraction has at most one float of each sign
 pub value_unique : (f : Format) (x y : Float) (s : Bool) (a c : ℕ) → 0 < c → T (fits f x) → T (fits f y) → HasValue x s a c → HasValue y s a c → x ≡ y
+value_unique f nan y s a c C p q v w = elim v [ ]
+value_unique f (inf _) y s a c C p q v w = elim v [ ]
+value_unique f (fin t zero e) nan s a c C p q v w = elim w [ ]
+value_unique f (fin t zero e) (inf _) s a c C p q v w = elim w [ ]
+value_unique f (fin t (suc m) e) nan s a c C p q v w = elim w [ ]
+value_unique f (fin t (suc m) e) (inf _) s a c C p q v w = elim w [ ]
 value_unique f (fin t zero e) (fin u zero g) s a c C p q v w = λ i. fin ((v.0 ∙ sym w.0) i) zero ((zero_exp f t e p ∙ sym (zero_exp f u g q)) i)
 value_unique f (fin t zero e) (fin u (suc n) g) s a c C p q v w =
     absurd (zero_not n e g (cross (zero * up e) (suc n * up g) a c (down e) (down g) C v.1 w.1))
