@@ -1,0 +1,23 @@
+-- `byte_layout::put_rows`: what is still to store, stored, is the whole payload stored.
+use Prim.Native.Nat.{◌+◌, ◌-◌, ◌≤◌, ◌<◌}
+use native.Mathlib.Omega.{arith}
+use mathlib.Core.Path.{◌≡◌, refl, sym, ap, ◌∙◌}
+use mathlib.Core.List.{[]}
+use lib.ListN.{length, take}
+use lib.Seq.{sets, length-sets}
+use Rattle.byte_layout.specs.Rows.{rows}
+use Rattle.byte_layout.specs.Writes.{payload}
+use Rattle.byte_layout.proofs.Puts.{row_room, row_put, tail_of, tail_start, tail_end}
+use borrow.Author.Rules.{rules}
+use Rattle.byte_layout.proofs.put_rows.Reads as reads
+use Rattle.byte_layout.proofs.put_rows.Lts as lts
+use Rattle.byte_layout.proofs.put_row.Reads as put-row-reads
+use Rattle.byte_layout.proofs.row_at.Reads as row-at-reads
+use Rattle.byte_layout.proofs.put_rows.Given as goal
+
+abbrev pub invariant-loop-i : goal.invariant-loop-i
+invariant-loop-i l =
+    (l.i ≤ l.n) × (length l.buf-1 ≡ length l.initial.buf) × (sets l.buf-1 l.a (tail_of l.table l.n l.values l.i) ≡ sets l.initial.buf l.at (payload (rows l.table 0 l.n) [] (take l.n l.values))) × (l.a + length (tail_of l.table l.n l.values l.i) ≡ l.at + length (payload (rows l.table 0 l.n) [] (take l.n l.values)))
+
+abbrev pub decreases-loop-i : goal.decreases-loop-i
+decreases-loop-i l = l.n - l.i

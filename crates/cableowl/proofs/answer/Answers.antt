@@ -1,0 +1,6 @@
+-- `cableowl::answer` meets its contract, by the returned state.
+use borrow.Author.Rules.{rules}
+use Rattle.cableowl.proofs.answer.Goals as goal
+
+pub returns : goal.returns
+returns c = rw c.state_after.ensures

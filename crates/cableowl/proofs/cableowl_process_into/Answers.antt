@@ -1,0 +1,25 @@
+-- `cableowl_process_into` meets its contract: the block between records of numbers.
+use Rattle.sound_lanes.specs.Lanes.{Lanes, lanes_now}
+use Rattle.cableowl.proofs.Answers.{mix_few, mix_is}
+use borrow.Author.Rules.{rules}
+use Rattle.cableowl.proofs.cableowl_process_into.Goals.{Start}
+use Rattle.cableowl.proofs.cableowl_process_into.Goals as goal
+
+abbrev lent : Start → Lanes
+lent c =
+    let a = c.args in
+    lanes_now a.fade a.volume a.left a.right a.rate
+
+pub answer-requires : goal.answer-requires
+answer-requires c =
+    let p = c.before.before in
+    let a = p.args in
+    mix_few a.sound.now a.state a.dt (lent (goal.at.answer_requires c).Start) a.signals _ _
+    p.decode.ensures p.signals_of.ensures _ _ a.mix-1.now a.from p.process_into-processed.ensures
+
+pub returns : goal.returns
+returns c =
+    let p = c.before.before.before in
+    let a = p.args in
+    mix_is a.sound.now a.state a.dt (lent (goal.at.returns c).Start) a.signals _ _
+    p.decode.ensures p.signals_of.ensures p.process_into-processed.result _ a.mix-1.now a.from p.process_into-processed.ensures _ c.answer.ensures

@@ -1,0 +1,16 @@
+-- `cableowl_write_loop` meets its contract: the table's write, by the hall with that number. Assumes nothing.
+use mathlib.Core.Path.{ap, ◌∙◌}
+use borrow.Author.Rules.{rules}
+use borrow.Author.Tests.{le-leb, lt-leb}
+use Rattle.loop_table.specs.declared.Hall.{Hall}
+use Rattle.loop_table.specs.Tables.{written}
+use Rattle.cableowl.proofs.loops.cableowl_write_loop.Goals as goal
+
+pub returns-then-hall-gt1 : goal.returns-then-hall-gt1
+returns-then-hall-gt1 c = rw (lt-leb _ _ c.if-hall-gt1.true)
+
+pub returns : goal.returns
+returns c =
+    let a = c.args in
+    rw (le-leb _ _ c.if-hall-gt1.false)
+    (c.write.ensures ∙ ap (λ (h : Hall). written a.table h a.slot a.start a.end) c.hall_of.ensures)

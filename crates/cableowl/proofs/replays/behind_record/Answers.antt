@@ -1,0 +1,6 @@
+-- `behind_record`: the offset after the record.
+use borrow.Author.Rules.{rules}
+use Rattle.cableowl.proofs.replays.behind_record.Goals as goal
+
+pub returns : goal.returns
+returns c = rw c.onward_of.ensures

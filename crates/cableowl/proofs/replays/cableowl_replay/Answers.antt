@@ -1,0 +1,13 @@
+-- `cableowl_replay`: the blank voice.
+use mathlib.Core.Path.{◌≡◌, ap, ◌∙◌}
+use native.Mathlib.Omega.{arith}
+use borrow.Author.Rules.{rules}
+use Rattle.sound_state.specs.declared.StaticSound.{StaticSound}
+use Rattle.cableowl.proofs.ReplaySteps.{blank_few, blank_is}
+use Rattle.cableowl.proofs.replays.cableowl_replay.Goals as goal
+
+pub encode-requires : goal.encode-requires
+encode-requires c = blank_few _ c.blank.ensures
+
+pub returns : goal.returns
+returns c = blank_is _ _ c.blank.ensures c.encode.ensures

@@ -1,0 +1,20 @@
+-- `cableowl::rate_of` meets its contract: finite bits are a number. Assumes nothing.
+use mathlib.Core.Path.{◌≡◌, refl, sym, ap, ◌∙◌}
+use borrow.Author.Tests.{eq-eqb, ne_eqb, le-ltb, lt-ltb}
+use lib.Ieee.{div, of_bits}
+use Rattle.cableowl.proofs.Numbers.{number}
+use borrow.Author.Rules.{rules}
+use Rattle.cableowl.proofs.saved.rate_of.Reads as reads
+use Rattle.cableowl.proofs.saved.rate_of.Lts as lts
+use Rattle.semitones.proofs.raised.Reads as raised-reads
+use Rattle.cableowl.proofs.saved.rate_of.Goals as goal
+
+pub float_from_bits-bits : goal.float_from_bits-bits
+float_from_bits-bits c = number _ c.if-bits-lt9218868437227405312.true
+
+pub returns-then-bits-lt9218868437227405312 : goal.returns-then-bits-lt9218868437227405312
+returns-then-bits-lt9218868437227405312 c = c.raised.ensures ∙ simp (lt-ltb _ _ c.if-bits-lt9218868437227405312.true)
+
+pub returns : goal.returns
+unfolding div of_bits
+returns c = simp (le-ltb _ _ c.if-bits-lt9218868437227405312.false) refl

@@ -1,0 +1,6 @@
+-- `cableowl_write_record_v2` meets its contract: the result of `trace_sealed::write`, and the buffer after it. Assumes nothing.
+use borrow.Author.Rules.{rules}
+use Rattle.cableowl.proofs.traces.cableowl_write_record_v2.Goals as goal
+
+pub returns : goal.returns
+returns c = c.write.ensures

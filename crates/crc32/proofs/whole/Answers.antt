@@ -1,0 +1,32 @@
+-- `crc32::whole` meets its contract: the final register does not change. Assumes nothing.
+use mathlib.Core.Path.{◌≡◌, refl, sym, ap, ◌∙◌}
+use Prim.Native.Nat.{ℕ, ◌+◌, ◌-◌, ◌≤◌}
+use native.Mathlib.Omega.{arith}
+use lib.Bits.{bit_xor}
+use lib.ListN.{length, drop, get_or}
+use borrow.Author.Rules.{rules}
+use Rattle.crc32.specs.Checksums.{register, byte, checksum_of}
+use Rattle.crc32.proofs.Registers.{byte_on, at_end_lem}
+use Rattle.crc32.proofs.whole.Reads as reads
+use Rattle.crc32.proofs.whole.Lts as lts
+use Rattle.crc32.proofs.step.Reads as step_reads
+use Rattle.crc32.proofs.table.all.Reads as all-reads
+use Rattle.crc32.proofs.whole.Goals as goal
+
+pub loop-i-init : goal.loop-i-init
+loop-i-init c = (search rules, refl)
+
+pub step-c-requires : goal.step-c-requires
+step-c-requires c = c.all-entries.ensures
+
+pub loop-i-preserved : goal.loop-i-preserved
+loop-i-preserved c =
+    let l = c.before.before.before.before in
+    let s = l.args.s.now in
+    (search rules, ap (λ (r : ℕ). register r (drop (l.loop-i.i + 1) s)) c.step-c.ensures ∙ sym (byte_on l.loop-i.c s l.loop-i.i (search rules)) ∙ l.loop-i.invariant.1)
+
+pub returns : goal.returns
+unfolding checksum_of
+returns c =
+    let l = c.before in
+    ap (λ (r : ℕ). bit_xor r 4294967295) (sym (at_end_lem l.loop-i.c l.args.s.now l.loop-i.i (search rules)) ∙ l.loop-i.invariant.1)

@@ -1,0 +1,35 @@
+-- `decibels::level_at` meets its contract: the dividend is at most 601 * 65,535. Assumes nothing.
+use mathlib.Core.Path.{sym, subst, ◌∙◌}
+use Prim.Native.Nat.{ℕ, ◌+◌, ◌-◌, ◌*◌, ◌≤◌}
+use native.Mathlib.Omega.{arith}
+use borrow.Author.Rules.{rules}
+use Rattle.decibels.proofs.Ramps.{one_frame, more_frames, between, weighed}
+use Rattle.decibels.proofs.level_at.Reads as reads
+use Rattle.decibels.proofs.level_at.Lts as lts
+use Rattle.decibels.proofs.divided.Reads as divided-reads
+use Rattle.decibels.proofs.level_at.Goals as goal
+
+small : (c : lts.Else1 (divided-reads.Asked, divided-reads.Learnt) reads.Pre reads.Post) → c.args.start * (c.args.count - 1 - c.args.i) + c.args.end * c.args.i ≤ 39386535
+small c =
+    let p = c.requires in
+    weighed _ _ _ _ p.0 p.1.0 p.1.1.0 p.1.1.1
+
+pub returns-then-count-eq1 : goal.returns-then-count-eq1
+returns-then-count-eq1 c = (sym (one_frame _ _ _ _ c.if-count-eq1.true), search rules)
+
+pub overflow_mul-sum : goal.overflow_mul-sum
+overflow_mul-sum c = omega (arith, small c)
+
+pub overflow_mul-sum-2 : goal.overflow_mul-sum-2
+overflow_mul-sum-2 c = omega (arith, small c)
+
+pub overflow_add-sum : goal.overflow_add-sum
+overflow_add-sum c = omega (arith, small c)
+
+pub returns : goal.returns
+returns c =
+    let b = c.before in
+    let a = b.args in
+    let p = b.requires in
+    let e = c.divided.ensures ∙ sym (more_frames a.start a.end a.count a.i b.if-count-eq1.false) in
+    (e, subst (λ (r : ℕ). r ≤ 601) (sym e) (between a.start a.end a.count a.i 0 601 p.1.1.1 (omega arith) (omega arith) p.0 p.1.0).1)

@@ -1,0 +1,9 @@
+-- `loop_table::Hall::owns` meets its contract: each arm is a case of `owns`. Assumes nothing.
+use borrow.Author.Rules.{rules}
+use Rattle.loop_table.proofs.Hall.owns.Goals as goal
+
+pub returns-in-A : goal.returns-in-A
+returns-in-A c = rw c.enum_told-1.given.1
+
+pub returns-in-B : goal.returns-in-B
+returns-in-B c = rw c.enum_told-in-B-1.given.1

@@ -1,0 +1,17 @@
+-- `loop_table::LoopTable::is_well_formed` meets its contract. The loop's invariant: `ok` is the test over the slots so far, and an array of sixteen has sixteen.
+-- Assumes nothing.
+use Prim.Native.Nat.{◌-◌, ◌≤◌}
+use mathlib.Core.Path.{◌≡◌, refl}
+use native.Mathlib.Omega.{arith}
+use lib.ListN.{length, take, length-map}
+use borrow.Author.Rules.{rules}
+use Rattle.numbers.specs.Lists.{all}
+use Rattle.sound_lanes.proofs.Gathered.{all_turn, all_end}
+use Rattle.loop_table.specs.Tables.{empty, well_formed_slot, well_formed_table}
+use Rattle.loop_table.proofs.LoopTable.is_well_formed.Given as goal
+
+abbrev pub invariant-loop-i : goal.invariant-loop-i
+invariant-loop-i l = (l.i ≤ 16) × (l.ok ≡ all (well_formed_slot l.num_frames) (take l.i l.slots-1))
+
+abbrev pub decreases-loop-i : goal.decreases-loop-i
+decreases-loop-i l = 16 - l.i

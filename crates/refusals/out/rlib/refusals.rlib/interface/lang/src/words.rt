@@ -1,9 +1,0 @@
-# [ read_as = "7dd98d097d6cb6a2a3a560798009c82952684edb22fa3719f1f318ee36da00af" ] pub const STATE : u64 = 1 ;
-# [ read_as = "ed70e2ab7c6d7978f54ef80d96c7082916f44fa4ba517a0d1a9e147dbe236d83" ] pub const MARK : u64 = 15 ;
-# [ read_as = "3530b860899bde50827846d3d8492eb522c3917ff0df64b50edcfc73c185043d" ] pub const KIND : u64 = 16 ;
-# [ read_as = "52a7ca143ee321989a90ad230c7f93a55d82c144d55cbba89ea38153e3d38dd5" ] pub const RECORD : u64 = 17 ;
-# [ read_as = "38302d5c5013eb03f6455923ef1824367b1b202ff98f6a1824218368e12b280b" ] pub const TRUNCATED : u64 = 18 ;
-# [ read_as = "94f04e6e938d3507d805878a68467db5255a4b814bd47ccc6565c037d7a1566e" ] pub const ROOM : u64 = 19 ;
-# [ read_as = "812c84dd8d6bf2c827e1f652fbface45409e00769f43c812d3a6301ca5f77a4a" ] pub const VERSION : u64 = 23 ;
-# [ read_as = "d0385df0a173a52221e401f73bf40a360c0a9210cf4c76872a011a3f1d64be72" ] pub const SAVED_FIELD : u64 = 24 ;
-# [ read_as = "fdb7f6dc47088244f23689439bf824fbbc9aaa9c9a2f44506f26744d1c593519" ] pub const OUTPUT : u64 = 25 ;

@@ -1,0 +1,14 @@
+-- `replay::replay`: the window stays in its buffer, and the remaining iterations decrease.
+use Rattle.std.proofs.Common.{◌≡◌, ℕ, ◌≤◌, length, sym, refl, ap, ◌∙◌, arith, rules}
+use Rattle.replay.specs.Windows.{Held}
+use Rattle.replay.proofs.replay.Reads as reads
+use Rattle.replay.proofs.replay.Lts as lts
+use Rattle.replay.proofs.advance.Reads as advance-reads
+use Rattle.trace_replay.proofs.begin.Reads as begin-reads
+use Rattle.replay.proofs.replay.Given as goal
+
+abbrev pub invariant-loop-left : goal.invariant-loop-left
+invariant-loop-left l = Held l.p.window l.bytes-1 × (1024 ≤ length l.spare-1) × (128 ≤ length l.sound-1) × (l.p.run.samples ≤ length l.sound-1) × (139 ≤ length l.line-1) × (length l.bytes-1 ≡ length l.initial.bytes) × (length l.spare-1 ≡ length l.initial.spare) × (length l.sound-1 ≡ length l.initial.sound) × (length l.line-1 ≡ length l.initial.line)
+
+abbrev pub decreases-loop-left : goal.decreases-loop-left
+decreases-loop-left l = l.left

@@ -1,0 +1,13 @@
+-- `Resampler::push_frame` meets its contract: by whether there is a frame; `lowered` is the count of none.
+use lib.Ieee.{of_bits}
+use borrow.Author.Rules.{rules}
+use Rattle.resampler.specs.Windows.{push}
+use Rattle.resampler.proofs.Resampler.push_frame.Goals as goal
+
+pub returns-in-Present : goal.returns-in-Present
+unfolding push
+returns-in-Present c = rw c.frame-1.given.1
+
+pub returns-in-Absent : goal.returns-in-Absent
+unfolding push of_bits
+returns-in-Absent c = rw (c.enum_told-1.given.1, c.lowered.ensures)

@@ -1,0 +1,16 @@
+-- `saved_loops::words_of` meets its contract. The loop's invariant: the first `i` words are the numbers from 4 on.
+use mathlib.Core.Path.{◌≡◌, refl}
+use Prim.Native.Nat.{ℕ, ◌-◌, ◌≤◌}
+use native.Mathlib.Omega.{arith}
+use lib.ListN.{length, take, drop, length-set}
+use Rattle.saved_loops.proofs.Slots.{words_more, words_end}
+use borrow.Author.Rules.{rules}
+use Rattle.saved_loops.proofs.words_of.Reads as reads
+use Rattle.saved_loops.proofs.words_of.Lts as lts
+use Rattle.saved_loops.proofs.words_of.Given as goal
+
+abbrev pub invariant-loop-i : goal.invariant-loop-i
+invariant-loop-i l = (l.i ≤ 19) × (length l.values ≡ 80) × (length l.words ≡ 19) × (take l.i l.words ≡ take l.i (drop 4 l.values))
+
+abbrev pub decreases-loop-i : goal.decreases-loop-i
+decreases-loop-i l = 19 - l.i

@@ -1,0 +1,48 @@
+-- `saved_settings::load` meets its contract. Assumes nothing.
+use Rattle.std.proofs.Common.{◌≡◌, sym, refl, ap, ◌∙◌, arith, rules}
+use Rattle.saved_settings.proofs.Loads.{first_sound, second_sound, first_read, second_read, first_refused, first_shown, second_refused, second_shown, is_one, short, long}
+use Rattle.saved_settings.specs.Records.{shown}
+use Rattle.saved_settings.proofs.Low.{first_low, second_low}
+use Rattle.saved_settings.proofs.load.Reads as reads
+use Rattle.saved_settings.proofs.load.Lts as lts
+use Rattle.saved_settings.proofs.is_second.Reads as is-second-reads
+use Rattle.saved_settings.proofs.read_first.Reads as read-first-reads
+use Rattle.saved_settings.proofs.read_second.Reads as read-second-reads
+use Rattle.saved_settings.proofs.refused.Reads as refused-reads
+use Rattle.saved_settings.proofs.saved_of.Reads as saved-of-reads
+use Rattle.saved_settings.proofs.show.Reads as show-reads
+use Rattle.saved_settings.proofs.load.Goals as goal
+
+pub overflow_cast-p : goal.overflow_cast-p
+overflow_cast-p c =
+    let a = c.before.before.before in
+    omega (arith, second_low a.args.s.now a.«read-second».result a.«read-second».ensures c.if-p-gt0.true)
+
+pub returns-then-p-gt0 : goal.returns-then-p-gt0
+returns-then-p-gt0 c =
+    let a = c.before.before.before.before in
+    let t = a.before in
+    second_refused _ _ a.«read-second».result _ (sym t.if-is_second.true ∙ t.«is-second».ensures) a.«read-second».ensures c.if-p-gt0.true c.refused.ensures
+
+pub returns-then-is_second : goal.returns-then-is_second
+returns-then-is_second c =
+    let a = c.before.before.before.before.before in
+    let t = a.before in
+    second_shown _ _ a.«read-second».result _ (sym t.if-is_second.true ∙ t.«is-second».ensures) a.«read-second».ensures c.if-p-gt0.false (c.show.ensures ∙ ap (shown 2) c.«saved-of».ensures)
+
+pub overflow_cast-p-then-p-gt0-2 : goal.overflow_cast-p-then-p-gt0-2
+overflow_cast-p-then-p-gt0-2 c =
+    let a = c.before.before.before in
+    omega (arith, first_low a.args.s.now a.«read_first».result a.«read_first».ensures c.if-p-gt0-2.true)
+
+pub returns-then-p-gt0-2 : goal.returns-then-p-gt0-2
+returns-then-p-gt0-2 c =
+    let a = c.before.before.before.before in
+    let t = a.before in
+    first_refused _ _ a.«read_first».result _ (sym t.if-is_second.false ∙ t.«is-second».ensures) a.«read_first».ensures c.if-p-gt0-2.true c.refused-then-p-gt0-2.ensures
+
+pub returns : goal.returns
+returns c =
+    let a = c.before.before.before.before.before in
+    let t = a.before in
+    first_shown _ _ a.«read_first».result _ (sym t.if-is_second.false ∙ t.«is-second».ensures) a.«read_first».ensures c.if-p-gt0-2.false (c.show-2.ensures ∙ ap (shown 1) c.«saved-of2».ensures)

@@ -1,0 +1,7 @@
+-- `semitones::all` meets its contract: one test over the whole table, which antt computes. Assumes nothing.
+use mathlib.Core.Path.{refl}
+use Rattle.semitones.proofs.Ratios.{table_rule}
+use Rattle.semitones.proofs.all.Goals as goal
+
+pub returns : goal.returns
+returns c = table_rule _ tt refl

@@ -1,0 +1,27 @@
+-- `semitones::ratio` meets its contract: the dividend is a whole f64, and its quotient by 2^50 is exact. Assumes nothing.
+use Prim.Native.Nat.{◌*◌, ◌%◌}
+use native.Mathlib.Omega.{arith}
+use lib.ListN.{get_or}
+use Rattle.semitones.proofs.Ratios.{Product, product, table_entry, whole_float, at_steps}
+use borrow.Author.Rules.{rules}
+use Rattle.semitones.proofs.ratio.Reads as reads
+use Rattle.semitones.proofs.ratio.Lts as lts
+use Rattle.semitones.proofs.all.Reads as all-reads
+use Rattle.semitones.proofs.doubled.Reads as doubled-reads
+use Rattle.semitones.proofs.octaves.Reads as octaves-reads
+use Rattle.semitones.proofs.ratio.Goals as goal
+
+made : (c : lts.After-doubled (all-reads.Asked, all-reads.Learnt, octaves-reads.Asked, octaves-reads.Learnt, doubled-reads.Asked, doubled-reads.Learnt) reads.Pre reads.Post)
+    → Product c.args.steps (get_or c.all-entries.result (c.args.steps % 12) 0 * c.doubled.result)
+made c =
+    let a = c.args in
+    product a.steps _ _ _ c.requires (table_entry _ c.all-entries.ensures a.steps) c.octaves.ensures c.doubled.ensures
+
+pub overflow_mul-scaled : goal.overflow_mul-scaled
+overflow_mul-scaled c = omega (arith, (made c).low)
+
+pub int_to_float-result : goal.int_to_float-result
+int_to_float-result c = whole_float _ _ (made c.before)
+
+pub returns : goal.returns
+returns c = at_steps _ _ (made c.before)

@@ -1,0 +1,6 @@
+-- `sound_commands::is_seek_by` meets its contract: each arm is a case of `seekable`, and the frames are those of `target_by`.
+use borrow.Author.Rules.{rules}
+use Rattle.sound_commands.proofs.is_seek_by.Goals as goal
+
+pub returns-in-Given : goal.returns-in-Given
+returns-in-Given c = rw (c.command-1.given.1, ← c.frames_by.ensures) c.is_seek.ensures

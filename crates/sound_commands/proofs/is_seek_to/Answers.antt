@@ -1,0 +1,6 @@
+-- `sound_commands::is_seek_to` meets its contract: each arm is a case of `seekable`, and the frames are those of `target_to`.
+use borrow.Author.Rules.{rules}
+use Rattle.sound_commands.proofs.is_seek_to.Goals as goal
+
+pub returns-in-Given : goal.returns-in-Given
+returns-in-Given c = rw (c.command-1.given.1, ← c.frames_to.ensures) c.is_seek.ensures

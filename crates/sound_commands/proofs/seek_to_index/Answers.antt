@@ -1,0 +1,82 @@
+-- `sound_commands::seek_to_index` meets its contract: by whether the state advances after the transport's seek.
+-- The transport after the seek is well formed, so a frame may be pushed.
+use mathlib.Core.Path.{◌≡◌, sym, ap, ◌∙◌}
+use Prim.Native.Nat.{ℕ, ◌≤◌}
+use mathlib.Core.Bool.{true, false}
+use mathlib.Core.List.{List}
+use lib.Dec.{T}
+use lib.ListN.{length}
+use lib.Ieee.{Float}
+use borrow.Author.Rules.{rules}
+use Rattle.numbers.specs.Frames.{most}
+use Rattle.playback_position.proofs.Ranges.{within_ordered}
+use Rattle.playback_state_manager.specs.States.{advancing}
+use Rattle.transport.specs.declared.Transport.{Transport}
+use Rattle.transport.specs.Moves.{seek}
+use Rattle.resampler.specs.declared.Resampler.{Resampler}
+use Rattle.sound_state.specs.declared.StaticSound.{StaticSound}
+use Rattle.sound_update.specs.declared.Moving.{Moving}
+use Rattle.sound_update.specs.declared.Slice.{Slice}
+use Rattle.sound_state.specs.Voices.{length_of_slice, slice_of, moved}
+use Rattle.sound_update.specs.Updates.{pushed, Updatable}
+use Rattle.sound_state.specs.WellFormed.{well_formed_for}
+use Rattle.sound_state.proofs.WellFormed.{well_formed_for_parts, updatable_of}
+use Rattle.sound_commands.specs.Commands.{sought}
+use Rattle.sound_commands.proofs.Orders.{jumped_kept}
+use Rattle.sound_commands.proofs.seek_to_index.Goals.{After-seek_to-transport}
+use Rattle.sound_commands.proofs.seek_to_index.Goals as goal
+
+-- the moving part with another transport, and also with another window
+abbrev with : StaticSound → Transport → Resampler → Moving
+with v t w = record { state = v.moving-1.state; transport = t; resampler = w; wraps = v.moving-1.wraps }
+
+jumped-updatable : (snd : List Float) (v : StaticSound) (q : ℕ) (c : Slice) (t : Transport) → T (well_formed_for (length snd) v) → q ≤ most
+    → t ≡ seek (length_of_slice v.setup-1) v.moving-1.transport q → c ≡ slice_of v → Updatable snd c (with v t v.moving-1.resampler)
+jumped-updatable snd v q c t h k e f =
+    let p = well_formed_for_parts (length snd) v h in
+    let a = updatable_of snd v p.0 p.1 in
+    rw (f, e) (record { transport_well_formed = (jumped_kept v q k p.0).transport_well_formed; few = a.few; inside = a.inside })
+
+sought-going : (snd : List Float) (v : StaticSound) (q : ℕ) (c : Slice) (t : Transport) (w : Resampler) → advancing v.moving-1.state ≡ true
+    → t ≡ seek (length_of_slice v.setup-1) v.moving-1.transport q → c ≡ slice_of v → w ≡ pushed snd c (with v t v.moving-1.resampler)
+    → moved v v.fractional_position (with v t w) ≡ sought snd v q
+unfolding sought
+sought-going snd v q c t w g e f p = rw (g, p, f, e)
+
+sought-still : (snd : List Float) (v : StaticSound) (q : ℕ) (t : Transport) → advancing v.moving-1.state ≡ false
+    → t ≡ seek (length_of_slice v.setup-1) v.moving-1.transport q → moved v v.fractional_position (with v t v.moving-1.resampler) ≡ sought snd v q
+unfolding sought
+sought-still snd v q t g e = rw (g, e)
+
+lands : (c : After-seek_to-transport) → let a = c.args in
+    c.seek_to-transport.result ≡ seek (length_of_slice a.voice.setup) a.voice.moving.transport a.index
+lands c =
+    let a = c.args in
+    c.seek_to-transport.ensures ∙ ap (λ (n : ℕ). seek n a.voice.moving.transport a.index) c.num_frames.ensures
+
+pub seek_to-transport-requires : goal.seek_to-transport-requires
+seek_to-transport-requires c =
+    let s = c.before.before.before.before.before in
+    let v = s.args.voice in
+    within_ordered (length_of_slice v.setup-1) v.moving-1.transport.loop_region (well_formed_for_parts _ v s.requires.t).0.transport_well_formed.loop
+
+pub push_frame_to_resampler-resampler-requires : goal.push_frame_to_resampler-resampler-requires
+push_frame_to_resampler-resampler-requires c =
+    let l = c.before.before.before.before.before in
+    let s = l.before.before.before.before.before.before in
+    jumped-updatable _ s.args.voice s.args.index _ _ s.requires.t s.requires.index_le_most (lands (goal.at.push_frame_to_resampler-resampler-requires c).After-seek_to-transport) c.slice.ensures
+
+pub returns-then-is_advancing : goal.returns-then-is_advancing
+returns-then-is_advancing c =
+    let p = c.before.before.before in
+    let i = p.before.before in
+    let l = i.before.before.before.before in
+    let s = l.before.before.before.before.before.before in
+    sought-going _ s.args.voice s.args.index _ _ _ (sym i.is_advancing.ensures ∙ i.if-is_advancing.true) (lands (goal.at.returns-then-is_advancing c).After-seek_to-transport) p.slice.ensures p.push_frame_to_resampler-resampler.ensures
+
+pub returns : goal.returns
+returns c =
+    let i = c.before in
+    let l = i.before.before.before.before in
+    let s = l.before.before.before.before.before.before in
+    sought-still _ s.args.voice s.args.index _ (sym i.is_advancing.ensures ∙ i.if-is_advancing.false) (lands (goal.at.returns c).After-seek_to-transport)

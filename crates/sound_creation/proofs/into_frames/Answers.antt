@@ -1,0 +1,6 @@
+-- `sound_creation::into_frames` meets its contract: each arm is a case of `ranged`.
+use borrow.Author.Rules.{rules}
+use Rattle.sound_creation.proofs.into_frames.Goals as goal
+
+pub returns-in-Present : goal.returns-in-Present
+returns-in-Present c = simp c.region-1.given.1 c.into_frames.ensures

@@ -1,0 +1,6 @@
+-- `sound_creation::is_well_formed` meets its contract: each arm is a case of `allowed`.
+use borrow.Author.Rules.{rules}
+use Rattle.sound_creation.proofs.is_well_formed.Goals as goal
+
+pub returns-in-Present : goal.returns-in-Present
+returns-in-Present c = simp c.region-1.given.1 c.is_well_formed.ensures

@@ -1,0 +1,27 @@
+-- `scan_held` continues while frames are read and some are left. The invariant: the scan so far, and that a block with remaining frames has frames.
+use Prim.Native.Nat.{ℕ, suc, ◌-◌, ◌≤◌, ◌<◌}
+use mathlib.Core.Path.{◌≡◌, refl, sym, ◌∙◌, subst}
+use mathlib.Core.Bool.{Bool, true, false, ◌&&◌, cond}
+use mathlib.Core.List.{List}
+use native.Mathlib.Omega.{arith}
+use lib.Dec.{ltb}
+use lib.ListN.{length, replicate}
+use lib.Ieee.{Float}
+use borrow.Author.Rules.{rules}
+use borrow.Author.Tests.{ltb-true}
+use Rattle.numbers.proofs.Equal.{second_of}
+use Rattle.sound_fast_reading.specs.declared.Way.{Way}
+use Rattle.sound_fast_reading.specs.declared.Reached.{Reached}
+use Rattle.sound_fast_reading.specs.Scans.{Scannable, Scanned}
+use Rattle.sound_fast_held.proofs.Parts.{slow_rate}
+use Rattle.sound_fast_held.proofs.scan_held.Given as goal
+
+pub record Going (snd : List Float) (way : Way) (rate : Float) (frames : ℕ) (r : Reached) (out : List Float) (more : Bool) : Type 0 where
+  pub scanned : Scanned snd way (replicate frames rate) r out
+  pub some : more ≡ true → 0 < frames
+
+abbrev pub invariant-loop-more : goal.invariant-loop-more
+invariant-loop-more l = Going l.sound l.way l.rate l.frames l.r l.out-1 l.more
+
+abbrev pub decreases-loop-more : goal.decreases-loop-more
+decreases-loop-more l = cond l.more (suc (l.frames - l.r.next)) 0

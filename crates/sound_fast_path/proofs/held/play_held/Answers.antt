@@ -1,0 +1,209 @@
+-- `play_held` scans where the window is contiguous, and plays the other frames, if any, one by one.
+use Prim.Native.Nat.{ℕ, ◌+◌, ◌-◌, ◌*◌, ◌/◌, ◌^◌, ◌≤◌, ◌<◌}
+use mathlib.Core.Path.{◌≡◌, sym, ap, ◌∙◌, subst}
+use native.Mathlib.Omega.{arith}
+use lib.ListN.{length, replicate, length-replicate}
+use Rattle.sound_lanes.specs.Lanes.{Lanes}
+use Rattle.sound_update.specs.declared.Wraps.{Wraps}
+use Rattle.sound_state.specs.declared.StaticSound.{StaticSound}
+use Rattle.sound_state.specs.Voices.{slice_of, moved}
+use Rattle.sound_state.specs.WellFormed.{WellFormed}
+use Rattle.sound_track.specs.Tracks.{track_of}
+use Rattle.sound_track.specs.Contiguous.{InsideSound, contiguous_of, Contiguous}
+use Rattle.sound_track.proofs.Same.{not_false}
+use Rattle.sound_gains.proofs.Gained.{gained_fewer}
+use Rattle.sound_held.specs.Held.{held_lanes}
+use Rattle.sound_slow_path.specs.FrameSteps.{Playable}
+use Rattle.sound_fast_path.specs.Scans.{Tracked, scanned_to, played_from}
+use Rattle.sound_fast_path.proofs.Scans.{position_on, Heard, heard_of, scannable, scan_begins}
+use Rattle.sound_fast_path.proofs.Joins.{lies_of, from_few, from_long, reached_on, reached_whole}
+use Rattle.sound_fast_path.proofs.After.{most}
+use borrow.Author.Rules.{rules}
+use Rattle.sound_fast_path.proofs.held.play_held.Goals.{After-contiguous_at, After-once, After-track_of-track, Else-not-is_contiguous}
+use Rattle.sound_fast_path.proofs.held.play_held.Goals as goal
+
+abbrev frames : After-track_of-track → ℕ
+frames c = length c.args.out.now / 2
+
+abbrev lent : After-track_of-track → Lanes
+lent c = held_lanes c.args.held (frames c)
+
+-- ---- the track
+
+-- the is the voice's
+track-is : (c : After-track_of-track) → (let v = c.args.voice in c.track_of-track.result ≡ track_of v.moving-1.transport.loop_region (slice_of v))
+track-is c = let v = c.args.voice in c.track_of-track.ensures ∙ ap (track_of v.moving-1.transport.loop_region) c.slice-slice.ensures
+
+tracked : (c : After-track_of-track) → Tracked c.args.sound.now c.args.voice c.track_of-track.result
+tracked c =
+    let st = c in
+    let v = st.args.voice in
+    record { is = track-is c; lies = subst (InsideSound st.args.sound.now) (sym (track-is c)) (lies_of st.args.sound.now v st.requires.well_formed st.requires.lent) }
+
+-- the window is the voice's contiguous window
+contiguous : (c : Else-not-is_contiguous) → Contiguous c.args.sound.now c.track_of-track.result c.args.voice.moving
+contiguous c = c.is_contiguous.ensures.1 (not_false _ c.if-not-is_contiguous.false)
+
+few_frames : (c : After-track_of-track) → frames c ≤ 4096
+few_frames c = let a = c.args in most a.sound.now a.voice a.dt a.held (frames c) a.out-1.now c.requires
+
+-- ---- the scan
+
+inside : (c : After-once) → c.scan_held-reached.result.next ≤ frames c.before.before.before.before.before.before.before.before.before.before
+inside c = subst (λ (n : ℕ). c.scan_held-reached.result.next ≤ n) (length-replicate (frames c.before.before.before.before.before.before.before.before.before.before) c.args.held.rate) c.scan_held-reached.ensures.within
+
+-- the frames after the are applied
+heard : (c : After-once)
+    → (let t = c in
+    let a = t.args in
+    Heard a.sound.now a.dt (lent c.before.before.before.before.before.before.before.before.before.before) a.voice t.track_of-track.result c.scan_held-reached.result c.once.new.1.1.0)
+heard c =
+    let t = c in
+    let st = t in
+    let a = st.args in
+    let x = a.held in
+    let r = c.scan_held-reached in
+    heard_of a.sound.now a.dt (lent c.before.before.before.before.before.before.before.before.before.before) a.voice t.track_of-track.result (tracked c.before.before.before.before.before.before.before.before.before.before) (contiguous c.before.before.before.before.before.before.before.before) st.pre r.result r.last.1.1.1.1.0 c.once.new.1.1.0 r.ensures
+    (c.once.ensures ∙ gained_fewer x.fade x.volume x.left x.right r.result.next (frames c.before.before.before.before.before.before.before.before.before.before) r.last.1.1.1.1.0 (inside c))
+
+-- the voice after the scan
+abbrev passed : After-contiguous_at → StaticSound
+passed c = moved c.args.voice c.scan_held-reached.result.fractional_position c.contiguous_at.result
+
+passed_is : (c : After-contiguous_at)
+    → (let t = c in
+    let v = t.args.voice in
+    let r = c.scan_held-reached.result in
+    moved v r.fractional_position c.contiguous_at.result ≡ moved v r.fractional_position (scanned_to t.args.sound.now t.track_of-track.result v r.steps r.at))
+passed_is c =
+    let t = c in
+    let v = t.args.voice in
+    let r = c.scan_held-reached.result in
+    ap (moved v r.fractional_position) (c.contiguous_at.ensures ∙ ap (λ (w : Wraps). contiguous_of t.args.sound.now t.track_of-track.result v.moving-1 w r.at) c.wraps_after-wraps.ensures)
+
+passed-plays : (c : After-contiguous_at) (m : ℕ) → m ≡ 2 * length (lent c).rate
+    → (let t = c in
+    let v = t.args.voice in
+    let r = c.scan_held-reached.result in
+    Playable t.args.sound.now (moved v r.fractional_position c.contiguous_at.result) t.args.dt (lent c.before.before.before.before.before.before.before.before.before.before.before.before.before.before.before) m)
+passed-plays c m eq =
+    let st = c in
+    record {
+      well_formed = subst WellFormed (sym (passed_is c)) (heard c).well_formed;
+      lent = st.requires.lent;
+      sized = st.requires.sized;
+      long = eq;
+      is_time_step = st.requires.is_time_step;
+      near = st.requires.near;
+    }
+
+-- ---- numbers
+
+sum_fits : (a b i n m : ℕ) → a ≤ 257 * i → b ≤ 257 * (m - i) → i ≤ n → m ≡ n → n ≤ 4096 → a + b < 2 ^ 64
+sum_fits a b i n m h k l e f = omega arith
+
+few-steps : (a i n : ℕ) → a ≤ 257 * i → i ≤ n → n ≤ 4096 → a < 4294967296
+few-steps a i n h l m = omega arith
+
+twice_in : (i n m o : ℕ) → i ≤ n → o ≡ 2 * m → m ≡ n → 2 * i ≤ o
+twice_in i n m o h e f = omega arith
+
+at_most : (i n : ℕ) → i ≤ n → n ≤ 4096 → i ≤ 4096
+at_most i n h l = omega arith
+
+as_many : (o m n : ℕ) → o ≡ 2 * m → m ≡ n → o / 2 ≡ n
+as_many o m n e f = omega arith
+
+-- ---- the needs
+pub slice-slice-requires : goal.slice-slice-requires
+slice-slice-requires : goal.slice-slice-requires
+slice-slice-requires c κs = search rules
+
+pub is_contiguous-requires : goal.is_contiguous-requires
+is_contiguous-requires c =
+    record { inside_sound = (tracked c).lies; frames_len = c.requires.well_formed.window.four }
+
+pub scan_held-reached-requires : goal.scan_held-reached-requires
+scan_held-reached-requires c =
+    let t = c.before.before.before.before.before in
+    let st = t in
+    let a = st.args in
+    let e = contiguous (goal.at.scan_held-reached-requires c).Else-not-is_contiguous in
+    (scannable a.sound.now a.dt (lent (goal.at.scan_held-reached-requires c).After-track_of-track) a.voice t.track_of-track.result (tracked (goal.at.scan_held-reached-requires c).After-track_of-track) e st.pre, scan_begins a.sound.now a.dt (lent (goal.at.scan_held-reached-requires c).After-track_of-track) a.voice t.track_of-track.result (tracked (goal.at.scan_held-reached-requires c).After-track_of-track) e st.pre a.out-1.now st.requires.long)
+
+pub once-requires : goal.once-requires
+once-requires c =
+    let r = c.before.before.before in
+    let t = c.before.before.before.before.before.before.before.before.before in
+    let x = t.args.held in
+    let e = length-replicate (frames (goal.at.once_requires c).After-track_of-track) x.rate in
+    let w = subst (λ (n : ℕ). r.scan_held-reached.result.next ≤ n) e r.scan_held-reached.ensures.within in
+    record { n_in_bounds = twice_in _ _ _ _ w r.scan_held-reached.ensures.as_long e; n_bound = at_most _ _ w (few_frames (goal.at.once_requires c).After-track_of-track) }
+
+pub wraps_after-wraps-requires : goal.wraps_after-wraps-requires
+wraps_after-wraps-requires c =
+    let o = c.before.before in
+    let r = o.scan_held-reached.ensures in
+    (position_on _ _ _ (contiguous (goal.at.wraps_after-wraps-requires c).Else-not-is_contiguous), few-steps _ _ _ r.few (inside (goal.at.wraps_after-wraps-requires c).After-once) (few_frames (goal.at.wraps_after-wraps-requires c).After-track_of-track))
+
+pub contiguous_at-requires : goal.contiguous_at-requires
+contiguous_at-requires c =
+    record { inside_sound = (let o = c.before.before.before in ((tracked o).lies, o.scan_held-reached.ensures.on)).0; on = (let o = c.before.before.before in ((tracked o).lies, o.scan_held-reached.ensures.on)).1 }
+
+pub shape_of-out-then-reached-frames : goal.shape_of-out-then-reached-frames
+shape_of-out-then-reached-frames c = let o = c.before.before.before in (heard o).as_long ∙ sym o.requires.long
+
+pub returns-then-reached-frames : goal.returns-then-reached-frames
+returns-then-reached-frames c =
+    let p = c.before.before.before in
+    let o = p in
+    let t = o in
+    let a = t.args in
+    reached_whole a.sound.now a.dt (lent (goal.at.returns_then_reached_frames c).After-track_of-track) a.voice _ t.track_of-track.result o.scan_held-reached.result o.once.last.1.1.0 (passed-plays (goal.at.returns_then_reached_frames c).After-contiguous_at _ (heard o).as_long) (heard (goal.at.returns_then_reached_frames c).After-once) (passed_is (goal.at.returns_then_reached_frames c).After-contiguous_at)
+    (c.if-reached-frames.true ∙ sym (length-replicate (frames (goal.at.returns_then_reached_frames c).After-track_of-track) a.held.rate))
+
+pub play_rest-played-requires : goal.play_rest-played-requires
+play_rest-played-requires c =
+    let p = c.before.before.before.before in
+    let o = p in
+    let t = o in
+    let a = t.args in
+    let e = as_many _ _ _ (heard o).as_long (length-replicate (frames (goal.at.play_rest-played-requires c).After-track_of-track) a.held.rate) in
+    (subst (λ (n : ℕ). Playable a.sound.now (passed (goal.at.play_rest-played-requires c).After-contiguous_at) a.dt (held_lanes a.held n) (length o.once.last.1.1.0)) (sym e) (passed-plays (goal.at.play_rest-played-requires c).After-contiguous_at _ (heard o).as_long), subst (λ (n : ℕ). o.scan_held-reached.result.next ≤ n) (sym e) (inside (goal.at.play_rest-played-requires c).After-once))
+
+pub overflow_add-steps : goal.overflow_add-steps
+overflow_add-steps c =
+    let q = c.play_rest-played in
+    let p = c.before.before.before.before.before.before.before.before.before.before in
+    let o = p in
+    let t = o in
+    let a = t.args in
+    let h = heard (goal.at.overflow_add-steps c).After-once in
+    let e = as_many _ _ _ h.as_long (length-replicate (frames (goal.at.overflow_add-steps c).After-track_of-track) a.held.rate) in
+    let rest = q.ensures ∙ ap (λ (n : ℕ). played_from a.sound.now a.dt (held_lanes a.held n) o.scan_held-reached.result.next (passed (goal.at.overflow_add-steps c).After-contiguous_at) o.once.last.1.1.0) e in
+    let f = from_few a.sound.now _ a.dt (lent (goal.at.overflow_add-steps c).After-track_of-track) o.once.last.1.1.0 (passed-plays (goal.at.overflow_add-steps c).After-contiguous_at _ h.as_long) o.scan_held-reached.result.next q.result _ rest in
+    record { fits = sum_fits _ _ _ _ _ h.few f (inside (goal.at.overflow_add-steps c).After-once) (length-replicate (frames (goal.at.overflow_add-steps c).After-track_of-track) a.held.rate) (few_frames (goal.at.overflow_add-steps c).After-track_of-track) }
+
+pub shape_of-out : goal.shape_of-out
+shape_of-out c =
+    let q = c.play_rest-played in
+    let p = c.before.before.before.before.before.before.before.before.before.before in
+    let o = p in
+    let t = o in
+    let a = t.args in
+    let h = heard (goal.at.shape_of-out c).After-once in
+    let e = as_many _ _ _ h.as_long (length-replicate (frames (goal.at.shape_of-out c).After-track_of-track) a.held.rate) in
+    let rest = q.ensures ∙ ap (λ (n : ℕ). played_from a.sound.now a.dt (held_lanes a.held n) o.scan_held-reached.result.next (passed (goal.at.shape_of-out c).After-contiguous_at) o.once.last.1.1.0) e in
+    from_long a.sound.now _ a.dt (lent (goal.at.shape_of-out c).After-track_of-track) o.once.last.1.1.0 (passed-plays (goal.at.shape_of-out c).After-contiguous_at _ h.as_long) o.scan_held-reached.result.next q.result _ h.within rest ∙ (h.as_long ∙ sym t.requires.long)
+
+pub returns : goal.returns
+returns c =
+    let q = c.play_rest-played in
+    let p = c.before.before.before.before.before.before.before.before.before.before in
+    let o = p in
+    let t = o in
+    let a = t.args in
+    let h = heard (goal.at.returns c).After-once in
+    let e = as_many _ _ _ h.as_long (length-replicate (frames (goal.at.returns c).After-track_of-track) a.held.rate) in
+    let rest = q.ensures ∙ ap (λ (n : ℕ). played_from a.sound.now a.dt (held_lanes a.held n) o.scan_held-reached.result.next (passed (goal.at.returns c).After-contiguous_at) o.once.last.1.1.0) e in
+    reached_on a.sound.now a.dt (lent (goal.at.returns c).After-track_of-track) a.voice _ t.track_of-track.result o.scan_held-reached.result q.result o.once.last.1.1.0 _ h (passed_is (goal.at.returns c).After-contiguous_at) rest

@@ -1,0 +1,140 @@
+-- `play` scans where the window is contiguous, and plays the other frames, if any, one by one.
+use Prim.Native.Nat.{ℕ, ◌+◌, ◌-◌, ◌*◌, ◌^◌, ◌≤◌, ◌<◌}
+use mathlib.Core.Path.{◌≡◌, sym, ap, ◌∙◌, subst}
+use native.Mathlib.Omega.{arith}
+use lib.ListN.{length}
+use Rattle.sound_lanes.specs.Lanes.{Lanes, lanes_now}
+use Rattle.sound_lanes.proofs.Rows.{sized_parts}
+use Rattle.sound_update.specs.declared.Wraps.{Wraps}
+use Rattle.sound_state.specs.Voices.{slice_of, moved}
+use Rattle.sound_state.specs.WellFormed.{WellFormed}
+use Rattle.sound_track.specs.Tracks.{track_of}
+use Rattle.sound_track.specs.Contiguous.{InsideSound, contiguous_of, Contiguous}
+use Rattle.sound_track.proofs.Same.{not_false}
+use Rattle.sound_slow_path.specs.FrameSteps.{Playable}
+use Rattle.sound_fast_path.specs.Scans.{Tracked, scanned_to}
+use Rattle.sound_fast_path.proofs.Scans.{position_on, Heard, heard_of, scannable, scan_begins}
+use Rattle.sound_fast_path.proofs.Joins.{lies_of, from_few, from_long, reached_on, reached_whole}
+use borrow.Author.Rules.{rules}
+use Rattle.sound_fast_path.proofs.play.Goals.{After-by_frame, After-contiguous_at, After-track_of-track, Else-not-is_contiguous}
+use Rattle.sound_fast_path.proofs.play.Goals as goal
+
+abbrev lent : After-track_of-track → Lanes
+lent c = let a = c.args in lanes_now a.fade a.volume a.left a.right a.rate
+
+-- the track is the voice's
+track-is : (c : After-track_of-track) → (let v = c.args.voice in c.track_of-track.result ≡ track_of v.moving-1.transport.loop_region (slice_of v))
+track-is c = let v = c.args.voice in c.track_of-track.ensures ∙ ap (track_of v.moving-1.transport.loop_region) c.slice-slice.ensures
+
+tracked : (c : After-track_of-track) → Tracked c.args.sound.now c.args.voice c.track_of-track.result
+tracked c =
+    let st = c in
+    let v = st.args.voice in
+    record { is = track-is c; lies = subst (InsideSound st.args.sound.now) (sym (track-is c)) (lies_of st.args.sound.now v st.requires.well_formed st.requires.lent) }
+
+sum_fits : (a b i n : ℕ) → a ≤ 257 * i → b ≤ 257 * (n - i) → i ≤ n → n ≤ 4096 → a + b < 2 ^ 64
+sum_fits a b i n h k l m = omega arith
+
+few-steps : (a i n : ℕ) → a ≤ 257 * i → i ≤ n → n ≤ 4096 → a < 4294967296
+few-steps a i n h l m = omega arith
+
+-- the window is the voice's contiguous window
+contiguous : (c : Else-not-is_contiguous) → Contiguous c.args.sound.now c.track_of-track.result c.args.voice.moving
+contiguous c = c.is_contiguous.ensures.1 (not_false _ c.if-not-is_contiguous.false)
+
+-- the frames after the gains are applied
+heard : (c : After-by_frame)
+    → (let t = c.before.before.before.before.before.before.before.before.before.before in
+    let a = t.args in
+    Heard a.sound.now a.dt (lent c.before.before.before.before.before.before.before.before.before.before) a.voice t.track_of-track.result c.scan-reached.result c.by_frame.new.1.1.1.1.1.0)
+heard c =
+    let t = c.before.before.before.before.before.before.before.before.before.before in
+    let st = t in
+    let a = st.args in
+    let r = c.scan-reached in
+    heard_of a.sound.now a.dt (lent c.before.before.before.before.before.before.before.before.before.before) a.voice t.track_of-track.result (tracked c.before.before.before.before.before.before.before.before.before.before) (contiguous c.before.before.before.before.before.before.before.before) st.pre r.result r.new.1.1.1.0 c.by_frame.new.1.1.1.1.1.0 r.ensures c.by_frame.ensures
+
+passed_is : (c : After-contiguous_at)
+    → (let t = c in
+    let v = t.args.voice in
+    let r = c.scan-reached.result in
+    moved v r.fractional_position c.contiguous_at.result ≡ moved v r.fractional_position (scanned_to t.args.sound.now t.track_of-track.result v r.steps r.at))
+passed_is c =
+    let t = c in
+    let v = t.args.voice in
+    let r = c.scan-reached.result in
+    ap (moved v r.fractional_position) (c.contiguous_at.ensures ∙ ap (λ (w : Wraps). contiguous_of t.args.sound.now t.track_of-track.result v.moving-1 w r.at) c.wraps_after-wraps.ensures)
+
+passed-plays : (c : After-contiguous_at) (m : ℕ) → m ≡ 2 * length (lent c).rate
+    → (let t = c in
+    let v = t.args.voice in
+    let r = c.scan-reached.result in
+    Playable t.args.sound.now (moved v r.fractional_position c.contiguous_at.result) t.args.dt (lent c.before.before.before.before.before.before.before.before.before.before.before.before.before.before.before) m)
+passed-plays c m eq =
+    let st = c in
+    record {
+      well_formed = subst WellFormed (sym (passed_is c)) (heard c.before.before.before.before).well_formed;
+      lent = st.requires.lent;
+      sized = st.requires.sized;
+      long = eq;
+      is_time_step = st.requires.is_time_step;
+      near = st.requires.near;
+    }
+
+fits_in : (i n m : ℕ) → i ≤ n → m ≡ n → i ≤ m
+fits_in i n m h e = omega arith
+
+twice : (i n m : ℕ) → i ≤ n → m ≡ 2 * n → 2 * i ≤ m
+twice i n m h e = omega arith
+
+at_most : (i n : ℕ) → i ≤ n → n ≤ 4096 → i ≤ 4096
+at_most i n h l = omega arith
+
+pub is_contiguous-requires : goal.is_contiguous-requires
+is_contiguous-requires c =
+    record { inside_sound = (tracked c).lies; frames_len = c.requires.well_formed.window.four }
+
+pub scan-reached-requires : goal.scan-reached-requires
+scan-reached-requires c =
+    let a = c.args in
+    (scannable a.sound.now a.dt (lent (goal.at.scan_reached_requires c).After-track_of-track) a.voice c.track_of-track.result (tracked (goal.at.scan_reached_requires c).After-track_of-track) (contiguous (goal.at.scan_reached_requires c).Else-not-is_contiguous) c.pre, scan_begins a.sound.now a.dt (lent (goal.at.scan_reached_requires c).After-track_of-track) a.voice c.track_of-track.result (tracked (goal.at.scan_reached_requires c).After-track_of-track) (contiguous (goal.at.scan_reached_requires c).Else-not-is_contiguous) c.pre a.out-1.now c.requires.long)
+
+pub by_frame-requires : goal.by_frame-requires
+by_frame-requires c =
+    let z = sized_parts (lent (goal.at.by_frame-requires c).After-track_of-track) c.requires.sized in
+    let w = c.scan-reached.ensures.within in
+    record { n_in_bounds = fits_in _ _ _ w z.fade; n_in_bounds_2 = fits_in _ _ _ w z.volume; n_in_bounds_3 = fits_in _ _ _ w z.left; n_in_bounds_4 = fits_in _ _ _ w z.right; n_in_bounds_5 = twice _ _ _ w c.scan-reached.ensures.as_long; n_bound = at_most _ _ w z.most }
+
+pub wraps_after-wraps-requires : goal.wraps_after-wraps-requires
+wraps_after-wraps-requires c = (position_on _ _ _ (contiguous (goal.at.wraps_after-wraps-requires c).Else-not-is_contiguous), few-steps _ _ _ c.scan-reached.ensures.few c.scan-reached.ensures.within (sized_parts (lent (goal.at.wraps_after-wraps-requires c).After-track_of-track) c.requires.sized).most)
+
+pub contiguous_at-requires : goal.contiguous_at-requires
+contiguous_at-requires c =
+    record { inside_sound = (tracked c.before.before.before.before.before.before.before.before.before.before.before.before.before).lies; on = c.scan-reached.ensures.on }
+
+pub shape_of-out-then-reached-rate : goal.shape_of-out-then-reached-rate
+shape_of-out-then-reached-rate c = (heard c.before.before.before.before.before.before.before).as_long ∙ sym c.requires.long
+
+pub returns-then-reached-rate : goal.returns-then-reached-rate
+returns-then-reached-rate c = reached_whole c.args.sound.now c.args.dt (lent (goal.at.returns_then_reached_rate c).After-track_of-track) c.args.voice _ c.track_of-track.result c.scan-reached.result c.by_frame.new.1.1.1.1.1.0 (passed-plays (goal.at.returns_then_reached_rate c).After-contiguous_at _ (heard c.before.before.before.before.before.before.before).as_long) (heard (goal.at.returns_then_reached_rate c).After-by_frame) (passed_is (goal.at.returns_then_reached_rate c).After-contiguous_at) c.if-reached-rate.true
+
+pub play_from-played-requires : goal.play_from-played-requires
+play_from-played-requires c = (passed-plays (goal.at.play_from-played-requires c).After-contiguous_at _ (heard c.before.before.before.before.before.before.before.before).as_long, c.scan-reached.ensures.within)
+
+pub overflow_add-steps : goal.overflow_add-steps
+overflow_add-steps c =
+    let q = c.play_from-played in
+    let h = (heard (goal.at.overflow_add-steps c).After-by_frame) in
+    let f = from_few c.args.sound.now _ c.args.dt (lent (goal.at.overflow_add-steps c).After-track_of-track) c.by_frame.new.1.1.1.1.1.0 (passed-plays (goal.at.overflow_add-steps c).After-contiguous_at _ h.as_long) c.scan-reached.result.next q.result _ q.ensures in
+    record { fits = sum_fits _ _ _ _ h.few f h.within (sized_parts (lent (goal.at.overflow_add-steps c).After-track_of-track) c.requires.sized).most }
+
+pub shape_of-out : goal.shape_of-out
+shape_of-out c =
+    let q = c.play_from-played in
+    let h = (heard (goal.at.shape_of-out c).After-by_frame) in
+    from_long c.args.sound.now _ c.args.dt (lent (goal.at.shape_of-out c).After-track_of-track) c.by_frame.new.1.1.1.1.1.0 (passed-plays (goal.at.shape_of-out c).After-contiguous_at _ h.as_long) c.scan-reached.result.next q.result _ h.within q.ensures ∙ (h.as_long ∙ sym c.requires.long)
+
+pub returns : goal.returns
+returns c =
+    let q = c.play_from-played in
+    reached_on c.args.sound.now c.args.dt (lent (goal.at.returns c).After-track_of-track) c.args.voice _ c.track_of-track.result c.scan-reached.result q.result c.by_frame.new.1.1.1.1.1.0 _ (heard (goal.at.returns c).After-by_frame) (passed_is (goal.at.returns c).After-contiguous_at) q.ensures

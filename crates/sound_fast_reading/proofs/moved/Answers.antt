@@ -1,0 +1,18 @@
+-- `moved` makes the steps of a rate's advance.
+use mathlib.Core.Path.{subst}
+use lib.Ieee.{Float}
+use borrow.Author.Rules.{rules}
+use Rattle.sound_fast_reading.specs.Moves.{Move}
+use Rattle.sound_fast_reading.proofs.Moves.{slow_advance}
+use Rattle.sound_fast_reading.proofs.moved.Goals as goal
+
+pub advance_of-requires : goal.advance_of-requires
+advance_of-requires c =
+    record { t = c.requires.t_2; t_2 = c.requires.t_3 }
+
+pub stepped_by-requires : goal.stepped_by-requires
+stepped_by-requires c =
+    record { t = (let a = c.args in (c.requires.t, slow_advance a.sample-rate a.dt a.rate _ c.advance_of.ensures c.requires.t_2 c.requires.t_3)).0; slow = (let a = c.args in (c.requires.t, slow_advance a.sample-rate a.dt a.rate _ c.advance_of.ensures c.requires.t_2 c.requires.t_3)).1 }
+
+pub returns : goal.returns
+returns c = subst (λ (a : Float). Move c.args.fractional_position a c.stepped_by.result) c.advance_of.ensures c.stepped_by.ensures

@@ -1,0 +1,11 @@
+-- `stepped_by` makes few steps, and leaves a fraction.
+use borrow.Author.Rules.{rules}
+use Rattle.sound_fast_reading.proofs.Moves.{stepped_move}
+use Rattle.sound_fast_reading.proofs.stepped_by.Goals as goal
+
+pub advance_by-requires : goal.advance_by-requires
+advance_by-requires c =
+    record { t = c.requires.t; t_2 = c.requires.slow.finite_clear; t_3 = c.requires.slow.most }
+
+pub returns : goal.returns
+returns c = stepped_move _ _ c.requires.t c.requires.slow _ c.advance_by.ensures

@@ -1,0 +1,16 @@
+-- `straight_on` reads four frames per iteration at consecutive positions. The invariant: the scan so far, and room for the window.
+use Prim.Native.Nat.{◌-◌}
+use mathlib.Core.Path.{refl, sym, ◌∙◌}
+use native.Mathlib.Omega.{arith}
+use lib.ListN.{length}
+use Rattle.sound_fast_straight.proofs.FourFrames.{small, deep, below, less, fits1, fits2, fits3, fits4}
+use Rattle.sound_fast_straight.proofs.StraightOn.{Going, Numbers, begun, numbers_of, going_on, tall, high4, reads0, reads1, reads2, reads3}
+use Rattle.sound_fast_straight.proofs.forward.straight_on.Given as goal
+
+abbrev pub invariant-loop-i : goal.invariant-loop-i
+invariant-loop-i l =
+    Going l.sound l.way l.rate l.from l.out-1 l.p l.fractional_position l.i
+
+abbrev pub decreases-loop-i : goal.decreases-loop-i
+decreases-loop-i l =
+    length l.rate - l.i

@@ -1,0 +1,20 @@
+-- `by_frame` scales one frame per iteration. The invariant: the frames so far are scaled, and the rest is unchanged.
+use Prim.Native.Nat.{ℕ, ◌+◌, ◌-◌, ◌*◌, ◌≤◌, ◌<◌}
+use mathlib.Core.Path.{◌≡◌, refl, ap, ◌∙◌}
+use mathlib.Core.List.{List}
+use native.Mathlib.Omega.{arith}
+use lib.ListN.{length}
+use lib.Ieee.{Float}
+use Rattle.sound_gains.specs.Gained.{gained}
+use Rattle.sound_gains.proofs.Gained.{gained_one, gained_length, unread}
+use Rattle.sound_gains.proofs.by_frame.Given as goal
+
+pub record Sofar (fade volume left right : List Float) (n : ℕ) (out₀ out : List Float) (i : ℕ) : Type 0 where
+  pub within : i ≤ n
+  pub so_far_lem : out ≡ gained fade volume left right i out₀
+
+abbrev pub invariant-loop-i : goal.invariant-loop-i
+invariant-loop-i l = Sofar l.fade l.volume l.left l.right l.n l.initial.out l.out-1 l.i
+
+abbrev pub decreases-loop-i : goal.decreases-loop-i
+decreases-loop-i l = l.n - l.i

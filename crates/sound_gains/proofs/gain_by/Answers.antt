@@ -1,0 +1,11 @@
+-- `gain_by` scales one frame and writes it.
+use mathlib.Core.Path.{◌≡◌, ap, ◌∙◌}
+use mathlib.Core.List.{List}
+use Prim.Native.Nat.{ℕ, ◌+◌, ◌*◌}
+use lib.ListN.{set}
+use borrow.Author.Rules.{rules}
+use Rattle.frame.specs.declared.Frame.{Frame}
+use Rattle.sound_gains.proofs.gain_by.Goals as goal
+
+pub returns : goal.returns
+returns c = c.store.ensures ∙ ap (λ (x : Frame). let a = c.args in set (set a.out-1.now (2 * a.i) x.left) (2 * a.i + 1) x.right) c.scale-x.ensures

@@ -1,0 +1,20 @@
+-- `are_slow`: one rate is tested once (`all_once`). The loop's invariant: `ok` is the test over the rates so far. Assumes nothing.
+use Prim.Native.Nat.{ℕ, ◌-◌, ◌≤◌}
+use mathlib.Core.Path.{◌≡◌, refl, sym, ap, ◌∙◌}
+use mathlib.Core.Bool.{Bool}
+use mathlib.Core.List.{List}
+use native.Mathlib.Omega.{arith}
+use lib.ListN.{length, take, get_or}
+use lib.Ieee.{Float, nan}
+use borrow.Author.Rules.{rules}
+use Rattle.numbers.specs.Lists.{all}
+use Rattle.numbers.proofs.Equal.{all_once}
+use Rattle.sound_lanes.specs.Lanes.{slow}
+use Rattle.sound_lanes.proofs.Gathered.{all_turn, all_end}
+use Rattle.sound_lanes.proofs.are_slow.Given as goal
+
+abbrev pub invariant-loop-i : goal.invariant-loop-i
+invariant-loop-i l = (l.i ≤ length l.rate) × (l.ok ≡ all (slow l.sample_rate l.dt) (take l.i l.rate))
+
+abbrev pub decreases-loop-i : goal.decreases-loop-i
+decreases-loop-i l = length l.rate - l.i

@@ -1,0 +1,15 @@
+-- `is_constant_rate` compares every rate with the first, which is not 0. The invariant: if all so far were equal, each is the first.
+use Prim.Native.Nat.{ℕ, ◌+◌, ◌-◌, ◌≤◌, ◌<◌}
+use mathlib.Core.Path.{◌≡◌}
+use mathlib.Core.Bool.{true, false≢true}
+use native.Mathlib.Omega.{arith}
+use lib.ListN.{length, get_or}
+use lib.Ieee.{nan, of_bits}
+use Rattle.numbers.proofs.Equal.{same_more, same_list}
+use Rattle.sound_lanes.proofs.is_constant_rate.Given as goal
+
+abbrev pub invariant-loop-i : goal.invariant-loop-i
+invariant-loop-i l = (l.i ≤ length l.rate) × (l.same ≡ true → (j : ℕ) → j < l.i → get_or l.rate j nan ≡ get_or l.rate 0 nan)
+
+abbrev pub decreases-loop-i : goal.decreases-loop-i
+decreases-loop-i l = length l.rate - l.i

@@ -1,0 +1,57 @@
+-- `sound_lanes::judge` meets its contract: the lanes' own tests decide, by `judged_lanes`. Assumes nothing.
+use Prim.Native.Nat.{ℕ}
+use mathlib.Core.Path.{◌≡◌, refl, sym, ap, ◌∙◌}
+use mathlib.Core.Bool.{Bool, true, false, cond}
+use borrow.Author.Rules.{rules}
+use borrow.Author.Tests.{not_true, not_false}
+use Rattle.numbers.specs.Words.{finite}
+use Rattle.numbers.specs.Lists.{all}
+use Rattle.sound_lanes.specs.Lanes.{Lanes, lanes_now, judged, slow, four_finite_clear}
+use Rattle.sound_lanes.proofs.Rows.{Sized, sized_parts, judged_lanes}
+use Rattle.sound_lanes.proofs.judge.Goals.{Else-are_slow, Else-not-four_finite_clear, Start}
+use Rattle.sound_lanes.proofs.judge.Goals as goal
+
+abbrev given : Start → Lanes
+given st = let a = st.args in lanes_now a.fade a.volume a.left a.right a.rate
+
+abbrev levels : Start → Bool
+levels st = let b = given st in four_finite_clear b.fade b.volume b.left b.right
+
+abbrev slows : Start → Bool
+slows st = all (slow st.args.«sample-rate» st.args.dt) (given st).rate
+
+-- the result, by the results of the passes
+answer : (st : Start) (a s f : Bool) → levels st ≡ a → slows st ≡ s → all finite (given st).rate ≡ f
+    → ◌≡◌ {A = ℕ} (cond a (cond s 0 (cond f 12 11)) 11) (judged st.args.«sample-rate» st.args.dt (given st))
+answer st a s f p q r =
+    sym
+    (judged_lanes st.args.«sample-rate» st.args.dt (given st) st.requires.t_2 st.requires.t
+    ∙ ap (λ (x : Bool). cond x (cond (slows st) 0 (cond (all finite (given st).rate) 12 11)) 11) p
+    ∙ ap (λ (x : Bool). cond a (cond x 0 (cond (all finite (given st).rate) 12 11)) 11) q
+    ∙ ap (λ (x : Bool). cond a (cond s 0 (cond x 12 11)) 11) r)
+
+pub four_finite_clear-requires : goal.four_finite_clear-requires
+four_finite_clear-requires c =
+    let st = c.before.before.before.before.before in
+    let p : Sized (given (goal.at.four_finite_clear-requires c).Start) = sized_parts (given (goal.at.four_finite_clear-requires c).Start) st.requires.t in
+    record { volume_len = p.volume ∙ sym p.fade; left_len = p.left ∙ sym p.fade; right_len = p.right ∙ sym p.fade }
+
+pub returns-then-not-four_finite_clear : goal.returns-then-not-four_finite_clear
+returns-then-not-four_finite_clear c = answer (goal.at.returns-then-not-four_finite_clear c).Start false _ _ (sym c.«four-finite-clear».ensures ∙ not_true _ c.if-not-four_finite_clear.true) refl refl
+
+-- what is known after the first pass
+finite-clear-all : (c : Else-not-four_finite_clear) → levels c.before.before.before.before.before.before.before ≡ true
+finite-clear-all c = sym c.«four-finite-clear».ensures ∙ not_false _ c.if-not-four_finite_clear.false
+
+pub returns-then-are_slow : goal.returns-then-are_slow
+returns-then-are_slow c = let d = c.before.before in answer (goal.at.returns-then-are_slow c).Start true true _ (finite-clear-all (goal.at.returns-then-are_slow c).Else-not-four_finite_clear) (sym c.«are-slow».ensures ∙ c.if-are_slow.true) refl
+
+-- and after the second
+not-slow : (c : Else-are_slow) → slows c.before.before.before.before.before.before.before.before.before ≡ false
+not-slow c = sym c.«are-slow».ensures ∙ c.if-are_slow.false
+
+pub returns-then-all_finite : goal.returns-then-all_finite
+returns-then-all_finite c = let d = c.before.before in answer (goal.at.returns-then-all_finite c).Start true false true (finite-clear-all (goal.at.returns-then-all_finite c).Else-not-four_finite_clear) (not-slow (goal.at.returns-then-all_finite c).Else-are_slow) (sym c.«all-finite».ensures ∙ c.if-all_finite.true)
+
+pub returns-else-all_finite : goal.returns-else-all_finite
+returns-else-all_finite c = let d = c.before.before in answer (goal.at.returns-else-all_finite c).Start true false false (finite-clear-all (goal.at.returns-else-all_finite c).Else-not-four_finite_clear) (not-slow (goal.at.returns-else-all_finite c).Else-are_slow) (sym c.«all-finite».ensures ∙ c.if-all_finite.false)

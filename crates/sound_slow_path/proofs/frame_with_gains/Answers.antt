@@ -1,0 +1,11 @@
+-- `frame_with_gains` returns the reading times its gains.
+use borrow.Author.Rules.{rules}
+use Rattle.resampler.specs.Windows.{reading}
+use Rattle.sound_slow_path.specs.FrameSteps.{frame_at}
+use Rattle.sound_slow_path.proofs.frame_with_gains.Goals as goal
+
+pub returns : goal.returns
+unfolding frame_at reading
+returns c =
+    let g = c.before.before.before.before.before.before.before in
+    simp (g.get-read.ensures, g.narrow.ensures)

@@ -1,0 +1,15 @@
+-- `Setup::num_frames` meets its contract: by whether there is a slice. One that ends before it starts has no frames.
+use mathlib.Core.Path.{◌≡◌}
+use Prim.Native.Nat.{ℕ, ◌-◌, ◌<◌}
+use native.Mathlib.Omega.{arith}
+use borrow.Author.Rules.{rules}
+use Rattle.sound_state.proofs.Setup.num_frames.Goals as goal
+
+none : (s e : ℕ) → e < s → 0 ≡ e - s
+none s e h = omega arith
+
+pub returns-then-start-end : goal.returns-then-start-end
+returns-then-start-end c = rw c.slice-1.given.1
+
+pub returns-else-start-end : goal.returns-else-start-end
+returns-else-start-end c = rw c.slice-1.given.1 (none _ _ c.if-start-end.false)

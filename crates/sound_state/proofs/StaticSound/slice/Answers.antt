@@ -1,0 +1,6 @@
+-- `StaticSound::slice` meets its contract: field by field.
+use borrow.Author.Rules.{rules}
+use Rattle.sound_state.proofs.StaticSound.slice.Goals as goal
+
+pub returns : goal.returns
+returns c = rw (c.start.ensures, c.num_frames.ensures, c.is_playing_backwards.ensures)

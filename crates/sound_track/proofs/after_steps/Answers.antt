@@ -1,0 +1,34 @@
+-- `after_steps` makes n steps at once: by a sum, with one wrap, or by a remainder.
+use mathlib.Core.Path.{sym}
+use native.Mathlib.Omega.{arith}
+use Prim.Native.Nat.{◌+◌, ◌-◌}
+use Rattle.sound_track.proofs.Tracks.{nexts_ends, round_rest, forth_on, forth_once, forth_over}
+use borrow.Author.Rules.{rules}
+use Rattle.sound_track.proofs.after_steps.Reads as reads
+use Rattle.sound_track.proofs.after_steps.Lts as lts
+use Rattle.sound_track.proofs.after_steps.Goals as goal
+
+pub returns-then-on-track : goal.returns-then-on-track
+returns-then-on-track c =
+    let st = c.before.before in
+    let a = st.args in
+    nexts_ends a.n a.track a.at st.requires.on _ (sym (forth_on a.n a.track a.at st.requires.on st.requires.backwards_value c.if-on-track.true).0)
+
+pub returns-then-over-round : goal.returns-then-over-round
+returns-then-over-round c =
+    let st = c.before.before.before.before.before.before in
+    let a = st.args in
+    nexts_ends a.n a.track a.at st.requires.on _ (forth_once a.n a.track a.at st.requires.on st.requires.backwards_value (omega arith) (omega arith))
+
+pub overflow_add-result-2 : goal.overflow_add-result-2
+overflow_add-result-2 c =
+    let st = c.before.before.before.before.before.before in
+    let a = st.args in
+    let m = round_rest (a.at + a.n - a.track.high) a.track st.requires.on.some in
+    record { fits = omega (arith, m) }
+
+pub returns : goal.returns
+returns c =
+    let st = c.before.before.before.before.before.before in
+    let a = st.args in
+    record { value = (nexts_ends a.n a.track a.at st.requires.on _ (sym (forth_over a.n a.track a.at st.requires.on st.requires.backwards_value (omega arith)).0)).0; on_2 = (nexts_ends a.n a.track a.at st.requires.on _ (sym (forth_over a.n a.track a.at st.requires.on st.requires.backwards_value (omega arith)).0)).1 }

@@ -1,0 +1,34 @@
+-- `before_steps` makes n steps at once: by a difference, with one wrap, or by a remainder.
+use mathlib.Core.Path.{sym}
+use native.Mathlib.Omega.{arith}
+use Prim.Native.Nat.{◌+◌, ◌-◌}
+use Rattle.sound_track.proofs.Tracks.{nexts_ends, round_rest, back_on, back_once, back_over}
+use borrow.Author.Rules.{rules}
+use Rattle.sound_track.proofs.before_steps.Reads as reads
+use Rattle.sound_track.proofs.before_steps.Lts as lts
+use Rattle.sound_track.proofs.before_steps.Goals as goal
+
+pub returns-then-down-at : goal.returns-then-down-at
+returns-then-down-at c =
+    let st = c.before.before in
+    let a = st.args in
+    nexts_ends a.n a.track a.at st.requires.on _ (sym (back_on a.n a.track a.at st.requires.on st.requires.backwards_value c.if-down-at.true).0)
+
+pub returns-then-short-round : goal.returns-then-short-round
+returns-then-short-round c =
+    let st = c.before.before.before.before.before in
+    let a = st.args in
+    nexts_ends a.n a.track a.at st.requires.on _ (back_once a.n a.track a.at st.requires.on st.requires.backwards_value (omega arith) (omega arith))
+
+pub overflow_sub-result-3 : goal.overflow_sub-result-3
+overflow_sub-result-3 c =
+    let st = c.before.before.before.before.before in
+    let a = st.args in
+    let m = round_rest (a.track.low + a.n - a.at - 1) a.track st.requires.on.some in
+    omega (arith, m)
+
+pub returns : goal.returns
+returns c =
+    let st = c.before.before.before.before.before in
+    let a = st.args in
+    record { value = (nexts_ends a.n a.track a.at st.requires.on _ (sym (back_over a.n a.track a.at st.requires.on st.requires.backwards_value (omega arith)).0)).0; on_2 = (nexts_ends a.n a.track a.at st.requires.on _ (sym (back_over a.n a.track a.at st.requires.on st.requires.backwards_value (omega arith)).0)).1 }

@@ -1,0 +1,15 @@
+-- `contiguous_at` assembles the contiguous window, position by position.
+use Rattle.sound_track.proofs.Contiguous.{contiguous_made}
+use borrow.Author.Rules.{rules}
+use Rattle.sound_track.proofs.contiguous_at.Reads as reads
+use Rattle.sound_track.proofs.contiguous_at.Lts as lts
+use Rattle.sound_track.proofs.entry_at.Reads as entry-at-reads
+use Rattle.sound_track.proofs.step.Reads as step_reads
+use Rattle.sound_track.proofs.contiguous_at.Goals as goal
+
+pub returns : goal.returns
+returns c =
+    let st = c.before.before.before.before.before.before.before.before.before.before in
+    let a = st.args in
+    contiguous_made a.sound.now a.track a.moving a.wraps a.at _ _ _ _ _ _ _ _ c.step-b.ensures.0 c.step-c.ensures.0 c.step-d.ensures.0 c.step.ensures.0
+    c.entry_at-ea.ensures c.entry_at-eb.ensures c.entry_at-ec.ensures c.entry_at-ed.ensures

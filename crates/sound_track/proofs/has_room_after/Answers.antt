@@ -1,0 +1,15 @@
+-- `has_room_after`: a loop has no end.
+use mathlib.Core.Path.{sym, ap, ap₂, ◌∙◌}
+use mathlib.Core.Bool.{Bool, true, false, false≢true, ◌&&◌, ◌||◌, cond}
+use lib.Dec.{leb, ltb, eqb}
+use Prim.Native.Nat.{◌+◌}
+use borrow.Author.Rules.{rules}
+use Rattle.sound_track.proofs.has_room_after.Reads as reads
+use Rattle.sound_track.proofs.has_room_after.Lts as lts
+use Rattle.sound_track.proofs.has_room_after.Goals as goal
+
+pub returns : goal.returns
+returns c =
+    let st = c.before.before in
+    let a = st.args in
+    ap (λ (b : Bool). a.track.looped || cond b (leb (a.track.low + 4 + a.n) a.at) (ltb (a.at + 4 + a.n) a.track.high)) (sym st.requires.backwards_value)

@@ -1,0 +1,87 @@
+-- `is_contiguous`: the moving part has the contiguous window from the first entry on, result by result.
+use mathlib.Core.Path.{sym, ap, ap₂, ◌∙◌}
+use Prim.Native.Nat.{ℕ}
+use mathlib.Core.Bool.{Bool, ◌&&◌, false≢true}
+use lib.Dec.{eqb}
+use lib.ListN.{length}
+use borrow.Author.Tests.{eqb-true}
+use Rattle.sound_update.specs.declared.Moving.{Moving}
+use Rattle.sound_track.specs.Contiguous.{first_index, same_window}
+use Rattle.numbers.proofs.Equal.{first_of, second_of}
+use Rattle.sound_track.proofs.Same.{not_true, not_false, no_playing, no_place, no_room, the_rest, contiguous, on_of}
+use borrow.Author.Rules.{rules}
+use Rattle.sound_track.proofs.is_contiguous.Reads as reads
+use Rattle.sound_track.proofs.is_contiguous.Lts as lts
+use Rattle.sound_track.proofs.has_room.Reads as has-room-reads
+use Rattle.sound_track.proofs.is_on.Reads as is-on-reads
+use Rattle.sound_track.proofs.is_same_window.Reads as is-same-window-reads
+use Rattle.sound_track.proofs.contiguous_at.Reads as contiguous-at-reads
+use Rattle.sound_track.proofs.is_contiguous.Goals as goal
+
+pub returns-then-not-transport : goal.returns-then-not-transport
+returns-then-not-transport c =
+    let st = c.before.before.before.before.before.before in
+    let snd = st.args.sound.now in
+    let k = st.args.track in
+    let m = st.args.moving in
+    (no_playing snd k m (not_true _ c.if-not-transport.true), λ e. absurd (false≢true e))
+
+pub returns-then-not-is_on : goal.returns-then-not-is_on
+returns-then-not-is_on c =
+    let st = c.before.before.before.before.before.before.before.before in
+    let snd = st.args.sound.now in
+    let k = st.args.track in
+    let m = st.args.moving in
+    (no_place snd k m (not_false _ c.if-not-transport.false) (sym c.is_on.ensures ∙ not_true _ c.if-not-is_on.true), λ e. absurd (false≢true e))
+
+pub has_room-requires : goal.has_room-requires
+has_room-requires c =
+    let st = c.before.before.before.before.before.before.before.before in
+    let snd = st.args.sound.now in
+    let k = st.args.track in
+    let m = st.args.moving in
+    on_of snd k (first_index m) st.requires.inside_sound (sym c.is_on.ensures ∙ not_false _ c.if-not-is_on.false)
+
+pub returns-then-not-has_room : goal.returns-then-not-has_room
+returns-then-not-has_room c =
+    let st = c.before.before.before.before.before.before.before.before.before.before in
+    let snd = st.args.sound.now in
+    let k = st.args.track in
+    let m = st.args.moving in
+    (no_room snd k m (not_false _ c.if-not-transport.false) (sym c.is_on.ensures ∙ not_false _ c.if-not-is_on.false) (sym c.has_room.ensures ∙ not_true _ c.if-not-has_room.true), λ e. absurd (false≢true e))
+
+pub contiguous_at-there-requires : goal.contiguous_at-there-requires
+contiguous_at-there-requires c =
+    let st = c.before.before.before.before.before.before.before.before.before.before in
+    let snd = st.args.sound.now in
+    let k = st.args.track in
+    let m = st.args.moving in
+    (st.requires.inside_sound, on_of snd k (first_index m) st.requires.inside_sound (sym c.is_on.ensures ∙ not_false _ c.if-not-is_on.false))
+
+pub is_same_window-requires : goal.is_same_window-requires
+is_same_window-requires c =
+    record { frames_len = c.requires.frames_len; frames_len_2 = ap (λ (m : Moving). length m.resampler.frames) c.contiguous_at-there.ensures }
+
+pub returns : goal.returns
+returns c =
+    let st = c.before.before.before.before.before.before.before.before.before.before.before.before.before.before.before.before in
+    let snd = st.args.sound.now in
+    let k = st.args.track in
+    let m = st.args.moving in
+    let e5 = c.before.before.before.before.before.before in
+    let there = c.contiguous_at-there.ensures in
+    let playing = not_false _ e5.if-not-transport.false in
+    let placed = sym e5.is_on.ensures ∙ not_false _ e5.if-not-is_on.false in
+    let room = sym e5.has_room.ensures ∙ not_false _ e5.if-not-has_room.false in
+    let at = ap (λ (m : Moving). m.transport-1.position) there in
+    let win = ap (λ (m : Moving). m.resampler) there in
+    let t₁ = eqb m.transport-1.position c.contiguous_at-there.result.transport.position in
+    record { value = (let t₂ = c.is_same_window.result in (
+      ap₂ (λ (x : ℕ) (y : Bool). eqb m.transport-1.position x && y) at (c.is_same_window.ensures.0 ∙ ap (same_window m.resampler) win) ∙ the_rest snd k m playing placed room,
+      λ t.
+          contiguous snd k m playing (on_of snd k (first_index m) st.requires.inside_sound placed) room (eqb-true m.transport-1.position _ (first_of t₁ t₂ t) ∙ at) (c.is_same_window.ensures.1 (second_of t₁ t₂ t) ∙ win),
+    )).0; contiguous = (let t₂ = c.is_same_window.result in (
+      ap₂ (λ (x : ℕ) (y : Bool). eqb m.transport-1.position x && y) at (c.is_same_window.ensures.0 ∙ ap (same_window m.resampler) win) ∙ the_rest snd k m playing placed room,
+      λ t.
+          contiguous snd k m playing (on_of snd k (first_index m) st.requires.inside_sound placed) room (eqb-true m.transport-1.position _ (first_of t₁ t₂ t) ∙ at) (c.is_same_window.ensures.1 (second_of t₁ t₂ t) ∙ win),
+    )).1 }

@@ -1,0 +1,29 @@
+-- `is_same_entry`: the number, and each channel.
+use mathlib.Core.Path.{ap₂}
+use mathlib.Core.Bool.{Bool, ◌&&◌}
+use lib.Dec.{eqb}
+use borrow.Author.Tests.{eqb-true}
+use Rattle.numbers.proofs.Equal.{first_of, second_of}
+use Rattle.sound_track.proofs.Same.{same_entry_lem}
+use borrow.Author.Rules.{rules}
+use Rattle.sound_track.proofs.is_same_entry.Reads as reads
+use Rattle.sound_track.proofs.is_same_entry.Lts as lts
+use Rattle.sound_track.proofs.is_same.Reads as is-same-reads
+use Rattle.sound_track.proofs.is_same_entry.Goals as goal
+
+pub returns : goal.returns
+returns c =
+    let a = c.args in
+    let i = eqb a.a.frame_index a.b.frame_index in
+    let x = c.is_same.result in
+    record { value = (let y = c.is_same-2.result in (
+      ap₂ (λ (x y : Bool). i && x && y) c.is_same.ensures.0 c.is_same-2.ensures.0,
+      λ t.
+          same_entry_lem a.a a.b (eqb-true a.a.frame_index a.b.frame_index (first_of i x (first_of (i && x) y t))) (c.is_same.ensures.1 (second_of i x (first_of (i && x) y t)))
+          (c.is_same-2.ensures.1 (second_of (i && x) y t)),
+    )).0; a_value = (let y = c.is_same-2.result in (
+      ap₂ (λ (x y : Bool). i && x && y) c.is_same.ensures.0 c.is_same-2.ensures.0,
+      λ t.
+          same_entry_lem a.a a.b (eqb-true a.a.frame_index a.b.frame_index (first_of i x (first_of (i && x) y t))) (c.is_same.ensures.1 (second_of i x (first_of (i && x) y t)))
+          (c.is_same-2.ensures.1 (second_of (i && x) y t)),
+    )).1 }

@@ -1,0 +1,20 @@
+-- `is_same_window`: the count, and each entry.
+use Rattle.sound_track.proofs.Same.{window_as, window_is}
+use borrow.Author.Rules.{rules}
+use Rattle.sound_track.proofs.is_same_window.Reads as reads
+use Rattle.sound_track.proofs.is_same_window.Lts as lts
+use Rattle.sound_track.proofs.is_same_entry.Reads as is-same-entry-reads
+use Rattle.sound_track.proofs.is_same_window.Goals as goal
+
+pub returns : goal.returns
+returns c =
+    let st = c.before.before.before.before.before.before.before.before.before.before.before.before in
+    record { value = (let a = st.args in (
+      window_as a.a a.b _ _ _ _ c.is_same_entry.ensures.0 c.is_same_entry-2.ensures.0 c.is_same_entry-3.ensures.0 c.is_same_entry-4.ensures.0,
+      λ t.
+          window_is a.a a.b _ _ _ _ st.requires.frames_len st.requires.frames_len_2 c.is_same_entry.ensures.1 c.is_same_entry-2.ensures.1 c.is_same_entry-3.ensures.1 c.is_same_entry-4.ensures.1 t,
+    )).0; a_value = (let a = st.args in (
+      window_as a.a a.b _ _ _ _ c.is_same_entry.ensures.0 c.is_same_entry-2.ensures.0 c.is_same_entry-3.ensures.0 c.is_same_entry-4.ensures.0,
+      λ t.
+          window_is a.a a.b _ _ _ _ st.requires.frames_len st.requires.frames_len_2 c.is_same_entry.ensures.1 c.is_same_entry-2.ensures.1 c.is_same_entry-3.ensures.1 c.is_same_entry-4.ensures.1 t,
+    )).1 }

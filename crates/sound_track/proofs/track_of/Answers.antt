@@ -1,0 +1,11 @@
+-- `track_of` reads the loop, arm by arm.
+use borrow.Author.Rules.{rules}
+use Rattle.sound_track.proofs.track_of.Reads as reads
+use Rattle.sound_track.proofs.track_of.Lts as lts
+use Rattle.sound_track.proofs.track_of.Goals as goal
+
+pub returns-in-Absent : goal.returns-in-Absent
+returns-in-Absent c = rw c.enum_told-1.given.1
+
+pub returns-in-Frames : goal.returns-in-Frames
+returns-in-Frames c = rw c.loop_region-1.given.1

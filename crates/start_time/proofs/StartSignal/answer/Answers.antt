@@ -1,0 +1,17 @@
+-- `answer` returns a signal's answer, arm by arm.
+use Rattle.std.proofs.Common.{sym, ◌∙◌, rules}
+use Rattle.start_time.proofs.Ticks.{answering_reached, answering_waiting}
+use Rattle.start_time.proofs.StartSignal.answer.Reads as reads
+use Rattle.start_time.proofs.StartSignal.answer.Lts as lts
+use Rattle.start_time.proofs.is_reached.Reads as is-reached-reads
+use Rattle.start_time.proofs.StartSignal.answer.Goals as goal
+
+pub returns-then-is_reached : goal.returns-then-is_reached
+returns-then-is_reached c =
+    let i = c.before in
+    answering_reached _ _ _ i.self-in-Tick-1.given.1 (sym i.is_reached.ensures ∙ c.if-is_reached.true)
+
+pub returns-else-is_reached : goal.returns-else-is_reached
+returns-else-is_reached c =
+    let i = c.before in
+    answering_waiting _ _ _ i.self-in-Tick-1.given.1 (sym i.is_reached.ensures ∙ c.if-is_reached.false)

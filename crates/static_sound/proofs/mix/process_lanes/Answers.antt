@@ -1,0 +1,61 @@
+-- `process_lanes` returns a refusal, or plays its block into its part of the mix.
+use mathlib.Core.Path.{◌≡◌, sym, ap, ◌∙◌}
+use native.Mathlib.Omega.{arith}
+use Prim.Native.Nat.{ℕ, ◌+◌, ◌*◌, ◌≤◌}
+use lib.ListN.{length}
+use Rattle.sound_lanes.specs.Lanes.{Lanes, lanes_now}
+use Rattle.static_sound.specs.Entries.{refused_block, room}
+use Rattle.static_sound.proofs.Calls.{refused_into, processed_into_lem, playable_part, inside}
+use borrow.Author.Rules.{rules}
+use Rattle.static_sound.proofs.mix.process_lanes.Reads as reads
+use Rattle.static_sound.proofs.mix.process_lanes.Lts as lts
+use Rattle.static_sound.proofs.mix.has_room.Reads as has-room-reads
+use Rattle.sound_block.proofs.block.Reads as block_reads
+use Rattle.static_sound.proofs.refusal_of.Reads as refusal-of-reads
+use Rattle.static_sound.proofs.mix.process_lanes.Goals.{After-refusal_of-refusal, Else-refusal-ne0}
+use Rattle.static_sound.proofs.mix.process_lanes.Goals as goal
+
+abbrev lent : After-refusal_of-refusal → Lanes
+lent c = let a = c.args in lanes_now a.fade a.volume a.left a.right a.rate
+
+numbered : (c : After-refusal_of-refusal)
+    → (let a = c.args in
+    c.refusal_of-refusal.result ≡ refused_block (length a.sound.now) a.voice a.dt (lent c) (room a.from (length a.rate.now) a.mix-1.now))
+numbered c = rw c.has_room-placed.ensures at c.refusal_of-refusal.ensures
+
+none : (c : Else-refusal-ne0)
+    → (let a = c.args in
+    refused_block (length a.sound.now) a.voice a.dt (lent c.before) (room a.from (length a.rate.now) a.mix-1.now) ≡ 0)
+none c = sym (numbered c.before) ∙ c.if-refusal-ne0.false
+
+-- the part lies in the mix
+fits : (c : Else-refusal-ne0) → (let a = c.args in 2 * (a.from + length a.rate.now) ≤ length a.mix-1.now)
+fits c = let a = c.args in inside a.sound.now a.voice a.dt (lent c.before) a.signals a.mix-1.now a.from (none c)
+
+pub returns-then-refusal-ne0 : goal.returns-then-refusal-ne0
+returns-then-refusal-ne0 c = let a = c.args in refused_into a.sound.now a.voice a.dt (lent (goal.at.returns-then-refusal-ne0 c).After-refusal_of-refusal) a.signals a.mix-1.now a.from _ (numbered (goal.at.returns-then-refusal-ne0 c).After-refusal_of-refusal) c.if-refusal-ne0.true
+
+pub overflow_mul-a : goal.overflow_mul-a
+overflow_mul-a c = omega (arith, fits (goal.at.overflow_mul-a c).Else-refusal-ne0, c.well_formed.1.1.1.1.1.1.1.1.1.0)
+
+pub overflow_mul-e : goal.overflow_mul-e
+overflow_mul-e c = omega (arith, fits (goal.at.overflow_mul-e c).Else-refusal-ne0, c.well_formed.1.1.1.1.1.1.1.1.1.0)
+
+pub overflow_add-e : goal.overflow_add-e
+overflow_add-e c = omega (arith, fits (goal.at.overflow_add-e c).Else-refusal-ne0, c.well_formed.1.1.1.1.1.1.1.1.1.0)
+
+pub offset_bounds-mix-a : goal.offset_bounds-mix-a
+offset_bounds-mix-a c = omega (arith, fits (goal.at.offset_bounds-mix-a c).Else-refusal-ne0, c.well_formed.1.1.1.1.1.1.1.1.1.0)
+
+pub block-requires : goal.block-requires
+block-requires c =
+    let e = c.before in
+    let a = e.args in
+    playable_part a.sound.now a.voice a.dt (lent (goal.at.block_requires c).After-refusal_of-refusal) a.signals a.mix-1.now a.from (none (goal.at.block_requires c).Else-refusal-ne0)
+
+pub returns : goal.returns
+returns c =
+    let p = c.before.before in
+    let e = p.before.before in
+    let a = e.args in
+    processed_into_lem a.sound.now a.voice a.dt (lent (goal.at.returns c).After-refusal_of-refusal) a.signals a.mix-1.now a.from p.block.result _ (none (goal.at.returns c).Else-refusal-ne0) p.block.ensures

@@ -1,0 +1,81 @@
+-- `stretch` is the slice's part of the sound itself, or all of it, where it lies; the empty part at the start where the voice is refused.
+use mathlib.Core.Path.{◌≡◌, refl, sym, ap, subst}
+use mathlib.Core.Bool.{Bool, true}
+use Prim.Native.Nat.{ℕ, ◌+◌, ◌*◌, ◌≤◌, ◌<◌}
+use native.Mathlib.Nat.{zero-add}
+use native.Mathlib.Omega.{arith}
+use lib.Dec.{T}
+use lib.ListN.{length}
+use Rattle.playback_position.specs.Positions.{within}
+use Rattle.playback_position.specs.declared.FrameRange.{FrameRange}
+use Rattle.playback_position.proofs.Ranges.{Ranged, ranged_parts}
+use Rattle.sound_state.specs.WellFormed.{well_formed_for}
+use Rattle.sound_state.proofs.WellFormed.{Fixed, setup_parts, well_formed_for_parts}
+use Rattle.static_sound.specs.Entries.{stretch_of, stretch_at}
+use Rattle.static_sound.proofs.Calls.{fails, passes}
+use borrow.Author.Rules.{rules}
+use Rattle.static_sound.proofs.stretches.stretch.Reads as reads
+use Rattle.static_sound.proofs.stretches.stretch.Lts as lts
+use Rattle.sound_state.proofs.StaticSound.is_well_formed.Reads as is-well-formed-reads
+use Rattle.static_sound.proofs.stretches.stretch.Goals.{Else-not-is_well_formed, In-Frames-2}
+use Rattle.static_sound.proofs.stretches.stretch.Goals as goal
+
+-- no sample further
+at-start : (p : ℕ × ℕ) → p ≡ (p.0, 0 + p.1)
+at-start p = ap (λ (n : ℕ). (p.0, n)) (sym (zero-add p.1))
+
+is_true : {b : Bool} → b ≡ true → T b
+is_true e = subst T (sym e) tt
+
+well_formed : (c : Else-not-is_well_formed) → well_formed_for (length c.args.sound.now) c.args.voice ≡ true
+well_formed c = passes c.is_well_formed.ensures c.if-not-is_well_formed.false
+
+-- the slice lies in the sound
+record Numbers (s e n len : ℕ) : Type 0 where
+  more : s < e
+  inside : e ≤ n
+  few : n ≤ 16777216
+  lent : len ≡ 2 * n
+
+numbers : (c : In-Frames-2)
+    → (let st = c.before.before.before in
+    Numbers c.slice-1.given.0.0 c.slice-1.given.0.1.0 st.args.voice.setup.num_frames (length st.args.sound.now))
+numbers c =
+    let e = c.before.before.before in
+    let a = e.args in
+    let o = well_formed_for_parts (length a.sound.now) a.voice (is_true (well_formed c.before.before.before)) in
+    let k = setup_parts a.voice.setup o.0.setup in
+    let r = ranged_parts a.voice.setup.num_frames c.slice-1.given.0.0 c.slice-1.given.0.1.0 (subst (λ (r : FrameRange). T (within a.voice.setup.num_frames r)) c.slice-1.given.1 k.slice-1) in
+    record { more = r.more; inside = r.inside; few = k.few; lent = o.1 }
+
+pub returns-then-not-is_well_formed : goal.returns-then-not-is_well_formed
+unfolding stretch_of stretch_at
+returns-then-not-is_well_formed c =
+    let e = fails c.is_well_formed.ensures c.if-not-is_well_formed.true in
+    (simp e, simp e (at-start c.args.sound.ref_ptr))
+
+pub overflow_mul-result : goal.overflow_mul-result
+overflow_mul-result c = omega (arith, numbers (goal.at.overflow_mul-result c).In-Frames-2)
+
+pub overflow_mul-result-in-Frames : goal.overflow_mul-result-in-Frames
+overflow_mul-result-in-Frames c = omega (arith, numbers (goal.at.overflow_mul-result-in-Frames c).In-Frames-2)
+
+pub offset_bounds-sound-start : goal.offset_bounds-sound-start
+offset_bounds-sound-start c = omega (arith, numbers (goal.at.offset_bounds-sound-start c).In-Frames-2)
+
+pub slice_bounds-result-count : goal.slice_bounds-result-count
+slice_bounds-result-count c = omega (arith, numbers (goal.at.slice_bounds-result-count c).In-Frames-2)
+
+pub returns-in-Absent : goal.returns-in-Absent
+unfolding stretch_of stretch_at
+returns-in-Absent c =
+    let e = well_formed (goal.at.returns-in-Absent c).Else-not-is_well_formed in
+    let h = c.enum_told-1.given.1 in
+    (simp (e, h), simp (e, h) (at-start c.args.sound.ref_ptr))
+
+pub returns-in-Frames : goal.returns-in-Frames
+unfolding stretch_of stretch_at
+returns-in-Frames c =
+    let e = well_formed (goal.at.returns-in-Frames c).Else-not-is_well_formed in
+    let h = c.slice-1.given.1 in
+    (simp (e, h), simp (e, h) refl)

@@ -1,0 +1,27 @@
+-- `test_exports::moves::cableowl_test_decrement_position` meets its contract: the test is what `decrement_position` requires. Assumes nothing.
+use mathlib.Core.Path.{sym, ap, subst, ◌∙◌}
+use lib.Dec.{T}
+use Rattle.transport.specs.declared.Transport.{Transport}
+use Rattle.playback_position.specs.Positions.{ordered}
+use Rattle.transport.specs.Moves.{backward}
+use Rattle.test_exports.specs.Moves.{plain_transport}
+use Rattle.test_exports.proofs.Tested.{passed, refused}
+use borrow.Author.Rules.{rules}
+use Rattle.test_exports.proofs.moves.cableowl_test_decrement_position.Goals as goal
+
+pub decrement_position-requires : goal.decrement_position-requires
+decrement_position-requires c = subst T (sym (sym c.is_ordered.ensures ∙ c.if-is_ordered.true)) tt
+
+pub returns-then-is_ordered : goal.returns-then-is_ordered
+returns-then-is_ordered c =
+    let tested = c.before.before.before in
+    c.plain_transport.ensures
+    ∙ ap plain_transport c.decrement_position.ensures
+    ∙ passed (λ (t : Transport). ordered t.loop_region) backward tested.transport_of-given.ensures
+    (sym tested.is_ordered.ensures ∙ c.if-is_ordered.true)
+
+pub returns-else-is_ordered : goal.returns-else-is_ordered
+returns-else-is_ordered c =
+    let tested = c.before in
+    refused (λ (t : Transport). ordered t.loop_region) backward tested.transport_of-given.ensures
+    (sym tested.is_ordered.ensures ∙ c.if-is_ordered.false)

@@ -1,0 +1,12 @@
+-- `test_exports::places::cableowl_test_is_lawful` meets its contract, by its callees'. Assumes nothing.
+use mathlib.Core.Path.{ap, ◌∙◌}
+use Rattle.playback_position.specs.Positions.{well_formed_region}
+use Rattle.test_exports.specs.Answers.{bit}
+use borrow.Author.Rules.{rules}
+use Rattle.test_exports.proofs.places.cableowl_test_is_lawful.Goals as goal
+
+pub returns : goal.returns
+returns c =
+    let start = c.before.before.before in
+    c.number.ensures
+    ∙ ap bit (c.is_well_formed.ensures ∙ ap (well_formed_region start.args.sample_rate start.args.num_frames) c.region_of.ensures)

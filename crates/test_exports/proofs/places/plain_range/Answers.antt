@@ -1,0 +1,9 @@
+-- `test_exports::places::plain_range` meets its contract: each arm is a case of `plain_range`. Assumes nothing.
+use borrow.Author.Rules.{rules}
+use Rattle.test_exports.proofs.places.plain_range.Goals as goal
+
+pub returns-in-Absent : goal.returns-in-Absent
+returns-in-Absent c = rw c.enum_told-1.given.1
+
+pub returns-in-Frames : goal.returns-in-Frames
+returns-in-Frames c = rw c.range-1.given.1

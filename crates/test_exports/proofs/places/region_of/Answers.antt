@@ -1,0 +1,6 @@
+-- `test_exports::places::region_of` meets its contract, by those of its start and its end. Assumes nothing.
+use borrow.Author.Rules.{rules}
+use Rattle.test_exports.proofs.places.region_of.Goals as goal
+
+pub returns : goal.returns
+returns c = rw (c.position_of.ensures, c.end_of_lem.ensures)

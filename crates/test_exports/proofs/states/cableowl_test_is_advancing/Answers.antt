@@ -1,0 +1,9 @@
+-- `test_exports::states::cableowl_test_is_advancing` meets its contract, by its callees'. Assumes nothing.
+use mathlib.Core.Path.{ap, ◌∙◌}
+use Rattle.playback_state_manager.specs.States.{advancing}
+use Rattle.test_exports.specs.Answers.{bit}
+use borrow.Author.Rules.{rules}
+use Rattle.test_exports.proofs.states.cableowl_test_is_advancing.Goals as goal
+
+pub returns : goal.returns
+returns c = c.number.ensures ∙ ap bit (c.is_advancing.ensures ∙ ap advancing c.state_of.ensures)

@@ -1,0 +1,22 @@
+-- `trace_inputs::doubles_of`: what is still to store, stored, is the whole lane stored.
+use mathlib.Core.Path.{◌≡◌, refl, sym, ap, ◌∙◌}
+use Prim.Native.Nat.{ℕ, ◌+◌, ◌-◌, ◌*◌, ◌≤◌, ◌<◌}
+use native.Mathlib.Omega.{arith}
+use mathlib.Core.List.{List}
+use lib.Ieee.{Float, of_bits}
+use lib.ListN.{length, replicate, length-set}
+use lib.Seq.{sets}
+use borrow.Author.Rules.{rules}
+use Rattle.numbers.specs.Words.{positive_zero}
+use Rattle.trace_inputs.specs.Inputs.{double}
+use Rattle.trace_inputs.proofs.LaneLoops.{to_store, store_start, store_next, store_end}
+use Rattle.trace_inputs.proofs.doubles_of.Given as goal
+
+abbrev pub left : List ℕ → ℕ → ℕ → ℕ → List Float
+left bytes at frames i = to_store 8 (λ x. double x) bytes at frames i
+
+abbrev pub invariant-loop-i : goal.invariant-loop-i
+invariant-loop-i l = (l.i ≤ l.frames) × (length l.lane ≡ 1024) × (sets l.lane l.i (left l.bytes l.at l.frames l.i) ≡ sets l.initial.lane 0 (left l.bytes l.at l.frames 0))
+
+abbrev pub decreases-loop-i : goal.decreases-loop-i
+decreases-loop-i l = l.frames - l.i

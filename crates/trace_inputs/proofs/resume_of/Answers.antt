@@ -1,0 +1,14 @@
+-- `trace_inputs::resume_of` meets its contract, tag by tag.
+use borrow.Author.Tests.{eq-eqb, ne_eqb, lt-ltb, le-ltb, le-leb, lt-leb}
+use Rattle.trace_inputs.proofs.resume_of.Reads as reads
+use Rattle.trace_inputs.proofs.resume_of.Lts as lts
+use Rattle.trace_inputs.proofs.resume_of.Goals as goal
+
+pub returns-then-n-eq0 : goal.returns-then-n-eq0
+returns-then-n-eq0 c = rw c.if-n-eq0.true
+
+pub returns-then-n-eq1 : goal.returns-then-n-eq1
+returns-then-n-eq1 c = rw c.if-n-eq1.true
+
+pub returns : goal.returns
+returns c = simp (ne_eqb _ _ c.if-n-eq0.false, ne_eqb _ _ c.if-n-eq1.false)

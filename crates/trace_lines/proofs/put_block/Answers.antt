@@ -1,0 +1,34 @@
+-- `trace_lines::put_block`: its parts one after the other.
+use native.Mathlib.Omega.{arith}
+use mathlib.Core.List.{[], ◌∷◌, ◌++◌}
+use Rattle.trace_lines.specs.Lines.{decimal, labelled, block·is, frames·are, steps·are, state·is, position·is, refused·by, at·is, block_line, refused_block_line, refused_line}
+use Rattle.trace_lines.proofs.Digits.{then}
+use borrow.Author.Rules.{rules}
+use Rattle.trace_lines.proofs.put_block.Reads as reads
+use Rattle.trace_lines.proofs.put_block.Lts as lts
+use Rattle.trace_lines.proofs.put.Reads as put_reads
+use Rattle.trace_lines.proofs.put_labelled.Reads as put-labelled-reads
+use Rattle.trace_lines.proofs.put_block.Goals as goal
+
+pub returns : goal.returns
+unfolding block_line
+returns c =
+    let p = c.before.before in
+    let i = p.before.before.before.before.before in
+    let h = i.before.before.before.before.before in
+    let g = h.before.before.before.before.before in
+    let f = g.before.before.before.before.before in
+    let e = f.before.before.before.before.before in
+    let a = e.args in
+    let v = labelled position·is a.position in
+    let u = labelled state·is a.state in
+    let t = labelled steps·are a.steps in
+    let s = labelled frames·are a.frames in
+    let r = labelled block·is a.number in
+    let z = p.put.result in
+    let k = then h.put_labelled-d.new.0 i.put_labelled-e.new.0 p.put.new.0 v (10 ∷ []) h.put_labelled-d.result i.put_labelled-e.result z i.put_labelled-e.ensures.0 i.put_labelled-e.ensures.1 p.put.ensures.0 p.put.ensures.1 in
+    let l = then g.put_labelled-c.new.0 h.put_labelled-d.new.0 p.put.new.0 u (v ++ (10 ∷ [])) g.put_labelled-c.result h.put_labelled-d.result z h.put_labelled-d.ensures.0 h.put_labelled-d.ensures.1 k.0 k.1 in
+    let m = then f.put_labelled-b.new.0 g.put_labelled-c.new.0 p.put.new.0 t (u ++ (v ++ (10 ∷ []))) f.put_labelled-b.result g.put_labelled-c.result z g.put_labelled-c.ensures.0 g.put_labelled-c.ensures.1 l.0 l.1 in
+    let n = then e.put_labelled-a.new.0 f.put_labelled-b.new.0 p.put.new.0 s (t ++ (u ++ (v ++ (10 ∷ [])))) e.put_labelled-a.result f.put_labelled-b.result z f.put_labelled-b.ensures.0 f.put_labelled-b.ensures.1 m.0 m.1 in
+    let o = then a.line-1.now e.put_labelled-a.new.0 p.put.new.0 r (s ++ (t ++ (u ++ (v ++ (10 ∷ []))))) 0 e.put_labelled-a.result z e.put_labelled-a.ensures.0 e.put_labelled-a.ensures.1 n.0 n.1 in
+    (o.0, omega (arith, o.1), omega (arith, e.put_labelled-a.ensures.2, f.put_labelled-b.ensures.2, g.put_labelled-c.ensures.2, h.put_labelled-d.ensures.2, i.put_labelled-e.ensures.2, p.put.ensures.1))

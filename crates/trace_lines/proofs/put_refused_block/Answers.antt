@@ -1,0 +1,24 @@
+-- `trace_lines::put_refused_block`: its parts one after the other.
+use native.Mathlib.Omega.{arith}
+use mathlib.Core.List.{[], ◌∷◌, ◌++◌}
+use Rattle.trace_lines.specs.Lines.{decimal, labelled, block·is, frames·are, steps·are, state·is, position·is, refused·by, at·is, block_line, refused_block_line, refused_line}
+use Rattle.trace_lines.proofs.Digits.{then}
+use borrow.Author.Rules.{rules}
+use Rattle.trace_lines.proofs.put_refused_block.Reads as reads
+use Rattle.trace_lines.proofs.put_refused_block.Lts as lts
+use Rattle.trace_lines.proofs.put.Reads as put_reads
+use Rattle.trace_lines.proofs.put_labelled.Reads as put-labelled-reads
+use Rattle.trace_lines.proofs.put_refused_block.Goals as goal
+
+pub returns : goal.returns
+unfolding refused_block_line
+returns c =
+    let p = c.before.before in
+    let b = p.before.before.before.before.before in
+    let f = b.before.before.before.before.before in
+    let a = f.args in
+    let x = labelled (block·is) a.number in
+    let y = labelled (32 ∷ refused·by) a.refusal in
+    let t = then f.put_labelled-a.new.0 b.put_labelled-b.new.0 p.put.new.0 y (10 ∷ []) f.put_labelled-a.result b.put_labelled-b.result p.put.result b.put_labelled-b.ensures.0 b.put_labelled-b.ensures.1 p.put.ensures.0 p.put.ensures.1 in
+    let s = then a.line-1.now f.put_labelled-a.new.0 p.put.new.0 x (y ++ (10 ∷ [])) 0 f.put_labelled-a.result p.put.result f.put_labelled-a.ensures.0 f.put_labelled-a.ensures.1 t.0 t.1 in
+    (s.0, omega (arith, s.1), omega (arith, f.put_labelled-a.ensures.2, b.put_labelled-b.ensures.2, p.put.ensures.1))

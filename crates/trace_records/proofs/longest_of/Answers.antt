@@ -1,0 +1,14 @@
+-- `trace_records::longest_of`: by the kind.
+use borrow.Author.Tests.{lt-ltb, le-ltb, le-leb, lt-leb, eq-eqb, ne_eqb}
+use Rattle.trace_records.proofs.longest_of.Reads as reads
+use Rattle.trace_records.proofs.longest_of.Lts as lts
+use Rattle.trace_records.proofs.longest_of.Goals as goal
+
+pub returns-then-kind-eq1 : goal.returns-then-kind-eq1
+returns-then-kind-eq1 c = simp (eq-eqb _ _ c.if-kind-eq1.true)
+
+pub returns-then-kind-eq2 : goal.returns-then-kind-eq2
+returns-then-kind-eq2 c = simp (ne_eqb _ _ c.if-kind-eq1.false, eq-eqb _ _ c.if-kind-eq2.true)
+
+pub returns : goal.returns
+returns c = simp (ne_eqb _ _ c.if-kind-eq1.false, ne_eqb _ _ c.if-kind-eq2.false)

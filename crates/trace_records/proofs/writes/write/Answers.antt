@@ -1,0 +1,48 @@
+-- `trace_records::writes::write`: each return is one of the ways of proofs/Sends.antt.
+use mathlib.Core.Path.{◌≡◌, refl, sym, ap, ◌∙◌}
+use Prim.Native.Nat.{ℕ, ◌+◌, ◌-◌, ◌*◌, ◌≤◌, ◌<◌}
+use native.Mathlib.Omega.{arith}
+use mathlib.Core.List.{List, []}
+use borrow.Author.Rules.{rules}
+use lib.ListN.{length, take}
+use lib.Seq.{sets}
+use Rattle.byte_layout.specs.declared.Row.{Row}
+use Rattle.byte_layout.specs.Numbers.{bytes}
+use Rattle.byte_layout.specs.Rows.{row_at, rows, stands}
+use Rattle.byte_layout.specs.Writes.{field, payload, fine}
+use Rattle.trace_records.specs.Tables.{head_table, creation_table, frame_table, command_table, block_table, head_rows, body, fields}
+use Rattle.trace_records.proofs.Ways.{not_true, not_false, creation_sound, command_sound, block_sound}
+use Rattle.trace_records.proofs.Rounds.{head_length}
+use Rattle.trace_records.proofs.Sends.{of_creation, of_commands, of_block, no_kind, unfit, few, no_room, written}
+use borrow.Author.Rules.{rules}
+use Rattle.trace_records.proofs.writes.write.Reads as reads
+use Rattle.trace_records.proofs.writes.write.Lts as lts
+use Rattle.trace_records.proofs.writes.fits.Reads as fits-reads
+use Rattle.trace_records.proofs.writes.is_kind.Reads as is-kind-reads
+use Rattle.trace_records.proofs.writes.payload_length.Reads as payload-length-reads
+use Rattle.trace_records.proofs.writes.put_body.Reads as put-body-reads
+use Rattle.trace_records.proofs.writes.put_head.Reads as put-head-reads
+use Rattle.trace_records.proofs.writes.write.Goals as goal
+
+pub returns-then-not-is_kind : goal.returns-then-not-is_kind
+returns-then-not-is_kind c = no_kind _ _ _ _ (sym (not_true _ c.if-not-is_kind.true) ∙ c.is_kind.ensures)
+
+pub returns-then-not-fits : goal.returns-then-not-fits
+returns-then-not-fits c = unfit _ _ _ _ (sym (not_false _ c.if-not-is_kind.false) ∙ c.is_kind.ensures) (sym (not_true _ c.if-not-fits.true) ∙ c.fits2.ensures)
+
+pub returns-then-buf-at : goal.returns-then-buf-at
+returns-then-buf-at c = no_room c.args.buf.now c.args.at c.args.kind (take (fields c.args.kind) c.args.values) (sym (not_false _ c.if-not-is_kind.false) ∙ c.is_kind.ensures) (sym (not_false _ c.if-not-fits.false) ∙ c.fits2.ensures) c.payload_length-n.result c.payload_length-n.ensures (omega (arith, c.if-buf-at.true))
+
+pub overflow_add-n : goal.overflow_add-n
+overflow_add-n c = omega (arith, few c.args.buf.now c.args.at c.args.kind (take (fields c.args.kind) c.args.values) (sym (not_false _ c.if-not-is_kind.false) ∙ c.is_kind.ensures) (sym (not_false _ c.if-not-fits.false) ∙ c.fits2.ensures) c.payload_length-n.result c.payload_length-n.ensures)
+
+pub returns-then-buf-at-2 : goal.returns-then-buf-at-2
+returns-then-buf-at-2 c = no_room c.args.buf.now c.args.at c.args.kind (take (fields c.args.kind) c.args.values) (sym (not_false _ c.if-not-is_kind.false) ∙ c.is_kind.ensures) (sym (not_false _ c.if-not-fits.false) ∙ c.fits2.ensures) c.payload_length-n.result c.payload_length-n.ensures c.if-buf-at-2.true
+
+pub returns : goal.returns
+returns c =
+    let b = c.before.before in
+    let h = b.before.before.before.before in
+    let e = h.before.before in
+    let p = e.before.before in
+    written p.args.buf.now p.args.at p.args.kind (take (fields p.args.kind) p.args.values) (sym (not_false _ p.if-not-is_kind.false) ∙ p.is_kind.ensures) (sym (not_false _ p.if-not-fits.false) ∙ p.fits2.ensures) p.payload_length-n.result p.payload_length-n.ensures e.if-buf-at-2.false e.if-buf-at.false h.put_head-a.new.0 b.put_body-b.new.0 h.put_head-a.result b.put_body-b.result h.put_head-a.ensures.0 h.put_head-a.ensures.1 b.put_body-b.ensures.0 b.put_body-b.ensures.1

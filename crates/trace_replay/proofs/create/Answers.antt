@@ -1,0 +1,45 @@
+-- `trace_replay::create`: the written samples are the sound of the creation.
+use mathlib.Core.Path.{◌≡◌, refl, sym, ap, ◌∙◌}
+use Prim.Native.Nat.{◌≤◌}
+use native.Mathlib.Omega.{arith}
+use borrow.Author.Rules.{rules}
+use lib.ListN.{length, take}
+use Rattle.trace_inputs.specs.Inputs.{samples_of, settings_of, commands_of, block_of}
+use Rattle.trace_replay.proofs.Parts.{prefix, inside, part_long}
+use Rattle.trace_replay.proofs.Replays.{replay, few_samples, few_frames, creation_replay, command_replay, block_replay, block_line_lem}
+use borrow.Author.Rules.{rules}
+use Rattle.trace_replay.proofs.create.Reads as reads
+use Rattle.trace_replay.proofs.create.Lts as lts
+use Rattle.sound_creation.proofs.new.Reads as new-reads
+use Rattle.trace_inputs.proofs.put_samples.Reads as put-samples-reads
+use Rattle.trace_inputs.proofs.settings_of.Reads as settings-of-reads
+use Rattle.trace_replay.proofs.create.Goals.{After-put_samples-samples}
+use Rattle.trace_replay.proofs.create.Goals as goal
+
+long : (c : After-put_samples-samples) → 77 ≤ length c.args.values
+long c = search rules
+
+pub slice_bounds-new-end : goal.slice_bounds-new-end
+slice_bounds-new-end c =
+    let ps = c.before.before.before in
+    let a = ps.args in
+    inside a.sound-1.now ps.put_samples-samples.new.1.0 (samples_of a.values) ps.put_samples-samples.result ps.put_samples-samples.ensures.0 ps.put_samples-samples.ensures.1 (few_samples a.values (long (goal.at.slice_bounds-new-end c).After-put_samples-samples)) ps.requires
+
+pub slice_bounds-new-end-2 : goal.slice_bounds-new-end-2
+slice_bounds-new-end-2 c =
+    let ps = c.before.before.before.before in
+    let a = ps.args in
+    part_long ps.put_samples-samples.result ps.put_samples-samples.new.1.0 (inside a.sound-1.now ps.put_samples-samples.new.1.0 (samples_of a.values) ps.put_samples-samples.result ps.put_samples-samples.ensures.0 ps.put_samples-samples.ensures.1 (few_samples a.values (long (goal.at.slice_bounds-new-end-2 c).After-put_samples-samples)) ps.requires)
+
+pub returns : goal.returns
+returns c =
+    let n = c.before in
+    let s = n.before.before in
+    let ps = s.before.before.before in
+    let a = ps.args in
+    let h = inside a.sound-1.now ps.put_samples-samples.new.1.0 (samples_of a.values) ps.put_samples-samples.result ps.put_samples-samples.ensures.0 ps.put_samples-samples.ensures.1 (few_samples a.values (long (goal.at.returns c).After-put_samples-samples)) ps.requires in
+    let e = ps.put_samples-samples.ensures in (
+      creation_replay n.new-created.result (take ps.put_samples-samples.result ps.put_samples-samples.new.1.0) (samples_of a.values) s.settings_of.result (settings_of a.values) a.run.blocks n.new-created.ensures
+          (prefix a.sound-1.now ps.put_samples-samples.new.1.0 (samples_of a.values) ps.put_samples-samples.result e.0 e.1 (omega (arith, few_samples a.values (long (goal.at.returns c).After-put_samples-samples), ps.requires))) s.settings_of.ensures,
+      h,
+    )

@@ -1,0 +1,20 @@
+-- `trace_sealed::read` meets its contract: by the kind. Assumes nothing.
+use mathlib.Core.Path.{◌≡◌, refl, sym, ap, ◌∙◌}
+use native.Mathlib.Omega.{arith}
+use Rattle.trace_sealed.proofs.Ways.{is_sealed_lem, is_open}
+use borrow.Author.Rules.{rules}
+use Rattle.trace_sealed.proofs.read.Reads as reads
+use Rattle.trace_sealed.proofs.read.Lts as lts
+use Rattle.trace_records.proofs.read.Reads as read-reads
+use Rattle.trace_sealed.proofs.is_sealed.Reads as is-sealed-reads
+use Rattle.trace_sealed.proofs.read_sealed.Reads as read-sealed-reads
+use Rattle.trace_sealed.proofs.read.Goals as goal
+
+pub read_sealed-requires : goal.read_sealed-requires
+read_sealed-requires c = c.is_sealed.ensures.1 c.if-is_sealed.true
+
+pub returns-then-is_sealed : goal.returns-then-is_sealed
+returns-then-is_sealed c = is_sealed_lem _ _ _ (sym c.if-is_sealed.true ∙ c.is_sealed.ensures.0) c.read_sealed.ensures
+
+pub returns : goal.returns
+returns c = is_open _ _ _ (sym c.if-is_sealed.false ∙ c.is_sealed.ensures.0) c.read.ensures

@@ -1,0 +1,15 @@
+-- `trace_sealed::writes::put_sum` meets its contract: one row. Assumes nothing.
+use Rattle.byte_layout.specs.Numbers.{bytes}
+use Rattle.byte_layout.specs.Rows.{row_at, rows, stands}
+use Rattle.byte_layout.specs.Writes.{field, payload}
+use borrow.Author.Rules.{rules}
+use Rattle.trace_sealed.proofs.writes.put_sum.Reads as reads
+use Rattle.trace_sealed.proofs.writes.put_sum.Lts as lts
+use Rattle.byte_layout.proofs.put_rows.Reads as put-rows-reads
+use Rattle.trace_sealed.proofs.writes.put_sum.Goals as goal
+
+pub returns : goal.returns
+unfolding payload rows field stands row_at bytes
+returns c =
+    let q = c.before.before in
+    (q.put_rows.ensures.0, q.put_rows.ensures.1)

@@ -1,0 +1,29 @@
+-- `trace_sealed::writes::seal` meets its contract: head, fields, lanes, then the checksum of what was written. Assumes nothing.
+use mathlib.Core.Path.{◌≡◌, refl, sym, ap, ◌∙◌}
+use Prim.Native.Nat.{ℕ, ◌+◌}
+use native.Mathlib.Omega.{arith}
+use lib.ListN.{take}
+use Rattle.trace_sealed.specs.Tables.{field_count}
+use Rattle.trace_sealed.proofs.Sends.{sealing}
+use borrow.Author.Rules.{rules}
+use Rattle.trace_sealed.proofs.writes.seal.Reads as reads
+use Rattle.trace_sealed.proofs.writes.seal.Lts as lts
+use Rattle.byte_layout.proofs.copy.Reads as copy-reads
+use Rattle.crc32.proofs.checksum.Reads as checksum-reads
+use Rattle.trace_sealed.proofs.writes.put_fields.Reads as put-fields-reads
+use Rattle.trace_sealed.proofs.writes.put_head.Reads as put-head-reads
+use Rattle.trace_sealed.proofs.writes.put_sum.Reads as put-sum-reads
+use Rattle.trace_sealed.proofs.writes.seal.Goals as goal
+
+pub returns : goal.returns
+returns c =
+    let p = c.before.before in
+    let k = p.before.before in
+    let l = k.before.before.before.before in
+    let f = l.before.before.before.before in
+    let h = f.before.before.before.before in
+    let s = h.before.before.before.before in
+    let a = s.args in (
+      sealing a.buf-1.now a.at a.kind a.n (take (field_count a.kind) a.values) a.lanes.now s.requires.0 s.requires.1 h.put_head-a.new.0 f.put_fields-b.new.0 l.copy.new.1.1.1.0 p.put_sum.new.0 h.put_head-a.result f.put_fields-b.result k.checksum-sum.result h.put_head-a.ensures.0 h.put_head-a.ensures.1 f.put_fields-b.ensures.0 f.put_fields-b.ensures.1 l.copy.ensures k.checksum-sum.ensures p.put_sum.ensures.0,
+      omega (arith, p.put_sum.ensures.1, f.put_fields-b.ensures.1, h.put_head-a.ensures.1, s.requires.1),
+    )
