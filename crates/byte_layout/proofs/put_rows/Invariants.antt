@@ -17,7 +17,7 @@ use Rattle.byte_layout.proofs.put_rows.Given as goal
 
 abbrev pub invariant-loop-i : goal.invariant-loop-i
 invariant-loop-i l =
-    (l.i ≤ l.n) × (length l.buf-1 ≡ length l.initial.buf) × (sets l.buf-1 l.a (tail_of l.table l.n l.values l.i) ≡ sets l.initial.buf l.at (payload (rows l.table 0 l.n) [] (take l.n l.values))) × (l.a + length (tail_of l.table l.n l.values l.i) ≡ l.at + length (payload (rows l.table 0 l.n) [] (take l.n l.values)))
+    (l.i ≤ l.n) × (length l.buf ≡ length l.initial.buf) × (sets l.buf l.a (tail_of l.table l.n l.values l.i) ≡ sets l.initial.buf l.at (payload (rows l.table 0 l.n) [] (take l.n l.values))) × (l.a + length (tail_of l.table l.n l.values l.i) ≡ l.at + length (payload (rows l.table 0 l.n) [] (take l.n l.values)))
 
 abbrev pub decreases-loop-i : goal.decreases-loop-i
 decreases-loop-i l = l.n - l.i

@@ -7,13 +7,13 @@ use Rattle.c_state.proofs.decode.Goals as goal
 
 pub returns-then-not-is_well_formed : goal.returns-then-not-is_well_formed
 unfolding decoded
-returns-then-not-is_well_formed c = rw (sym c.is_well_formed.ensures ∙ not_true _ c.if-not-is_well_formed.true, c.blank.ensures)
+returns-then-not-is_well_formed c = rw (sym c.is_well_formed.ensures ∙ c.if-not-is_well_formed.true, c.blank.ensures)
 
 pub returns : goal.returns
 unfolding decoded
 returns c =
     rw (
-      sym c.is_well_formed.ensures ∙ not_false _ c.if-not-is_well_formed.false,
+      sym c.is_well_formed.ensures ∙ c.if-not-is_well_formed.false,
       c.range_of.ensures,
       c.yes_of.ensures,
       c.range_of-2.ensures,

@@ -8,7 +8,7 @@ use Rattle.trace_replay.proofs.begin.Reads as begin-reads
 use Rattle.replay.proofs.replay.Given as goal
 
 abbrev pub invariant-loop-left : goal.invariant-loop-left
-invariant-loop-left l = Held l.p.window l.bytes-1 × (1024 ≤ length l.spare-1) × (128 ≤ length l.sound-1) × (l.p.run.samples ≤ length l.sound-1) × (139 ≤ length l.line-1) × (length l.bytes-1 ≡ length l.initial.bytes) × (length l.spare-1 ≡ length l.initial.spare) × (length l.sound-1 ≡ length l.initial.sound) × (length l.line-1 ≡ length l.initial.line)
+invariant-loop-left l = Held l.p.window l.bytes × (1024 ≤ length l.spare) × (128 ≤ length l.sound) × (l.p.run.samples ≤ length l.sound) × (139 ≤ length l.line) × (length l.bytes ≡ length l.initial.bytes) × (length l.spare ≡ length l.initial.spare) × (length l.sound ≡ length l.initial.sound) × (length l.line ≡ length l.initial.line)
 
 abbrev pub decreases-loop-left : goal.decreases-loop-left
 decreases-loop-left l = l.left

@@ -10,7 +10,7 @@ use Rattle.saved_settings.proofs.size_of.Reads as size-of-reads
 use Rattle.saved_settings.proofs.refusal_of.Goals as goal
 
 pub returns-then-not-is_storable : goal.returns-then-not-is_storable
-returns-then-not-is_storable c = simp (sym c.«is-storable».ensures ∙ not_true _ c.if-not-is_storable.true)
+returns-then-not-is_storable c = simp (sym c.«is-storable».ensures ∙ c.if-not-is_storable.true)
 
 pub returns-then-room-size_of : goal.returns-then-room-size_of
 returns-then-room-size_of c =

@@ -3,10 +3,10 @@ use borrow.Author.Rules.{rules}
 use Rattle.sound_commands.proofs.is_loop.Goals as goal
 
 pub returns-in-Keep : goal.returns-in-Keep
-returns-in-Keep c = rw c.enum_told-1.given.1
+returns-in-Keep c = rw c.in-Keep.is
 
 pub returns-in-Clear : goal.returns-in-Clear
-returns-in-Clear c = rw c.enum_told-in-Clear-1.given.1
+returns-in-Clear c = rw c.in-Clear.is
 
 pub returns-in-Set : goal.returns-in-Set
-returns-in-Set c = rw (c.command-1.given.1, ← c.num_frames.ensures) c.is_well_formed.ensures
+returns-in-Set c = rw (c.in-Set.is, ← c.num_frames.ensures) c.is_well_formed.ensures

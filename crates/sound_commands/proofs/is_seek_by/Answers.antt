@@ -3,4 +3,4 @@ use borrow.Author.Rules.{rules}
 use Rattle.sound_commands.proofs.is_seek_by.Goals as goal
 
 pub returns-in-Given : goal.returns-in-Given
-returns-in-Given c = rw (c.command-1.given.1, ← c.frames_by.ensures) c.is_seek.ensures
+returns-in-Given c = rw (c.in-Given.is, ← c.frames_by.ensures) c.is_seek.ensures

@@ -14,7 +14,7 @@ use Rattle.sound_commands.proofs.refusal_of.Goals.{After-is_seek_to, Else-not-is
 use Rattle.sound_commands.proofs.refusal_of.Goals as goal
 
 well-formed : (c : Else-not-is_well_formed) → T (well_formed_for c.args.samples c.args.voice)
-well-formed c = subst T (sym (sym c.is_well_formed.ensures ∙ not_false _ c.if-not-is_well_formed.false)) tt
+well-formed c = subst T (sym (sym c.is_well_formed.ensures ∙ c.if-not-is_well_formed.false)) tt
 
 pub returns-then-not-is_well_formed : goal.returns-then-not-is_well_formed
 unfolding refused_set

@@ -3,7 +3,7 @@ use borrow.Author.Rules.{rules}
 use Rattle.sound_commands.proofs.resume.Goals as goal
 
 pub returns-in-Now : goal.returns-in-Now
-returns-in-Now c = rw c.enum_told-in-Now-1.given.1 c.resume.ensures
+returns-in-Now c = rw c.in-Now.is c.resume.ensures
 
 pub returns-in-Waiting : goal.returns-in-Waiting
-returns-in-Waiting c = rw c.enum_told-in-Waiting-1.given.1 c.resume-in-Waiting.ensures
+returns-in-Waiting c = rw c.in-Waiting.is c.resume-in-Waiting.ensures

@@ -16,10 +16,10 @@ seek_to_index-requires c =
     record { t = c.requires; index_le_most = subst (λ (n : ℕ). n ≤ most) (sym c.cut.ensures) (cut_le _) }
 
 pub returns-in-Absent : goal.returns-in-Absent
-returns-in-Absent c = rw c.enum_told-1.given.1
+returns-in-Absent c = rw c.in-Absent.is
 
 pub returns-in-Given : goal.returns-in-Given
 returns-in-Given c =
     let f = c.before.before in
-    rw f.command-1.given.1
+    rw f.in-Given.is
     (c.seek_to_index.ensures ∙ ap (sought _ _) (c.cut.ensures ∙ ap cut_off f.frames_by.ensures))

@@ -3,12 +3,12 @@ use borrow.Author.Rules.{rules}
 use Rattle.sound_commands.proofs.set_loop_region.Goals as goal
 
 pub returns-in-Keep : goal.returns-in-Keep
-returns-in-Keep c = rw c.enum_told-1.given.1
+returns-in-Keep c = rw c.in-Keep.is
 
 pub returns-in-Clear : goal.returns-in-Clear
-returns-in-Clear c = rw c.enum_told-in-Clear-1.given.1 c.set_loop_region.ensures
+returns-in-Clear c = rw c.in-Clear.is c.set_loop_region.ensures
 
 pub returns-in-Set : goal.returns-in-Set
 returns-in-Set c =
     let n = c.before.before in
-    rw (n.command-1.given.1, ← n.num_frames.ensures, ← c.into_frames-frames.ensures) c.set_loop_region-in-Set.ensures
+    rw (n.in-Set.is, ← n.num_frames.ensures, ← c.into_frames-frames.ensures) c.set_loop_region-in-Set.ensures

@@ -23,7 +23,7 @@ abbrev lent : Else-not-are_sized → Lanes
 lent c = let a = c.args in lanes_now a.fade a.volume a.left a.right a.rate
 
 is-sized : (c : Else-not-are_sized) → T (sized (lent c))
-is-sized c = subst T (sym (sym c.are_sized.ensures ∙ not_false _ c.if-not-are_sized.false)) tt
+is-sized c = subst T (sym (sym c.are_sized.ensures ∙ c.if-not-are_sized.false)) tt
 
 positive : (n : ℕ) → (n ≡ 0 → ⊥) → 0 < n
 positive n h = omega arith

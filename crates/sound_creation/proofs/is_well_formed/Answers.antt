@@ -3,4 +3,4 @@ use borrow.Author.Rules.{rules}
 use Rattle.sound_creation.proofs.is_well_formed.Goals as goal
 
 pub returns-in-Present : goal.returns-in-Present
-returns-in-Present c = simp c.region-1.given.1 c.is_well_formed.ensures
+returns-in-Present c = simp c.in-Present.is c.is_well_formed.ensures

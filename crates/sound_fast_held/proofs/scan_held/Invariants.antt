@@ -21,7 +21,7 @@ pub record Going (snd : List Float) (way : Way) (rate : Float) (frames : ℕ) (r
   pub some : more ≡ true → 0 < frames
 
 abbrev pub invariant-loop-more : goal.invariant-loop-more
-invariant-loop-more l = Going l.sound l.way l.rate l.frames l.r l.out-1 l.more
+invariant-loop-more l = Going l.sound l.way l.rate l.frames l.r l.out l.more
 
 abbrev pub decreases-loop-more : goal.decreases-loop-more
 decreases-loop-more l = cond l.more (suc (l.frames - l.r.next)) 0

@@ -10,7 +10,7 @@ use Rattle.sound_fast_reading.specs.Scans.{Scannable, Scanned}
 use Rattle.sound_fast_path.proofs.scan_varied.Given as goal
 
 abbrev pub invariant-loop-more : goal.invariant-loop-more
-invariant-loop-more l = Scanned l.sound l.way l.rate l.r l.out-1
+invariant-loop-more l = Scanned l.sound l.way l.rate l.r l.out
 
 abbrev pub decreases-loop-more : goal.decreases-loop-more
 decreases-loop-more l = cond l.more (suc (length l.rate - l.r.next)) 0

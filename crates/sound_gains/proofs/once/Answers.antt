@@ -75,7 +75,7 @@ returns-then-is_one c =
     let st = last in
     let f = four-of _ _ _ _ c.if-is_one.true in
     kept st.args.gains st.args.n st.args.out.now (last.is_one.ensures f.first) (last.is_one-2.ensures f.second) (last.is_one-3.ensures f.third) (last.is_one-4.ensures f.fourth)
-    last.slice_known-1.given
+    last.type_inv.out
 
 pub loop-i-init : goal.loop-i-init
 unfolding gained

@@ -20,7 +20,7 @@ pub record Sofar (fade volume left right : List Float) (n : ℕ) (out₀ out : L
   pub so_far_lem : out ≡ gained fade volume left right i out₀
 
 abbrev pub invariant-loop-i : goal.invariant-loop-i
-invariant-loop-i l = Sofar (replicate l.n l.gains.fade) (replicate l.n l.gains.volume) (replicate l.n l.gains.left) (replicate l.n l.gains.right) l.n l.initial.out l.out-1 l.i
+invariant-loop-i l = Sofar (replicate l.n l.gains.fade) (replicate l.n l.gains.volume) (replicate l.n l.gains.left) (replicate l.n l.gains.right) l.n l.initial.out l.out l.i
 
 abbrev pub decreases-loop-i : goal.decreases-loop-i
 decreases-loop-i l = l.n - l.i

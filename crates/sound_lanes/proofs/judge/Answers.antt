@@ -37,11 +37,11 @@ four_finite_clear-requires c =
     record { volume_len = p.volume ∙ sym p.fade; left_len = p.left ∙ sym p.fade; right_len = p.right ∙ sym p.fade }
 
 pub returns-then-not-four_finite_clear : goal.returns-then-not-four_finite_clear
-returns-then-not-four_finite_clear c = answer (goal.at.returns-then-not-four_finite_clear c).Start false _ _ (sym c.«four-finite-clear».ensures ∙ not_true _ c.if-not-four_finite_clear.true) refl refl
+returns-then-not-four_finite_clear c = answer (goal.at.returns-then-not-four_finite_clear c).Start false _ _ (sym c.«four-finite-clear».ensures ∙ c.if-not-four_finite_clear.true) refl refl
 
 -- what is known after the first pass
 finite-clear-all : (c : Else-not-four_finite_clear) → levels c.before.before.before.before.before.before.before ≡ true
-finite-clear-all c = sym c.«four-finite-clear».ensures ∙ not_false _ c.if-not-four_finite_clear.false
+finite-clear-all c = sym c.«four-finite-clear».ensures ∙ c.if-not-four_finite_clear.false
 
 pub returns-then-are_slow : goal.returns-then-are_slow
 returns-then-are_slow c = let d = c.before.before in answer (goal.at.returns-then-are_slow c).Start true true _ (finite-clear-all (goal.at.returns-then-are_slow c).Else-not-four_finite_clear) (sym c.«are-slow».ensures ∙ c.if-are_slow.true) refl

@@ -8,6 +8,10 @@ use Rattle.sound_lanes.proofs.Largest.{at_most_number, at_most_below, above_refu
 use borrow.Author.Rules.{rules}
 use Rattle.sound_lanes.proofs.top.Goals as goal
 
+pub float_from_bits-largest : goal.float_from_bits-largest
+unfolding nan_bits
+float_from_bits-largest c = search rules
+
 pub float_to_bits-result : goal.float_to_bits-result
 unfolding of_bits
 float_to_bits-result c = at_most_number c.args.x _ c.if-x-largest.true

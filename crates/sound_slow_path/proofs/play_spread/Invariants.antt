@@ -88,7 +88,7 @@ few c = turned_few _ _ _ _ _ _ _ c.frame_steps-next.result (turning c) (turn-her
 
 abbrev pub invariant-loop-i : goal.invariant-loop-i
 invariant-loop-i l =
-    Sofar l.sound l.dt (spread (length l.initial.out / 2) (five l.fade l.volume l.left l.right l.rate)) l.voice l.i l.initial.out l.out l.moving-1 l.fractional_position l.steps l.lowest_count
+    Sofar l.sound l.dt (spread (length l.initial.out / 2) (five l.fade l.volume l.left l.right l.rate)) l.voice l.i l.initial.out l.out l.moving l.fractional_position l.steps l.lowest_count
 
 abbrev pub decreases-loop-i : goal.decreases-loop-i
 decreases-loop-i l =

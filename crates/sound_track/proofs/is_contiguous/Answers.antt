@@ -24,7 +24,7 @@ returns-then-not-transport c =
     let snd = st.args.sound.now in
     let k = st.args.track in
     let m = st.args.moving in
-    (no_playing snd k m (not_true _ c.if-not-transport.true), λ e. absurd (false≢true e))
+    (no_playing snd k m (c.if-not-transport.true), λ e. absurd (false≢true e))
 
 pub returns-then-not-is_on : goal.returns-then-not-is_on
 returns-then-not-is_on c =
@@ -32,7 +32,7 @@ returns-then-not-is_on c =
     let snd = st.args.sound.now in
     let k = st.args.track in
     let m = st.args.moving in
-    (no_place snd k m (not_false _ c.if-not-transport.false) (sym c.is_on.ensures ∙ not_true _ c.if-not-is_on.true), λ e. absurd (false≢true e))
+    (no_place snd k m (c.if-not-transport.false) (sym c.is_on.ensures ∙ c.if-not-is_on.true), λ e. absurd (false≢true e))
 
 pub has_room-requires : goal.has_room-requires
 has_room-requires c =
@@ -40,7 +40,7 @@ has_room-requires c =
     let snd = st.args.sound.now in
     let k = st.args.track in
     let m = st.args.moving in
-    on_of snd k (first_index m) st.requires.inside_sound (sym c.is_on.ensures ∙ not_false _ c.if-not-is_on.false)
+    on_of snd k (first_index m) st.requires.inside_sound (sym c.is_on.ensures ∙ c.if-not-is_on.false)
 
 pub returns-then-not-has_room : goal.returns-then-not-has_room
 returns-then-not-has_room c =
@@ -48,7 +48,7 @@ returns-then-not-has_room c =
     let snd = st.args.sound.now in
     let k = st.args.track in
     let m = st.args.moving in
-    (no_room snd k m (not_false _ c.if-not-transport.false) (sym c.is_on.ensures ∙ not_false _ c.if-not-is_on.false) (sym c.has_room.ensures ∙ not_true _ c.if-not-has_room.true), λ e. absurd (false≢true e))
+    (no_room snd k m (c.if-not-transport.false) (sym c.is_on.ensures ∙ c.if-not-is_on.false) (sym c.has_room.ensures ∙ c.if-not-has_room.true), λ e. absurd (false≢true e))
 
 pub contiguous_at-there-requires : goal.contiguous_at-there-requires
 contiguous_at-there-requires c =
@@ -56,7 +56,7 @@ contiguous_at-there-requires c =
     let snd = st.args.sound.now in
     let k = st.args.track in
     let m = st.args.moving in
-    (st.requires.inside_sound, on_of snd k (first_index m) st.requires.inside_sound (sym c.is_on.ensures ∙ not_false _ c.if-not-is_on.false))
+    (st.requires.inside_sound, on_of snd k (first_index m) st.requires.inside_sound (sym c.is_on.ensures ∙ c.if-not-is_on.false))
 
 pub is_same_window-requires : goal.is_same_window-requires
 is_same_window-requires c =

@@ -5,7 +5,7 @@ use Rattle.sound_track.proofs.track_of.Lts as lts
 use Rattle.sound_track.proofs.track_of.Goals as goal
 
 pub returns-in-Absent : goal.returns-in-Absent
-returns-in-Absent c = rw c.enum_told-1.given.1
+returns-in-Absent c = rw c.in-Absent.is
 
 pub returns-in-Frames : goal.returns-in-Frames
-returns-in-Frames c = rw c.loop_region-1.given.1
+returns-in-Frames c = rw c.in-Frames.is

@@ -32,7 +32,7 @@ pub returns-then-not-are_sized : goal.returns-then-not-are_sized
 returns-then-not-are_sized c = number_9 _ _ _ _ _ (well_formed (goal.at.returns-then-not-are_sized c).Else-not-is_well_formed) (fails c.are_sized.ensures c.if-not-are_sized.true)
 
 pub returns-then-not-placed : goal.returns-then-not-placed
-returns-then-not-placed c = number_9_place _ _ _ _ _ (well_formed (goal.at.returns_then_not_placed c).Else-not-is_well_formed) (lanes-sized (goal.at.returns_then_not_placed c).Else-not-are_sized) (not_true _ c.if-not-placed.true)
+returns-then-not-placed c = number_9_place _ _ _ _ _ (well_formed (goal.at.returns_then_not_placed c).Else-not-is_well_formed) (lanes-sized (goal.at.returns_then_not_placed c).Else-not-are_sized) (c.if-not-placed.true)
 
 pub returns-then-not-is_time_step : goal.returns-then-not-is_time_step
 returns-then-not-is_time_step c = let p = c.before.before in number_10 _ _ _ _ _ (well_formed (goal.at.returns-then-not-is_time_step c).Else-not-is_well_formed) (lanes-sized (goal.at.returns-then-not-is_time_step c).Else-not-are_sized) (not_false _ p.if-not-placed.false) (fails c.is_time_step.ensures c.if-not-is_time_step.true)

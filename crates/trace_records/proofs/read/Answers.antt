@@ -21,7 +21,7 @@ pub returns-then-not-is_possible : goal.returns-then-not-is_possible
 returns-then-not-is_possible c =
     let p = c.before.before in
     let h = p.before.before.before.before in
-    no_length _ _ h.read_head-head.result h.read_head-head.ensures.0 p.if-head-gt0.false _ (sym (not_true _ c.if-not-is_possible.true) ∙ p.is_possible.ensures) c.refuse-then-not-is_possible.ensures
+    no_length _ _ h.read_head-head.result h.read_head-head.ensures.0 p.if-head-gt0.false _ (sym (c.if-not-is_possible.true) ∙ p.is_possible.ensures) c.refuse-then-not-is_possible.ensures
 
 pub returns-then-body-gt0 : goal.returns-then-body-gt0
 returns-then-body-gt0 c =

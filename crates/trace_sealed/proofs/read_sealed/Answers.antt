@@ -20,10 +20,10 @@ pub returns-then-not-is_possible : goal.returns-then-not-is_possible
 returns-then-not-is_possible c =
     let p = c.before.before in
     let h = p.before.before.before.before in
-    no_length _ _ h.read_head-head.result h.read_head-head.ensures.0 p.if-head-gt0.false _ _ refl refl _ (sym (not_true _ c.if-not-is_possible.true) ∙ p.is_possible.ensures) c.refuse-then-not-is_possible.ensures
+    no_length _ _ h.read_head-head.result h.read_head-head.ensures.0 p.if-head-gt0.false _ _ refl refl _ (sym (c.if-not-is_possible.true) ∙ p.is_possible.ensures) c.refuse-then-not-is_possible.ensures
 
 pub overflow_sub-n : goal.overflow_sub-n
-overflow_sub-n c = omega (arith, some _ _ (sym c.is_possible.ensures ∙ not_false _ c.if-not-is_possible.false))
+overflow_sub-n c = omega (arith, some _ _ (sym c.is_possible.ensures ∙ c.if-not-is_possible.false))
 
 pub returns-then-p-gt0 : goal.returns-then-p-gt0
 returns-then-p-gt0 c =

@@ -16,19 +16,19 @@ use Rattle.transport.proofs.from_start.Goals as goal
 -- in the loop's arm: its start and end, the position, and that the loop is not empty
 module _ (c : In-Frames-2) where
   abbrev s : ℕ
-  s = c.loop_region-1.given.0.0
+  s = c.in-Frames.start
 
   abbrev e : ℕ
-  e = c.loop_region-1.given.0.1.0
+  e = c.in-Frames.end
 
   abbrev p : ℕ
   p = c.args.p
 
   more : s < e
-  more = ordered_more s e c.loop_region-1.given.1 c.requires
+  more = ordered_more s e c.in-Frames.is c.requires
 
   looped : over c.args.loop_region p ≡ over (Frames s e) p
-  looped = ap (λ (r : FrameRange). over r p) c.loop_region-1.given.1
+  looped = ap (λ (r : FrameRange). over r p) c.in-Frames.is
 
 pub overflow_sub-result : goal.overflow_sub-result
 overflow_sub-result c = omega (arith, more c.before.before)

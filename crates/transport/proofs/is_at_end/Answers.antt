@@ -4,4 +4,4 @@ use borrow.Author.Rules.{rules}
 use Rattle.transport.proofs.is_at_end.Goals as goal
 
 pub returns-in-Frames : goal.returns-in-Frames
-returns-in-Frames c = rw c.loop_region-1.given.1
+returns-in-Frames c = rw c.in-Frames.is

@@ -27,9 +27,9 @@ returns-then-changed-ne0 c = rw (ne_eqb _ _ c.if-changed-ne0.true)
 pub returns-in-A : goal.returns-in-A
 returns-in-A c =
     let a = c.args in
-    subst (λ (h : Hall). accepted a.changed c.raise.result a.self.changes_b ≡ counted h a.self a.changed) (sym c.enum_told-1.given.1) (by-a a.self a.changed c.raise.result c.if-changed-ne0.false c.raise.ensures)
+    subst (λ (h : Hall). accepted a.changed c.raise.result a.self.changes_b ≡ counted h a.self a.changed) (sym c.in-A.is) (by-a a.self a.changed c.raise.result c.if-changed-ne0.false c.raise.ensures)
 
 pub returns-in-B : goal.returns-in-B
 returns-in-B c =
     let a = c.args in
-    subst (λ (h : Hall). accepted a.changed a.self.changes_a c.raise-in-B.result ≡ counted h a.self a.changed) (sym c.enum_told-in-B-1.given.1) (by-b a.self a.changed c.raise-in-B.result c.if-changed-ne0.false c.raise-in-B.ensures)
+    subst (λ (h : Hall). accepted a.changed a.self.changes_a c.raise-in-B.result ≡ counted h a.self a.changed) (sym c.in-B.is) (by-b a.self a.changed c.raise-in-B.result c.if-changed-ne0.false c.raise-in-B.ensures)

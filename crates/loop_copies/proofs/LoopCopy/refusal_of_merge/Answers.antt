@@ -10,28 +10,28 @@ use Rattle.loop_copies.proofs.LoopCopy.refusal_of_merge.Goals.{Else-not-agrees, 
 use Rattle.loop_copies.proofs.LoopCopy.refusal_of_merge.Goals as goal
 
 ours-not : (c : Then-not-is_well_formed) → well_formed_table c.args.self.table ≡ false
-ours-not c = sym c.is_well_formed.ensures ∙ not_true _ c.if-not-is_well_formed.true
+ours-not c = sym c.is_well_formed.ensures ∙ c.if-not-is_well_formed.true
 
 ours-so : (c : Else-not-is_well_formed) → well_formed_table c.args.self.table ≡ true
-ours-so c = sym c.is_well_formed.ensures ∙ not_false _ c.if-not-is_well_formed.false
+ours-so c = sym c.is_well_formed.ensures ∙ c.if-not-is_well_formed.false
 
 theirs-not : (c : Then-not-is_well_formed-2) → well_formed_table c.args.theirs.table ≡ false
-theirs-not c = sym c.is_well_formed-2.ensures ∙ not_true _ c.if-not-is_well_formed-2.true
+theirs-not c = sym c.is_well_formed-2.ensures ∙ c.if-not-is_well_formed-2.true
 
 theirs-so : (c : Else-not-is_well_formed-2) → well_formed_table c.args.theirs.table ≡ true
-theirs-so c = sym c.is_well_formed-2.ensures ∙ not_false _ c.if-not-is_well_formed-2.false
+theirs-so c = sym c.is_well_formed-2.ensures ∙ c.if-not-is_well_formed-2.false
 
 a-not : (c : Then-not-agrees) → let a = c.args in agrees hall.A a.self a.theirs ≡ false
-a-not c = sym c.agrees.ensures ∙ not_true _ c.if-not-agrees.true
+a-not c = sym c.agrees.ensures ∙ c.if-not-agrees.true
 
 a-so : (c : Else-not-agrees) → let a = c.args in agrees hall.A a.self a.theirs ≡ true
-a-so c = sym c.agrees.ensures ∙ not_false _ c.if-not-agrees.false
+a-so c = sym c.agrees.ensures ∙ c.if-not-agrees.false
 
 b-not : (c : Then-not-agrees-2) → let a = c.args in agrees hall.B a.self a.theirs ≡ false
-b-not c = sym c.agrees-2.ensures ∙ not_true _ c.if-not-agrees-2.true
+b-not c = sym c.agrees-2.ensures ∙ c.if-not-agrees-2.true
 
 b-so : (c : Else-not-agrees-2) → let a = c.args in agrees hall.B a.self a.theirs ≡ true
-b-so c = sym c.agrees-2.ensures ∙ not_false _ c.if-not-agrees-2.false
+b-so c = sym c.agrees-2.ensures ∙ c.if-not-agrees-2.false
 
 pub returns-then-not-is_well_formed : goal.returns-then-not-is_well_formed
 unfolding refused_merge

@@ -3,7 +3,7 @@ use borrow.Author.Rules.{rules}
 use Rattle.loop_table.proofs.Hall.owns.Goals as goal
 
 pub returns-in-A : goal.returns-in-A
-returns-in-A c = rw c.enum_told-1.given.1
+returns-in-A c = rw c.in-A.is
 
 pub returns-in-B : goal.returns-in-B
-returns-in-B c = rw c.enum_told-in-B-1.given.1
+returns-in-B c = rw c.in-B.is

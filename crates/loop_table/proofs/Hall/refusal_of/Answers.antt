@@ -8,10 +8,10 @@ use Rattle.loop_table.proofs.Hall.refusal_of.Goals.{Else-not-owns, Then-not-owns
 use Rattle.loop_table.proofs.Hall.refusal_of.Goals as goal
 
 own-not : (c : Then-not-owns) → owns c.args.self c.args.slot ≡ false
-own-not c = sym c.owns.ensures ∙ not_true _ c.if-not-owns.true
+own-not c = sym c.owns.ensures ∙ c.if-not-owns.true
 
 own-so : (c : Else-not-owns) → owns c.args.self c.args.slot ≡ true
-own-so c = sym c.owns.ensures ∙ not_false _ c.if-not-owns.false
+own-so c = sym c.owns.ensures ∙ c.if-not-owns.false
 
 pub returns-then-slot-gt15 : goal.returns-then-slot-gt15
 returns-then-slot-gt15 c = rw (lt-leb _ _ c.if-slot-gt15.true)

@@ -11,7 +11,7 @@ use Rattle.loop_table.specs.Tables.{empty, well_formed_slot, well_formed_table}
 use Rattle.loop_table.proofs.LoopTable.is_well_formed.Given as goal
 
 abbrev pub invariant-loop-i : goal.invariant-loop-i
-invariant-loop-i l = (l.i ≤ 16) × (l.ok ≡ all (well_formed_slot l.num_frames) (take l.i l.slots-1))
+invariant-loop-i l = (l.i ≤ 16) × (l.ok ≡ all (well_formed_slot l.num_frames) (take l.i l.slots))
 
 abbrev pub decreases-loop-i : goal.decreases-loop-i
 decreases-loop-i l = 16 - l.i

@@ -8,10 +8,10 @@ use Rattle.loop_table.proofs.LoopTable.read.Goals.{After-is_empty, Else-not-is_w
 use Rattle.loop_table.proofs.LoopTable.read.Goals as goal
 
 well-formed-not : (c : Then-not-is_well_formed) → well_formed_table c.args.self ≡ false
-well-formed-not c = sym c.is_well_formed.ensures ∙ not_true _ c.if-not-is_well_formed.true
+well-formed-not c = sym c.is_well_formed.ensures ∙ c.if-not-is_well_formed.true
 
 well-formed-so : (c : Else-not-is_well_formed) → well_formed_table c.args.self ≡ true
-well-formed-so c = sym c.is_well_formed.ensures ∙ not_false _ c.if-not-is_well_formed.false
+well-formed-so c = sym c.is_well_formed.ensures ∙ c.if-not-is_well_formed.false
 
 empty-told : (c : After-is_empty) → let a = c.args in
     c.is_empty.result ≡ is_empty (held_in a.self a.slot)

@@ -8,10 +8,10 @@ use Rattle.loop_table.proofs.LoopTable.refusal_of_clear.Goals.{Else-not-is_well_
 use Rattle.loop_table.proofs.LoopTable.refusal_of_clear.Goals as goal
 
 well-formed-not : (c : Then-not-is_well_formed) → well_formed_table c.args.self ≡ false
-well-formed-not c = sym c.is_well_formed.ensures ∙ not_true _ c.if-not-is_well_formed.true
+well-formed-not c = sym c.is_well_formed.ensures ∙ c.if-not-is_well_formed.true
 
 well-formed-so : (c : Else-not-is_well_formed) → well_formed_table c.args.self ≡ true
-well-formed-so c = sym c.is_well_formed.ensures ∙ not_false _ c.if-not-is_well_formed.false
+well-formed-so c = sym c.is_well_formed.ensures ∙ c.if-not-is_well_formed.false
 
 pub returns-then-not-is_well_formed : goal.returns-then-not-is_well_formed
 unfolding refused_clear

@@ -8,16 +8,16 @@ use Rattle.loop_table.proofs.LoopTable.refusal_of_write.Goals.{Else-not-is_loop,
 use Rattle.loop_table.proofs.LoopTable.refusal_of_write.Goals as goal
 
 well-formed-not : (c : Then-not-is_well_formed) → well_formed_table c.args.self ≡ false
-well-formed-not c = sym c.is_well_formed.ensures ∙ not_true _ c.if-not-is_well_formed.true
+well-formed-not c = sym c.is_well_formed.ensures ∙ c.if-not-is_well_formed.true
 
 well-formed-so : (c : Else-not-is_well_formed) → well_formed_table c.args.self ≡ true
-well-formed-so c = sym c.is_well_formed.ensures ∙ not_false _ c.if-not-is_well_formed.false
+well-formed-so c = sym c.is_well_formed.ensures ∙ c.if-not-is_well_formed.false
 
 loop-not : (c : Then-not-is_loop) → let a = c.args in looping a.self.num_frames a.start a.end ≡ false
-loop-not c = sym c.is_loop.ensures ∙ not_true _ c.if-not-is_loop.true
+loop-not c = sym c.is_loop.ensures ∙ c.if-not-is_loop.true
 
 loop-so : (c : Else-not-is_loop) → let a = c.args in looping a.self.num_frames a.start a.end ≡ true
-loop-so c = sym c.is_loop.ensures ∙ not_false _ c.if-not-is_loop.false
+loop-so c = sym c.is_loop.ensures ∙ c.if-not-is_loop.false
 
 pub returns-then-not-is_well_formed : goal.returns-then-not-is_well_formed
 unfolding refused_write

@@ -5,7 +5,7 @@ use borrow.Author.Tests.{lt-ltb, le-ltb}
 use Rattle.playback_position.proofs.FrameRange.is_within.Goals as goal
 
 pub returns-then-start-end : goal.returns-then-start-end
-returns-then-start-end c = simp (c.self-1.given.1, lt-ltb _ _ c.if-start-end.true)
+returns-then-start-end c = simp (c.in-Frames.is, lt-ltb _ _ c.if-start-end.true)
 
 pub returns-else-start-end : goal.returns-else-start-end
-returns-else-start-end c = simp (c.self-1.given.1, le-ltb _ _ c.if-start-end.false)
+returns-else-start-end c = simp (c.in-Frames.is, le-ltb _ _ c.if-start-end.false)

@@ -6,4 +6,8 @@ use Rattle.playback_position.proofs.PlaybackPosition.into_samples.Goals as goal
 
 pub returns-in-Seconds : goal.returns-in-Seconds
 unfolding position_in_frames
-returns-in-Seconds c = simp c.self-1.given.1 c.round_half_away.ensures
+returns-in-Seconds c = simp c.in-Seconds.is c.round_half_away.ensures
+
+pub returns-in-Samples : goal.returns-in-Samples
+unfolding position_in_frames
+returns-in-Samples c = search rules

@@ -19,16 +19,16 @@ both-pass a b d e f = rw (e, f)
 
 -- what the two results so far say about the region's start and end
 placed-not : (c : Then-not-is_finite_position) → finite_position c.args.self.start ≡ false
-placed-not c = sym c.is_finite_position.ensures ∙ not_true _ c.if-not-is_finite_position.true
+placed-not c = sym c.is_finite_position.ensures ∙ c.if-not-is_finite_position.true
 
 placed-so : (c : Else-not-is_finite_position) → finite_position c.args.self.start ≡ true
-placed-so c = sym c.is_finite_position.ensures ∙ not_false _ c.if-not-is_finite_position.false
+placed-so c = sym c.is_finite_position.ensures ∙ c.if-not-is_finite_position.false
 
 ended-not : (c : Then-not-is_finite_end) → finite_end c.args.self.end ≡ false
-ended-not c = sym c.is_finite_end.ensures ∙ not_true _ c.if-not-is_finite_end.true
+ended-not c = sym c.is_finite_end.ensures ∙ c.if-not-is_finite_end.true
 
 ended_so : (c : Else-not-is_finite_end) → finite_end c.args.self.end ≡ true
-ended_so c = sym c.is_finite_end.ensures ∙ not_false _ c.if-not-is_finite_end.false
+ended_so c = sym c.is_finite_end.ensures ∙ c.if-not-is_finite_end.false
 
 pub returns-then-not-is_finite_position : goal.returns-then-not-is_finite_position
 unfolding well_formed_region

@@ -6,8 +6,8 @@ use Rattle.resampler.proofs.Resampler.push_frame.Goals as goal
 
 pub returns-in-Present : goal.returns-in-Present
 unfolding push
-returns-in-Present c = rw c.frame-1.given.1
+returns-in-Present c = rw c.in-Present.is
 
 pub returns-in-Absent : goal.returns-in-Absent
 unfolding push of_bits
-returns-in-Absent c = rw (c.enum_told-1.given.1, c.lowered.ensures)
+returns-in-Absent c = rw (c.in-Absent.is, c.lowered.ensures)

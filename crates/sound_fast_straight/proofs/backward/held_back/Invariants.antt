@@ -12,7 +12,7 @@ use Rattle.sound_fast_straight.proofs.backward.held_back.Given as goal
 
 abbrev pub invariant-loop-i : goal.invariant-loop-i
 invariant-loop-i l =
-    Going l.sound l.way (replicate l.frames l.rate) l.from l.out-1 l.p l.fractional_position l.i
+    Going l.sound l.way (replicate l.frames l.rate) l.from l.out l.p l.fractional_position l.i
 
 abbrev pub decreases-loop-i : goal.decreases-loop-i
 decreases-loop-i l =

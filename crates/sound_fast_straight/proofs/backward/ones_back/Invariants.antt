@@ -10,7 +10,7 @@ use Rattle.sound_fast_straight.proofs.StraightBack.{back_more}
 use Rattle.sound_fast_straight.proofs.backward.ones_back.Given as goal
 
 abbrev pub invariant-loop-r : goal.invariant-loop-r
-invariant-loop-r l = Scanned l.sound l.way l.rate l.r l.out-1
+invariant-loop-r l = Scanned l.sound l.way l.rate l.r l.out
 
 abbrev pub decreases-loop-r : goal.decreases-loop-r
 decreases-loop-r l = length l.rate - l.r.next

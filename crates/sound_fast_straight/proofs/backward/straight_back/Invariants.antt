@@ -9,7 +9,7 @@ use Rattle.sound_fast_straight.proofs.backward.straight_back.Given as goal
 
 abbrev pub invariant-loop-i : goal.invariant-loop-i
 invariant-loop-i l =
-    Going l.sound l.way l.rate l.from l.out-1 l.p l.fractional_position l.i
+    Going l.sound l.way l.rate l.from l.out l.p l.fractional_position l.i
 
 abbrev pub decreases-loop-i : goal.decreases-loop-i
 decreases-loop-i l =

@@ -9,7 +9,7 @@ none : (s e : ℕ) → e < s → 0 ≡ e - s
 none s e h = omega arith
 
 pub returns-then-start-end : goal.returns-then-start-end
-returns-then-start-end c = rw c.slice-1.given.1
+returns-then-start-end c = rw c.in-Frames.is
 
 pub returns-else-start-end : goal.returns-else-start-end
-returns-else-start-end c = rw c.slice-1.given.1 (none _ _ c.if-start-end.false)
+returns-else-start-end c = rw c.in-Frames.is (none _ _ c.if-start-end.false)

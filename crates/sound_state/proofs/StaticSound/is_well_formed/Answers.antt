@@ -13,10 +13,10 @@ use Rattle.sound_state.proofs.StaticSound.is_well_formed.Goals.{Else-not-is_well
 use Rattle.sound_state.proofs.StaticSound.is_well_formed.Goals as goal
 
 pub returns-then-not-is_well_formed_setup : goal.returns-then-not-is_well_formed_setup
-returns-then-not-is_well_formed_setup c = sym (well_formed_for_unset _ _ (sym c.is_well_formed_setup.ensures ∙ not_true _ c.if-not-is_well_formed_setup.true))
+returns-then-not-is_well_formed_setup c = sym (well_formed_for_unset _ _ (sym c.is_well_formed_setup.ensures ∙ c.if-not-is_well_formed_setup.true))
 
 set : (c : Else-not-is_well_formed_setup) → well_formed_setup c.args.self.setup ≡ true
-set c = sym c.is_well_formed_setup.ensures ∙ not_false _ c.if-not-is_well_formed_setup.false
+set c = sym c.is_well_formed_setup.ensures ∙ c.if-not-is_well_formed_setup.false
 
 pub overflow_mul-result : goal.overflow_mul-result
 overflow_mul-result c =

@@ -13,7 +13,7 @@ use Rattle.sound_update.proofs.Moving.update_positions.Given as goal
 
 abbrev pub invariant-loop-left : goal.invariant-loop-left
 invariant-loop-left l =
-    let m = moving_of l.loop_region l.state l.position l.playing l.wraps-1 (window_of l.frames l.numbers) in
+    let m = moving_of l.loop_region l.state l.position l.playing l.wraps (window_of l.frames l.numbers) in
     Updatable l.sound l.slice m × (updates l.left l.sound l.slice m ≡ updates l.steps l.sound l.slice (moving_of l.loop_region l.initial.state l.initial.position l.initial.playing l.initial.wraps (window_of l.initial.frames l.initial.numbers)))
 
 abbrev pub decreases-loop-left : goal.decreases-loop-left

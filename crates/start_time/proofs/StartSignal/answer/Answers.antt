@@ -9,9 +9,9 @@ use Rattle.start_time.proofs.StartSignal.answer.Goals as goal
 pub returns-then-is_reached : goal.returns-then-is_reached
 returns-then-is_reached c =
     let i = c.before in
-    answering_reached _ _ _ i.self-in-Tick-1.given.1 (sym i.is_reached.ensures ∙ c.if-is_reached.true)
+    answering_reached _ _ _ i.in-Tick.is (sym i.is_reached.ensures ∙ c.if-is_reached.true)
 
 pub returns-else-is_reached : goal.returns-else-is_reached
 returns-else-is_reached c =
     let i = c.before in
-    answering_waiting _ _ _ i.self-in-Tick-1.given.1 (sym i.is_reached.ensures ∙ c.if-is_reached.false)
+    answering_waiting _ _ _ i.in-Tick.is (sym i.is_reached.ensures ∙ c.if-is_reached.false)

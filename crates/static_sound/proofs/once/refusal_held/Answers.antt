@@ -34,7 +34,7 @@ pub returns-then-frames-gt4096 : goal.returns-then-frames-gt4096
 returns-then-frames-gt4096 c = number_9 _ _ _ _ _ (well_formed (goal.at.returns-then-frames-gt4096 c).Else-not-is_well_formed) (sized_many _ _ c.if-frames-gt4096.true)
 
 pub returns-then-not-placed : goal.returns-then-not-placed
-returns-then-not-placed c = number_9_place _ _ _ _ _ (well_formed (goal.at.returns_then_not_placed c).Else-not-is_well_formed) (few (goal.at.returns_then_not_placed c).Else-frames-gt4096) (not_true _ c.if-not-placed.true)
+returns-then-not-placed c = number_9_place _ _ _ _ _ (well_formed (goal.at.returns_then_not_placed c).Else-not-is_well_formed) (few (goal.at.returns_then_not_placed c).Else-frames-gt4096) (c.if-not-placed.true)
 
 pub returns-then-not-is_time_step : goal.returns-then-not-is_time_step
 returns-then-not-is_time_step c = let p = c.before.before in number_10 _ _ _ _ _ (well_formed (goal.at.returns-then-not-is_time_step c).Else-not-is_well_formed) (few (goal.at.returns-then-not-is_time_step c).Else-frames-gt4096) (not_false _ p.if-not-placed.false) (fails c.is_time_step.ensures c.if-not-is_time_step.true)

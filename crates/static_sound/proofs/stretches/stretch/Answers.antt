@@ -39,13 +39,13 @@ record Numbers (s e n len : ℕ) : Type 0 where
 
 numbers : (c : In-Frames-2)
     → (let st = c.before.before.before in
-    Numbers c.slice-1.given.0.0 c.slice-1.given.0.1.0 st.args.voice.setup.num_frames (length st.args.sound.now))
+    Numbers c.in-Frames.start c.in-Frames.end st.args.voice.setup.num_frames (length st.args.sound.now))
 numbers c =
     let e = c.before.before.before in
     let a = e.args in
     let o = well_formed_for_parts (length a.sound.now) a.voice (is_true (well_formed c.before.before.before)) in
     let k = setup_parts a.voice.setup o.0.setup in
-    let r = ranged_parts a.voice.setup.num_frames c.slice-1.given.0.0 c.slice-1.given.0.1.0 (subst (λ (r : FrameRange). T (within a.voice.setup.num_frames r)) c.slice-1.given.1 k.slice-1) in
+    let r = ranged_parts a.voice.setup.num_frames c.in-Frames.start c.in-Frames.end (subst (λ (r : FrameRange). T (within a.voice.setup.num_frames r)) c.in-Frames.is k.slice-1) in
     record { more = r.more; inside = r.inside; few = k.few; lent = o.1 }
 
 pub returns-then-not-is_well_formed : goal.returns-then-not-is_well_formed
@@ -70,12 +70,12 @@ pub returns-in-Absent : goal.returns-in-Absent
 unfolding stretch_of stretch_at
 returns-in-Absent c =
     let e = well_formed (goal.at.returns-in-Absent c).Else-not-is_well_formed in
-    let h = c.enum_told-1.given.1 in
+    let h = c.in-Absent.is in
     (simp (e, h), simp (e, h) (at-start c.args.sound.ref_ptr))
 
 pub returns-in-Frames : goal.returns-in-Frames
 unfolding stretch_of stretch_at
 returns-in-Frames c =
     let e = well_formed (goal.at.returns-in-Frames c).Else-not-is_well_formed in
-    let h = c.slice-1.given.1 in
+    let h = c.in-Frames.is in
     (simp (e, h), simp (e, h) refl)

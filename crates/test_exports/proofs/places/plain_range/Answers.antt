@@ -3,7 +3,7 @@ use borrow.Author.Rules.{rules}
 use Rattle.test_exports.proofs.places.plain_range.Goals as goal
 
 pub returns-in-Absent : goal.returns-in-Absent
-returns-in-Absent c = rw c.enum_told-1.given.1
+returns-in-Absent c = rw c.in-Absent.is
 
 pub returns-in-Frames : goal.returns-in-Frames
-returns-in-Frames c = rw c.range-1.given.1
+returns-in-Frames c = rw c.in-Frames.is

@@ -20,6 +20,10 @@ use Rattle.trace_records.proofs.writes.put_head.Lts as lts
 use Rattle.byte_layout.proofs.put_rows.Reads as put-rows-reads
 use Rattle.trace_records.proofs.writes.put_head.Goals as goal
 
+pub put_rows-requires : goal.put_rows-requires
+unfolding payload rows field stands row_at bytes
+put_rows-requires c = search rules
+
 pub returns : goal.returns
 unfolding head_rows head_table
 returns c =

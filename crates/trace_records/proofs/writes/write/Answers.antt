@@ -25,19 +25,19 @@ use Rattle.trace_records.proofs.writes.put_head.Reads as put-head-reads
 use Rattle.trace_records.proofs.writes.write.Goals as goal
 
 pub returns-then-not-is_kind : goal.returns-then-not-is_kind
-returns-then-not-is_kind c = no_kind _ _ _ _ (sym (not_true _ c.if-not-is_kind.true) ∙ c.is_kind.ensures)
+returns-then-not-is_kind c = no_kind _ _ _ _ (sym (c.if-not-is_kind.true) ∙ c.is_kind.ensures)
 
 pub returns-then-not-fits : goal.returns-then-not-fits
-returns-then-not-fits c = unfit _ _ _ _ (sym (not_false _ c.if-not-is_kind.false) ∙ c.is_kind.ensures) (sym (not_true _ c.if-not-fits.true) ∙ c.fits2.ensures)
+returns-then-not-fits c = unfit _ _ _ _ (sym (c.if-not-is_kind.false) ∙ c.is_kind.ensures) (sym (c.if-not-fits.true) ∙ c.fits2.ensures)
 
 pub returns-then-buf-at : goal.returns-then-buf-at
-returns-then-buf-at c = no_room c.args.buf.now c.args.at c.args.kind (take (fields c.args.kind) c.args.values) (sym (not_false _ c.if-not-is_kind.false) ∙ c.is_kind.ensures) (sym (not_false _ c.if-not-fits.false) ∙ c.fits2.ensures) c.payload_length-n.result c.payload_length-n.ensures (omega (arith, c.if-buf-at.true))
+returns-then-buf-at c = no_room c.args.buf.now c.args.at c.args.kind (take (fields c.args.kind) c.args.values) (sym (c.if-not-is_kind.false) ∙ c.is_kind.ensures) (sym (c.if-not-fits.false) ∙ c.fits2.ensures) c.payload_length-n.result c.payload_length-n.ensures (omega (arith, c.if-buf-at.true))
 
 pub overflow_add-n : goal.overflow_add-n
-overflow_add-n c = omega (arith, few c.args.buf.now c.args.at c.args.kind (take (fields c.args.kind) c.args.values) (sym (not_false _ c.if-not-is_kind.false) ∙ c.is_kind.ensures) (sym (not_false _ c.if-not-fits.false) ∙ c.fits2.ensures) c.payload_length-n.result c.payload_length-n.ensures)
+overflow_add-n c = omega (arith, few c.args.buf.now c.args.at c.args.kind (take (fields c.args.kind) c.args.values) (sym (c.if-not-is_kind.false) ∙ c.is_kind.ensures) (sym (c.if-not-fits.false) ∙ c.fits2.ensures) c.payload_length-n.result c.payload_length-n.ensures)
 
 pub returns-then-buf-at-2 : goal.returns-then-buf-at-2
-returns-then-buf-at-2 c = no_room c.args.buf.now c.args.at c.args.kind (take (fields c.args.kind) c.args.values) (sym (not_false _ c.if-not-is_kind.false) ∙ c.is_kind.ensures) (sym (not_false _ c.if-not-fits.false) ∙ c.fits2.ensures) c.payload_length-n.result c.payload_length-n.ensures c.if-buf-at-2.true
+returns-then-buf-at-2 c = no_room c.args.buf.now c.args.at c.args.kind (take (fields c.args.kind) c.args.values) (sym (c.if-not-is_kind.false) ∙ c.is_kind.ensures) (sym (c.if-not-fits.false) ∙ c.fits2.ensures) c.payload_length-n.result c.payload_length-n.ensures c.if-buf-at-2.true
 
 pub returns : goal.returns
 returns c =

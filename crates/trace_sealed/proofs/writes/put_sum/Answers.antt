@@ -8,6 +8,10 @@ use Rattle.trace_sealed.proofs.writes.put_sum.Lts as lts
 use Rattle.byte_layout.proofs.put_rows.Reads as put-rows-reads
 use Rattle.trace_sealed.proofs.writes.put_sum.Goals as goal
 
+pub put_rows-requires : goal.put_rows-requires
+unfolding payload rows field stands row_at bytes
+put_rows-requires c = search rules
+
 pub returns : goal.returns
 unfolding payload rows field stands row_at bytes
 returns c =

@@ -18,12 +18,12 @@ pub returns-then-not-fits : goal.returns-then-not-fits
 returns-then-not-fits c =
     let f = c.before in
     let a = f.args in
-    unfit a.buf-1.now a.at a.kind a.values a.lanes.now (sym (not_true _ c.if-not-fits.true) ∙ f.fits2.ensures)
+    unfit a.buf-1.now a.at a.kind a.values a.lanes.now (sym (c.if-not-fits.true) ∙ f.fits2.ensures)
 
 pub lane_bytes-w-requires : goal.lane_bytes-w-requires
 lane_bytes-w-requires c =
     let a = c.args in
-    first_fits a.kind a.values (sym (not_false _ c.if-not-fits.false) ∙ c.fits2.ensures)
+    first_fits a.kind a.values (sym (c.if-not-fits.false) ∙ c.fits2.ensures)
 
 pub returns-then-lanes-w : goal.returns-then-lanes-w
 returns-then-lanes-w c =

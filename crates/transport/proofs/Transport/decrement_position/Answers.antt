@@ -19,13 +19,13 @@ module _ (c : In-Frames-2) where
   t = c.args.self
 
   abbrev s : ℕ
-  s = c.loop_region-1.given.0.0
+  s = c.in-Frames.start
 
   abbrev e : ℕ
-  e = c.loop_region-1.given.0.1.0
+  e = c.in-Frames.end
 
   more : s < e
-  more = ordered_more s e c.loop_region-1.given.1 c.requires
+  more = ordered_more s e c.in-Frames.is c.requires
 
 pub overflow_sub-self : goal.overflow_sub-self
 overflow_sub-self c = omega (arith, more c.before.before.before.before.before)
@@ -35,7 +35,7 @@ returns-then-self-start-2 c =
     let k = c.before.before.before.before.before in
     let low = c.if-self-start.true in
     let met = c.if-self-start-2.true in
-    sym (backward_looped (t k) (s k) (e k) _ k.if-self.true k.loop_region-1.given.1 (back_start (s k) (e k) (t k).position (more k) (omega arith)))
+    sym (backward_looped (t k) (s k) (e k) _ k.if-self.true k.in-Frames.is (back_start (s k) (e k) (t k).position (more k) (omega arith)))
 
 pub overflow_sub-self-then-self-start : goal.overflow_sub-self-then-self-start
 overflow_sub-self-then-self-start c = omega (arith, more c.before.before.before.before.before)
@@ -53,7 +53,7 @@ overflow_sub-self-then-self-start-4 c =
 pub returns-then-self-start : goal.returns-then-self-start
 returns-then-self-start c =
     let k = c.before.before.before.before.before.before in
-    sym (backward_looped (t k) (s k) (e k) _ k.if-self.true k.loop_region-1.given.1 (back_wrap (s k) (e k) (t k).position (more k) c.if-self-start.true))
+    sym (backward_looped (t k) (s k) (e k) _ k.if-self.true k.in-Frames.is (back_wrap (s k) (e k) (t k).position (more k) c.if-self-start.true))
 
 -- no position above a loop's start is 0
 never : {s p : ℕ} → s < p → p ≡ 0 → ⊥
