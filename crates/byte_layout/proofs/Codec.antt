@@ -5,7 +5,7 @@ use native.Mathlib.Omega.{arith}
 use mathlib.Core.Bool.{Bool, true, false, ◌&&◌, cond}
 use mathlib.Core.List.{List, [], ◌∷◌, ◌++◌, append_assoc, append-nil}
 use lib.Dec.{ltb, leb, eqb}
-use lib.ListN.{length, get_or, take, drop, length_append, take-append-drop, length-drop}
+use lib.ListN.{length, get_or, take, drop, length-append, take-append-drop, length-drop}
 use lib.Seq.{take_at, drop_at, length-take-le}
 use borrow.Author.Tests.{le-leb, leb-true, ltb-true, eqb-true}
 use Rattle.byte_layout.specs.declared.Row.{Row}
@@ -60,8 +60,8 @@ row_read r true vs p rest x k s f h =
   where
     go : (l : List ℕ) → length l ≡ r.width → num l ≡ x → taken r (length (l ++ p) + k) vs ((l ++ p) ++ rest) ≡ good (length p + k) (vs ++ (x ∷ [])) (p ++ rest)
     go l e n =
-        let n1 : length (l ++ p) ≡ r.width + length p = length_append l p ∙ ap (λ (z : ℕ). z + length p) e in
-        let n2 : length (l ++ (p ++ rest)) ≡ r.width + length (p ++ rest) = length_append l (p ++ rest) ∙ ap (λ (z : ℕ). z + length (p ++ rest)) e in
+        let n1 : length (l ++ p) ≡ r.width + length p = length-append l p ∙ ap (λ (z : ℕ). z + length p) e in
+        let n2 : length (l ++ (p ++ rest)) ≡ r.width + length (p ++ rest) = length-append l (p ++ rest) ∙ ap (λ (z : ℕ). z + length (p ++ rest)) e in
         let m : r.width + length p + k - r.width ≡ length p + k = omega arith in
         rw (append_assoc l p rest, n1, n2, le-leb r.width (r.width + length p + k) (omega arith), le-leb r.width (r.width + length (p ++ rest)) (omega arith), take_at l (p ++ rest) r.width e, drop_at l (p ++ rest) r.width e, n, f, m) refl
 
@@ -156,5 +156,5 @@ written_read (r ∷ rs) left vs bs k us rest h e = go (step r (good left vs bs))
           same = i.same ∙ append_assoc vs (x ∷ []) m;
           takes = rw f i.takes;
           from = b ∙ ap (λ (z : List ℕ). y ++ z) i.from ∙ sym (append_assoc y t rest);
-          count = (let c = i.count in let j = length_append y t in omega (arith, n, c, j));
+          count = (let c = i.count in let j = length-append y t in omega (arith, n, c, j));
         }

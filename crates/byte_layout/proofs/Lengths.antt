@@ -6,7 +6,7 @@ use native.Mathlib.Omega.{arith}
 use mathlib.Core.Bool.{Bool, true, false, cond}
 use mathlib.Core.List.{List, [], ◌∷◌, ◌++◌}
 use lib.Dec.{eqb, leb-zero}
-use lib.ListN.{length, get_or, length_append}
+use lib.ListN.{length, get_or, length-append}
 use borrow.Author.Tests.{eqb-true}
 use Rattle.byte_layout.specs.declared.Row.{Row}
 use Rattle.byte_layout.specs.Rows.{stands}
@@ -37,7 +37,7 @@ unfolding payload most
 at_most [] vs ws = omega arith
 at_most (r ∷ rs) vs [] = omega arith
 at_most (r ∷ rs) vs (x ∷ ws) =
-    omega (arith, length_append (field (stands r vs) r x) (payload rs (vs ++ (x ∷ [])) ws), field_most (stands r vs) r x, at_most rs (vs ++ (x ∷ [])) ws)
+    omega (arith, length-append (field (stands r vs) r x) (payload rs (vs ++ (x ∷ [])) ws), field_most (stands r vs) r x, at_most rs (vs ++ (x ∷ [])) ws)
 
 field_least : (r : Row) (vs : List ℕ) (x : ℕ) (b : Bool) → eqb r.low 0 ≡ b → cond b r.width 0 ≤ length (field (stands r vs) r x)
 unfolding field
@@ -50,7 +50,7 @@ at_least [] vs ws e = omega arith
 at_least (r ∷ rs) vs [] e = never e
 at_least (r ∷ rs) vs (x ∷ ws) e =
     let h = both (fits (stands r vs) r x) (fine rs (vs ++ (x ∷ [])) ws) e in
-    omega (arith, length_append (field (stands r vs) r x) (payload rs (vs ++ (x ∷ [])) ws), field_least r vs x (eqb r.low 0) refl, at_least rs (vs ++ (x ∷ [])) ws h.1)
+    omega (arith, length-append (field (stands r vs) r x) (payload rs (vs ++ (x ∷ [])) ws), field_least r vs x (eqb r.low 0) refl, at_least rs (vs ++ (x ∷ [])) ws h.1)
 
 -- every row that may be absent has eight bytes, so the lengths are eight apart
 unfoldable pub eights : List Row → Bool
@@ -76,4 +76,4 @@ apart (r ∷ rs) vs (x ∷ ws) g e =
     let k = both (cond (eqb r.low 0) true (eqb r.width 8)) (eights rs) g in
     let i = apart rs (vs ++ (x ∷ [])) ws k.1 h.1 in
     let f = field_apart r vs x (eqb r.low 0) (stands r vs) refl refl k.0 in
-    record { times = f.times + i.times; is = omega (arith, length_append (field (stands r vs) r x) (payload rs (vs ++ (x ∷ [])) ws), f.is, i.is) }
+    record { times = f.times + i.times; is = omega (arith, length-append (field (stands r vs) r x) (payload rs (vs ++ (x ∷ [])) ws), f.is, i.is) }

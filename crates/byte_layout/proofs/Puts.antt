@@ -5,7 +5,7 @@ use native.Mathlib.Omega.{arith}
 use native.Mathlib.Numerals.{add-one, unary_clauses}
 use mathlib.Core.Bool.{Bool, true, false, cond}
 use mathlib.Core.List.{List, [], ◌∷◌, ◌++◌}
-use lib.ListN.{length, get_or, take, drop, set, length_append}
+use lib.ListN.{length, get_or, take, drop, set, length-append}
 use lib.Seq.{drop-cons, take-suc, sets}
 use Rattle.byte_layout.specs.declared.Row.{Row}
 use Rattle.byte_layout.specs.Numbers.{bytes}
@@ -84,7 +84,7 @@ module _ (t : List ℕ) (n : ℕ) (v : List ℕ) (i : ℕ) (h : i < n) (l : i < 
   tail_is = rw e (tail_next t n v i h l)
 
   pub row_room : length (tail_of t n v i) ≡ length (field (stands r (take i v)) r (get_or v i 0)) + length (tail_of t n v (i + 1))
-  row_room = ap length tail_is ∙ length_append (field (stands r (take i v)) r (get_or v i 0)) (tail_of t n v (i + 1))
+  row_room = ap length tail_is ∙ length-append (field (stands r (take i v)) r (get_or v i 0)) (tail_of t n v (i + 1))
 
   pub row_put : (buf new : List ℕ) (a b : ℕ) → new ≡ sets buf a (field (stands r (take i v)) r (get_or v i 0)) → b ≡ a + length (field (stands r (take i v)) r (get_or v i 0))
       → sets new b (tail_of t n v (i + 1)) ≡ sets buf a (tail_of t n v i)

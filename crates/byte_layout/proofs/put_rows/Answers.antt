@@ -20,7 +20,7 @@ pub loop-i-init : goal.loop-i-init
 loop-i-init c =
     let a = c.args in
     let e = tail_start a.table.now a.n a.values in
-    (search rules, refl, ap (λ t. sets a.buf-1.now a.at t) e, ap (λ t. a.at + length t) e)
+    (search rules, refl, ap (λ t. sets a.buf.now a.at t) e, ap (λ t. a.at + length t) e)
 
 held : (c : In-loop-i) → c.loop-i.i < length c.args.values
 held c = search rules
@@ -40,11 +40,11 @@ loop-i-preserved c =
     let h : l.i < a.n = q.loop-i-test.true in
     let k = held (goal.at.loop_i_preserved c).In-loop-i in
     let r = q.row_at-r.result in
-    let e : length l.buf-1 ≡ length a.buf-1.now = l.invariant.1 in
+    let e : length l.buf ≡ length a.buf.now = l.invariant.1 in
     let m = row_room a.table.now a.n a.values l.i h k r q.row_at-r.ensures in (
       search rules,
       ap length p.put_row-a.ensures.0 ∙ simp length-sets e,
-      row_put a.table.now a.n a.values l.i h k r q.row_at-r.ensures l.buf-1 p.put_row-a.new.0 l.a p.put_row-a.result p.put_row-a.ensures.0 p.put_row-a.ensures.1 ∙ l.invariant.2,
+      row_put a.table.now a.n a.values l.i h k r q.row_at-r.ensures l.buf p.put_row-a.new.0 l.a p.put_row-a.result p.put_row-a.ensures.0 p.put_row-a.ensures.1 ∙ l.invariant.2,
       omega (arith, m, p.put_row-a.ensures.1, l.invariant.3),
     )
 
@@ -56,4 +56,4 @@ returns c =
     let a = c.args in
     let l = c.loop-i in
     let e = tail_end a.table.now a.n a.values l.i c.loop-i-test.false in
-    (sym (ap (λ t. sets l.buf-1 l.a t) e) ∙ l.invariant.2, omega (arith, ap length e, l.invariant.3))
+    (sym (ap (λ t. sets l.buf l.a t) e) ∙ l.invariant.2, omega (arith, ap length e, l.invariant.3))

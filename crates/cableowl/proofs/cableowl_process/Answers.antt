@@ -15,11 +15,11 @@ answer-requires c =
     let p = c.before.before in
     let a = p.args in
     block_few a.sound.now a.state a.dt (lent (goal.at.answer_requires c).Start) a.signals _ _
-    p.decode.ensures p.signals_of.ensures _ _ a.out-1.now p.process-processed.ensures
+    p.decode.ensures p.signals_of.ensures _ _ a.out.now p.process-processed.ensures
 
 pub returns : goal.returns
 returns c =
     let p = c.before.before.before in
     let a = p.args in
     block_is a.sound.now a.state a.dt (lent (goal.at.returns c).Start) a.signals _ _
-    p.decode.ensures p.signals_of.ensures p.process-processed.result _ a.out-1.now p.process-processed.ensures _ c.answer.ensures
+    p.decode.ensures p.signals_of.ensures p.process-processed.result _ a.out.now p.process-processed.ensures _ c.answer.ensures

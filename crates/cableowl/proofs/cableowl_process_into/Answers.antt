@@ -15,11 +15,11 @@ answer-requires c =
     let p = c.before.before in
     let a = p.args in
     mix_few a.sound.now a.state a.dt (lent (goal.at.answer_requires c).Start) a.signals _ _
-    p.decode.ensures p.signals_of.ensures _ _ a.mix-1.now a.from p.process_into-processed.ensures
+    p.decode.ensures p.signals_of.ensures _ _ a.mix.now a.from p.process_into-processed.ensures
 
 pub returns : goal.returns
 returns c =
     let p = c.before.before.before in
     let a = p.args in
     mix_is a.sound.now a.state a.dt (lent (goal.at.returns c).Start) a.signals _ _
-    p.decode.ensures p.signals_of.ensures p.process_into-processed.result _ a.mix-1.now a.from p.process_into-processed.ensures _ c.answer.ensures
+    p.decode.ensures p.signals_of.ensures p.process_into-processed.result _ a.mix.now a.from p.process_into-processed.ensures _ c.answer.ensures

@@ -17,11 +17,11 @@ pub returns-then-refused-gt0 : goal.returns-then-refused-gt0
 returns-then-refused-gt0 c =
     let a = c.args in
     let e = c.«refusal-of».ensures in
-    (e, lane_kept a.start a.end a.count a.lane-1.now (subst (λ (n : ℕ). 0 < n) e c.if-refused-gt0.true))
+    (e, lane_kept a.start a.end a.count a.lane.now (subst (λ (n : ℕ). 0 < n) e c.if-refused-gt0.true))
 
 -- no refusal
 passed : (c : lts.Else1 (refusal-of-reads.Asked, refusal-of-reads.Learnt, all-reads.Asked, all-reads.Learnt, fill-reads.Asked, fill-reads.Learnt) reads.Pre reads.Post)
-    → let a = c.args in refusal a.start a.end a.count (length a.lane-1.now) ≡ 0
+    → let a = c.args in refusal a.start a.end a.count (length a.lane.now) ≡ 0
 passed c =
     let e = c.«refusal-of».ensures in
     let z = c.if-refused-gt0.false in
@@ -31,7 +31,7 @@ pub fill-requires : goal.fill-requires
 fill-requires c =
     let judged = c.before.before.before in
     let a = judged.args in
-    let p = accepted a.start a.end a.count (length a.lane-1.now) (passed judged) in
+    let p = accepted a.start a.end a.count (length a.lane.now) (passed judged) in
     record { table = c.all-entries.ensures; start_bound = p.start; end_bound = p.end; count_bound = p.count; lane_len = p.fits }
 
 pub returns : goal.returns
@@ -40,4 +40,4 @@ returns c =
     let judged = called.before.before.before.before in
     let a = judged.args in
     let e = passed judged in
-    (sym e, called.fill.ensures ∙ lane_filled a.start a.end a.count a.lane-1.now e)
+    (sym e, called.fill.ensures ∙ lane_filled a.start a.end a.count a.lane.now e)

@@ -8,4 +8,4 @@ use Rattle.frame.proofs.interpolate.Goals as goal
 
 pub returns : goal.returns
 unfolding of_bits
-returns c = cubic_turned c.args.previous c.args.current c.args.next-1 c.args.next-2 c.args.fraction (subst T (sym c.well_formed.0.1) tt)
+returns c = cubic_turned c.args.previous c.args.current c.args.next_1 c.args.next_2 c.args.fraction (subst T (sym c.well_formed.0.1) tt)

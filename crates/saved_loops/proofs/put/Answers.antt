@@ -24,5 +24,5 @@ returns c =
     let s = p.before.before.before.before in
     let a = s.args in
     let l = nineteen (goal.at.returns c).Start in
-    let e = body_put a.words a.names.now a.buffer-1.now l s.requires.0 s.requires.1 _ _ p.put_numbers.ensures n.copy.ensures in
-    all_put a.words a.names.now a.buffer-1.now l s.requires.0 s.requires.1 _ _ _ e h.checksum-crc.ensures k.put_number.ensures
+    let e = body_put a.words a.names.now a.buffer.now l s.requires.0 s.requires.1 _ _ p.put_numbers.ensures n.copy.ensures in
+    all_put a.words a.names.now a.buffer.now l s.requires.0 s.requires.1 _ _ _ e h.checksum-crc.ensures k.put_number.ensures

@@ -21,7 +21,7 @@ play-requires c =
     let b = c.before.before.before in
     let s = b in
     let a = s.args in
-    playable a.sound.now a.dt (lent (goal.at.play_requires c).After-begin-begun) a.signals a.voice b.begin-begun.result b.begin-begun.ensures (length a.out-1.now) s.pre
+    playable a.sound.now a.dt (lent (goal.at.play_requires c).After-begin-begun) a.signals a.voice b.begin-begun.result b.begin-begun.ensures (length a.out.now) s.pre
 
 pub returns-then-is_live : goal.returns-then-is_live
 returns-then-is_live c =
@@ -36,4 +36,4 @@ returns c =
     let b = l.before.before in
     let s = b in
     let a = s.args in
-    rests a.sound.now a.dt (lent (goal.at.returns c).After-begin-begun) a.signals a.voice _ b.begin-begun.ensures (sym l.is_live.ensures ∙ l.if-is_live.false) _ (length a.out-1.now) c.silence.ensures s.requires.long
+    rests a.sound.now a.dt (lent (goal.at.returns c).After-begin-begun) a.signals a.voice _ b.begin-begun.ensures (sym l.is_live.ensures ∙ l.if-is_live.false) _ (length a.out.now) c.silence.ensures s.requires.long

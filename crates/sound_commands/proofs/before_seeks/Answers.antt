@@ -13,15 +13,15 @@ use Rattle.sound_commands.specs.Commands.{or_else, looped, woken, before_seeks}
 use Rattle.sound_commands.proofs.before_seeks.Goals as goal
 
 told-by : (c : Commands) (v : StaticSound) (x : Float) (t : Transport) (p r s : PlaybackState)
-    → x ≡ or_else c.playback_rate v.playback_rate → t ≡ reloop v.moving-1.transport (looped v c.loop_region)
-    → p ≡ cond c.pause-state (pausing v.moving-1.state) v.moving-1.state → r ≡ woken c.resume-state p → s ≡ cond c.stop-state (stopping r) r
+    → x ≡ or_else c.playback_rate v.playback_rate → t ≡ reloop v.moving.transport (looped v c.loop_region)
+    → p ≡ cond c.pause-state (pausing v.moving.state) v.moving.state → r ≡ woken c.resume-state p → s ≡ cond c.stop-state (stopping r) r
     → ◌≡◌ {A = StaticSound}
     (record {
       setup = v.setup;
       playback_rate = x;
       started = v.started;
       fractional_position = v.fractional_position;
-      moving = record { state = s; transport = t; resampler = v.moving-1.resampler; wraps = v.moving-1.wraps };
+      moving = record { state = s; transport = t; resampler = v.moving.resampler; wraps = v.moving.wraps };
     })
     (before_seeks c v)
 unfolding before_seeks

@@ -28,23 +28,23 @@ use Rattle.sound_commands.proofs.seek_to_index.Goals as goal
 
 -- the moving part with another transport, and also with another window
 abbrev with : StaticSound → Transport → Resampler → Moving
-with v t w = record { state = v.moving-1.state; transport = t; resampler = w; wraps = v.moving-1.wraps }
+with v t w = record { state = v.moving.state; transport = t; resampler = w; wraps = v.moving.wraps }
 
 jumped-updatable : (snd : List Float) (v : StaticSound) (q : ℕ) (c : Slice) (t : Transport) → T (well_formed_for (length snd) v) → q ≤ most
-    → t ≡ seek (length_of_slice v.setup-1) v.moving-1.transport q → c ≡ slice_of v → Updatable snd c (with v t v.moving-1.resampler)
+    → t ≡ seek (length_of_slice v.setup) v.moving.transport q → c ≡ slice_of v → Updatable snd c (with v t v.moving.resampler)
 jumped-updatable snd v q c t h k e f =
     let p = well_formed_for_parts (length snd) v h in
     let a = updatable_of snd v p.0 p.1 in
     rw (f, e) (record { transport_well_formed = (jumped_kept v q k p.0).transport_well_formed; few = a.few; inside = a.inside })
 
-sought-going : (snd : List Float) (v : StaticSound) (q : ℕ) (c : Slice) (t : Transport) (w : Resampler) → advancing v.moving-1.state ≡ true
-    → t ≡ seek (length_of_slice v.setup-1) v.moving-1.transport q → c ≡ slice_of v → w ≡ pushed snd c (with v t v.moving-1.resampler)
+sought-going : (snd : List Float) (v : StaticSound) (q : ℕ) (c : Slice) (t : Transport) (w : Resampler) → advancing v.moving.state ≡ true
+    → t ≡ seek (length_of_slice v.setup) v.moving.transport q → c ≡ slice_of v → w ≡ pushed snd c (with v t v.moving.resampler)
     → moved v v.fractional_position (with v t w) ≡ sought snd v q
 unfolding sought
 sought-going snd v q c t w g e f p = rw (g, p, f, e)
 
-sought-still : (snd : List Float) (v : StaticSound) (q : ℕ) (t : Transport) → advancing v.moving-1.state ≡ false
-    → t ≡ seek (length_of_slice v.setup-1) v.moving-1.transport q → moved v v.fractional_position (with v t v.moving-1.resampler) ≡ sought snd v q
+sought-still : (snd : List Float) (v : StaticSound) (q : ℕ) (t : Transport) → advancing v.moving.state ≡ false
+    → t ≡ seek (length_of_slice v.setup) v.moving.transport q → moved v v.fractional_position (with v t v.moving.resampler) ≡ sought snd v q
 unfolding sought
 sought-still snd v q t g e = rw (g, e)
 
@@ -58,7 +58,7 @@ pub seek_to-transport-requires : goal.seek_to-transport-requires
 seek_to-transport-requires c =
     let s = c.before.before.before.before.before in
     let v = s.args.voice in
-    within_ordered (length_of_slice v.setup-1) v.moving-1.transport.loop_region (well_formed_for_parts _ v s.requires.t).0.transport_well_formed.loop
+    within_ordered (length_of_slice v.setup) v.moving.transport.loop_region (well_formed_for_parts _ v s.requires.t).0.transport_well_formed.loop
 
 pub push_frame_to_resampler-resampler-requires : goal.push_frame_to_resampler-resampler-requires
 push_frame_to_resampler-resampler-requires c =

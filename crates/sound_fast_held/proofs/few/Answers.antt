@@ -20,14 +20,14 @@ record Numbers (i n m o : ℕ) : Type 0 where
   few : m ≤ 16
   inside : m ≤ n - i
 
-numbers : (c : After-part_of-m) → let a = c.args in Numbers a.from.next a.frames c.part_of-m.result (length a.out-1.now)
+numbers : (c : After-part_of-m) → let a = c.args in Numbers a.from.next a.frames c.part_of-m.result (length a.out.now)
 numbers c =
     let st = c in
     let a = st.args in
     record {
-      within = within a.sound.now a.way a.rate a.frames st.requires.scannable a.from a.out-1.now st.requires.scanned;
-      most = most a.sound.now a.way a.rate a.frames st.requires.scannable a.from a.out-1.now st.requires.scanned;
-      long = long a.sound.now a.way a.rate a.frames st.requires.scannable a.from a.out-1.now st.requires.scanned;
+      within = within a.sound.now a.way a.rate a.frames st.requires.scannable a.from a.out.now st.requires.scanned;
+      most = most a.sound.now a.way a.rate a.frames st.requires.scannable a.from a.out.now st.requires.scanned;
+      long = long a.sound.now a.way a.rate a.frames st.requires.scannable a.from a.out.now st.requires.scanned;
       few = c.part_of-m.ensures.0;
       inside = c.part_of-m.ensures.1;
     }
@@ -42,7 +42,7 @@ pub overflow_sub-frames : goal.overflow_sub-frames
 overflow_sub-frames c =
     let st = c.before.before.before in
     let a = st.args in
-    within a.sound.now a.way a.rate a.frames st.requires.scannable a.from a.out-1.now st.requires.scanned
+    within a.sound.now a.way a.rate a.frames st.requires.scannable a.from a.out.now st.requires.scanned
 
 pub overflow_mul-a : goal.overflow_mul-a
 overflow_mul-a c = omega (arith, numbers (goal.at.overflow_mul-a c).After-part_of-m)
@@ -63,8 +63,8 @@ around-r-requires c =
     let a = st.args in
     let m = t.part_of-m.result in
     let e = sym (one-rate (goal.at.around_r_requires c).After-part_of-m) in (
-      subst (λ (l : List Float). Scannable a.sound.now (way_on a.way a.from) l) e (updatable_on a.sound.now a.way a.rate a.frames st.requires.scannable a.from a.out-1.now st.requires.scanned m (fits (goal.at.around_r_requires c).After-part_of-m)),
-      subst (λ (l : List Float). Scanned a.sound.now (way_on a.way a.from) l (begun (way_on a.way a.from)) (part a.sound.now a.way a.rate a.frames st.requires.scannable a.from a.out-1.now st.requires.scanned m (fits (goal.at.around_r_requires c).After-part_of-m))) e (begins_on a.sound.now a.way a.rate a.frames st.requires.scannable a.from a.out-1.now st.requires.scanned m (fits (goal.at.around_r_requires c).After-part_of-m)),
+      subst (λ (l : List Float). Scannable a.sound.now (way_on a.way a.from) l) e (updatable_on a.sound.now a.way a.rate a.frames st.requires.scannable a.from a.out.now st.requires.scanned m (fits (goal.at.around_r_requires c).After-part_of-m)),
+      subst (λ (l : List Float). Scanned a.sound.now (way_on a.way a.from) l (begun (way_on a.way a.from)) (part a.sound.now a.way a.rate a.frames st.requires.scannable a.from a.out.now st.requires.scanned m (fits (goal.at.around_r_requires c).After-part_of-m))) e (begins_on a.sound.now a.way a.rate a.frames st.requires.scannable a.from a.out.now st.requires.scanned m (fits (goal.at.around_r_requires c).After-part_of-m)),
     )
 
 pub returns : goal.returns
@@ -73,5 +73,5 @@ returns c =
     let t = c.before.before.before.before.before.before.before.before.before.before.before in
     let st = t in
     let a = st.args in
-    scanned_on a.sound.now a.way a.rate a.frames st.requires.scannable a.from a.out-1.now st.requires.scanned t.part_of-m.result (fits (goal.at.returns c).After-part_of-m) r.result r.new.1.1.1.0
+    scanned_on a.sound.now a.way a.rate a.frames st.requires.scannable a.from a.out.now st.requires.scanned t.part_of-m.result (fits (goal.at.returns c).After-part_of-m) r.result r.new.1.1.1.0
     (subst (λ (l : List Float). Scanned a.sound.now (way_on a.way a.from) l r.result r.new.1.1.1.0) (one-rate (goal.at.returns c).After-part_of-m) r.ensures)

@@ -23,8 +23,8 @@ abbrev lent : After-track_of-track → Lanes
 lent c = let a = c.args in lanes_now a.fade a.volume a.left a.right a.rate
 
 -- the track is the voice's
-track-is : (c : After-track_of-track) → (let v = c.args.voice in c.track_of-track.result ≡ track_of v.moving-1.transport.loop_region (slice_of v))
-track-is c = let v = c.args.voice in c.track_of-track.ensures ∙ ap (track_of v.moving-1.transport.loop_region) c.slice-slice.ensures
+track-is : (c : After-track_of-track) → (let v = c.args.voice in c.track_of-track.result ≡ track_of v.moving.transport.loop_region (slice_of v))
+track-is c = let v = c.args.voice in c.track_of-track.ensures ∙ ap (track_of v.moving.transport.loop_region) c.slice-slice.ensures
 
 tracked : (c : After-track_of-track) → Tracked c.args.sound.now c.args.voice c.track_of-track.result
 tracked c =
@@ -63,7 +63,7 @@ passed_is c =
     let t = c in
     let v = t.args.voice in
     let r = c.scan-reached.result in
-    ap (moved v r.fractional_position) (c.contiguous_at.ensures ∙ ap (λ (w : Wraps). contiguous_of t.args.sound.now t.track_of-track.result v.moving-1 w r.at) c.wraps_after-wraps.ensures)
+    ap (moved v r.fractional_position) (c.contiguous_at.ensures ∙ ap (λ (w : Wraps). contiguous_of t.args.sound.now t.track_of-track.result v.moving w r.at) c.wraps_after-wraps.ensures)
 
 passed-plays : (c : After-contiguous_at) (m : ℕ) → m ≡ 2 * length (lent c).rate
     → (let t = c in
@@ -97,7 +97,7 @@ is_contiguous-requires c =
 pub scan-reached-requires : goal.scan-reached-requires
 scan-reached-requires c =
     let a = c.args in
-    (scannable a.sound.now a.dt (lent (goal.at.scan_reached_requires c).After-track_of-track) a.voice c.track_of-track.result (tracked (goal.at.scan_reached_requires c).After-track_of-track) (contiguous (goal.at.scan_reached_requires c).Else-not-is_contiguous) c.pre, scan_begins a.sound.now a.dt (lent (goal.at.scan_reached_requires c).After-track_of-track) a.voice c.track_of-track.result (tracked (goal.at.scan_reached_requires c).After-track_of-track) (contiguous (goal.at.scan_reached_requires c).Else-not-is_contiguous) c.pre a.out-1.now c.requires.long)
+    (scannable a.sound.now a.dt (lent (goal.at.scan_reached_requires c).After-track_of-track) a.voice c.track_of-track.result (tracked (goal.at.scan_reached_requires c).After-track_of-track) (contiguous (goal.at.scan_reached_requires c).Else-not-is_contiguous) c.pre, scan_begins a.sound.now a.dt (lent (goal.at.scan_reached_requires c).After-track_of-track) a.voice c.track_of-track.result (tracked (goal.at.scan_reached_requires c).After-track_of-track) (contiguous (goal.at.scan_reached_requires c).Else-not-is_contiguous) c.pre a.out.now c.requires.long)
 
 pub by_frame-requires : goal.by_frame-requires
 by_frame-requires c =

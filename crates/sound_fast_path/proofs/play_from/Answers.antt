@@ -24,11 +24,11 @@ pub play-requires : goal.play-requires
 play-requires c =
     let st = c.before.before.before.before.before.before.before.before.before.before.before.before.before in
     let a = st.args in
-    playable_from a.sound.now a.voice a.dt (lanes_now a.fade a.volume a.left a.right a.rate) a.out-1.now st.requires.playable a.next st.requires.next_in_bounds
+    playable_from a.sound.now a.voice a.dt (lanes_now a.fade a.volume a.left a.right a.rate) a.out.now st.requires.playable a.next st.requires.next_in_bounds
 
 pub returns : goal.returns
 returns c =
     let st = c.before.before.before.before.before.before.before.before.before.before.before.before.before.before.before.before in
     let a = st.args in
     let p = c.play in
-    played_from_lem a.sound.now a.voice a.dt (lanes_now a.fade a.volume a.left a.right a.rate) a.out-1.now st.requires.playable a.next p.result _ p.ensures
+    played_from_lem a.sound.now a.voice a.dt (lanes_now a.fade a.volume a.left a.right a.rate) a.out.now st.requires.playable a.next p.result _ p.ensures

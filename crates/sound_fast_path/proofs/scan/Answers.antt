@@ -18,7 +18,7 @@ scan_held-requires c =
     let st = c.before.before.before.before.before.before.before in
     let a = st.args in
     let e = (c.goes_steadily.ensures c.if-goes_steadily.true).each in
-    record { scannable = subst (λ (l : List Float). Scannable a.sound.now a.way l) e st.requires.scannable; scanned = subst (λ (l : List Float). Scanned a.sound.now a.way l (begun a.way) a.out-1.now) e st.requires.scanned }
+    record { scannable = subst (λ (l : List Float). Scannable a.sound.now a.way l) e st.requires.scannable; scanned = subst (λ (l : List Float). Scanned a.sound.now a.way l (begun a.way) a.out.now) e st.requires.scanned }
 
 pub returns-then-goes_steadily : goal.returns-then-goes_steadily
 returns-then-goes_steadily c =

@@ -112,7 +112,7 @@ loop-i-preserved c =
       so_far_lem =
           c.gain_by.ensures
           ∙ ap (λ (z : Gains). scaled_at z i g g) (sym (gains_once a.gains n i t))
-          ∙ gained_one fs vs ls rs a.out-1.now i (i + 1) g g e (unread fs vs ls rs a.out-1.now i (2 * i) g e (same i)) (unread fs vs ls rs a.out-1.now i (2 * i + 1) g e (next i)) (one4 _ _ _ t st.requires.n_in_bounds) refl;
+          ∙ gained_one fs vs ls rs a.out.now i (i + 1) g g e (unread fs vs ls rs a.out.now i (2 * i) g e (same i)) (unread fs vs ls rs a.out.now i (2 * i + 1) g e (next i)) (one4 _ _ _ t st.requires.n_in_bounds) refl;
     }
 
 pub shape_of-out : goal.shape_of-out
@@ -123,4 +123,4 @@ returns c =
     let a = c.args in
     let n = a.n in
     c.loop-i.invariant.so_far_lem
-    ∙ ap (λ (k : ℕ). gained (replicate n a.gains.fade) (replicate n a.gains.volume) (replicate n a.gains.left) (replicate n a.gains.right) k a.out-1.now) (all _ _ c.loop-i.invariant.within c.loop-i-test.false)
+    ∙ ap (λ (k : ℕ). gained (replicate n a.gains.fade) (replicate n a.gains.volume) (replicate n a.gains.left) (replicate n a.gains.right) k a.out.now) (all _ _ c.loop-i.invariant.within c.loop-i-test.false)

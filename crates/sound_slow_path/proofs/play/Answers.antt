@@ -23,7 +23,7 @@ pub play_spread-requires : goal.play_spread-requires
 play_spread-requires c =
     let s = c.before.before.before.before.before.before.before.before in
     let a = s.args in
-    record { alike = alike (lent (goal.at.play_spread-requires c).Start) s.requires.sized; playable = subst (λ (b : Lanes). Playable a.sound.now a.voice a.dt b (length a.out-1.now)) (sym (same (goal.at.play_spread-requires c).Start)) s.requires }
+    record { alike = alike (lent (goal.at.play_spread-requires c).Start) s.requires.sized; playable = subst (λ (b : Lanes). Playable a.sound.now a.voice a.dt b (length a.out.now)) (sym (same (goal.at.play_spread-requires c).Start)) s.requires }
 
 pub returns : goal.returns
 returns c =

@@ -73,15 +73,15 @@ returns c =
     let playing = not_false _ e5.if-not-transport.false in
     let placed = sym e5.is_on.ensures ∙ not_false _ e5.if-not-is_on.false in
     let room = sym e5.has_room.ensures ∙ not_false _ e5.if-not-has_room.false in
-    let at = ap (λ (m : Moving). m.transport-1.position) there in
+    let at = ap (λ (m : Moving). m.transport.position) there in
     let win = ap (λ (m : Moving). m.resampler) there in
-    let t₁ = eqb m.transport-1.position c.contiguous_at-there.result.transport.position in
+    let t₁ = eqb m.transport.position c.contiguous_at-there.result.transport.position in
     record { value = (let t₂ = c.is_same_window.result in (
-      ap₂ (λ (x : ℕ) (y : Bool). eqb m.transport-1.position x && y) at (c.is_same_window.ensures.0 ∙ ap (same_window m.resampler) win) ∙ the_rest snd k m playing placed room,
+      ap₂ (λ (x : ℕ) (y : Bool). eqb m.transport.position x && y) at (c.is_same_window.ensures.0 ∙ ap (same_window m.resampler) win) ∙ the_rest snd k m playing placed room,
       λ t.
-          contiguous snd k m playing (on_of snd k (first_index m) st.requires.inside_sound placed) room (eqb-true m.transport-1.position _ (first_of t₁ t₂ t) ∙ at) (c.is_same_window.ensures.1 (second_of t₁ t₂ t) ∙ win),
+          contiguous snd k m playing (on_of snd k (first_index m) st.requires.inside_sound placed) room (eqb-true m.transport.position _ (first_of t₁ t₂ t) ∙ at) (c.is_same_window.ensures.1 (second_of t₁ t₂ t) ∙ win),
     )).0; contiguous = (let t₂ = c.is_same_window.result in (
-      ap₂ (λ (x : ℕ) (y : Bool). eqb m.transport-1.position x && y) at (c.is_same_window.ensures.0 ∙ ap (same_window m.resampler) win) ∙ the_rest snd k m playing placed room,
+      ap₂ (λ (x : ℕ) (y : Bool). eqb m.transport.position x && y) at (c.is_same_window.ensures.0 ∙ ap (same_window m.resampler) win) ∙ the_rest snd k m playing placed room,
       λ t.
-          contiguous snd k m playing (on_of snd k (first_index m) st.requires.inside_sound placed) room (eqb-true m.transport-1.position _ (first_of t₁ t₂ t) ∙ at) (c.is_same_window.ensures.1 (second_of t₁ t₂ t) ∙ win),
+          contiguous snd k m playing (on_of snd k (first_index m) st.requires.inside_sound placed) room (eqb-true m.transport.position _ (first_of t₁ t₂ t) ∙ at) (c.is_same_window.ensures.1 (second_of t₁ t₂ t) ∙ win),
     )).1 }

@@ -26,7 +26,7 @@ returns-then-not-holds c =
     let e = p.before.before in
     let h = e.before in
     let a = h.args in
-    lanes_never a.sound.now a.voice a.dt (lent (goal.at.returns_then_not_holds c).After-holds) a.signals a.out-1.now _ (sym h.holds.ensures ∙ not_true _ e.if-not-holds.true) p.process_lanes.ensures
+    lanes_never a.sound.now a.voice a.dt (lent (goal.at.returns_then_not_holds c).After-holds) a.signals a.out.now _ (sym h.holds.ensures ∙ not_true _ e.if-not-holds.true) p.process_lanes.ensures
 
 pub first_of-held-requires : goal.first_of-held-requires
 first_of-held-requires c = c.are_constant.ensures c.if-are_constant.true
@@ -39,8 +39,8 @@ returns-then-are_constant c =
     let k = e.before in
     let h = k.before.before in
     let a = h.args in
-    lanes_whole a.sound.now a.voice a.dt (lent (goal.at.returns-then-are_constant c).After-holds) a.signals a.out-1.now _ (sym h.holds.ensures ∙ not_false _ k.if-not-holds.false)
-    (constant_into a.sound.now a.voice a.dt (lent (goal.at.returns-then-are_constant c).After-holds) a.signals a.out-1.now 0 _ (k.are_constant.ensures e.if-are_constant.true) _ f.first_of-held.ensures p.process_held_into.ensures)
+    lanes_whole a.sound.now a.voice a.dt (lent (goal.at.returns-then-are_constant c).After-holds) a.signals a.out.now _ (sym h.holds.ensures ∙ not_false _ k.if-not-holds.false)
+    (constant_into a.sound.now a.voice a.dt (lent (goal.at.returns-then-are_constant c).After-holds) a.signals a.out.now 0 _ (k.are_constant.ensures e.if-are_constant.true) _ f.first_of-held.ensures p.process_held_into.ensures)
 
 pub returns : goal.returns
 returns c =
@@ -49,4 +49,4 @@ returns c =
     let k = e.before in
     let h = k.before.before in
     let a = h.args in
-    lanes_whole a.sound.now a.voice a.dt (lent (goal.at.returns c).After-holds) a.signals a.out-1.now _ (sym h.holds.ensures ∙ not_false _ k.if-not-holds.false) p.process_lanes-2.ensures
+    lanes_whole a.sound.now a.voice a.dt (lent (goal.at.returns c).After-holds) a.signals a.out.now _ (sym h.holds.ensures ∙ not_false _ k.if-not-holds.false) p.process_lanes-2.ensures

@@ -18,4 +18,4 @@ returns c =
     let a = k.args in
     let t = a.text.now in
     let e : length t - 0 ≡ length t = omega arith in
-    (k.copy.ensures ∙ ap (λ (z : List ℕ). sets a.line-1.now a.at z) (ap (λ (k : ℕ). take k t) e ∙ take_all (length t) t (omega arith)), refl)
+    (k.copy.ensures ∙ ap (λ (z : List ℕ). sets a.line.now a.at z) (ap (λ (k : ℕ). take k t) e ∙ take_all (length t) t (omega arith)), refl)

@@ -30,5 +30,5 @@ returns c =
     let l = then g.put_labelled-c.new.0 h.put_labelled-d.new.0 p.put.new.0 u (v ++ (10 ∷ [])) g.put_labelled-c.result h.put_labelled-d.result z h.put_labelled-d.ensures.0 h.put_labelled-d.ensures.1 k.0 k.1 in
     let m = then f.put_labelled-b.new.0 g.put_labelled-c.new.0 p.put.new.0 t (u ++ (v ++ (10 ∷ []))) f.put_labelled-b.result g.put_labelled-c.result z g.put_labelled-c.ensures.0 g.put_labelled-c.ensures.1 l.0 l.1 in
     let n = then e.put_labelled-a.new.0 f.put_labelled-b.new.0 p.put.new.0 s (t ++ (u ++ (v ++ (10 ∷ [])))) e.put_labelled-a.result f.put_labelled-b.result z f.put_labelled-b.ensures.0 f.put_labelled-b.ensures.1 m.0 m.1 in
-    let o = then a.line-1.now e.put_labelled-a.new.0 p.put.new.0 r (s ++ (t ++ (u ++ (v ++ (10 ∷ []))))) 0 e.put_labelled-a.result z e.put_labelled-a.ensures.0 e.put_labelled-a.ensures.1 n.0 n.1 in
+    let o = then a.line.now e.put_labelled-a.new.0 p.put.new.0 r (s ++ (t ++ (u ++ (v ++ (10 ∷ []))))) 0 e.put_labelled-a.result z e.put_labelled-a.ensures.0 e.put_labelled-a.ensures.1 n.0 n.1 in
     (o.0, omega (arith, o.1), omega (arith, e.put_labelled-a.ensures.2, f.put_labelled-b.ensures.2, g.put_labelled-c.ensures.2, h.put_labelled-d.ensures.2, i.put_labelled-e.ensures.2, p.put.ensures.1))

@@ -35,4 +35,4 @@ returns c =
     let a = o.args in
     let n : length (set l.digits l.i (48 + l.y)) ≡ 20 = simp length-set l.invariant.1 in
     let t = part l.i (set l.digits l.i (48 + l.y)) _ n (spell_last l.i l.y l.digits _ o.loop-y-test.false (search rules) refl ∙ l.invariant.3) in
-    (q.put.ensures.0 ∙ ap (λ (z : List ℕ). sets a.line-1.now a.at z) t, q.put.ensures.1 ∙ ap (λ (z : List ℕ). a.at + length z) t, omega (arith, q.put.ensures.1, part_short l.i (set l.digits l.i (48 + l.y)) n))
+    (q.put.ensures.0 ∙ ap (λ (z : List ℕ). sets a.line.now a.at z) t, q.put.ensures.1 ∙ ap (λ (z : List ℕ). a.at + length z) t, omega (arith, q.put.ensures.1, part_short l.i (set l.digits l.i (48 + l.y)) n))

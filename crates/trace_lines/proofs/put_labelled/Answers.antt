@@ -15,5 +15,5 @@ returns c =
     let d = c.before.before in
     let p = d.before.before.before.before in
     let a = p.args in
-    let t = then a.line-1.now _ _ a.word.now (decimal a.n) a.at p.put-a.result d.put_decimal.result p.put-a.ensures.0 p.put-a.ensures.1 d.put_decimal.ensures.0 d.put_decimal.ensures.1 in
+    let t = then a.line.now _ _ a.word.now (decimal a.n) a.at p.put-a.result d.put_decimal.result p.put-a.ensures.0 p.put-a.ensures.1 d.put_decimal.ensures.0 d.put_decimal.ensures.1 in
     (t.0, t.1, omega (arith, p.put-a.ensures.1, d.put_decimal.ensures.2))

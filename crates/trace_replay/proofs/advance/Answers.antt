@@ -18,7 +18,7 @@ pub returns-then-at-bytes : goal.returns-then-at-bytes
 returns-then-at-bytes c =
     let g = c.before.before.before.before in
     let a = g.args in
-    (at_end_lem (replay_of a.run-1 a.sound-1.now) a.place a.at a.bytes.now c.if-at-bytes.true, g.requires.0, g.requires.2, omega arith, le_refl a.at)
+    (at_end_lem (replay_of a.run a.sound.now) a.place a.at a.bytes.now c.if-at-bytes.true, g.requires.0, g.requires.2, omega arith, le_refl a.at)
 
 pub returns-then-record-ne0 : goal.returns-then-record-ne0
 returns-then-record-ne0 c =
@@ -30,7 +30,7 @@ returns-then-record-ne0 c =
     let a = g.args in
     let e = q.put_refused-written.ensures in
     let l = refused_line r.read-record.result.refusal a.place in
-    (turned_back (replay_of a.run-1 a.sound-1.now) a.place a.at a.bytes.now r.read-record.result r.read-record.ensures g.requires.0 o.if-at-bytes.false _ i.if-record-ne0.true (prefix a.line-1.now q.put_refused-written.new.0 l q.put_refused-written.result e.0 e.1 (omega (arith, e.1, e.2, g.requires.3))), g.requires.0, g.requires.2, fits a.line-1.now q.put_refused-written.new.0 l q.put_refused-written.result e.0 e.2 g.requires.3, le_refl a.at)
+    (turned_back (replay_of a.run a.sound.now) a.place a.at a.bytes.now r.read-record.result r.read-record.ensures g.requires.0 o.if-at-bytes.false _ i.if-record-ne0.true (prefix a.line.now q.put_refused-written.new.0 l q.put_refused-written.result e.0 e.1 (omega (arith, e.1, e.2, g.requires.3))), g.requires.0, g.requires.2, fits a.line.now q.put_refused-written.new.0 l q.put_refused-written.result e.0 e.2 g.requires.3, le_refl a.at)
 
 pub returns : goal.returns
 returns c =
@@ -41,4 +41,4 @@ returns c =
     let g = o.before.before.before.before in
     let a = g.args in
     let e = t.play_record-played.ensures in
-    (played (replay_of a.run-1 a.sound-1.now) a.place a.at a.bytes.now r.read-record.result r.read-record.ensures g.requires.0 o.if-at-bytes.false _ _ i.if-record-ne0.false e.0 e.1, next_in a.bytes.now a.at r.read-record.result g.requires.0 r.read-record.ensures, e.2, e.3, next_on a.bytes.now a.at r.read-record.result g.requires.0 r.read-record.ensures)
+    (played (replay_of a.run a.sound.now) a.place a.at a.bytes.now r.read-record.result r.read-record.ensures g.requires.0 o.if-at-bytes.false _ _ i.if-record-ne0.false e.0 e.1, next_in a.bytes.now a.at r.read-record.result g.requires.0 r.read-record.ensures, e.2, e.3, next_on a.bytes.now a.at r.read-record.result g.requires.0 r.read-record.ensures)

@@ -30,11 +30,11 @@ returns-then-n-gt0 c =
     let r = q.before.before.before in
     let a = r.args in
     let p = r.requires in
-    keeps a.reader a.s.now a.out-1.now a.t p.0 p.1 p.2 p.3 q.copy.new.1.1.1.0 r.record_size-n.result r.record_size-n.ensures q.if-n-gt0.true q.copy.ensures
+    keeps a.reader a.s.now a.out.now a.t p.0 p.1 p.2 p.3 q.copy.new.1.1.1.0 r.record_size-n.result r.record_size-n.ensures q.if-n-gt0.true q.copy.ensures
 
 pub returns : goal.returns
 returns c =
     let r = c.before.before.before in
     let a = r.args in
     let p = r.requires in
-    skips a.reader a.s.now a.out-1.now a.t p.0 p.1 p.2 p.3 r.record_size-n.result c.first_of.result r.record_size-n.ensures c.if-n-gt0.false c.first_of.ensures
+    skips a.reader a.s.now a.out.now a.t p.0 p.1 p.2 p.3 r.record_size-n.result c.first_of.result r.record_size-n.ensures c.if-n-gt0.false c.first_of.ensures

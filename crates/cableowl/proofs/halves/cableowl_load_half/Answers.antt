@@ -7,4 +7,4 @@ use Rattle.cableowl.proofs.halves.cableowl_load_half.Goals as goal
 pub returns : goal.returns
 returns c =
     let e = c.load-l.ensures in
-    (ap (λ (l : LoadedHalf). l.refusal) e, ap (λ (l : LoadedHalf). l.words-1) e)
+    (ap (λ (l : LoadedHalf). l.refusal) e, ap (λ (l : LoadedHalf). l.words) e)

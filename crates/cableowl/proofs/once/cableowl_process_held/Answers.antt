@@ -11,18 +11,18 @@ use Rattle.cableowl.proofs.once.cableowl_process_held.Goals as goal
 abbrev lent : Start → Lanes
 lent c =
     let a = c.args in
-    held_lanes (record { fade = a.fade; volume = a.volume; left = a.left; right = a.right; rate = a.rate }) (length a.out-1.now / 2)
+    held_lanes (record { fade = a.fade; volume = a.volume; left = a.left; right = a.right; rate = a.rate }) (length a.out.now / 2)
 
 pub answer-requires : goal.answer-requires
 answer-requires c =
     let p = c.before.before in
     let a = p.args in
     block_few a.sound.now a.state a.dt (lent (goal.at.answer_requires c).Start) a.signals _ _
-    p.decode.ensures p.signals_of.ensures _ _ a.out-1.now p.process_held-processed.ensures
+    p.decode.ensures p.signals_of.ensures _ _ a.out.now p.process_held-processed.ensures
 
 pub returns : goal.returns
 returns c =
     let p = c.before.before.before in
     let a = p.args in
     block_is a.sound.now a.state a.dt (lent (goal.at.returns c).Start) a.signals _ _
-    p.decode.ensures p.signals_of.ensures p.process_held-processed.result _ a.out-1.now p.process_held-processed.ensures _ c.answer.ensures
+    p.decode.ensures p.signals_of.ensures p.process_held-processed.result _ a.out.now p.process_held-processed.ensures _ c.answer.ensures

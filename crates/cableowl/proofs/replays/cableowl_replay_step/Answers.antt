@@ -10,7 +10,7 @@ returns-then-refused-ne0 c =
     let t = c.before in
     let k = t.before in
     let a = k.args in
-    step_refused a.replay a.bytes.now a.ended a.sound-1.now a.out-1.now _ k.refusal_of-refused.ensures _ t.if-refused-ne0.true c.not_played.ensures
+    step_refused a.replay a.bytes.now a.ended a.sound.now a.out.now _ k.refusal_of-refused.ensures _ t.if-refused-ne0.true c.not_played.ensures
 
 pub returns-then-ended-eq0 : goal.returns-then-ended-eq0
 returns-then-ended-eq0 c =
@@ -19,7 +19,7 @@ returns-then-ended-eq0 c =
     let e = n.before in
     let k = e.before in
     let a = k.args in
-    step_more a.replay a.bytes.now a.ended a.sound-1.now a.out-1.now _ k.refusal_of-refused.ensures _ e.if-refused-ne0.false n.if-bytes-eq0.true t.if-ended-eq0.true c.not_played-then-ended-eq0.ensures
+    step_more a.replay a.bytes.now a.ended a.sound.now a.out.now _ k.refusal_of-refused.ensures _ e.if-refused-ne0.false n.if-bytes-eq0.true t.if-ended-eq0.true c.not_played-then-ended-eq0.ensures
 
 pub returns-then-bytes-eq0 : goal.returns-then-bytes-eq0
 returns-then-bytes-eq0 c =
@@ -28,14 +28,14 @@ returns-then-bytes-eq0 c =
     let e = n.before in
     let k = e.before in
     let a = k.args in
-    step_end a.replay a.bytes.now a.ended a.sound-1.now a.out-1.now _ k.refusal_of-refused.ensures _ e.if-refused-ne0.false n.if-bytes-eq0.true t.if-ended-eq0.false c.not_played-then-bytes-eq0.ensures
+    step_end a.replay a.bytes.now a.ended a.sound.now a.out.now _ k.refusal_of-refused.ensures _ e.if-refused-ne0.false n.if-bytes-eq0.true t.if-ended-eq0.false c.not_played-then-bytes-eq0.ensures
 
 pub play_record-requires : goal.play_record-requires
 play_record-requires c =
     let e = c.before.before.before.before.before.before in
     let k = e.before in
     let a = k.args in
-    accepted_room a.replay (length a.sound-1.now) (length a.out-1.now) (sym k.refusal_of-refused.ensures ∙ e.if-refused-ne0.false)
+    accepted_room a.replay (length a.sound.now) (length a.out.now) (sym k.refusal_of-refused.ensures ∙ e.if-refused-ne0.false)
 
 pub returns-then-read-eq0 : goal.returns-then-read-eq0
 returns-then-read-eq0 c =
@@ -46,7 +46,7 @@ returns-then-read-eq0 c =
     let e = n.before in
     let k = e.before in
     let a = k.args in
-    step_played a.replay a.bytes.now a.ended a.sound-1.now a.out-1.now _ k.refusal_of-refused.ensures d.read-read.result e.if-refused-ne0.false n.if-bytes-eq0.false d.read-read.ensures _ t.if-read-eq0.true p.play_record.ensures
+    step_played a.replay a.bytes.now a.ended a.sound.now a.out.now _ k.refusal_of-refused.ensures d.read-read.result e.if-refused-ne0.false n.if-bytes-eq0.false d.read-read.ensures _ t.if-read-eq0.true p.play_record.ensures
 
 pub returns-then-read-ended : goal.returns-then-read-ended
 returns-then-read-ended c =
@@ -57,7 +57,7 @@ returns-then-read-ended c =
     let e = n.before in
     let k = e.before in
     let a = k.args in
-    step_unfinished a.replay a.bytes.now a.ended a.sound-1.now a.out-1.now _ k.refusal_of-refused.ensures d.read-read.result e.if-refused-ne0.false n.if-bytes-eq0.false d.read-read.ensures _ o.if-read-eq0.false t.if-read-ended.true c.not_played-then-read-ended.ensures
+    step_unfinished a.replay a.bytes.now a.ended a.sound.now a.out.now _ k.refusal_of-refused.ensures d.read-read.result e.if-refused-ne0.false n.if-bytes-eq0.false d.read-read.ensures _ o.if-read-eq0.false t.if-read-ended.true c.not_played-then-read-ended.ensures
 
 pub returns : goal.returns
 returns c =
@@ -68,4 +68,4 @@ returns c =
     let e = n.before in
     let k = e.before in
     let a = k.args in
-    step_broken a.replay a.bytes.now a.ended a.sound-1.now a.out-1.now _ k.refusal_of-refused.ensures d.read-read.result e.if-refused-ne0.false n.if-bytes-eq0.false d.read-read.ensures _ o.if-read-eq0.false t.if-read-ended.false c.not_played-2.ensures
+    step_broken a.replay a.bytes.now a.ended a.sound.now a.out.now _ k.refusal_of-refused.ensures d.read-read.result e.if-refused-ne0.false n.if-bytes-eq0.false d.read-read.ensures _ o.if-read-eq0.false t.if-read-ended.false c.not_played-2.ensures

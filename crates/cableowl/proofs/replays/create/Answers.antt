@@ -16,7 +16,7 @@ fits : (c : After-put_samples-samples) → c.put_samples-samples.result ≤ leng
 fits c =
     let a = c.args in
     let e = c.put_samples-samples.ensures in
-    inside a.sound-1.now c.put_samples-samples.new.1.0 (samples_of a.values) c.put_samples-samples.result e.0 e.1 (few_samples a.values (long c)) c.requires
+    inside a.sound.now c.put_samples-samples.new.1.0 (samples_of a.values) c.put_samples-samples.result e.0 e.1 (few_samples a.values (long c)) c.requires
 
 pub slice_bounds-new-end : goal.slice_bounds-new-end
 slice_bounds-new-end c = fits (goal.at.slice_bounds-new-end c).After-put_samples-samples
@@ -37,6 +37,6 @@ returns c =
     let a = p.args in
     let g = p.put_samples-samples.ensures in
     let x : take p.put_samples-samples.result p.put_samples-samples.new.1.0 ≡ samples_of a.values =
-    prefix a.sound-1.now p.put_samples-samples.new.1.0 (samples_of a.values) p.put_samples-samples.result g.0 g.1
+    prefix a.sound.now p.put_samples-samples.new.1.0 (samples_of a.values) p.put_samples-samples.result g.0 g.1
     (omega (arith, few_samples a.values (long (goal.at.returns c).After-put_samples-samples), p.requires)) in
     (creation_is a.replay a.size a.values _ _ _ _ _ _ _ x g.1 s.settings_of.ensures n.new-created.ensures e.encode.ensures b.behind_record-after.ensures c.played.ensures, g.0)

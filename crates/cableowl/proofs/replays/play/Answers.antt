@@ -36,7 +36,7 @@ state_after-state-requires c =
     let d = h.before.before in
     let b = d.before.before.before in
     let a = b.args in
-    held_count (take a.replay.samples a.sound.now) a.out-1.now a.replay.voice b.block_of-block.result d.decode.result h.held_of.result p.process_held-processed.result _
+    held_count (take a.replay.samples a.sound.now) a.out.now a.replay.voice b.block_of-block.result d.decode.result h.held_of.result p.process_held-processed.result _
     d.decode.ensures h.held_of.ensures (room (goal.at.state_after-state-requires c).After-block_of-block) p.process_held-processed.ensures
 
 pub returns : goal.returns
@@ -49,7 +49,7 @@ returns c =
     let d = h.before.before in
     let b = d.before.before.before in
     let a = b.args in
-    block_is a.replay a.size a.values a.sound.now a.out-1.now b.block_of-block.result p.process_held-processed.result _ c.played.result b.block_of-block.ensures
+    block_is a.replay a.size a.values a.sound.now a.out.now b.block_of-block.result p.process_held-processed.result _ c.played.result b.block_of-block.ensures
     (block_answer a.replay a.size a.values b.block_of-block.result.frames p.process_held-processed.result _ _ _ _ s.state_after-state.ensures m.more_of.ensures w.behind_record-after.ensures c.played.ensures)
-    (held_outcome (take a.replay.samples a.sound.now) a.out-1.now a.replay.voice b.block_of-block.result d.decode.result h.held_of.result p.process_held-processed.result _
+    (held_outcome (take a.replay.samples a.sound.now) a.out.now a.replay.voice b.block_of-block.result d.decode.result h.held_of.result p.process_held-processed.result _
     d.decode.ensures h.held_of.ensures (room (goal.at.returns c).After-block_of-block) p.process_held-processed.ensures)

@@ -8,7 +8,7 @@ returns-then-read-eq1 c =
     let k = c.before.before in
     let t = k.before.before in
     let a = t.args in
-    turned_creation a.replay a.read a.sound-1.now a.out-1.now _ _ t.if-read-eq1.true k.create.ensures.0 k.create.ensures.1
+    turned_creation a.replay a.read a.sound.now a.out.now _ _ t.if-read-eq1.true k.create.ensures.0 k.create.ensures.1
 
 pub slice_bounds-command-end-then-read-eq2 : goal.slice_bounds-command-end-then-read-eq2
 slice_bounds-command-end-then-read-eq2 c =
@@ -20,7 +20,7 @@ returns-then-read-eq2 c =
     let t = c.before.before in
     let e = t.before.before in
     let a = e.args in
-    turned_commands a.replay a.read a.sound-1.now a.out-1.now _ e.if-read-eq1.false t.if-read-eq2.true c.command.ensures
+    turned_commands a.replay a.read a.sound.now a.out.now _ e.if-read-eq1.false t.if-read-eq2.true c.command.ensures
 
 pub returns : goal.returns
 returns c =
@@ -28,4 +28,4 @@ returns c =
     let t = p.before.before.before in
     let e = t.before.before in
     let a = e.args in
-    turned_block a.replay a.read a.sound-1.now a.out-1.now _ e.if-read-eq1.false t.if-read-eq2.false p.play.ensures
+    turned_block a.replay a.read a.sound.now a.out.now _ e.if-read-eq1.false t.if-read-eq2.false p.play.ensures

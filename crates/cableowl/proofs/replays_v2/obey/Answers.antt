@@ -13,7 +13,7 @@ pub returns-then-read-eq2 : goal.returns-then-read-eq2
 returns-then-read-eq2 c =
     let t = c.before.before in
     let a = t.args in
-    obeyed_commands a.replay a.read a.bytes.now a.sound.now a.out-1.now _ t.if-read-eq2.true c.command.ensures
+    obeyed_commands a.replay a.read a.bytes.now a.sound.now a.out.now _ t.if-read-eq2.true c.command.ensures
 
 pub returns-then-read-eq5 : goal.returns-then-read-eq5
 returns-then-read-eq5 c =
@@ -21,7 +21,7 @@ returns-then-read-eq5 c =
     let t = p.before.before in
     let e = t.before.before in
     let a = e.args in
-    obeyed_lanes a.replay a.read a.bytes.now a.sound.now a.out-1.now _ e.if-read-eq2.false t.if-read-eq5.true p.play_lanes.ensures
+    obeyed_lanes a.replay a.read a.bytes.now a.sound.now a.out.now _ e.if-read-eq2.false t.if-read-eq5.true p.play_lanes.ensures
 
 pub returns : goal.returns
 returns c =
@@ -29,4 +29,4 @@ returns c =
     let t = p.before.before in
     let e = t.before.before in
     let a = e.args in
-    obeyed_block a.replay a.read a.bytes.now a.sound.now a.out-1.now _ e.if-read-eq2.false t.if-read-eq5.false p.play.ensures
+    obeyed_block a.replay a.read a.bytes.now a.sound.now a.out.now _ e.if-read-eq2.false t.if-read-eq5.false p.play.ensures

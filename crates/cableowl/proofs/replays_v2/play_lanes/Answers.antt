@@ -39,7 +39,7 @@ counted-requires c =
     let d = p.before.before.before in
     let b = d.before.before in
     let a = b.args in
-    laned_count (take a.replay.samples a.sound.now) (take (2 * b.laned_block_of-block.result.frames) a.out-1.now) d.decode.result b.laned_block_of-block.result a.bytes.now p.process_lanes-processed.result _ p.process_lanes-processed.ensures
+    laned_count (take a.replay.samples a.sound.now) (take (2 * b.laned_block_of-block.result.frames) a.out.now) d.decode.result b.laned_block_of-block.result a.bytes.now p.process_lanes-processed.result _ p.process_lanes-processed.ensures
 
 pub returns : goal.returns
 returns c =
@@ -47,5 +47,5 @@ returns c =
     let d = p.before.before.before in
     let b = d.before.before in
     let a = b.args in
-    laned_is a.replay a.size a.values a.bytes.now a.sound.now a.out-1.now b.laned_block_of-block.result d.decode.result p.process_lanes-processed.result _ c.counted.result
+    laned_is a.replay a.size a.values a.bytes.now a.sound.now a.out.now b.laned_block_of-block.result d.decode.result p.process_lanes-processed.result _ c.counted.result
     b.laned_block_of-block.ensures d.decode.ensures c.counted.ensures p.process_lanes-processed.ensures

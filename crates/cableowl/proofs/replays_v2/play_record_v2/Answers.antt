@@ -10,7 +10,7 @@ returns-then-read-eq1 c =
     let q = k.before.before in
     let t = q.before in
     let a = t.args in
-    turned_creation_v2 a.replay a.read a.bytes.now a.sound-1.now a.given.now a.sounds a.out-1.now _ _ _ t.if-read-eq1.true q.playing_of.ensures k.create.ensures.0 k.create.ensures.1
+    turned_creation_v2 a.replay a.read a.bytes.now a.sound.now a.given.now a.sounds a.out.now _ _ _ t.if-read-eq1.true q.playing_of.ensures k.create.ensures.0 k.create.ensures.1
 
 pub create_over-requires : goal.create_over-requires
 create_over-requires c =
@@ -23,7 +23,7 @@ returns-then-read-eq4 c =
     let t = c.before in
     let e = t.before.before in
     let a = e.args in
-    turned_given a.replay a.read a.bytes.now a.sound-1.now a.given.now a.sounds a.out-1.now _ e.if-read-eq1.false t.if-read-eq4.true c.create_over.ensures
+    turned_given a.replay a.read a.bytes.now a.sound.now a.given.now a.sounds a.out.now _ e.if-read-eq1.false t.if-read-eq4.true c.create_over.ensures
 
 pub obey-requires : goal.obey-requires
 obey-requires c =
@@ -38,7 +38,7 @@ returns-then-replay-eq0 c =
     let f = t.before.before in
     let e = f.before.before in
     let a = e.args in
-    turned_sound a.replay a.read a.bytes.now a.sound-1.now a.given.now a.sounds a.out-1.now _ _ e.if-read-eq1.false f.if-read-eq4.false t.if-replay-eq0.true p.obey.ensures
+    turned_sound a.replay a.read a.bytes.now a.sound.now a.given.now a.sounds a.out.now _ _ e.if-read-eq1.false f.if-read-eq4.false t.if-replay-eq0.true p.obey.ensures
 
 pub obey-requires-2 : goal.obey-requires-2
 obey-requires-2 c =
@@ -56,4 +56,4 @@ returns c =
     let f = t.before.before in
     let e = f.before.before in
     let a = e.args in
-    turned_over a.replay a.read a.bytes.now a.sound-1.now a.given.now a.sounds a.out-1.now _ _ e.if-read-eq1.false f.if-read-eq4.false t.if-replay-eq0.false p.obey-2.ensures
+    turned_over a.replay a.read a.bytes.now a.sound.now a.given.now a.sounds a.out.now _ _ e.if-read-eq1.false f.if-read-eq4.false t.if-replay-eq0.false p.obey-2.ensures

@@ -47,7 +47,7 @@ returns c =
     let a = s.args in
     let n = a.block.frames in
     let bs = a.bytes.now in
-    lanes_outcome a.sound.now a.voice a.block bs a.out-1.now _ _ _ _ _ _
+    lanes_outcome a.sound.now a.voice a.block bs a.out.now _ _ _ _ _ _
     (lane_is 4 (λ x. single x) n (drop 18 bs) f.singles_of-fade.result s.pre f.singles_of-fade.ensures)
     (lane_is 4 (λ x. single x) n (drop 22 bs) v.singles_of-volume.result s.pre v.singles_of-volume.ensures)
     (lane_is 4 (λ x. single x) n (drop 26 bs) l.singles_of-left.result s.pre l.singles_of-left.ensures)

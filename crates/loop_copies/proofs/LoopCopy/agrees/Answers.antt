@@ -13,8 +13,8 @@ use Rattle.loop_copies.proofs.LoopCopy.agrees.Goals.{Else-changes, Then-changes}
 use Rattle.loop_copies.proofs.LoopCopy.agrees.Goals as goal
 
 first_low : (h : Hall) (k : ℕ) → k ≡ first h → k ≤ 8
-first_low hall.a-1 k e = omega arith
-first_low hall.b-1 k e = omega arith
+first_low hall.A k e = omega arith
+first_low hall.B k e = omega arith
 
 other : (c : Then-changes) → let a = c.args in eqb (changes_of a.hall a.self) (changes_of a.hall a.theirs) ≡ false
 other c = ap₂ eqb (sym c.changes.ensures) (sym c.changes-2.ensures) ∙ ne_eqb _ _ c.if-changes.true

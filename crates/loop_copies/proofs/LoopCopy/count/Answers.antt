@@ -13,7 +13,7 @@ use Rattle.loop_copies.specs.Copies.{raised, counted}
 use Rattle.loop_copies.proofs.LoopCopy.count.Goals as goal
 
 abbrev accepted : LoopChanged → ℕ → ℕ → CopyChanged
-accepted r a b = record { copy = record { table = r.table-1; changes_a = a; changes_b = b }; refusal = 0 }
+accepted r a b = record { copy = record { table = r.table; changes_a = a; changes_b = b }; refusal = 0 }
 
 by-a : (c : LoopCopy) (r : LoopChanged) (n : ℕ) → r.refusal ≡ 0 → n ≡ raised c.changes_a → accepted r n c.changes_b ≡ counted hall.A c r
 by-a c r n z e = rw (e, z)

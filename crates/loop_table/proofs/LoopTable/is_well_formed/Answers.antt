@@ -22,11 +22,11 @@ loop-i-preserved c =
     let t = c.before.before in
     let l = t.loop-i in
     let s = t.args.self in
-    (omega arith, all_turn (well_formed_slot s.num_frames) s.slots-1 l.i empty l.ok _ (omega (arith, sixteen (goal.at.loop_i_preserved c).Start)) l.invariant.1 c.is_well_formed-ok.ensures)
+    (omega arith, all_turn (well_formed_slot s.num_frames) s.slots l.i empty l.ok _ (omega (arith, sixteen (goal.at.loop_i_preserved c).Start)) l.invariant.1 c.is_well_formed-ok.ensures)
 
 pub returns : goal.returns
 unfolding well_formed_table
 returns c =
     let l = c.loop-i in
     let s = c.args.self in
-    all_end (well_formed_slot s.num_frames) s.slots-1 l.i l.ok (omega (arith, sixteen (goal.at.returns c).Start)) l.invariant.1
+    all_end (well_formed_slot s.num_frames) s.slots l.i l.ok (omega (arith, sixteen (goal.at.returns c).Start)) l.invariant.1

@@ -15,14 +15,14 @@ use Rattle.sound_block.proofs.once.block_held.Goals.{After-begin-begun}
 use Rattle.sound_block.proofs.once.block_held.Goals as goal
 
 abbrev lent : After-begin-begun → Lanes
-lent c = let a = c.args in held_lanes a.held (length a.out-1.now / 2)
+lent c = let a = c.args in held_lanes a.held (length a.out.now / 2)
 
 pub play_held-requires : goal.play_held-requires
 play_held-requires c =
     let b = c.before.before.before in
     let s = b in
     let a = s.args in
-    playable a.sound.now a.dt (lent (goal.at.play_held-requires c).After-begin-begun) a.signals a.voice b.begin-begun.result b.begin-begun.ensures (length a.out-1.now) s.pre
+    playable a.sound.now a.dt (lent (goal.at.play_held-requires c).After-begin-begun) a.signals a.voice b.begin-begun.result b.begin-begun.ensures (length a.out.now) s.pre
 
 pub returns-then-is_live : goal.returns-then-is_live
 returns-then-is_live c =
@@ -37,4 +37,4 @@ returns c =
     let b = l.before.before in
     let s = b in
     let a = s.args in
-    rests a.sound.now a.dt (lent (goal.at.returns c).After-begin-begun) a.signals a.voice _ b.begin-begun.ensures (sym l.is_live.ensures ∙ l.if-is_live.false) _ (length a.out-1.now) c.silence.ensures s.requires.long
+    rests a.sound.now a.dt (lent (goal.at.returns c).After-begin-begun) a.signals a.voice _ b.begin-begun.ensures (sym l.is_live.ensures ∙ l.if-is_live.false) _ (length a.out.now) c.silence.ensures s.requires.long

@@ -31,8 +31,8 @@ lent c = held_lanes c.args.held (frames c)
 -- ---- the track
 
 -- the is the voice's
-track-is : (c : After-track_of-track) → (let v = c.args.voice in c.track_of-track.result ≡ track_of v.moving-1.transport.loop_region (slice_of v))
-track-is c = let v = c.args.voice in c.track_of-track.ensures ∙ ap (track_of v.moving-1.transport.loop_region) c.slice-slice.ensures
+track-is : (c : After-track_of-track) → (let v = c.args.voice in c.track_of-track.result ≡ track_of v.moving.transport.loop_region (slice_of v))
+track-is c = let v = c.args.voice in c.track_of-track.ensures ∙ ap (track_of v.moving.transport.loop_region) c.slice-slice.ensures
 
 tracked : (c : After-track_of-track) → Tracked c.args.sound.now c.args.voice c.track_of-track.result
 tracked c =
@@ -45,7 +45,7 @@ contiguous : (c : Else-not-is_contiguous) → Contiguous c.args.sound.now c.trac
 contiguous c = c.is_contiguous.ensures.1 (c.if-not-is_contiguous.false)
 
 few_frames : (c : After-track_of-track) → frames c ≤ 4096
-few_frames c = let a = c.args in most a.sound.now a.voice a.dt a.held (frames c) a.out-1.now c.requires
+few_frames c = let a = c.args in most a.sound.now a.voice a.dt a.held (frames c) a.out.now c.requires
 
 -- ---- the scan
 
@@ -79,7 +79,7 @@ passed_is c =
     let t = c in
     let v = t.args.voice in
     let r = c.scan_held-reached.result in
-    ap (moved v r.fractional_position) (c.contiguous_at.ensures ∙ ap (λ (w : Wraps). contiguous_of t.args.sound.now t.track_of-track.result v.moving-1 w r.at) c.wraps_after-wraps.ensures)
+    ap (moved v r.fractional_position) (c.contiguous_at.ensures ∙ ap (λ (w : Wraps). contiguous_of t.args.sound.now t.track_of-track.result v.moving w r.at) c.wraps_after-wraps.ensures)
 
 passed-plays : (c : After-contiguous_at) (m : ℕ) → m ≡ 2 * length (lent c).rate
     → (let t = c in
@@ -129,7 +129,7 @@ scan_held-reached-requires c =
     let st = t in
     let a = st.args in
     let e = contiguous (goal.at.scan_held-reached-requires c).Else-not-is_contiguous in
-    (scannable a.sound.now a.dt (lent (goal.at.scan_held-reached-requires c).After-track_of-track) a.voice t.track_of-track.result (tracked (goal.at.scan_held-reached-requires c).After-track_of-track) e st.pre, scan_begins a.sound.now a.dt (lent (goal.at.scan_held-reached-requires c).After-track_of-track) a.voice t.track_of-track.result (tracked (goal.at.scan_held-reached-requires c).After-track_of-track) e st.pre a.out-1.now st.requires.long)
+    (scannable a.sound.now a.dt (lent (goal.at.scan_held-reached-requires c).After-track_of-track) a.voice t.track_of-track.result (tracked (goal.at.scan_held-reached-requires c).After-track_of-track) e st.pre, scan_begins a.sound.now a.dt (lent (goal.at.scan_held-reached-requires c).After-track_of-track) a.voice t.track_of-track.result (tracked (goal.at.scan_held-reached-requires c).After-track_of-track) e st.pre a.out.now st.requires.long)
 
 pub once-requires : goal.once-requires
 once-requires c =

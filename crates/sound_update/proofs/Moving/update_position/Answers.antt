@@ -16,13 +16,13 @@ use Rattle.sound_update.proofs.Moving.update_position.Goals as goal
 
 -- after the push and the step, with the result e of whether the window is empty
 updated-by : (snd : List Float) (c : Slice) (m : Moving) (t : Transport) (k : Wraps) (w : Resampler) (e b : Bool)
-    → t ≡ stepped c m.transport-1 → k ≡ counted c m.transport-1 m.wraps → w ≡ pushed snd c m → e ≡ is_empty w → not t.playing && e ≡ b
+    → t ≡ stepped c m.transport → k ≡ counted c m.transport m.wraps → w ≡ pushed snd c m → e ≡ is_empty w → not t.playing && e ≡ b
     → ◌≡◌ {A = Moving} (record { state = cond b state.Stopped m.state; transport = t; resampler = w; wraps = k }) (updated snd c m)
 unfolding updated
 updated-by snd c m t k w e b step counts push empty h =
     ap (λ (b : Bool). settled b t k w) (sym h ∙ ap (λ (e : Bool). not t.playing && e) empty)
     ∙ ap₂ (λ (t : Transport) (w : Resampler). settled (not t.playing && is_empty w) t k w) step push
-    ∙ ap (λ (k : Wraps). settled (not (stepped c m.transport-1).playing && is_empty (pushed snd c m)) (stepped c m.transport-1) k (pushed snd c m)) counts
+    ∙ ap (λ (k : Wraps). settled (not (stepped c m.transport).playing && is_empty (pushed snd c m)) (stepped c m.transport) k (pushed snd c m)) counts
   where
     settled : Bool → Transport → Wraps → Resampler → Moving
     settled b t k w = record { state = cond b state.Stopped m.state; transport = t; resampler = w; wraps = k }

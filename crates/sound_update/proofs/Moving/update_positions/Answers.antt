@@ -15,12 +15,12 @@ use Rattle.sound_update.proofs.Moving.update_positions.Goals as goal
 abbrev moving : At-loop-left → Moving
 moving c =
     let l = c.loop-left in
-    moving_of c.args.self.transport.loop_region l.state l.position l.playing l.wraps-1 (window_of l.frames l.numbers)
+    moving_of c.args.self.transport.loop_region l.state l.position l.playing l.wraps (window_of l.frames l.numbers)
 
 -- what the loop starts with: the window is an array of four
 begins : (c : After-numbers_of-numbers)
     → let m = c.args.self in
-    moving_of m.transport.loop_region m.state m.transport.position m.transport.playing m.wraps-1 (window_of c.frames_of-frames.result c.numbers_of-numbers.result) ≡ m
+    moving_of m.transport.loop_region m.state m.transport.position m.transport.playing m.wraps (window_of c.frames_of-frames.result c.numbers_of-numbers.result) ≡ m
 begins c =
     let s = c in
     together_as _ s.args.self s.args.self _ _ refl refl (simp length-map at s.good.0.1.1.1.1.0.1.1.0.1.0.1) c.frames_of-frames.ensures c.numbers_of-numbers.ensures

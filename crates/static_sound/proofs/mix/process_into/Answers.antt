@@ -25,7 +25,7 @@ returns-then-are_constant c =
     let f = p.before.before in
     let e = f.before in
     let a = e.args in
-    constant_into a.sound.now a.voice a.dt (lent (goal.at.returns-then-are_constant c).After-are_constant) a.signals a.mix-1.now a.from _ (e.are_constant.ensures e.if-are_constant.true) _ f.first_of-held.ensures p.process_held_into.ensures
+    constant_into a.sound.now a.voice a.dt (lent (goal.at.returns-then-are_constant c).After-are_constant) a.signals a.mix.now a.from _ (e.are_constant.ensures e.if-are_constant.true) _ f.first_of-held.ensures p.process_held_into.ensures
 
 pub returns : goal.returns
 returns c = c.process_lanes.ensures

@@ -20,20 +20,20 @@ lent c = let a = c.args in lanes_now a.fade a.volume a.left a.right a.rate
 
 numbered : (c : After-refusal_of-refusal)
     → (let a = c.args in
-    c.refusal_of-refusal.result ≡ refused_block (length a.sound.now) a.voice a.dt (lent c) (room a.from (length a.rate.now) a.mix-1.now))
+    c.refusal_of-refusal.result ≡ refused_block (length a.sound.now) a.voice a.dt (lent c) (room a.from (length a.rate.now) a.mix.now))
 numbered c = rw c.has_room-placed.ensures at c.refusal_of-refusal.ensures
 
 none : (c : Else-refusal-ne0)
     → (let a = c.args in
-    refused_block (length a.sound.now) a.voice a.dt (lent c.before) (room a.from (length a.rate.now) a.mix-1.now) ≡ 0)
+    refused_block (length a.sound.now) a.voice a.dt (lent c.before) (room a.from (length a.rate.now) a.mix.now) ≡ 0)
 none c = sym (numbered c.before) ∙ c.if-refusal-ne0.false
 
 -- the part lies in the mix
-fits : (c : Else-refusal-ne0) → (let a = c.args in 2 * (a.from + length a.rate.now) ≤ length a.mix-1.now)
-fits c = let a = c.args in inside a.sound.now a.voice a.dt (lent c.before) a.signals a.mix-1.now a.from (none c)
+fits : (c : Else-refusal-ne0) → (let a = c.args in 2 * (a.from + length a.rate.now) ≤ length a.mix.now)
+fits c = let a = c.args in inside a.sound.now a.voice a.dt (lent c.before) a.signals a.mix.now a.from (none c)
 
 pub returns-then-refusal-ne0 : goal.returns-then-refusal-ne0
-returns-then-refusal-ne0 c = let a = c.args in refused_into a.sound.now a.voice a.dt (lent (goal.at.returns-then-refusal-ne0 c).After-refusal_of-refusal) a.signals a.mix-1.now a.from _ (numbered (goal.at.returns-then-refusal-ne0 c).After-refusal_of-refusal) c.if-refusal-ne0.true
+returns-then-refusal-ne0 c = let a = c.args in refused_into a.sound.now a.voice a.dt (lent (goal.at.returns-then-refusal-ne0 c).After-refusal_of-refusal) a.signals a.mix.now a.from _ (numbered (goal.at.returns-then-refusal-ne0 c).After-refusal_of-refusal) c.if-refusal-ne0.true
 
 pub overflow_mul-a : goal.overflow_mul-a
 overflow_mul-a c = omega (arith, fits (goal.at.overflow_mul-a c).Else-refusal-ne0, c.well_formed.1.1.1.1.1.1.1.1.1.0)
@@ -51,11 +51,11 @@ pub block-requires : goal.block-requires
 block-requires c =
     let e = c.before in
     let a = e.args in
-    playable_part a.sound.now a.voice a.dt (lent (goal.at.block_requires c).After-refusal_of-refusal) a.signals a.mix-1.now a.from (none (goal.at.block_requires c).Else-refusal-ne0)
+    playable_part a.sound.now a.voice a.dt (lent (goal.at.block_requires c).After-refusal_of-refusal) a.signals a.mix.now a.from (none (goal.at.block_requires c).Else-refusal-ne0)
 
 pub returns : goal.returns
 returns c =
     let p = c.before.before in
     let e = p.before.before in
     let a = e.args in
-    processed_into_lem a.sound.now a.voice a.dt (lent (goal.at.returns c).After-refusal_of-refusal) a.signals a.mix-1.now a.from p.block.result _ (none (goal.at.returns c).Else-refusal-ne0) p.block.ensures
+    processed_into_lem a.sound.now a.voice a.dt (lent (goal.at.returns c).After-refusal_of-refusal) a.signals a.mix.now a.from p.block.result _ (none (goal.at.returns c).Else-refusal-ne0) p.block.ensures

@@ -10,4 +10,4 @@ pub returns : goal.returns
 returns c =
     let s = c.before.before.before.before.before.before in
     let a = s.args in
-    held_whole a.sound.now a.voice a.dt a.held a.signals a.out-1.now _ c.process_held_into.ensures
+    held_whole a.sound.now a.voice a.dt a.held a.signals a.out.now _ c.process_held_into.ensures

@@ -17,20 +17,20 @@ use Rattle.static_sound.proofs.once.process_held_into.Goals as goal
 
 numbered : (c : After-refusal_held-refusal)
     → (let a = c.args in
-    c.refusal_held-refusal.result ≡ refused_block (length a.sound.now) a.voice a.dt (held_lanes a.held a.frames) (room a.from a.frames a.mix-1.now))
+    c.refusal_held-refusal.result ≡ refused_block (length a.sound.now) a.voice a.dt (held_lanes a.held a.frames) (room a.from a.frames a.mix.now))
 numbered c = rw c.has_room-placed.ensures at c.refusal_held-refusal.ensures
 
 none : (c : Else-refusal-ne0)
     → (let a = c.args in
-    refused_block (length a.sound.now) a.voice a.dt (held_lanes a.held a.frames) (room a.from a.frames a.mix-1.now) ≡ 0)
+    refused_block (length a.sound.now) a.voice a.dt (held_lanes a.held a.frames) (room a.from a.frames a.mix.now) ≡ 0)
 none c = sym (numbered c.before) ∙ c.if-refusal-ne0.false
 
 -- the part lies in the mix
-fits : (c : Else-refusal-ne0) → (let a = c.args in 2 * (a.from + a.frames) ≤ length a.mix-1.now)
-fits c = let a = c.args in held_inside a.sound.now a.voice a.dt a.held a.signals a.mix-1.now a.from a.frames (none c)
+fits : (c : Else-refusal-ne0) → (let a = c.args in 2 * (a.from + a.frames) ≤ length a.mix.now)
+fits c = let a = c.args in held_inside a.sound.now a.voice a.dt a.held a.signals a.mix.now a.from a.frames (none c)
 
 pub returns-then-refusal-ne0 : goal.returns-then-refusal-ne0
-returns-then-refusal-ne0 c = let a = c.args in refused_held_into a.sound.now a.voice a.dt a.held a.signals a.mix-1.now a.from a.frames _ (numbered (goal.at.returns-then-refusal-ne0 c).After-refusal_held-refusal) c.if-refusal-ne0.true
+returns-then-refusal-ne0 c = let a = c.args in refused_held_into a.sound.now a.voice a.dt a.held a.signals a.mix.now a.from a.frames _ (numbered (goal.at.returns-then-refusal-ne0 c).After-refusal_held-refusal) c.if-refusal-ne0.true
 
 pub overflow_mul-a : goal.overflow_mul-a
 overflow_mul-a c = omega (arith, fits (goal.at.overflow_mul-a c).Else-refusal-ne0, c.well_formed.1.1.1.1.1.0)
@@ -48,11 +48,11 @@ pub block_held-requires : goal.block_held-requires
 block_held-requires c =
     let e = c.before in
     let a = e.args in
-    playable_held_part a.sound.now a.voice a.dt a.held a.signals a.mix-1.now a.from a.frames (none (goal.at.block_held-requires c).Else-refusal-ne0)
+    playable_held_part a.sound.now a.voice a.dt a.held a.signals a.mix.now a.from a.frames (none (goal.at.block_held-requires c).Else-refusal-ne0)
 
 pub returns : goal.returns
 returns c =
     let p = c.before.before in
     let e = p.before.before in
     let a = e.args in
-    held_into a.sound.now a.voice a.dt a.held a.signals a.mix-1.now a.from a.frames (none (goal.at.returns c).Else-refusal-ne0) p.block_held.result _ p.block_held.ensures
+    held_into a.sound.now a.voice a.dt a.held a.signals a.mix.now a.from a.frames (none (goal.at.returns c).Else-refusal-ne0) p.block_held.result _ p.block_held.ensures

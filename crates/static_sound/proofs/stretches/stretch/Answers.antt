@@ -45,7 +45,7 @@ numbers c =
     let a = e.args in
     let o = well_formed_for_parts (length a.sound.now) a.voice (is_true (well_formed c.before.before.before)) in
     let k = setup_parts a.voice.setup o.0.setup in
-    let r = ranged_parts a.voice.setup.num_frames c.in-Frames.start c.in-Frames.end (subst (λ (r : FrameRange). T (within a.voice.setup.num_frames r)) c.in-Frames.is k.slice-1) in
+    let r = ranged_parts a.voice.setup.num_frames c.in-Frames.start c.in-Frames.end (subst (λ (r : FrameRange). T (within a.voice.setup.num_frames r)) c.in-Frames.is k.slice) in
     record { more = r.more; inside = r.inside; few = k.few; lent = o.1 }
 
 pub returns-then-not-is_well_formed : goal.returns-then-not-is_well_formed

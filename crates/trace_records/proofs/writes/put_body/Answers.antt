@@ -32,7 +32,7 @@ returns-then-kind-eq1 c =
     let t = c.fill_creation in
     let a = c.args in
     let e = of_creation (λ (rs : List Row) (m : ℕ). payload rs [] (take m a.values)) a.kind t.new.0 t.ensures c.if-kind-eq1.true in
-    (q.put_rows.ensures.0 ∙ ap (λ (z : List ℕ). sets a.buf-1.now a.at z) e, q.put_rows.ensures.1 ∙ ap (λ (z : List ℕ). a.at + length z) e)
+    (q.put_rows.ensures.0 ∙ ap (λ (z : List ℕ). sets a.buf.now a.at z) e, q.put_rows.ensures.1 ∙ ap (λ (z : List ℕ). a.at + length z) e)
 
 pub put_rows-requires-then-kind-eq2 : goal.put_rows-requires-then-kind-eq2
 unfolding command_table
@@ -47,7 +47,7 @@ returns-then-kind-eq2 c =
     let t = q.before.before.before in
     let a = c.args in
     let e = of_commands (λ (rs : List Row) (m : ℕ). payload rs [] (take m a.values)) a.kind t.if-kind-eq1.false t.if-kind-eq2.true in
-    (q.put_rows-then-kind-eq2.ensures.0 ∙ ap (λ (z : List ℕ). sets a.buf-1.now a.at z) e, q.put_rows-then-kind-eq2.ensures.1 ∙ ap (λ (z : List ℕ). a.at + length z) e)
+    (q.put_rows-then-kind-eq2.ensures.0 ∙ ap (λ (z : List ℕ). sets a.buf.now a.at z) e, q.put_rows-then-kind-eq2.ensures.1 ∙ ap (λ (z : List ℕ). a.at + length z) e)
 
 pub put_rows-requires-2 : goal.put_rows-requires-2
 unfolding block_table
@@ -62,4 +62,4 @@ returns c =
     let t = q.before.before.before in
     let a = c.args in
     let e = of_block (λ (rs : List Row) (m : ℕ). payload rs [] (take m a.values)) a.kind t.if-kind-eq1.false t.if-kind-eq2.false in
-    (q.put_rows-2.ensures.0 ∙ ap (λ (z : List ℕ). sets a.buf-1.now a.at z) e, q.put_rows-2.ensures.1 ∙ ap (λ (z : List ℕ). a.at + length z) e)
+    (q.put_rows-2.ensures.0 ∙ ap (λ (z : List ℕ). sets a.buf.now a.at z) e, q.put_rows-2.ensures.1 ∙ ap (λ (z : List ℕ). a.at + length z) e)

@@ -28,7 +28,7 @@ returns-then-kind-eq4 c =
     let t = q.before.before.before in
     let a = t.args in
     let e = of_given_rows (λ (rs : List Row) (m : ℕ). payload rs [] (take m a.values)) a.kind t.if-kind-eq4.true in
-    (q.put_rows.ensures.0 ∙ ap (λ (z : List ℕ). sets a.buf-1.now a.at z) e, q.put_rows.ensures.1 ∙ ap (λ (z : List ℕ). a.at + length z) e)
+    (q.put_rows.ensures.0 ∙ ap (λ (z : List ℕ). sets a.buf.now a.at z) e, q.put_rows.ensures.1 ∙ ap (λ (z : List ℕ). a.at + length z) e)
 
 pub put_rows-requires-2 : goal.put_rows-requires-2
 unfolding laned_table
@@ -43,4 +43,4 @@ returns c =
     let t = q.before.before.before in
     let a = t.args in
     let e = of_laned_rows (λ (rs : List Row) (m : ℕ). payload rs [] (take m a.values)) a.kind t.if-kind-eq4.false in
-    (q.put_rows-2.ensures.0 ∙ ap (λ (z : List ℕ). sets a.buf-1.now a.at z) e, q.put_rows-2.ensures.1 ∙ ap (λ (z : List ℕ). a.at + length z) e)
+    (q.put_rows-2.ensures.0 ∙ ap (λ (z : List ℕ). sets a.buf.now a.at z) e, q.put_rows-2.ensures.1 ∙ ap (λ (z : List ℕ). a.at + length z) e)

@@ -18,7 +18,7 @@ returns-then-is_sealed_kind c =
     let t = w.before.before in
     let k = t.before in
     let a = k.args in
-    sealed_way a.buf-1.now a.at a.kind a.values a.lanes.now _ (sym t.if-is_sealed_kind.true ∙ k.is_sealed_kind.ensures) w.write_sealed.ensures
+    sealed_way a.buf.now a.at a.kind a.values a.lanes.now _ (sym t.if-is_sealed_kind.true ∙ k.is_sealed_kind.ensures) w.write_sealed.ensures
 
 pub returns : goal.returns
 returns c =
@@ -26,4 +26,4 @@ returns c =
     let t = w.before.before in
     let k = t.before in
     let a = k.args in
-    open_way a.buf-1.now a.at a.kind a.values a.lanes.now _ (sym t.if-is_sealed_kind.false ∙ k.is_sealed_kind.ensures) w.write.ensures
+    open_way a.buf.now a.at a.kind a.values a.lanes.now _ (sym t.if-is_sealed_kind.false ∙ k.is_sealed_kind.ensures) w.write.ensures

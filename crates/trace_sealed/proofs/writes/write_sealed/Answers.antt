@@ -18,7 +18,7 @@ pub returns-then-not-fits : goal.returns-then-not-fits
 returns-then-not-fits c =
     let f = c.before in
     let a = f.args in
-    unfit a.buf-1.now a.at a.kind a.values a.lanes.now (sym (c.if-not-fits.true) ∙ f.fits2.ensures)
+    unfit a.buf.now a.at a.kind a.values a.lanes.now (sym (c.if-not-fits.true) ∙ f.fits2.ensures)
 
 pub lane_bytes-w-requires : goal.lane_bytes-w-requires
 lane_bytes-w-requires c =
@@ -32,7 +32,7 @@ returns-then-lanes-w c =
     let f = e.before in
     let a = f.args in
     let y = sym (not_false _ e.if-not-fits.false) ∙ f.fits2.ensures in
-    not_whole a.buf-1.now a.at a.kind a.values a.lanes.now y l.lane_bytes-w.result l.lane_bytes-w.ensures c.if-lanes-w.true
+    not_whole a.buf.now a.at a.kind a.values a.lanes.now y l.lane_bytes-w.result l.lane_bytes-w.ensures c.if-lanes-w.true
 
 pub overflow_add-n : goal.overflow_add-n
 overflow_add-n c =
@@ -41,7 +41,7 @@ overflow_add-n c =
     let f = e.before in
     let a = f.args in
     let y = sym (not_false _ e.if-not-fits.false) ∙ f.fits2.ensures in
-    record { fits = omega (arith, few a.buf-1.now a.at a.kind a.values a.lanes.now y l.lane_bytes-w.result l.lane_bytes-w.ensures c.if-lanes-w.false c.fields_length.result c.fields_length.ensures) }
+    record { fits = omega (arith, few a.buf.now a.at a.kind a.values a.lanes.now y l.lane_bytes-w.result l.lane_bytes-w.ensures c.if-lanes-w.false c.fields_length.result c.fields_length.ensures) }
 
 pub overflow_add-n-2 : goal.overflow_add-n-2
 overflow_add-n-2 c =
@@ -50,7 +50,7 @@ overflow_add-n-2 c =
     let f = e.before in
     let a = f.args in
     let y = sym (not_false _ e.if-not-fits.false) ∙ f.fits2.ensures in
-    record { fits = omega (arith, few a.buf-1.now a.at a.kind a.values a.lanes.now y l.lane_bytes-w.result l.lane_bytes-w.ensures c.if-lanes-w.false c.fields_length.result c.fields_length.ensures) }
+    record { fits = omega (arith, few a.buf.now a.at a.kind a.values a.lanes.now y l.lane_bytes-w.result l.lane_bytes-w.ensures c.if-lanes-w.false c.fields_length.result c.fields_length.ensures) }
 
 pub returns-then-buf-at : goal.returns-then-buf-at
 returns-then-buf-at c =
@@ -60,7 +60,7 @@ returns-then-buf-at c =
     let f = e.before in
     let a = f.args in
     let y = sym (not_false _ e.if-not-fits.false) ∙ f.fits2.ensures in
-    no_room a.buf-1.now a.at a.kind a.values a.lanes.now y l.lane_bytes-w.result l.lane_bytes-w.ensures n.if-lanes-w.false n.fields_length.result n.fields_length.ensures (omega (arith, c.if-buf-at.true))
+    no_room a.buf.now a.at a.kind a.values a.lanes.now y l.lane_bytes-w.result l.lane_bytes-w.ensures n.if-lanes-w.false n.fields_length.result n.fields_length.ensures (omega (arith, c.if-buf-at.true))
 
 pub overflow_add-n-3 : goal.overflow_add-n-3
 overflow_add-n-3 c =
@@ -70,7 +70,7 @@ overflow_add-n-3 c =
     let f = e.before in
     let a = f.args in
     let y = sym (not_false _ e.if-not-fits.false) ∙ f.fits2.ensures in
-    record { fits = omega (arith, few a.buf-1.now a.at a.kind a.values a.lanes.now y l.lane_bytes-w.result l.lane_bytes-w.ensures n.if-lanes-w.false n.fields_length.result n.fields_length.ensures) }
+    record { fits = omega (arith, few a.buf.now a.at a.kind a.values a.lanes.now y l.lane_bytes-w.result l.lane_bytes-w.ensures n.if-lanes-w.false n.fields_length.result n.fields_length.ensures) }
 
 pub returns-then-buf-at-2 : goal.returns-then-buf-at-2
 returns-then-buf-at-2 c =
@@ -80,7 +80,7 @@ returns-then-buf-at-2 c =
     let f = e.before in
     let a = f.args in
     let y = sym (not_false _ e.if-not-fits.false) ∙ f.fits2.ensures in
-    no_room a.buf-1.now a.at a.kind a.values a.lanes.now y l.lane_bytes-w.result l.lane_bytes-w.ensures n.if-lanes-w.false n.fields_length.result n.fields_length.ensures c.if-buf-at-2.true
+    no_room a.buf.now a.at a.kind a.values a.lanes.now y l.lane_bytes-w.result l.lane_bytes-w.ensures n.if-lanes-w.false n.fields_length.result n.fields_length.ensures c.if-buf-at-2.true
 
 pub returns : goal.returns
 returns c =
@@ -92,4 +92,4 @@ returns c =
     let f = e.before in
     let a = f.args in
     let y = sym (not_false _ e.if-not-fits.false) ∙ f.fits2.ensures in
-    written a.buf-1.now a.at a.kind a.values a.lanes.now y l.lane_bytes-w.result l.lane_bytes-w.ensures n.if-lanes-w.false n.fields_length.result n.fields_length.ensures t.if-buf-at-2.false t.if-buf-at.false s.seal-next.new.0 s.seal-next.result s.seal-next.ensures.0 s.seal-next.ensures.1
+    written a.buf.now a.at a.kind a.values a.lanes.now y l.lane_bytes-w.result l.lane_bytes-w.ensures n.if-lanes-w.false n.fields_length.result n.fields_length.ensures t.if-buf-at-2.false t.if-buf-at.false s.seal-next.new.0 s.seal-next.result s.seal-next.ensures.0 s.seal-next.ensures.1
