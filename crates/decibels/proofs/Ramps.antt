@@ -7,7 +7,7 @@ use native.Mathlib.Nat.{le_refl, le_trans, le_of_eq, mul-add, add-le-add, mul-le
 use native.Mathlib.Numerals.{add-one}
 use native.Mathlib.Omega.{arith}
 use lib.Dec.{T, leb, eqb, leb→le, eqb→eq}
-use lib.ListN.{length, get_or, take, set, length_append, get_or_append}
+use lib.ListN.{length, get_or, take, set, length-append, get_or-append}
 use lib.Seq.{take-suc-set, take_all, get_or_at}
 use lib.Ieee.{Float, nan}
 use lib.Ieee.Nearest.{div_mono}
@@ -124,7 +124,7 @@ weighed s e n i hs he hn h =
 
 frames_length : (s e n k : ℕ) → length (frames s e n k) ≡ k
 frames_length s e n zero = refl
-frames_length s e n (suc k) = length_append (frames s e n k) (amplitude (level_at s e n k) ∷ []) ∙ ap (λ (m : ℕ). m + 1) (frames_length s e n k) ∙ add-one k
+frames_length s e n (suc k) = length-append (frames s e n k) (amplitude (level_at s e n k) ∷ []) ∙ ap (λ (m : ℕ). m + 1) (frames_length s e n k) ∙ add-one k
 
 pub each : (s e n k i : ℕ) → i < k → get_or (frames s e n k) i nan ≡ amplitude (level_at s e n i)
 each s e n zero i h = absurd (not-suc-le-zero h)
@@ -140,7 +140,7 @@ each s e n (suc k) i h = go (λ (l : i < k). each s e n k i l) (eqb i k) refl
     go rest false q =
         let d = eqb-false i k q in
         let l : i < k = omega (arith, h, d) in
-        get_or_append (frames s e n k) (a ∷ []) nan i (subst (λ (m : ℕ). i < m) (sym (frames_length s e n k)) l) ∙ rest l
+        get_or-append (frames s e n k) (a ∷ []) nan i (subst (λ (m : ℕ). i < m) (sym (frames_length s e n k)) l) ∙ rest l
 
 pub filled_more : (s e n i level : ℕ) (lane : List Float) (x : Float) → level ≡ level_at s e n i → x ≡ amplitude level → i < length lane → take i lane ≡ frames s e n i
     → take (i + 1) (set lane i x) ≡ frames s e n (i + 1)

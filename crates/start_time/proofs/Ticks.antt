@@ -1,7 +1,7 @@
 -- Now minus due, wrapped: it is the only number in the range such that due plus it wraps to now. So it is the code's difference, and moving both ticks changes nothing.
 -- Assumes nothing.
 use Rattle.std.proofs.Common.{◌≡◌, ℕ, ◌+◌, ◌-◌, ◌%◌, ◌<◌, ◌≤◌, Bool, true, false, cond, ltb, sym, ap, ◌∙◌, le_of_lt, add_assoc, mod-lt, mod-eq_of_lt, add-sub_of_le, arith}
-use native.Mathlib.Nat.{mod_add_mod, add-mod-mod, add-mod_right}
+use native.Mathlib.Nat.{mod-add-mod, add-mod-mod, add-mod_right}
 use Rattle.playback_state_manager.specs.declared.StartAnswer.TheVariants as answer
 use Rattle.start_time.specs.declared.StartSignal.{StartSignal}
 use Rattle.start_time.specs.declared.StartSignal.TheVariants as start
@@ -11,13 +11,13 @@ module _ (m : ℕ) where
   -- adding the rest of the range undoes an addition with wrapping
   undone : (x b : ℕ) → x < m → b ≤ m → ((x + b) % m + (m - b)) % m ≡ x
   undone x b h k =
-      mod_add_mod (x + b) m (m - b) ∙ ap (λ (n : ℕ). n % m) (add_assoc x b (m - b) ∙ ap (λ (n : ℕ). x + n) (add-sub_of_le k))
+      mod-add-mod (x + b) m (m - b) ∙ ap (λ (n : ℕ). n % m) (add_assoc x b (m - b) ∙ ap (λ (n : ℕ). x + n) (add-sub_of_le k))
       ∙ add-mod_right x m ∙ mod-eq_of_lt h
 
   -- the difference, added to due, wraps to now
   wrapped : (due now : ℕ) → due < m → now < m → ((now + (m - due)) % m + due) % m ≡ now
   wrapped due now h k =
-      mod_add_mod (now + (m - due)) m due ∙ ap (λ (n : ℕ). n % m) (back now due m h) ∙ add-mod_right now m ∙ mod-eq_of_lt k
+      mod-add-mod (now + (m - due)) m due ∙ ap (λ (n : ℕ). n % m) (back now due m h) ∙ add-mod_right now m ∙ mod-eq_of_lt k
     where
       back : (x d n : ℕ) → d < n → x + (n - d) + d ≡ x + n
       back x d n l = omega arith
@@ -31,7 +31,7 @@ module _ (m : ℕ) where
       let r = (now + (m - due)) % m in
       sym
       (only r ((due + k) % m) ((now + k) % m) (mod-lt (now + (m - due)) p) (mod-lt (due + k) p)
-      (add-mod-mod r (due + k) m ∙ ap (λ (n : ℕ). n % m) (sym (add_assoc r due k)) ∙ sym (mod_add_mod (r + due) m k)
+      (add-mod-mod r (due + k) m ∙ ap (λ (n : ℕ). n % m) (sym (add_assoc r due k)) ∙ sym (mod-add-mod (r + due) m k)
       ∙ ap (λ (n : ℕ). (n + k) % m) (wrapped due now h l)))
 
 -- what the code's difference is

@@ -2,7 +2,7 @@
 -- By deciding each test of the definitions. Assumes nothing.
 use Prim.Native.Nat.{ℕ, ◌+◌, ◌-◌, ◌≤◌, ◌<◌}
 use mathlib.Core.Path.{◌≡◌, refl, sym, ap, ap₂, ◌∙◌}
-use mathlib.Core.Bool.{Bool, true, false, not, cond, ◌&&◌, and_true, and_false}
+use mathlib.Core.Bool.{Bool, true, false, not, cond, ◌&&◌, and-true, and-false}
 use lib.Dec.{leb}
 use borrow.Author.Tests.{lt-ltb, le-ltb, eq-eqb, ne_eqb}
 use Rattle.playback_position.specs.declared.FrameRange.{FrameRange}
@@ -17,10 +17,10 @@ moved t q b = record { position = q; loop_region = t.loop_region; playing = b }
 -- ---- the end of playing
 
 pub landed_past : (n : ℕ) (t : Transport) (q : ℕ) → n ≤ q → landed n t q ≡ moved t q false
-landed_past n t q h = ap (moved t q) (ap (λ (b : Bool). t.playing && b) (le-ltb q n h) ∙ and_false t.playing)
+landed_past n t q h = ap (moved t q) (ap (λ (b : Bool). t.playing && b) (le-ltb q n h) ∙ and-false t.playing)
 
 pub landed_inside : (n : ℕ) (t : Transport) (q : ℕ) → q < n → landed n t q ≡ moved t q t.playing
-landed_inside n t q h = ap (moved t q) (ap (λ (b : Bool). t.playing && b) (lt-ltb q n h) ∙ and_true t.playing)
+landed_inside n t q h = ap (moved t q) (ap (λ (b : Bool). t.playing && b) (lt-ltb q n h) ∙ and-true t.playing)
 
 -- ---- a forward step
 

@@ -30,13 +30,13 @@ pub returns-then-p-gt0 : goal.returns-then-p-gt0
 returns-then-p-gt0 c = let a = c.args in (closed a.s.now (a.i + 1) a.i a.p a.r c.if-p-gt0.true, search rules, refl)
 
 pub returns-then-left-n : goal.returns-then-left-n
-returns-then-left-n c = let a = c.args in (ends a.s.now a.i a.p a.r (free (goal.at.returns_then_left_n c).After-row_stands) (here (goal.at.returns_then_left_n c).Then-row_stands) c.if-left-w.true c.if-left-n.true, search rules, refl)
+returns-then-left-n c = let a = c.args in (ends a.s.now a.i a.p a.r (free (goal.at.returns-then-left-n c).After-row_stands) (here (goal.at.returns-then-left-n c).Then-row_stands) c.if-left-w.true c.if-left-n.true, search rules, refl)
 
 pub returns-then-left-w : goal.returns-then-left-w
-returns-then-left-w c = let a = c.args in (cut a.s.now a.i a.p a.r (free (goal.at.returns_then_left_w c).After-row_stands) (here (goal.at.returns_then_left_w c).Then-row_stands) c.if-left-w.true c.if-left-n.false, search rules, refl)
+returns-then-left-w c = let a = c.args in (cut a.s.now a.i a.p a.r (free (goal.at.returns-then-left-w c).After-row_stands) (here (goal.at.returns-then-left-w c).Then-row_stands) c.if-left-w.true c.if-left-n.false, search rules, refl)
 
 pub returns-then-n-w : goal.returns-then-n-w
-returns-then-n-w c = let a = c.args in (short a.s.now a.i a.p a.r (free (goal.at.returns_then_n_w c).After-row_stands) (here (goal.at.returns_then_n_w c).Then-row_stands) c.if-left-w.false c.if-n-w.true, search rules, refl)
+returns-then-n-w c = let a = c.args in (short a.s.now a.i a.p a.r (free (goal.at.returns-then-n-w c).After-row_stands) (here (goal.at.returns-then-n-w c).Then-row_stands) c.if-left-w.false c.if-n-w.true, search rules, refl)
 
 pub returns-then-row_within : goal.returns-then-row_within
 returns-then-row_within c =

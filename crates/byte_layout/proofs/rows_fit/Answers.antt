@@ -31,7 +31,7 @@ pub loop-i-preserved : goal.loop-i-preserved
 loop-i-preserved c =
     let a = c.args in
     let i = c.loop-i.i in
-    (search rules, sym (one (goal.at.loop_i_preserved c).After-row_fits ∙ ap (λ b. cond b (fine_of a.table.now a.n a.values (i + 1)) false) c.if-row_fits.true) ∙ c.loop-i.invariant.1)
+    (search rules, sym (one (goal.at.loop-i-preserved c).After-row_fits ∙ ap (λ b. cond b (fine_of a.table.now a.n a.values (i + 1)) false) c.if-row_fits.true) ∙ c.loop-i.invariant.1)
 
 pub returns-else-row_fits : goal.returns-else-row_fits
 returns-else-row_fits c = sym (sym c.loop-i.invariant.1 ∙ one (goal.at.returns-else-row_fits c).After-row_fits ∙ ap (λ b. cond b (fine_of c.args.table.now c.args.n c.args.values (c.loop-i.i + 1)) false) c.if-row_fits.false)

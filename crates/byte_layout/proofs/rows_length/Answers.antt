@@ -3,7 +3,7 @@ use Prim.Native.Nat.{◌+◌, ◌-◌, ◌*◌, ◌≤◌}
 use native.Mathlib.Omega.{arith}
 use mathlib.Core.Path.{◌≡◌, ap, ◌∙◌}
 use mathlib.Core.List.{[]}
-use lib.ListN.{length, take, get_or, length_append}
+use lib.ListN.{length, take, get_or, length-append}
 use Rattle.byte_layout.specs.Rows.{rows, stands}
 use Rattle.byte_layout.specs.Writes.{field, payload}
 use Rattle.byte_layout.proofs.Loops.{sound_row}
@@ -27,7 +27,7 @@ pub loop-i-preserved : goal.loop-i-preserved
 loop-i-preserved c =
     let a = c.args in
     let l = c.loop-i in
-    let e = ap length (tail_next a.table.now a.n a.values l.i c.loop-i-test.true (search rules)) ∙ length_append (row_of a.table.now a.values l.i) (tail_of a.table.now a.n a.values (l.i + 1)) in
+    let e = ap length (tail_next a.table.now a.n a.values l.i c.loop-i-test.true (search rules)) ∙ length-append (row_of a.table.now a.values l.i) (tail_of a.table.now a.n a.values (l.i + 1)) in
     let f = c.row_length-k.ensures.0 ∙ ap (λ r. length (field (stands r (take l.i a.values)) r (get_or a.values l.i 0))) c.row_at-r.ensures in
     (search rules, search rules, omega (arith, e, f, l.invariant.2))
 

@@ -3,7 +3,7 @@ use Prim.Native.Nat.{◌+◌, ◌-◌, ◌*◌, ◌≤◌}
 use native.Mathlib.Omega.{arith}
 use mathlib.Core.Path.{◌≡◌, ap, ◌∙◌}
 use mathlib.Core.List.{[]}
-use lib.ListN.{length, take, get_or, length_append}
+use lib.ListN.{length, take, get_or, length-append}
 use Rattle.byte_layout.specs.Rows.{rows, stands}
 use Rattle.byte_layout.specs.Writes.{field, payload}
 use Rattle.byte_layout.proofs.Loops.{sound_row}

@@ -11,19 +11,20 @@ use Rattle.decibels.proofs.fade_ramp.Lts as lts
 use Rattle.decibels.proofs.fill.Reads as fill-reads
 use Rattle.decibels.proofs.refusal_of.Reads as refusal-of-reads
 use Rattle.decibels.proofs.table.all.Reads as all-reads
+use Rattle.decibels.proofs.fade_ramp.Goals.{Else-refused-gt0}
 use Rattle.decibels.proofs.fade_ramp.Goals as goal
 
 pub returns-then-refused-gt0 : goal.returns-then-refused-gt0
 returns-then-refused-gt0 c =
     let a = c.args in
-    let e = c.«refusal-of».ensures in
+    let e = c.refusal_of-refused.ensures in
     (e, lane_kept a.start a.end a.count a.lane.now (subst (λ (n : ℕ). 0 < n) e c.if-refused-gt0.true))
 
 -- no refusal
-passed : (c : lts.Else1 (refusal-of-reads.Asked, refusal-of-reads.Learnt, all-reads.Asked, all-reads.Learnt, fill-reads.Asked, fill-reads.Learnt) reads.Pre reads.Post)
+passed : (c : Else-refused-gt0)
     → let a = c.args in refusal a.start a.end a.count (length a.lane.now) ≡ 0
 passed c =
-    let e = c.«refusal-of».ensures in
+    let e = c.refusal_of-refused.ensures in
     let z = c.if-refused-gt0.false in
     sym e ∙ omega (arith, z)
 
@@ -31,7 +32,7 @@ pub fill-requires : goal.fill-requires
 fill-requires c =
     let judged = c.before.before.before in
     let a = judged.args in
-    let p = accepted a.start a.end a.count (length a.lane.now) (passed judged) in
+    let p = accepted a.start a.end a.count (length a.lane.now) (passed (goal.at.fill-requires c).Else-refused-gt0) in
     record { table = c.all-entries.ensures; start_bound = p.start; end_bound = p.end; count_bound = p.count; lane_len = p.fits }
 
 pub returns : goal.returns
@@ -39,5 +40,5 @@ returns c =
     let called = c.before.before in
     let judged = called.before.before.before.before in
     let a = judged.args in
-    let e = passed judged in
+    let e = passed (goal.at.returns c).Else-refused-gt0 in
     (sym e, called.fill.ensures ∙ lane_filled a.start a.end a.count a.lane.now e)

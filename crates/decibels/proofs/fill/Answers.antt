@@ -19,7 +19,7 @@ loop-i-init c = (omega arith, c.requires.lane_len, refl)
 -- src/lib.rt:49:28
 pub amplitude-requires : goal.amplitude-requires
 amplitude-requires c =
-    record { table = c.requires.table; level_bound = c.«level-at».ensures.1 }
+    record { table = c.requires.table; level_bound = c.level_at-level.ensures.1 }
 
 -- src/lib.rt:49:14
 pub overflow_cast-lane : goal.overflow_cast-lane
@@ -49,7 +49,7 @@ loop-i-preserved c =
     let a = t.args in (
       omega arith,
       length-set l.lane l.i c.amplitude.result ∙ l.invariant.1,
-      filled_more a.start a.end a.count l.i _ l.lane _ c.«level-at».ensures.0 c.amplitude.ensures (omega (arith, l.invariant.1)) l.invariant.2,
+      filled_more a.start a.end a.count l.i _ l.lane _ c.level_at-level.ensures.0 c.amplitude.ensures (omega (arith, l.invariant.1)) l.invariant.2,
     )
 
 -- src/lib.rt:39:1

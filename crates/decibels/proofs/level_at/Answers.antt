@@ -7,24 +7,25 @@ use Rattle.decibels.proofs.Ramps.{one_frame, more_frames, between, weighed}
 use Rattle.decibels.proofs.level_at.Reads as reads
 use Rattle.decibels.proofs.level_at.Lts as lts
 use Rattle.decibels.proofs.divided.Reads as divided-reads
+use Rattle.decibels.proofs.level_at.Goals.{Else-count-eq1}
 use Rattle.decibels.proofs.level_at.Goals as goal
 
-small : (c : lts.Else1 (divided-reads.Asked, divided-reads.Learnt) reads.Pre reads.Post) → c.args.start * (c.args.count - 1 - c.args.i) + c.args.end * c.args.i ≤ 39386535
+small : (c : Else-count-eq1) → c.args.start * (c.args.count - 1 - c.args.i) + c.args.end * c.args.i ≤ 39386535
 small c =
     let p = c.requires in
-    weighed _ _ _ _ p.0 p.1.0 p.1.1.0 p.1.1.1
+    weighed _ _ _ _ p.start_bound p.end_bound p.count_bound p.i_lt_count
 
 pub returns-then-count-eq1 : goal.returns-then-count-eq1
 returns-then-count-eq1 c = (sym (one_frame _ _ _ _ c.if-count-eq1.true), search rules)
 
 pub overflow_mul-sum : goal.overflow_mul-sum
-overflow_mul-sum c = omega (arith, small c)
+overflow_mul-sum c = omega (arith, small (goal.at.overflow_mul-sum c).Else-count-eq1)
 
 pub overflow_mul-sum-2 : goal.overflow_mul-sum-2
-overflow_mul-sum-2 c = omega (arith, small c)
+overflow_mul-sum-2 c = omega (arith, small (goal.at.overflow_mul-sum-2 c).Else-count-eq1)
 
 pub overflow_add-sum : goal.overflow_add-sum
-overflow_add-sum c = omega (arith, small c)
+overflow_add-sum c = omega (arith, small (goal.at.overflow_add-sum c).Else-count-eq1)
 
 pub returns : goal.returns
 returns c =
@@ -32,4 +33,4 @@ returns c =
     let a = b.args in
     let p = b.requires in
     let e = c.divided.ensures ∙ sym (more_frames a.start a.end a.count a.i b.if-count-eq1.false) in
-    (e, subst (λ (r : ℕ). r ≤ 601) (sym e) (between a.start a.end a.count a.i 0 601 p.1.1.1 (omega arith) (omega arith) p.0 p.1.0).1)
+    (e, subst (λ (r : ℕ). r ≤ 601) (sym e) (between a.start a.end a.count a.i 0 601 p.i_lt_count (omega arith) (omega arith) p.start_bound p.end_bound).1)

@@ -7,7 +7,7 @@ use Rattle.saved_settings.proofs.is_well_formed.Reads as is-well-formed-reads
 use Rattle.saved_settings.proofs.is_storable.Goals as goal
 
 pub returns-then-version-eq1 : goal.returns-then-version-eq1
-returns-then-version-eq1 c = rw (c.«is-well-formed».ensures, eq-eqb _ _ c.if-version-eq1.true) refl
+returns-then-version-eq1 c = rw (c.is_well_formed.ensures, eq-eqb _ _ c.if-version-eq1.true) refl
 
 pub returns : goal.returns
-returns c = rw (c.«is-well-formed2».ensures, ne_eqb _ _ c.if-version-eq1.false) refl
+returns c = rw (c.is_well_formed-2.ensures, ne_eqb _ _ c.if-version-eq1.false) refl

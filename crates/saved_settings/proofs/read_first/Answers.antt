@@ -15,4 +15,4 @@ read_rows-requires c = (omega (arith, ap (λ (x : Parsed). x.at) c.begin.ensures
 
 pub returns : goal.returns
 unfolding first_table
-returns c = first_read _ _ c.«read-rows».result c.begin.ensures c.«read-rows».ensures.0
+returns c = first_read _ _ c.read_rows.result c.begin.ensures c.read_rows.ensures.0

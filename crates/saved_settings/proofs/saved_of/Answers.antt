@@ -7,4 +7,4 @@ use Rattle.saved_settings.proofs.pitch_of.Reads as pitch-of-reads
 use Rattle.saved_settings.proofs.saved_of.Goals as goal
 
 pub returns : goal.returns
-returns c = rw (c.«pitch-of».ensures, c.«has-loop».ensures) refl
+returns c = rw (c.pitch_of.ensures, c.has_loop.ensures) refl

@@ -7,7 +7,7 @@ use Rattle.saved_settings.proofs.refused.Reads as refused-reads
 use Rattle.saved_settings.proofs.show.Goals as goal
 
 pub returns-then-is_well_formed : goal.returns-then-is_well_formed
-returns-then-is_well_formed c = simp (sym c.«is-well-formed».ensures ∙ c.if-is_well_formed.true)
+returns-then-is_well_formed c = simp (sym c.is_well_formed.ensures ∙ c.if-is_well_formed.true)
 
 pub returns : goal.returns
-returns c = c.refused.ensures ∙ simp (sym c.«is-well-formed».ensures ∙ c.if-is_well_formed.false)
+returns c = c.refused.ensures ∙ simp (sym c.is_well_formed.ensures ∙ c.if-is_well_formed.false)

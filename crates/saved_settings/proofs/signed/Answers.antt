@@ -10,4 +10,4 @@ pub returns-then-byte-lt128 : goal.returns-then-byte-lt128
 returns-then-byte-lt128 c = simp (lt-ltb _ _ c.if-byte-lt128.true)
 
 pub returns : goal.returns
-returns c = c.«wrapping-add-u64».ensures ∙ simp (le-ltb _ _ c.if-byte-lt128.false)
+returns c = c.wrapping_add_u64.ensures.value ∙ simp (le-ltb _ _ c.if-byte-lt128.false)

@@ -9,9 +9,10 @@ use Rattle.semitones.proofs.ratio.Lts as lts
 use Rattle.semitones.proofs.all.Reads as all-reads
 use Rattle.semitones.proofs.doubled.Reads as doubled-reads
 use Rattle.semitones.proofs.octaves.Reads as octaves-reads
+use Rattle.semitones.proofs.ratio.Goals.{After-doubled}
 use Rattle.semitones.proofs.ratio.Goals as goal
 
-made : (c : lts.After-doubled (all-reads.Asked, all-reads.Learnt, octaves-reads.Asked, octaves-reads.Learnt, doubled-reads.Asked, doubled-reads.Learnt) reads.Pre reads.Post)
+made : (c : After-doubled)
     → Product c.args.steps (get_or c.all-entries.result (c.args.steps % 12) 0 * c.doubled.result)
 made c =
     let a = c.args in
@@ -21,7 +22,7 @@ pub overflow_mul-scaled : goal.overflow_mul-scaled
 overflow_mul-scaled c = omega (arith, (made c).low)
 
 pub int_to_float-result : goal.int_to_float-result
-int_to_float-result c = whole_float _ _ (made c.before)
+int_to_float-result c = whole_float _ _ (made (goal.at.int_to_float-result c).After-doubled)
 
 pub returns : goal.returns
-returns c = at_steps _ _ (made c.before)
+returns c = at_steps _ _ (made (goal.at.returns c).After-doubled)

@@ -40,7 +40,7 @@ few-steps a i n h l m = omega arith
 
 -- the window is the voice's contiguous window
 contiguous : (c : Else-not-is_contiguous) → Contiguous c.args.sound.now c.track_of-track.result c.args.voice.moving
-contiguous c = c.is_contiguous.ensures.1 (c.if-not-is_contiguous.false)
+contiguous c = c.is_contiguous.ensures.contiguous (c.if-not-is_contiguous.false)
 
 -- the frames after the gains are applied
 heard : (c : After-by_frame)

@@ -12,7 +12,7 @@ advance_of-requires c =
 
 pub stepped_by-requires : goal.stepped_by-requires
 stepped_by-requires c =
-    record { t = (let a = c.args in (c.requires.t, slow_advance a.sample-rate a.dt a.rate _ c.advance_of.ensures c.requires.t_2 c.requires.t_3)).0; slow = (let a = c.args in (c.requires.t, slow_advance a.sample-rate a.dt a.rate _ c.advance_of.ensures c.requires.t_2 c.requires.t_3)).1 }
+    record { t = (let a = c.args in (c.requires.t, slow_advance a.sample_rate a.dt a.rate _ c.advance_of.ensures c.requires.t_2 c.requires.t_3)).0; slow = (let a = c.args in (c.requires.t, slow_advance a.sample_rate a.dt a.rate _ c.advance_of.ensures c.requires.t_2 c.requires.t_3)).1 }
 
 pub returns : goal.returns
 returns c = subst (λ (a : Float). Move c.args.fractional_position a c.stepped_by.result) c.advance_of.ensures c.stepped_by.ensures

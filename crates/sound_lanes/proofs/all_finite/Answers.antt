@@ -29,7 +29,7 @@ pub loop-i-preserved : goal.loop-i-preserved
 loop-i-preserved c =
     let t = c.before.before in
     let l = t.loop-i in
-    (omega arith, all_turn finite t.args.rate.now l.i nan l.ok _ t.loop-i-test.true l.invariant.1 c.«is_finite».ensures)
+    (omega arith, all_turn finite t.args.rate.now l.i nan l.ok _ t.loop-i-test.true l.invariant.1 c.is_finite-ok.ensures)
 
 pub returns : goal.returns
 returns c =

@@ -14,7 +14,7 @@ use Rattle.sound_lanes.proofs.Gathered.{all_turn, all_end}
 use Rattle.sound_lanes.proofs.are_slow.Goals as goal
 
 pub bounds-rate-0 : goal.bounds-rate-0
-bounds-rate-0 c = c.is_constant_rate.ensures.0 c.if-is_constant_rate.true
+bounds-rate-0 c = c.is_constant_rate.ensures.rate_nonzero c.if-is_constant_rate.true
 
 pub is_slow-requires : goal.is_slow-requires
 is_slow-requires c = c.requires
@@ -24,7 +24,7 @@ returns-then-is_constant_rate c =
     let then = c.before.before in
     let one = then.is_constant_rate.ensures in
     let a = then.args in
-    let p : Float → Bool = slow a.«sample-rate» a.dt in
+    let p : Float → Bool = slow a.sample_rate a.dt in
     c.is_slow.ensures
     ∙ sym (ap (λ (l : List Float). all p l) (one.1 then.if-is_constant_rate.true) ∙ all_once p (length a.rate.now) (get_or a.rate.now 0 nan) (one.0 then.if-is_constant_rate.true))
 
@@ -51,10 +51,10 @@ loop-i-preserved c =
     let t = c.before.before in
     let l = t.loop-i in
     let a = t.args in
-    (omega arith, all_turn (slow a.«sample-rate» a.dt) a.rate.now l.i nan l.ok _ t.loop-i-test.true l.invariant.1 c.is_slow-ok.ensures)
+    (omega arith, all_turn (slow a.sample_rate a.dt) a.rate.now l.i nan l.ok _ t.loop-i-test.true l.invariant.1 c.is_slow-ok.ensures)
 
 pub returns : goal.returns
 returns c =
     let l = c.loop-i in
     let a = c.args in
-    all_end (slow a.«sample-rate» a.dt) a.rate.now l.i l.ok c.loop-i-test.false l.invariant.1
+    all_end (slow a.sample_rate a.dt) a.rate.now l.i l.ok c.loop-i-test.false l.invariant.1

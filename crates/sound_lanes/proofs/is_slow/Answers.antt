@@ -20,4 +20,4 @@ slow-both hz dt q t =
 
 pub returns : goal.returns
 unfolding of_bits neg
-returns c = let a = c.args in slow-both a.«sample-rate» a.dt a.rate c.requires
+returns c = let a = c.args in slow-both a.sample_rate a.dt a.rate c.requires

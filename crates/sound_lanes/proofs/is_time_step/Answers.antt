@@ -8,4 +8,4 @@ use Rattle.sound_lanes.proofs.is_time_step.Goals as goal
 
 pub returns : goal.returns
 unfolding of_bits
-returns c = ap (λ (b : Bool). b && lt positive_zero c.args.dt) c.«is_finite».ensures
+returns c = ap (λ (b : Bool). b && lt positive_zero c.args.dt) c.is_finite.ensures

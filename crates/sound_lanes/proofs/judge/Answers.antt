@@ -18,14 +18,14 @@ abbrev levels : Start → Bool
 levels st = let b = given st in four_finite_clear b.fade b.volume b.left b.right
 
 abbrev slows : Start → Bool
-slows st = all (slow st.args.«sample-rate» st.args.dt) (given st).rate
+slows st = all (slow st.args.sample_rate st.args.dt) (given st).rate
 
 -- the result, by the results of the passes
 answer : (st : Start) (a s f : Bool) → levels st ≡ a → slows st ≡ s → all finite (given st).rate ≡ f
-    → ◌≡◌ {A = ℕ} (cond a (cond s 0 (cond f 12 11)) 11) (judged st.args.«sample-rate» st.args.dt (given st))
+    → ◌≡◌ {A = ℕ} (cond a (cond s 0 (cond f 12 11)) 11) (judged st.args.sample_rate st.args.dt (given st))
 answer st a s f p q r =
     sym
-    (judged_lanes st.args.«sample-rate» st.args.dt (given st) st.requires.t_2 st.requires.t
+    (judged_lanes st.args.sample_rate st.args.dt (given st) st.requires.t_2 st.requires.t
     ∙ ap (λ (x : Bool). cond x (cond (slows st) 0 (cond (all finite (given st).rate) 12 11)) 11) p
     ∙ ap (λ (x : Bool). cond a (cond x 0 (cond (all finite (given st).rate) 12 11)) 11) q
     ∙ ap (λ (x : Bool). cond a (cond s 0 (cond x 12 11)) 11) r)
@@ -37,21 +37,21 @@ four_finite_clear-requires c =
     record { volume_len = p.volume ∙ sym p.fade; left_len = p.left ∙ sym p.fade; right_len = p.right ∙ sym p.fade }
 
 pub returns-then-not-four_finite_clear : goal.returns-then-not-four_finite_clear
-returns-then-not-four_finite_clear c = answer (goal.at.returns-then-not-four_finite_clear c).Start false _ _ (sym c.«four-finite-clear».ensures ∙ c.if-not-four_finite_clear.true) refl refl
+returns-then-not-four_finite_clear c = answer (goal.at.returns-then-not-four_finite_clear c).Start false _ _ (sym c.four_finite_clear.ensures ∙ c.if-not-four_finite_clear.true) refl refl
 
 -- what is known after the first pass
 finite-clear-all : (c : Else-not-four_finite_clear) → levels c.before.before.before.before.before.before.before ≡ true
-finite-clear-all c = sym c.«four-finite-clear».ensures ∙ c.if-not-four_finite_clear.false
+finite-clear-all c = sym c.four_finite_clear.ensures ∙ c.if-not-four_finite_clear.false
 
 pub returns-then-are_slow : goal.returns-then-are_slow
-returns-then-are_slow c = let d = c.before.before in answer (goal.at.returns-then-are_slow c).Start true true _ (finite-clear-all (goal.at.returns-then-are_slow c).Else-not-four_finite_clear) (sym c.«are-slow».ensures ∙ c.if-are_slow.true) refl
+returns-then-are_slow c = let d = c.before.before in answer (goal.at.returns-then-are_slow c).Start true true _ (finite-clear-all (goal.at.returns-then-are_slow c).Else-not-four_finite_clear) (sym c.are_slow.ensures ∙ c.if-are_slow.true) refl
 
 -- and after the second
 not-slow : (c : Else-are_slow) → slows c.before.before.before.before.before.before.before.before.before ≡ false
-not-slow c = sym c.«are-slow».ensures ∙ c.if-are_slow.false
+not-slow c = sym c.are_slow.ensures ∙ c.if-are_slow.false
 
 pub returns-then-all_finite : goal.returns-then-all_finite
-returns-then-all_finite c = let d = c.before.before in answer (goal.at.returns-then-all_finite c).Start true false true (finite-clear-all (goal.at.returns-then-all_finite c).Else-not-four_finite_clear) (not-slow (goal.at.returns-then-all_finite c).Else-are_slow) (sym c.«all-finite».ensures ∙ c.if-all_finite.true)
+returns-then-all_finite c = let d = c.before.before in answer (goal.at.returns-then-all_finite c).Start true false true (finite-clear-all (goal.at.returns-then-all_finite c).Else-not-four_finite_clear) (not-slow (goal.at.returns-then-all_finite c).Else-are_slow) (sym c.all_finite.ensures ∙ c.if-all_finite.true)
 
 pub returns-else-all_finite : goal.returns-else-all_finite
-returns-else-all_finite c = let d = c.before.before in answer (goal.at.returns-else-all_finite c).Start true false false (finite-clear-all (goal.at.returns-else-all_finite c).Else-not-four_finite_clear) (not-slow (goal.at.returns-else-all_finite c).Else-are_slow) (sym c.«all-finite».ensures ∙ c.if-all_finite.false)
+returns-else-all_finite c = let d = c.before.before in answer (goal.at.returns-else-all_finite c).Start true false false (finite-clear-all (goal.at.returns-else-all_finite c).Else-not-four_finite_clear) (not-slow (goal.at.returns-else-all_finite c).Else-are_slow) (sym c.all_finite.ensures ∙ c.if-all_finite.false)

@@ -11,5 +11,5 @@ pub returns : goal.returns
 returns c =
     let st = c.before.before.before.before.before.before.before.before.before.before in
     let a = st.args in
-    contiguous_made a.sound.now a.track a.moving a.wraps a.at _ _ _ _ _ _ _ _ c.step-b.ensures.0 c.step-c.ensures.0 c.step-d.ensures.0 c.step.ensures.0
+    contiguous_made a.sound.now a.track a.moving a.wraps a.at _ _ _ _ _ _ _ _ c.step-b.ensures.value c.step-c.ensures.value c.step-d.ensures.value c.step.ensures.value
     c.entry_at-ea.ensures c.entry_at-eb.ensures c.entry_at-ec.ensures c.entry_at-ed.ensures

@@ -77,11 +77,11 @@ returns c =
     let win = ap (λ (m : Moving). m.resampler) there in
     let t₁ = eqb m.transport.position c.contiguous_at-there.result.transport.position in
     record { value = (let t₂ = c.is_same_window.result in (
-      ap₂ (λ (x : ℕ) (y : Bool). eqb m.transport.position x && y) at (c.is_same_window.ensures.0 ∙ ap (same_window m.resampler) win) ∙ the_rest snd k m playing placed room,
+      ap₂ (λ (x : ℕ) (y : Bool). eqb m.transport.position x && y) at (c.is_same_window.ensures.value ∙ ap (same_window m.resampler) win) ∙ the_rest snd k m playing placed room,
       λ t.
-          contiguous snd k m playing (on_of snd k (first_index m) st.requires.inside_sound placed) room (eqb-true m.transport.position _ (first_of t₁ t₂ t) ∙ at) (c.is_same_window.ensures.1 (second_of t₁ t₂ t) ∙ win),
+          contiguous snd k m playing (on_of snd k (first_index m) st.requires.inside_sound placed) room (eqb-true m.transport.position _ (first_of t₁ t₂ t) ∙ at) (c.is_same_window.ensures.a_value (second_of t₁ t₂ t) ∙ win),
     )).0; contiguous = (let t₂ = c.is_same_window.result in (
-      ap₂ (λ (x : ℕ) (y : Bool). eqb m.transport.position x && y) at (c.is_same_window.ensures.0 ∙ ap (same_window m.resampler) win) ∙ the_rest snd k m playing placed room,
+      ap₂ (λ (x : ℕ) (y : Bool). eqb m.transport.position x && y) at (c.is_same_window.ensures.value ∙ ap (same_window m.resampler) win) ∙ the_rest snd k m playing placed room,
       λ t.
-          contiguous snd k m playing (on_of snd k (first_index m) st.requires.inside_sound placed) room (eqb-true m.transport.position _ (first_of t₁ t₂ t) ∙ at) (c.is_same_window.ensures.1 (second_of t₁ t₂ t) ∙ win),
+          contiguous snd k m playing (on_of snd k (first_index m) st.requires.inside_sound placed) room (eqb-true m.transport.position _ (first_of t₁ t₂ t) ∙ at) (c.is_same_window.ensures.a_value (second_of t₁ t₂ t) ∙ win),
     )).1 }

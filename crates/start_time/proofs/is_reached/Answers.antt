@@ -10,4 +10,4 @@ use Rattle.start_time.proofs.is_reached.Goals as goal
 pub returns : goal.returns
 returns c =
     let s = c.before in
-    ap (λ (n : ℕ). ltb n half) (since_only _ _ _ c.wrapping_sub_u32.type_inv s.ranges.due.fits c.wrapping_sub_u32.ensures)
+    ap (λ (n : ℕ). ltb n half) (since_only _ _ _ c.wrapping_sub_u32.type_inv s.ranges.due.fits c.wrapping_sub_u32.ensures.value)

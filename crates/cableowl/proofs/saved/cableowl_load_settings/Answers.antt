@@ -8,4 +8,4 @@ use Rattle.cableowl.proofs.saved.cableowl_load_settings.Goals as goal
 pub returns : goal.returns
 returns c =
     let e = c.load-l.ensures in
-    (ap (λ (l : Loaded). l.refusal) e, c.«words_of».ensures ∙ ap words_of e)
+    (ap (λ (l : Loaded). l.refusal) e, c.words_of-words.ensures ∙ ap words_of e)

@@ -16,4 +16,4 @@ returns c =
     let x = c.before.before.before.before in
     let a = x.args in
     let e = c.store.ensures in
-    (e.0 ∙ ap (λ (s : SavedSettings). store_refusal (version_in a.saved.now) s (length a.buffer.now)) x.«saved-in».ensures, e.1 ∙ ap (λ (s : SavedSettings). stored (version_in a.saved.now) s a.buffer.now) x.«saved-in».ensures)
+    (e.0 ∙ ap (λ (s : SavedSettings). store_refusal (version_in a.saved.now) s (length a.buffer.now)) x.saved_in.ensures, e.1 ∙ ap (λ (s : SavedSettings). stored (version_in a.saved.now) s a.buffer.now) x.saved_in.ensures)

@@ -42,7 +42,7 @@ tracked c =
 
 -- the window is the voice's contiguous window
 contiguous : (c : Else-not-is_contiguous) → Contiguous c.args.sound.now c.track_of-track.result c.args.voice.moving
-contiguous c = c.is_contiguous.ensures.1 (c.if-not-is_contiguous.false)
+contiguous c = c.is_contiguous.ensures.contiguous (c.if-not-is_contiguous.false)
 
 few_frames : (c : After-track_of-track) → frames c ≤ 4096
 few_frames c = let a = c.args in most a.sound.now a.voice a.dt a.held (frames c) a.out.now c.requires

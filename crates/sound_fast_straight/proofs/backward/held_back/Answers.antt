@@ -51,16 +51,16 @@ pub four_held-m-requires : goal.four_held-m-requires
 four_held-m-requires c = let st = c.before in (c.loop-i.invariant.scanned.below, slow_advance _ _ _ _ (made (goal.at.four_held-m-requires c).At-loop-i) st.requires.scannable.is_time_step st.requires.t)
 
 pub overflow_add-n2 : goal.overflow_add-n2
-overflow_add-n2 c = omega (arith, c.four_held-m.ensures.0.few, c.four_held-m.ensures.1.0.few)
+overflow_add-n2 c = omega (arith, c.four_held-m.ensures.fact.few, c.four_held-m.ensures.fact_2.few)
 
 pub overflow_add-n3 : goal.overflow_add-n3
-overflow_add-n3 c = omega (arith, c.four_held-m.ensures.0.few, c.four_held-m.ensures.1.0.few, c.four_held-m.ensures.1.1.0.few)
+overflow_add-n3 c = omega (arith, c.four_held-m.ensures.fact.few, c.four_held-m.ensures.fact_2.few, c.four_held-m.ensures.fact_3.few)
 
 pub overflow_add-n4 : goal.overflow_add-n4
-overflow_add-n4 c = omega (arith, c.four_held-m.ensures.0.few, c.four_held-m.ensures.1.0.few, c.four_held-m.ensures.1.1.0.few, c.four_held-m.ensures.1.1.1.few)
+overflow_add-n4 c = omega (arith, c.four_held-m.ensures.fact.few, c.four_held-m.ensures.fact_2.few, c.four_held-m.ensures.fact_3.few, c.four_held-m.ensures.fact_4.few)
 
 pub overflow_add-limit-in-loop-i : goal.overflow_add-limit-in-loop-i
-overflow_add-limit-in-loop-i c = omega (arith, numbers (goal.at.overflow_add-limit-in-loop-i c).At-loop-i, c.four_held-m.ensures.0.few, c.four_held-m.ensures.1.0.few, c.four_held-m.ensures.1.1.0.few, c.four_held-m.ensures.1.1.1.few)
+overflow_add-limit-in-loop-i c = omega (arith, numbers (goal.at.overflow_add-limit-in-loop-i c).At-loop-i, c.four_held-m.ensures.fact.few, c.four_held-m.ensures.fact_2.few, c.four_held-m.ensures.fact_3.few, c.four_held-m.ensures.fact_4.few)
 
 pub overflow_add-result : goal.overflow_add-result
 overflow_add-result c = omega (arith, numbers (goal.at.overflow_add-result c).At-loop-i)
@@ -87,19 +87,19 @@ pub overflow_sub-p : goal.overflow_sub-p
 overflow_sub-p c = lower1 _ _ _ _ _ _ c.if-p-limit.false
 
 pub read_back-x-requires : goal.read_back-x-requires
-read_back-x-requires c = (reads1 _ _ _ _ _ _ (numbers (goal.at.read_back-x-requires c).At-loop-i), c.four_held-m.ensures.0.below)
+read_back-x-requires c = (reads1 _ _ _ _ _ _ (numbers (goal.at.read_back-x-requires c).At-loop-i), c.four_held-m.ensures.fact.below)
 
 pub overflow_sub-p-in-loop-i : goal.overflow_sub-p-in-loop-i
 overflow_sub-p-in-loop-i c = lower2 _ _ _ _ _ _ c.if-p-limit.false
 
 pub read_back-y-requires : goal.read_back-y-requires
-read_back-y-requires c = (reads1 _ _ _ _ _ _ (numbers (goal.at.read_back-y-requires c).At-loop-i), c.four_held-m.ensures.1.0.below)
+read_back-y-requires c = (reads1 _ _ _ _ _ _ (numbers (goal.at.read_back-y-requires c).At-loop-i), c.four_held-m.ensures.fact_2.below)
 
 pub overflow_sub-p-in-loop-i-2 : goal.overflow_sub-p-in-loop-i-2
 overflow_sub-p-in-loop-i-2 c = lower3 _ _ _ _ _ _ c.if-p-limit.false
 
 pub read_back-z-requires : goal.read_back-z-requires
-read_back-z-requires c = (reads1 _ _ _ _ _ _ (numbers (goal.at.read_back-z-requires c).At-loop-i), c.four_held-m.ensures.1.1.0.below)
+read_back-z-requires c = (reads1 _ _ _ _ _ _ (numbers (goal.at.read_back-z-requires c).At-loop-i), c.four_held-m.ensures.fact_3.below)
 
 pub overflow_mul-i : goal.overflow_mul-i
 overflow_mul-i c = omega (arith, numbers (goal.at.overflow_mul-i c).At-loop-i, c.loop-i-test.true)

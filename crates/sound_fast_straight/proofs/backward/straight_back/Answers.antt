@@ -38,16 +38,16 @@ pub four_moves-m-requires : goal.four_moves-m-requires
 four_moves-m-requires c = (c.loop-i.invariant.scanned.below, (c.requires.scannable.is_time_step, (c.requires.scannable.slow, (c.loop-i-test.true, small _ c.requires.scannable.most))))
 
 pub overflow_add-n2 : goal.overflow_add-n2
-overflow_add-n2 c = omega (arith, c.four_moves-m.ensures.0.few, c.four_moves-m.ensures.1.0.few)
+overflow_add-n2 c = omega (arith, c.four_moves-m.ensures.fact.few, c.four_moves-m.ensures.fact_2.few)
 
 pub overflow_add-n3 : goal.overflow_add-n3
-overflow_add-n3 c = omega (arith, c.four_moves-m.ensures.0.few, c.four_moves-m.ensures.1.0.few, c.four_moves-m.ensures.1.1.0.few)
+overflow_add-n3 c = omega (arith, c.four_moves-m.ensures.fact.few, c.four_moves-m.ensures.fact_2.few, c.four_moves-m.ensures.fact_3.few)
 
 pub overflow_add-n4 : goal.overflow_add-n4
-overflow_add-n4 c = omega (arith, c.four_moves-m.ensures.0.few, c.four_moves-m.ensures.1.0.few, c.four_moves-m.ensures.1.1.0.few, c.four_moves-m.ensures.1.1.1.few)
+overflow_add-n4 c = omega (arith, c.four_moves-m.ensures.fact.few, c.four_moves-m.ensures.fact_2.few, c.four_moves-m.ensures.fact_3.few, c.four_moves-m.ensures.fact_4.few)
 
 pub overflow_add-end-in-loop-i : goal.overflow_add-end-in-loop-i
-overflow_add-end-in-loop-i c = omega (arith, numbers (goal.at.overflow_add-end-in-loop-i c).At-loop-i, c.four_moves-m.ensures.0.few, c.four_moves-m.ensures.1.0.few, c.four_moves-m.ensures.1.1.0.few, c.four_moves-m.ensures.1.1.1.few)
+overflow_add-end-in-loop-i c = omega (arith, numbers (goal.at.overflow_add-end-in-loop-i c).At-loop-i, c.four_moves-m.ensures.fact.few, c.four_moves-m.ensures.fact_2.few, c.four_moves-m.ensures.fact_3.few, c.four_moves-m.ensures.fact_4.few)
 
 pub overflow_add-result : goal.overflow_add-result
 overflow_add-result c = omega (arith, numbers (goal.at.overflow_add-result c).At-loop-i)
@@ -74,19 +74,19 @@ pub overflow_sub-p : goal.overflow_sub-p
 overflow_sub-p c = lower1 _ _ _ _ _ _ c.if-p-end.false
 
 pub read_back-x-requires : goal.read_back-x-requires
-read_back-x-requires c = (reads1 _ _ _ _ _ _ (numbers (goal.at.read_back-x-requires c).At-loop-i), c.four_moves-m.ensures.0.below)
+read_back-x-requires c = (reads1 _ _ _ _ _ _ (numbers (goal.at.read_back-x-requires c).At-loop-i), c.four_moves-m.ensures.fact.below)
 
 pub overflow_sub-p-in-loop-i : goal.overflow_sub-p-in-loop-i
 overflow_sub-p-in-loop-i c = lower2 _ _ _ _ _ _ c.if-p-end.false
 
 pub read_back-y-requires : goal.read_back-y-requires
-read_back-y-requires c = (reads1 _ _ _ _ _ _ (numbers (goal.at.read_back-y-requires c).At-loop-i), c.four_moves-m.ensures.1.0.below)
+read_back-y-requires c = (reads1 _ _ _ _ _ _ (numbers (goal.at.read_back-y-requires c).At-loop-i), c.four_moves-m.ensures.fact_2.below)
 
 pub overflow_sub-p-in-loop-i-2 : goal.overflow_sub-p-in-loop-i-2
 overflow_sub-p-in-loop-i-2 c = lower3 _ _ _ _ _ _ c.if-p-end.false
 
 pub read_back-z-requires : goal.read_back-z-requires
-read_back-z-requires c = (reads1 _ _ _ _ _ _ (numbers (goal.at.read_back-z-requires c).At-loop-i), c.four_moves-m.ensures.1.1.0.below)
+read_back-z-requires c = (reads1 _ _ _ _ _ _ (numbers (goal.at.read_back-z-requires c).At-loop-i), c.four_moves-m.ensures.fact_3.below)
 
 pub overflow_mul-i : goal.overflow_mul-i
 overflow_mul-i c = omega (arith, numbers (goal.at.overflow_mul-i c).At-loop-i, c.loop-i-test.true)

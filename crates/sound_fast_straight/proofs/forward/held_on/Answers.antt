@@ -51,16 +51,16 @@ pub four_held-m-requires : goal.four_held-m-requires
 four_held-m-requires c = let st = c.before in (c.loop-i.invariant.scanned.below, slow_advance _ _ _ _ (made (goal.at.four_held-m-requires c).At-loop-i) st.requires.scannable.is_time_step st.requires.t)
 
 pub overflow_add-p1 : goal.overflow_add-p1
-overflow_add-p1 c = omega (arith, numbers (goal.at.overflow_add-p1 c).At-loop-i, c.four_held-m.ensures.0.few)
+overflow_add-p1 c = omega (arith, numbers (goal.at.overflow_add-p1 c).At-loop-i, c.four_held-m.ensures.fact.few)
 
 pub overflow_add-p2 : goal.overflow_add-p2
-overflow_add-p2 c = omega (arith, numbers (goal.at.overflow_add-p2 c).At-loop-i, c.four_held-m.ensures.0.few, c.four_held-m.ensures.1.0.few)
+overflow_add-p2 c = omega (arith, numbers (goal.at.overflow_add-p2 c).At-loop-i, c.four_held-m.ensures.fact.few, c.four_held-m.ensures.fact_2.few)
 
 pub overflow_add-p3 : goal.overflow_add-p3
-overflow_add-p3 c = omega (arith, numbers (goal.at.overflow_add-p3 c).At-loop-i, c.four_held-m.ensures.0.few, c.four_held-m.ensures.1.0.few, c.four_held-m.ensures.1.1.0.few)
+overflow_add-p3 c = omega (arith, numbers (goal.at.overflow_add-p3 c).At-loop-i, c.four_held-m.ensures.fact.few, c.four_held-m.ensures.fact_2.few, c.four_held-m.ensures.fact_3.few)
 
 pub overflow_add-p4 : goal.overflow_add-p4
-overflow_add-p4 c = omega (arith, numbers (goal.at.overflow_add-p4 c).At-loop-i, c.four_held-m.ensures.0.few, c.four_held-m.ensures.1.0.few, c.four_held-m.ensures.1.1.0.few, c.four_held-m.ensures.1.1.1.few)
+overflow_add-p4 c = omega (arith, numbers (goal.at.overflow_add-p4 c).At-loop-i, c.four_held-m.ensures.fact.few, c.four_held-m.ensures.fact_2.few, c.four_held-m.ensures.fact_3.few, c.four_held-m.ensures.fact_4.few)
 
 pub overflow_sub-result : goal.overflow_sub-result
 overflow_sub-result c = omega (arith, numbers (goal.at.overflow_sub-result c).At-loop-i)
@@ -81,13 +81,13 @@ pub read_on-w-requires : goal.read_on-w-requires
 read_on-w-requires c = (reads0 _ _ _ _ _ (numbers (goal.at.read_on-w-requires c).At-loop-i), c.loop-i.invariant.scanned.below)
 
 pub read_on-x-requires : goal.read_on-x-requires
-read_on-x-requires c = (reads1 _ _ _ _ _ _ _ _ _ (numbers (goal.at.read_on-x-requires c).At-loop-i) c.if-limit-p4.false, c.four_held-m.ensures.0.below)
+read_on-x-requires c = (reads1 _ _ _ _ _ _ _ _ _ (numbers (goal.at.read_on-x-requires c).At-loop-i) c.if-limit-p4.false, c.four_held-m.ensures.fact.below)
 
 pub read_on-y-requires : goal.read_on-y-requires
-read_on-y-requires c = (reads2 _ _ _ _ _ _ _ _ _ (numbers (goal.at.read_on-y-requires c).At-loop-i) c.if-limit-p4.false, c.four_held-m.ensures.1.0.below)
+read_on-y-requires c = (reads2 _ _ _ _ _ _ _ _ _ (numbers (goal.at.read_on-y-requires c).At-loop-i) c.if-limit-p4.false, c.four_held-m.ensures.fact_2.below)
 
 pub read_on-z-requires : goal.read_on-z-requires
-read_on-z-requires c = (reads3 _ _ _ _ _ _ _ _ _ (numbers (goal.at.read_on-z-requires c).At-loop-i) c.if-limit-p4.false, c.four_held-m.ensures.1.1.0.below)
+read_on-z-requires c = (reads3 _ _ _ _ _ _ _ _ _ (numbers (goal.at.read_on-z-requires c).At-loop-i) c.if-limit-p4.false, c.four_held-m.ensures.fact_3.below)
 
 pub overflow_mul-i : goal.overflow_mul-i
 overflow_mul-i c = omega (arith, numbers (goal.at.overflow_mul-i c).At-loop-i, c.loop-i-test.true)

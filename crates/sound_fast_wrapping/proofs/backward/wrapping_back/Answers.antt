@@ -28,7 +28,7 @@ more c =
     let q = c.before.before.before.before.before.before.before.before.before.before.before.before_steps in
     two_more a.sound.now a.way a.rate.now l.requires.scannable l.loop-r.r l.loop-r.out l.loop-r.inv c.loop-r-test.true x.result s.new.0 s.ensures y.result p.new.0 p.ensures
     c.moved-a.result c.moved-b.result q.result c.before_steps.result c.has_room_before.result c.moved-a.ensures c.moved-b.ensures c.has_room_before.ensures c.if-not-has_room_before.false
-    q.ensures.0 c.before_steps.ensures.0 x.ensures y.ensures
+    q.ensures.0 c.before_steps.ensures.value x.ensures y.ensures
 
 pub loop-r-init : goal.loop-r-init
 loop-r-init c = c.requires.scanned
@@ -77,7 +77,7 @@ pub read_before-x-requires : goal.read_before-x-requires
 read_before-x-requires c = (c.requires.scannable.lies, (c.loop-r.invariant.on, (c.loop-r.invariant.below, c.requires.backwards_value)))
 
 pub read_before-y-requires : goal.read_before-y-requires
-read_before-y-requires c = (c.requires.scannable.lies, (c.before.before_steps.ensures.1, (c.moved-a.ensures.below, c.requires.backwards_value)))
+read_before-y-requires c = (c.requires.scannable.lies, (c.before.before_steps.ensures.on_2, (c.moved-a.ensures.below, c.requires.backwards_value)))
 
 pub overflow_mul-i : goal.overflow_mul-i
 overflow_mul-i c = omega (arith, numbers (goal.at.overflow_mul-i c).At-loop-r, c.loop-r-test.true)
@@ -96,7 +96,7 @@ store-requires-in-loop-r c = let l = c.before.before.before.before.before.before
 
 pub before_steps-requires : goal.before_steps-requires
 before_steps-requires c =
-    record { on = c.before.before.before.before.before.before.before.before.before.before.before_steps.ensures.1; n_bound = few _ c.moved-b.ensures.few; backwards_value = c.requires.backwards_value }
+    record { on = c.before.before.before.before.before.before.before.before.before.before.before_steps.ensures.on_2; n_bound = few _ c.moved-b.ensures.few; backwards_value = c.requires.backwards_value }
 
 pub overflow_add-r-in-loop-r : goal.overflow_add-r-in-loop-r
 overflow_add-r-in-loop-r c = omega (arith, numbers (goal.at.overflow_add-r-in-loop-r c).At-loop-r, c.loop-r-test.true, c.moved-a.ensures.few, c.moved-b.ensures.few)

@@ -28,7 +28,7 @@ more c =
     let q = c.after_steps-half in
     two_more a.sound.now a.way a.rate.now l.requires.scannable l.loop-r.r l.loop-r.out l.loop-r.inv c.loop-r-test.true x.result s.new.0 s.ensures y.result p.new.0 p.ensures
     c.moved-a.result c.moved-b.result q.result c.after_steps.result c.has_room_after.result c.moved-a.ensures c.moved-b.ensures c.has_room_after.ensures c.if-not-has_room_after.false
-    q.ensures.0 c.after_steps.ensures.0 x.ensures y.ensures
+    q.ensures.0 c.after_steps.ensures.value x.ensures y.ensures
 
 pub loop-r-init : goal.loop-r-init
 loop-r-init c = c.requires.scanned
@@ -77,7 +77,7 @@ pub read_after-x-requires : goal.read_after-x-requires
 read_after-x-requires c = (c.requires.scannable.lies, (c.loop-r.invariant.on, (c.loop-r.invariant.below, c.requires.backwards_value)))
 
 pub read_after-y-requires : goal.read_after-y-requires
-read_after-y-requires c = (c.requires.scannable.lies, (c.after_steps-half.ensures.1, (c.moved-a.ensures.below, c.requires.backwards_value)))
+read_after-y-requires c = (c.requires.scannable.lies, (c.after_steps-half.ensures.on_2, (c.moved-a.ensures.below, c.requires.backwards_value)))
 
 pub overflow_mul-i : goal.overflow_mul-i
 overflow_mul-i c = omega (arith, numbers (goal.at.overflow_mul-i c).At-loop-r, c.loop-r-test.true)
@@ -96,7 +96,7 @@ store-requires-in-loop-r c = let l = c.before.before.before.before.before.before
 
 pub after_steps-requires : goal.after_steps-requires
 after_steps-requires c =
-    record { on = c.after_steps-half.ensures.1; n_bound = few _ c.moved-b.ensures.few; backwards_value = c.requires.backwards_value }
+    record { on = c.after_steps-half.ensures.on_2; n_bound = few _ c.moved-b.ensures.few; backwards_value = c.requires.backwards_value }
 
 pub overflow_add-r-in-loop-r : goal.overflow_add-r-in-loop-r
 overflow_add-r-in-loop-r c = omega (arith, numbers (goal.at.overflow_add-r-in-loop-r c).At-loop-r, c.loop-r-test.true, c.moved-a.ensures.few, c.moved-b.ensures.few)
@@ -108,7 +108,7 @@ pub overflow_add-r-in-loop-r-3 : goal.overflow_add-r-in-loop-r-3
 overflow_add-r-in-loop-r-3 c = omega (arith, numbers (goal.at.overflow_add-r-in-loop-r-3 c).At-loop-r, c.loop-r-test.true, c.moved-a.ensures.few, c.moved-b.ensures.few)
 
 pub overflow_add-r-in-loop-r-4 : goal.overflow_add-r-in-loop-r-4
-overflow_add-r-in-loop-r-4 c = omega (arith, numbers (goal.at.overflow_add-r-in-loop-r-4 c).At-loop-r, c.after_steps.ensures.1.here)
+overflow_add-r-in-loop-r-4 c = omega (arith, numbers (goal.at.overflow_add-r-in-loop-r-4 c).At-loop-r, c.after_steps.ensures.on_2.here)
 
 pub shape_of-out-then-r-track : goal.shape_of-out-then-r-track
 shape_of-out-then-r-track c =

@@ -17,7 +17,7 @@ use borrow.Author.Rules.{rules}
 use Rattle.static_sound.proofs.stretches.stretch.Reads as reads
 use Rattle.static_sound.proofs.stretches.stretch.Lts as lts
 use Rattle.sound_state.proofs.StaticSound.is_well_formed.Reads as is-well-formed-reads
-use Rattle.static_sound.proofs.stretches.stretch.Goals.{Else-not-is_well_formed, In-Frames-2}
+use Rattle.static_sound.proofs.stretches.stretch.Goals.{Else-not-is_well_formed, In-Frames}
 use Rattle.static_sound.proofs.stretches.stretch.Goals as goal
 
 -- no sample further
@@ -37,13 +37,13 @@ record Numbers (s e n len : ℕ) : Type 0 where
   few : n ≤ 16777216
   lent : len ≡ 2 * n
 
-numbers : (c : In-Frames-2)
+numbers : (c : In-Frames)
     → (let st = c.before.before.before in
     Numbers c.in-Frames.start c.in-Frames.end st.args.voice.setup.num_frames (length st.args.sound.now))
 numbers c =
     let e = c.before.before.before in
     let a = e.args in
-    let o = well_formed_for_parts (length a.sound.now) a.voice (is_true (well_formed c.before.before.before)) in
+    let o = well_formed_for_parts (length a.sound.now) a.voice (is_true (well_formed c.before.before.before.before)) in
     let k = setup_parts a.voice.setup o.0.setup in
     let r = ranged_parts a.voice.setup.num_frames c.in-Frames.start c.in-Frames.end (subst (λ (r : FrameRange). T (within a.voice.setup.num_frames r)) c.in-Frames.is k.slice) in
     record { more = r.more; inside = r.inside; few = k.few; lent = o.1 }
@@ -55,16 +55,16 @@ returns-then-not-is_well_formed c =
     (simp e, simp e (at-start c.args.sound.ref_ptr))
 
 pub overflow_mul-result : goal.overflow_mul-result
-overflow_mul-result c = omega (arith, numbers (goal.at.overflow_mul-result c).In-Frames-2)
+overflow_mul-result c = omega (arith, numbers (goal.at.overflow_mul-result c).In-Frames)
 
 pub overflow_mul-result-in-Frames : goal.overflow_mul-result-in-Frames
-overflow_mul-result-in-Frames c = omega (arith, numbers (goal.at.overflow_mul-result-in-Frames c).In-Frames-2)
+overflow_mul-result-in-Frames c = omega (arith, numbers (goal.at.overflow_mul-result-in-Frames c).In-Frames)
 
 pub offset_bounds-sound-start : goal.offset_bounds-sound-start
-offset_bounds-sound-start c = omega (arith, numbers (goal.at.offset_bounds-sound-start c).In-Frames-2)
+offset_bounds-sound-start c = omega (arith, numbers (goal.at.offset_bounds-sound-start c).In-Frames)
 
 pub slice_bounds-result-count : goal.slice_bounds-result-count
-slice_bounds-result-count c = omega (arith, numbers (goal.at.slice_bounds-result-count c).In-Frames-2)
+slice_bounds-result-count c = omega (arith, numbers (goal.at.slice_bounds-result-count c).In-Frames)
 
 pub returns-in-Absent : goal.returns-in-Absent
 unfolding stretch_of stretch_at

@@ -10,11 +10,11 @@ use Rattle.playback_position.proofs.Ranges.{ordered_more}
 use Rattle.transport.specs.declared.Transport.{Transport}
 use Rattle.transport.proofs.Wraps.{back_inside, back_start, back_wrap}
 use Rattle.transport.proofs.Steps.{backward_still, backward_looped, backward_ended, backward_plain}
-use Rattle.transport.proofs.Transport.decrement_position.Goals.{In-Frames-2}
+use Rattle.transport.proofs.Transport.decrement_position.Goals.{In-Frames}
 use Rattle.transport.proofs.Transport.decrement_position.Goals as goal
 
 -- in the loop's arm: the transport, the loop's start and end, and that it is not empty
-module _ (c : In-Frames-2) where
+module _ (c : In-Frames) where
   abbrev t : Transport
   t = c.args.self
 
@@ -28,32 +28,32 @@ module _ (c : In-Frames-2) where
   more = ordered_more s e c.in-Frames.is c.requires
 
 pub overflow_sub-self : goal.overflow_sub-self
-overflow_sub-self c = omega (arith, more c.before.before.before.before.before)
+overflow_sub-self c = omega (arith, more (goal.at.overflow_sub-self c).In-Frames)
 
 pub returns-then-self-start-2 : goal.returns-then-self-start-2
 returns-then-self-start-2 c =
     let k = c.before.before.before.before.before in
     let low = c.if-self-start.true in
     let met = c.if-self-start-2.true in
-    sym (backward_looped (t k) (s k) (e k) _ k.if-self.true k.in-Frames.is (back_start (s k) (e k) (t k).position (more k) (omega arith)))
+    sym (backward_looped (t (goal.at.returns-then-self-start-2 c).In-Frames) (s (goal.at.returns-then-self-start-2 c).In-Frames) (e (goal.at.returns-then-self-start-2 c).In-Frames) _ k.if-self.true k.in-Frames.is (back_start (s (goal.at.returns-then-self-start-2 c).In-Frames) (e (goal.at.returns-then-self-start-2 c).In-Frames) (t k).position (more (goal.at.returns-then-self-start-2 c).In-Frames) (omega arith)))
 
 pub overflow_sub-self-then-self-start : goal.overflow_sub-self-then-self-start
-overflow_sub-self-then-self-start c = omega (arith, more c.before.before.before.before.before)
+overflow_sub-self-then-self-start c = omega (arith, more (goal.at.overflow_sub-self-then-self-start c).In-Frames)
 
 pub overflow_sub-self-then-self-start-3 : goal.overflow_sub-self-then-self-start-3
-overflow_sub-self-then-self-start-3 c = omega (arith, more c.before.before.before.before.before.before)
+overflow_sub-self-then-self-start-3 c = omega (arith, more (goal.at.overflow_sub-self-then-self-start-3 c).In-Frames)
 
 pub overflow_sub-self-then-self-start-4 : goal.overflow_sub-self-then-self-start-4
 overflow_sub-self-then-self-start-4 c =
     let k = c.before.before.before.before.before.before in
-    let h = more k in
-    let m = mod-lt (s k - (t k).position) {m = e k - s k} (omega arith) in
+    let h = more (goal.at.overflow_sub-self-then-self-start-4 c).In-Frames in
+    let m = mod-lt (s (goal.at.overflow_sub-self-then-self-start-4 c).In-Frames - (t k).position) {m = e (goal.at.overflow_sub-self-then-self-start-4 c).In-Frames - s (goal.at.overflow_sub-self-then-self-start-4 c).In-Frames} (omega arith) in
     omega arith
 
 pub returns-then-self-start : goal.returns-then-self-start
 returns-then-self-start c =
     let k = c.before.before.before.before.before.before in
-    sym (backward_looped (t k) (s k) (e k) _ k.if-self.true k.in-Frames.is (back_wrap (s k) (e k) (t k).position (more k) c.if-self-start.true))
+    sym (backward_looped (t (goal.at.returns_then_self_start c).In-Frames) (s (goal.at.returns_then_self_start c).In-Frames) (e (goal.at.returns_then_self_start c).In-Frames) _ k.if-self.true k.in-Frames.is (back_wrap (s (goal.at.returns_then_self_start c).In-Frames) (e (goal.at.returns_then_self_start c).In-Frames) (t k).position (more (goal.at.returns_then_self_start c).In-Frames) c.if-self-start.true))
 
 -- no position above a loop's start is 0
 never : {s p : ℕ} → s < p → p ≡ 0 → ⊥

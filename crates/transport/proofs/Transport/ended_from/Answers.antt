@@ -5,7 +5,7 @@ use Rattle.transport.proofs.Steps.{landed_past, landed_inside}
 use Rattle.transport.proofs.Transport.ended_from.Goals as goal
 
 pub returns-then-self-num_frames : goal.returns-then-self-num_frames
-returns-then-self-num_frames c = let a = c.args in sym (landed_past a.num-frames a.self a.self.position c.if-self-num_frames.true)
+returns-then-self-num_frames c = let a = c.args in sym (landed_past a.num_frames a.self a.self.position c.if-self-num_frames.true)
 
 pub returns-else-self-num_frames : goal.returns-else-self-num_frames
-returns-else-self-num_frames c = let a = c.args in sym (landed_inside a.num-frames a.self a.self.position c.if-self-num_frames.false)
+returns-else-self-num_frames c = let a = c.args in sym (landed_inside a.num_frames a.self a.self.position c.if-self-num_frames.false)

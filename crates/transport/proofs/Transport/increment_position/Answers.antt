@@ -10,7 +10,7 @@ use Rattle.transport.proofs.Transport.increment_position.Goals as goal
 pub below_end-requires : goal.below_end-requires
 below_end-requires c =
     let a = c.args in
-    within_ordered a.num-frames a.self.loop_region c.requires.loop
+    within_ordered a.num_frames a.self.loop_region c.requires.loop
 
 pub returns-then-self : goal.returns-then-self
 returns-then-self c =

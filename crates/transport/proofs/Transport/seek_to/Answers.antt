@@ -11,7 +11,7 @@ use Rattle.transport.proofs.Transport.seek_to.Goals as goal
 pub returns : goal.returns
 returns c =
     let a = c.args in
-    let n = a.num-frames in
+    let n = a.num_frames in
     c.ended_from.ensures
     ∙ ⊎_elim
     (λ w. ap (λ (u : Transport). landed n u u.position) w.2 ∙ ap (landed n a.self) w.1.ensures ∙ sym (seek_up n a.self a.position w.0.taken))
