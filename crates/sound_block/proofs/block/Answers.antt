@@ -21,7 +21,7 @@ play-requires c =
     let b = c.before.before.before in
     let s = b in
     let a = s.args in
-    playable a.sound.now a.dt (lent (goal.at.play_requires c).After-begin-begun) a.signals a.voice b.begin-begun.result b.begin-begun.ensures (length a.out.now) s.pre
+    playable a.sound.now a.dt (lent (goal.at.play_requires c).After-begin-begun) a.signals a.voice b.begin-begun.result b.begin-begun.ensures (length a.out.now) s.requires
 
 pub returns-then-is_live : goal.returns-then-is_live
 returns-then-is_live c =

@@ -52,7 +52,7 @@ heard c =
     let st = t in
     let a = st.args in
     let r = c.scan-reached in
-    heard_of a.sound.now a.dt (lent c.before.before.before.before.before.before.before.before.before.before) a.voice t.track_of-track.result (tracked c.before.before.before.before.before.before.before.before.before.before) (contiguous c.before.before.before.before.before.before.before.before) st.pre r.result r.new.1.1.1.0 c.by_frame.new.1.1.1.1.1.0 r.ensures c.by_frame.ensures
+    heard_of a.sound.now a.dt (lent c.before.before.before.before.before.before.before.before.before.before) a.voice t.track_of-track.result (tracked c.before.before.before.before.before.before.before.before.before.before) (contiguous c.before.before.before.before.before.before.before.before) st.requires r.result r.new.1.1.1.0 c.by_frame.new.1.1.1.1.1.0 r.ensures c.by_frame.ensures
 
 passed_is : (c : After-contiguous_at)
     → (let t = c in
@@ -97,7 +97,7 @@ is_contiguous-requires c =
 pub scan-reached-requires : goal.scan-reached-requires
 scan-reached-requires c =
     let a = c.args in
-    (scannable a.sound.now a.dt (lent (goal.at.scan_reached_requires c).After-track_of-track) a.voice c.track_of-track.result (tracked (goal.at.scan_reached_requires c).After-track_of-track) (contiguous (goal.at.scan_reached_requires c).Else-not-is_contiguous) c.pre, scan_begins a.sound.now a.dt (lent (goal.at.scan_reached_requires c).After-track_of-track) a.voice c.track_of-track.result (tracked (goal.at.scan_reached_requires c).After-track_of-track) (contiguous (goal.at.scan_reached_requires c).Else-not-is_contiguous) c.pre a.out.now c.requires.long)
+    (scannable a.sound.now a.dt (lent (goal.at.scan_reached_requires c).After-track_of-track) a.voice c.track_of-track.result (tracked (goal.at.scan_reached_requires c).After-track_of-track) (contiguous (goal.at.scan_reached_requires c).Else-not-is_contiguous) c.requires, scan_begins a.sound.now a.dt (lent (goal.at.scan_reached_requires c).After-track_of-track) a.voice c.track_of-track.result (tracked (goal.at.scan_reached_requires c).After-track_of-track) (contiguous (goal.at.scan_reached_requires c).Else-not-is_contiguous) c.requires a.out.now c.requires.long)
 
 pub by_frame-requires : goal.by_frame-requires
 by_frame-requires c =

@@ -15,7 +15,7 @@ inside c =
     let o = e.before in
     let s = o in
     let a = s.args in
-    omega (arith, c.given_samples_of-samples.ensures, long_enough a.sounds (length a.given.now) a.values s.pre (sym o.is_other_sound.ensures ∙ e.if-is_other_sound.false))
+    omega (arith, c.given_samples_of-samples.ensures, long_enough a.sounds (length a.given.now) a.values s.requires (sym o.is_other_sound.ensures ∙ e.if-is_other_sound.false))
 
 pub returns-then-is_other_sound : goal.returns-then-is_other_sound
 returns-then-is_other_sound c =

@@ -9,31 +9,31 @@ pub slice_bounds-process-end : goal.slice_bounds-process-end
 slice_bounds-process-end c =
     let l = c.before.before.before.before.before in
     let s = l.before in
-    lane_long 4 (λ x. single x) s.args.block.frames (drop 18 s.args.bytes.now) l.singles_of-fade.result s.pre l.singles_of-fade.ensures
+    lane_long 4 (λ x. single x) s.args.block.frames (drop 18 s.args.bytes.now) l.singles_of-fade.result s.requires l.singles_of-fade.ensures
 
 pub slice_bounds-process-end-2 : goal.slice_bounds-process-end-2
 slice_bounds-process-end-2 c =
     let l = c.before.before.before.before.before in
     let s = l.before.before in
-    lane_long 4 (λ x. single x) s.args.block.frames (drop 22 s.args.bytes.now) l.singles_of-volume.result s.pre l.singles_of-volume.ensures
+    lane_long 4 (λ x. single x) s.args.block.frames (drop 22 s.args.bytes.now) l.singles_of-volume.result s.requires l.singles_of-volume.ensures
 
 pub slice_bounds-process-end-3 : goal.slice_bounds-process-end-3
 slice_bounds-process-end-3 c =
     let l = c.before.before.before.before.before in
     let s = l.before.before.before in
-    lane_long 4 (λ x. single x) s.args.block.frames (drop 26 s.args.bytes.now) l.singles_of-left.result s.pre l.singles_of-left.ensures
+    lane_long 4 (λ x. single x) s.args.block.frames (drop 26 s.args.bytes.now) l.singles_of-left.result s.requires l.singles_of-left.ensures
 
 pub slice_bounds-process-end-4 : goal.slice_bounds-process-end-4
 slice_bounds-process-end-4 c =
     let l = c.before.before.before.before.before in
     let s = l.before.before.before.before in
-    lane_long 4 (λ x. single x) s.args.block.frames (drop 30 s.args.bytes.now) l.singles_of-right.result s.pre l.singles_of-right.ensures
+    lane_long 4 (λ x. single x) s.args.block.frames (drop 30 s.args.bytes.now) l.singles_of-right.result s.requires l.singles_of-right.ensures
 
 pub slice_bounds-process-end-5 : goal.slice_bounds-process-end-5
 slice_bounds-process-end-5 c =
     let l = c.before.before.before.before.before in
     let s = l.before.before.before.before.before in
-    lane_long 8 (λ x. double x) s.args.block.frames (drop 34 s.args.bytes.now) l.doubles_of-rate.result s.pre l.doubles_of-rate.ensures
+    lane_long 8 (λ x. double x) s.args.block.frames (drop 34 s.args.bytes.now) l.doubles_of-rate.result s.requires l.doubles_of-rate.ensures
 
 pub returns : goal.returns
 returns c =
@@ -48,9 +48,9 @@ returns c =
     let n = a.block.frames in
     let bs = a.bytes.now in
     lanes_outcome a.sound.now a.voice a.block bs a.out.now _ _ _ _ _ _
-    (lane_is 4 (λ x. single x) n (drop 18 bs) f.singles_of-fade.result s.pre f.singles_of-fade.ensures)
-    (lane_is 4 (λ x. single x) n (drop 22 bs) v.singles_of-volume.result s.pre v.singles_of-volume.ensures)
-    (lane_is 4 (λ x. single x) n (drop 26 bs) l.singles_of-left.result s.pre l.singles_of-left.ensures)
-    (lane_is 4 (λ x. single x) n (drop 30 bs) r.singles_of-right.result s.pre r.singles_of-right.ensures)
-    (lane_is 8 (λ x. double x) n (drop 34 bs) d.doubles_of-rate.result s.pre d.doubles_of-rate.ensures)
+    (lane_is 4 (λ x. single x) n (drop 18 bs) f.singles_of-fade.result s.requires f.singles_of-fade.ensures)
+    (lane_is 4 (λ x. single x) n (drop 22 bs) v.singles_of-volume.result s.requires v.singles_of-volume.ensures)
+    (lane_is 4 (λ x. single x) n (drop 26 bs) l.singles_of-left.result s.requires l.singles_of-left.ensures)
+    (lane_is 4 (λ x. single x) n (drop 30 bs) r.singles_of-right.result s.requires r.singles_of-right.ensures)
+    (lane_is 8 (λ x. double x) n (drop 34 bs) d.doubles_of-rate.result s.requires d.doubles_of-rate.ensures)
     p.process.ensures

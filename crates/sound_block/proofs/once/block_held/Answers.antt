@@ -22,7 +22,7 @@ play_held-requires c =
     let b = c.before.before.before in
     let s = b in
     let a = s.args in
-    playable a.sound.now a.dt (lent (goal.at.play_held-requires c).After-begin-begun) a.signals a.voice b.begin-begun.result b.begin-begun.ensures (length a.out.now) s.pre
+    playable a.sound.now a.dt (lent (goal.at.play_held-requires c).After-begin-begun) a.signals a.voice b.begin-begun.result b.begin-begun.ensures (length a.out.now) s.requires
 
 pub returns-then-is_live : goal.returns-then-is_live
 returns-then-is_live c =

@@ -63,7 +63,7 @@ heard c =
     let a = st.args in
     let x = a.held in
     let r = c.scan_held-reached in
-    heard_of a.sound.now a.dt (lent c.before.before.before.before.before.before.before.before.before.before) a.voice t.track_of-track.result (tracked c.before.before.before.before.before.before.before.before.before.before) (contiguous c.before.before.before.before.before.before.before.before) st.pre r.result r.last.1.1.1.1.0 c.once.new.1.1.0 r.ensures
+    heard_of a.sound.now a.dt (lent c.before.before.before.before.before.before.before.before.before.before) a.voice t.track_of-track.result (tracked c.before.before.before.before.before.before.before.before.before.before) (contiguous c.before.before.before.before.before.before.before.before) st.requires r.result r.last.1.1.1.1.0 c.once.new.1.1.0 r.ensures
     (c.once.ensures ∙ gained_fewer x.fade x.volume x.left x.right r.result.next (frames c.before.before.before.before.before.before.before.before.before.before) r.last.1.1.1.1.0 (inside c))
 
 -- the voice after the scan
@@ -129,7 +129,7 @@ scan_held-reached-requires c =
     let st = t in
     let a = st.args in
     let e = contiguous (goal.at.scan_held-reached-requires c).Else-not-is_contiguous in
-    (scannable a.sound.now a.dt (lent (goal.at.scan_held-reached-requires c).After-track_of-track) a.voice t.track_of-track.result (tracked (goal.at.scan_held-reached-requires c).After-track_of-track) e st.pre, scan_begins a.sound.now a.dt (lent (goal.at.scan_held-reached-requires c).After-track_of-track) a.voice t.track_of-track.result (tracked (goal.at.scan_held-reached-requires c).After-track_of-track) e st.pre a.out.now st.requires.long)
+    (scannable a.sound.now a.dt (lent (goal.at.scan_held-reached-requires c).After-track_of-track) a.voice t.track_of-track.result (tracked (goal.at.scan_held-reached-requires c).After-track_of-track) e st.requires, scan_begins a.sound.now a.dt (lent (goal.at.scan_held-reached-requires c).After-track_of-track) a.voice t.track_of-track.result (tracked (goal.at.scan_held-reached-requires c).After-track_of-track) e st.requires a.out.now st.requires.long)
 
 pub once-requires : goal.once-requires
 once-requires c =
