@@ -20,17 +20,11 @@ set c = sym c.is_well_formed_setup.ensures ∙ c.if-not-is_well_formed_setup.fal
 
 pub overflow_mul-result : goal.overflow_mul-result
 overflow_mul-result c =
-    let e = c.before.before.before.before.before.before in
-    let k = e.args.self.setup in
+    let k = c.args.self.setup in
     let few : k.num_frames ≤ 16777216 = (setup_parts k (subst T (sym (set (goal.at.overflow_mul-result c).Else-not-is_well_formed_setup)) tt)).few in
     omega arith
 
 pub returns : goal.returns
 returns c =
-    let w = c.before in
-    let p = w.before in
-    let s = p.before in
-    let n = s.before in
-    let f = n.before in
-    rw (f.is_finite.ensures, s.is_well_formed_transport.ensures, n.num_frames.ensures, p.is_proper.ensures, w.is_windowed.ensures)
+    rw (c.is_finite.ensures, c.is_well_formed_transport.ensures, c.num_frames.ensures, c.is_proper.ensures, c.is_windowed.ensures)
     (sym (well_formed_for_set _ _ (set (goal.at.returns c).Else-not-is_well_formed_setup)))
