@@ -3,9 +3,9 @@
 use mathlib.Core.Path.{◌≡◌, refl, sym, ap, ◌∙◌}
 use Prim.Native.Nat.{ℕ, suc}
 use native.Mathlib.Omega.{arith}
-use mathlib.Core.Bool.{Bool, true, false, not, cond}
+use mathlib.Core.Bool.{Bool, true, false, cond}
 use lib.Dec.{T, eqb}
-use borrow.Author.Tests.{eqb-true, not_true, not_false}
+use borrow.Author.Tests.{eqb-true}
 use Rattle.sound_state.specs.Refusals.{unless}
 
 -- a test that returns its number if it fails
@@ -29,11 +29,11 @@ passes : (ok : Bool) (n rest k : ℕ) → ok ≡ true → k ≡ rest → k ≡ u
 passes ok n rest k e h = rw e h
 
 -- with the result r of the test, and how the code continued
-pub refused_here : (r ok : Bool) (n rest : ℕ) → r ≡ ok → not r ≡ true → n ≡ unless ok n rest
-refused_here r ok n rest e t = fails ok n rest (sym e ∙ not_true r t)
+pub refused_here : (r ok : Bool) (n rest : ℕ) → r ≡ ok → r ≡ false → n ≡ unless ok n rest
+refused_here r ok n rest e t = fails ok n rest (sym e ∙ t)
 
-pub passed_here : (r ok : Bool) (n rest k : ℕ) → r ≡ ok → not r ≡ false → k ≡ rest → k ≡ unless ok n rest
-passed_here r ok n rest k e t h = passes ok n rest k (sym e ∙ not_false r t) h
+pub passed_here : (r ok : Bool) (n rest k : ℕ) → r ≡ ok → r ≡ true → k ≡ rest → k ≡ unless ok n rest
+passed_here r ok n rest k e t h = passes ok n rest k (sym e ∙ t) h
 
 -- ---- the outcome
 

@@ -17,7 +17,7 @@ use Rattle.sound_creation.specs.declared.Settings.{Settings}
 use Rattle.sound_creation.specs.Creation.{setup_of, opened, filled, transport_of, made}
 use Rattle.sound_creation.proofs.Refusals.{Creatable, creatable_parts}
 use Rattle.sound_creation.proofs.Makes.{setup_of_lem, opened_well_formed, transport_well_formed_transport}
-use Rattle.sound_creation.proofs.make.Goals.{After-first-1}
+use Rattle.sound_creation.proofs.make.Goals.{After-slice-slice}
 use Rattle.sound_creation.proofs.make.Goals as goal
 
 -- the voice before its updates
@@ -51,27 +51,21 @@ three : (snd : List Float) (c : Slice) (m x y z : Moving) → x ≡ updated snd 
 unfolding updates
 three snd c m x y z e f g = g ∙ ap (updated snd c) (f ∙ ap (updated snd c) e)
 
-updatable : (c : After-first-1)
-    → let s = c.before.before.before.before in
-    Updatable s.args.sound.now c.slice-slice.result c.«open».result.moving
+updatable : (c : After-slice-slice) → Updatable c.args.sound.now c.slice-slice.result c.open-opened.result.moving
 updatable c =
-    let o = c.before.before in
-    let s = o.before.before in
-    let a = creatable_parts (length s.args.sound.now) s.args.settings s.requires in
-    updatable-by _ _ _ _ o.«open».ensures c.slice-slice.ensures (first-updatable s.args.sound.now s.args.settings a)
+    let a = creatable_parts (length c.args.sound.now) c.args.settings c.requires in
+    updatable-by _ _ _ _ c.open-opened.ensures c.slice-slice.ensures (first-updatable c.args.sound.now c.args.settings a)
 
 pub update_position-second-requires : goal.update_position-second-requires
-update_position-second-requires c = updatable (goal.at.update_position-second-requires c).After-first-1
+update_position-second-requires c = updatable (goal.at.update_position-second-requires c).After-slice-slice
 
 pub update_position-third-requires : goal.update_position-third-requires
-update_position-third-requires c = updatable_on _ _ _ _ c.update_position-second.ensures (updatable (goal.at.update_position-third-requires c).After-first-1)
+update_position-third-requires c = updatable_on _ _ _ _ c.update_position-second.ensures (updatable (goal.at.update_position-third-requires c).After-slice-slice)
 
 pub update_position-moving-requires : goal.update_position-moving-requires
-update_position-moving-requires c = updatable_on _ _ _ _ c.update_position-third.ensures (updatable_on _ _ _ _ c.update_position-second.ensures (updatable (goal.at.update_position-moving-requires c).After-first-1))
+update_position-moving-requires c = updatable_on _ _ _ _ c.update_position-third.ensures (updatable_on _ _ _ _ c.update_position-second.ensures (updatable (goal.at.update_position-moving-requires c).After-slice-slice))
 
 pub returns : goal.returns
 returns c =
-    let u = c.before in
-    let k = u.before.before.before.before in
-    made_of _ _ _ _ _ k.«open».ensures k.slice-slice.ensures
-    (three _ _ _ _ _ _ u.update_position-second.ensures u.update_position-third.ensures u.update_position-moving.ensures)
+    made_of _ _ _ _ _ c.open-opened.ensures c.slice-slice.ensures
+    (three _ _ _ _ _ _ c.update_position-second.ensures c.update_position-third.ensures c.update_position-moving.ensures)

@@ -19,12 +19,7 @@ use Rattle.sound_state.specs.Voices.{length_of_slice}
 use Rattle.sound_creation.specs.declared.Settings.{Settings}
 use Rattle.sound_creation.specs.Creation.{ranged, setup_of, opened, transport_of}
 use Rattle.sound_creation.proofs.Refusals.{creatable_parts}
-use Rattle.sound_creation.proofs.open.Goals.{After-new-transport, After-num_frames-num_frames}
 use Rattle.sound_creation.proofs.open.Goals as goal
-
--- N is the slice's length, or all frames
-counted : (c : After-num_frames-num_frames) → let a = c.args in c.num_frames-num_frames.result ≡ length_of_slice (setup_of a.samples a.settings)
-counted c = c.num_frames-num_frames.ensures ∙ ap length_of_slice c.setup_of-setup.ensures
 
 begun-with : (len : ℕ) (s : Settings) (n start : ℕ) (r : FrameRange)
     → n ≡ length_of_slice (setup_of len s) → start ≡ position_in_frames s.sample_rate s.start_position → r ≡ ranged s.sample_rate n s.loop_region
@@ -43,22 +38,16 @@ opened_with : (k j : Setup) (t u : Transport) (w : Resampler) (rate : Float) (wa
     (opened j u rate waits)
 opened_with k j t u w rate waits e f g = rw (g, f, e)
 
-transport-made : (c : After-new-transport) → let a = c.args in
-    c.new-transport.result ≡ transport_of (setup_of a.samples a.settings) a.settings
-transport-made c =
-    let n = c.before.before.before in
-    let a = n.args in
-    c.new-transport.ensures
-    ∙ begun-with a.samples a.settings _ _ _ (counted c.before.before.before) c.into_samples.ensures c.into_frames.ensures
-
 pub new-transport-requires : goal.new-transport-requires
 new-transport-requires c =
-    let n = c.before.before in
-    let s = n.before.before in
-    rw (c.into_samples.ensures, counted (goal.at.new_transport_requires c).After-num_frames-num_frames) (creatable_parts s.args.samples s.args.settings s.requires).start_inside
+    rw (c.into_samples.ensures, c.num_frames-num_frames.ensures ∙ ap length_of_slice c.setup_of-setup.ensures) (creatable_parts c.args.samples c.args.settings c.requires).start_inside
 
 pub returns : goal.returns
 unfolding of_bits
 returns c =
-    let t = c.before.before in
-    opened_with _ _ _ _ _ _ t.args.settings.start_waits t.setup_of-setup.ensures (transport-made (goal.at.returns c).After-new-transport) c.new-resampler.ensures
+    let a = c.args in
+    -- N is the slice's length, or all frames
+    let counted = c.num_frames-num_frames.ensures ∙ ap length_of_slice c.setup_of-setup.ensures in
+    opened_with _ _ _ _ _ _ a.settings.start_waits c.setup_of-setup.ensures
+    (c.new-transport.ensures ∙ begun-with a.samples a.settings _ _ _ counted c.into_samples.ensures c.into_frames.ensures)
+    c.new-resampler.ensures
