@@ -23,14 +23,14 @@ returns-then-not-transport c =
     let snd = c.args.sound.now in
     let k = c.args.track in
     let m = c.args.moving in
-    record { value = no_playing snd k m (c.if-not-transport.true); contiguous = λ e. absurd (false≢true e) }
+    record { value = no_playing snd k m (not_true _ c.if-not-transport.true); contiguous = λ e. absurd (false≢true e) }
 
 pub returns-then-not-is_on : goal.returns-then-not-is_on
 returns-then-not-is_on c =
     let snd = c.args.sound.now in
     let k = c.args.track in
     let m = c.args.moving in
-    record { value = no_place snd k m (c.if-not-transport.false) (sym c.is_on.ensures ∙ c.if-not-is_on.true); contiguous = λ e. absurd (false≢true e) }
+    record { value = no_place snd k m (not_false _ c.if-not-transport.false) (sym c.is_on.ensures ∙ c.if-not-is_on.true); contiguous = λ e. absurd (false≢true e) }
 
 pub has_room-requires : goal.has_room-requires
 has_room-requires c =
@@ -44,7 +44,7 @@ returns-then-not-has_room c =
     let snd = c.args.sound.now in
     let k = c.args.track in
     let m = c.args.moving in
-    record { value = no_room snd k m (c.if-not-transport.false) (sym c.is_on.ensures ∙ c.if-not-is_on.false) (sym c.has_room.ensures ∙ c.if-not-has_room.true); contiguous = λ e. absurd (false≢true e) }
+    record { value = no_room snd k m (not_false _ c.if-not-transport.false) (sym c.is_on.ensures ∙ c.if-not-is_on.false) (sym c.has_room.ensures ∙ c.if-not-has_room.true); contiguous = λ e. absurd (false≢true e) }
 
 pub contiguous_at-there-requires : goal.contiguous_at-there-requires
 contiguous_at-there-requires c =
@@ -63,7 +63,7 @@ returns c =
     let k = c.args.track in
     let m = c.args.moving in
     let there = c.contiguous_at-there.ensures in
-    let playing = c.if-not-transport.false in
+    let playing = not_false _ c.if-not-transport.false in
     let placed = sym c.is_on.ensures ∙ c.if-not-is_on.false in
     let room = sym c.has_room.ensures ∙ c.if-not-has_room.false in
     let at = ap (λ (m : Moving). m.transport.position) there in
