@@ -163,10 +163,12 @@ roomy_far false true s e n q h z = go (leb (s + 4 + n) q) refl h
   where
     go : (t : Bool) → leb (s + 4 + n) q ≡ t → T t → 4 + n ≤ q - s
     go true t h = let x = leb-true (s + 4 + n) q t in omega arith
+    go false t h = elim h [ ]
 roomy_far false false s e n q h z = go (ltb (q + 4 + n) e) refl h
   where
     go : (t : Bool) → ltb (q + 4 + n) e ≡ t → T t → 4 + n ≤ e - 1 - q
     go true t h = let x = ltb-true (q + 4 + n) e t in omega arith
+    go false t h = elim h [ ]
 
 pub inside_of : (k : Track) (n q : ℕ) → On k q → T (roomy k n q) → Inside k n q
 inside_of k n q o h = record { on = o; ends = roomy_far k.looped k.backwards k.low k.high n q h }

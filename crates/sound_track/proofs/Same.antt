@@ -43,6 +43,7 @@ holds false e = absurd (false≢true e)
 
 pub is_true : (b : Bool) → T b → b ≡ true
 is_true true t = refl
+is_true false t = elim t [ ]
 
 -- ---- equal by their bits
 

@@ -64,7 +64,8 @@ pub bounds-rate-i : goal.bounds-rate-i
 bounds-rate-i c = c.loop-i-test.true
 
 pub is_same_rate-same-requires : goal.is_same_rate-same-requires
-is_same_rate-same-requires c = (all_at number c.args.rate.now c.loop-i.i c.loop-i-test.true c.requires, all_at number c.args.rate.now 0 (some _ c.if-rate-eq0.false) c.requires)
+is_same_rate-same-requires c =
+    record { t = all_at number c.args.rate.now c.loop-i.i c.loop-i-test.true c.requires; t_2 = all_at number c.args.rate.now 0 (some _ c.if-rate-eq0.false) c.requires }
 
 pub overflow_add-i : goal.overflow_add-i
 overflow_add-i c = omega (arith, c.loop-i-test.true)

@@ -12,7 +12,8 @@ advance_of-requires c =
 
 pub stepped_by-requires : goal.stepped_by-requires
 stepped_by-requires c =
-    record { t = (let a = c.args in (c.requires.t, slow_advance a.sample_rate a.dt a.rate _ c.advance_of.ensures c.requires.t_2 c.requires.t_3)).0; slow = (let a = c.args in (c.requires.t, slow_advance a.sample_rate a.dt a.rate _ c.advance_of.ensures c.requires.t_2 c.requires.t_3)).1 }
+    let a = c.args in
+    record { t = c.requires.t; slow = slow_advance a.sample_rate a.dt a.rate _ c.advance_of.ensures c.requires.t_2 c.requires.t_3 }
 
 pub returns : goal.returns
 returns c = subst (λ (a : Float). Move c.args.fractional_position a c.stepped_by.result) c.advance_of.ensures c.stepped_by.ensures

@@ -71,11 +71,9 @@ kept g n out f v l r h =
 
 pub returns-then-is_one : goal.returns-then-is_one
 returns-then-is_one c =
-    let last = c.before in
-    let st = last in
     let f = four-of _ _ _ _ c.if-is_one.true in
-    kept st.args.gains st.args.n st.args.out.now (last.is_one.ensures f.first) (last.is_one-2.ensures f.second) (last.is_one-3.ensures f.third) (last.is_one-4.ensures f.fourth)
-    last.type_inv.out
+    kept c.args.gains c.args.n c.args.out.now (c.is_one.ensures f.first) (c.is_one-2.ensures f.second) (c.is_one-3.ensures f.third) (c.is_one-4.ensures f.fourth)
+    c.type_inv.out
 
 pub loop-i-init : goal.loop-i-init
 unfolding gained
@@ -83,9 +81,8 @@ loop-i-init c = record { within = none _; so_far_lem = refl }
 
 pub gain_by-requires : goal.gain_by-requires
 gain_by-requires c =
-    let st = c.before.before.before.before in
     let t = c.loop-i-test.true in
-    record { i_in_bounds = one1 _ _ _ _ (long _ c.loop-i.invariant) t st.requires.n_in_bounds; i_bound = one0 _ _ _ t st.requires.n_bound }
+    record { i_in_bounds = one1 _ _ _ _ (long _ c.loop-i.invariant) t c.requires.n_in_bounds; i_bound = one0 _ _ _ t c.requires.n_bound }
 
 pub overflow_add-i : goal.overflow_add-i
 overflow_add-i c = omega (arith, c.loop-i-test.true, c.requires.n_bound)
@@ -95,24 +92,22 @@ loop-i-smaller c = less1 _ _ c.loop-i-test.true
 
 pub loop-i-preserved : goal.loop-i-preserved
 loop-i-preserved c =
-    let at = c.before.before.before.before.before in
-    let st = at.before.before in
-    let a = st.args in
+    let a = c.args in
     let n = a.n in
     let fs = replicate n a.gains.fade in
     let vs = replicate n a.gains.volume in
     let ls = replicate n a.gains.left in
     let rs = replicate n a.gains.right in
-    let i = at.loop-i.i in
-    let g = at.loop-i.out in
-    let e = at.loop-i.invariant.so_far_lem in
+    let i = c.loop-i.i in
+    let g = c.loop-i.out in
+    let e = c.loop-i.invariant.so_far_lem in
     let t = c.loop-i-test.true in
     record {
       within = one3 _ _ t;
       so_far_lem =
           c.gain_by.ensures
           ∙ ap (λ (z : Gains). scaled_at z i g g) (sym (gains_once a.gains n i t))
-          ∙ gained_one fs vs ls rs a.out.now i (i + 1) g g e (unread fs vs ls rs a.out.now i (2 * i) g e (same i)) (unread fs vs ls rs a.out.now i (2 * i + 1) g e (next i)) (one4 _ _ _ t st.requires.n_in_bounds) refl;
+          ∙ gained_one fs vs ls rs a.out.now i (i + 1) g g e (unread fs vs ls rs a.out.now i (2 * i) g e (same i)) (unread fs vs ls rs a.out.now i (2 * i + 1) g e (next i)) (one4 _ _ _ t c.requires.n_in_bounds) refl;
     }
 
 pub shape_of-out : goal.shape_of-out

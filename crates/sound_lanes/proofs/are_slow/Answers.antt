@@ -21,12 +21,11 @@ is_slow-requires c = c.requires
 
 pub returns-then-is_constant_rate : goal.returns-then-is_constant_rate
 returns-then-is_constant_rate c =
-    let then = c.before.before in
-    let one = then.is_constant_rate.ensures in
-    let a = then.args in
+    let one = c.is_constant_rate.ensures in
+    let a = c.args in
     let p : Float → Bool = slow a.sample_rate a.dt in
     c.is_slow.ensures
-    ∙ sym (ap (λ (l : List Float). all p l) (one.1 then.if-is_constant_rate.true) ∙ all_once p (length a.rate.now) (get_or a.rate.now 0 nan) (one.0 then.if-is_constant_rate.true))
+    ∙ sym (ap (λ (l : List Float). all p l) (one.rate_value c.if-is_constant_rate.true) ∙ all_once p (length a.rate.now) (get_or a.rate.now 0 nan) (one.rate_nonzero c.if-is_constant_rate.true))
 
 pub loop-i-init : goal.loop-i-init
 loop-i-init c = (omega arith, refl)

@@ -30,13 +30,13 @@ below : (j i n : ℕ) → j < n → n ≤ i → j < i
 below j i n h l = omega arith
 
 pub returns-then-rate-eq0 : goal.returns-then-rate-eq0
-returns-then-rate-eq0 c = (λ e. absurd (false≢true e), λ e. absurd (false≢true e))
+returns-then-rate-eq0 c = record { rate_nonzero = λ e. absurd (false≢true e); rate_value = λ e. absurd (false≢true e) }
 
 pub bounds-rate-0 : goal.bounds-rate-0
 bounds-rate-0 c = some _ c.if-rate-eq0.false
 
 pub returns-then-first : goal.returns-then-first
-returns-then-first c = (λ e. absurd (false≢true e), λ e. absurd (false≢true e))
+returns-then-first c = record { rate_nonzero = λ e. absurd (false≢true e); rate_value = λ e. absurd (false≢true e) }
 
 pub overflow_sub-end : goal.overflow_sub-end
 overflow_sub-end c = some _ c.if-rate-eq0.false
@@ -52,7 +52,7 @@ unfolding of_bits
 is_equal_rate-requires c = c.if-first.false
 
 pub returns-then-not-is_equal_rate : goal.returns-then-not-is_equal_rate
-returns-then-not-is_equal_rate c = (λ e. absurd (false≢true e), λ e. absurd (false≢true e))
+returns-then-not-is_equal_rate c = record { rate_nonzero = λ e. absurd (false≢true e); rate_value = λ e. absurd (false≢true e) }
 
 pub loop-i-init : goal.loop-i-init
 loop-i-init c = (none _, λ e j h. absurd (never j h))

@@ -3,12 +3,11 @@ use Prim.Native.Nat.{ℕ}
 use mathlib.Core.Path.{◌≡◌, refl, sym, ap, ◌∙◌}
 use mathlib.Core.Bool.{Bool, true, false, cond}
 use borrow.Author.Rules.{rules}
-use borrow.Author.Tests.{not_true, not_false}
 use Rattle.numbers.specs.Words.{finite}
 use Rattle.numbers.specs.Lists.{all}
 use Rattle.sound_lanes.specs.Lanes.{Lanes, lanes_now, judged, slow, four_finite_clear}
 use Rattle.sound_lanes.proofs.Rows.{Sized, sized_parts, judged_lanes}
-use Rattle.sound_lanes.proofs.judge.Goals.{Else-are_slow, Else-not-four_finite_clear, Start}
+use Rattle.sound_lanes.proofs.judge.Goals.{Start}
 use Rattle.sound_lanes.proofs.judge.Goals as goal
 
 abbrev given : Start → Lanes
@@ -32,26 +31,18 @@ answer st a s f p q r =
 
 pub four_finite_clear-requires : goal.four_finite_clear-requires
 four_finite_clear-requires c =
-    let st = c.before.before.before.before.before in
-    let p : Sized (given (goal.at.four_finite_clear-requires c).Start) = sized_parts (given (goal.at.four_finite_clear-requires c).Start) st.requires.t in
+    let st = (goal.at.four_finite_clear-requires c).Start in
+    let p : Sized (given st) = sized_parts (given st) c.requires.t in
     record { volume_len = p.volume ∙ sym p.fade; left_len = p.left ∙ sym p.fade; right_len = p.right ∙ sym p.fade }
 
 pub returns-then-not-four_finite_clear : goal.returns-then-not-four_finite_clear
 returns-then-not-four_finite_clear c = answer (goal.at.returns-then-not-four_finite_clear c).Start false _ _ (sym c.four_finite_clear.ensures ∙ c.if-not-four_finite_clear.true) refl refl
 
--- what is known after the first pass
-finite-clear-all : (c : Else-not-four_finite_clear) → levels c.before.before.before.before.before.before.before ≡ true
-finite-clear-all c = sym c.four_finite_clear.ensures ∙ c.if-not-four_finite_clear.false
-
 pub returns-then-are_slow : goal.returns-then-are_slow
-returns-then-are_slow c = let d = c.before.before in answer (goal.at.returns-then-are_slow c).Start true true _ (finite-clear-all (goal.at.returns-then-are_slow c).Else-not-four_finite_clear) (sym c.are_slow.ensures ∙ c.if-are_slow.true) refl
-
--- and after the second
-not-slow : (c : Else-are_slow) → slows c.before.before.before.before.before.before.before.before.before ≡ false
-not-slow c = sym c.are_slow.ensures ∙ c.if-are_slow.false
+returns-then-are_slow c = answer (goal.at.returns-then-are_slow c).Start true true _ (sym c.four_finite_clear.ensures ∙ c.if-not-four_finite_clear.false) (sym c.are_slow.ensures ∙ c.if-are_slow.true) refl
 
 pub returns-then-all_finite : goal.returns-then-all_finite
-returns-then-all_finite c = let d = c.before.before in answer (goal.at.returns-then-all_finite c).Start true false true (finite-clear-all (goal.at.returns-then-all_finite c).Else-not-four_finite_clear) (not-slow (goal.at.returns-then-all_finite c).Else-are_slow) (sym c.all_finite.ensures ∙ c.if-all_finite.true)
+returns-then-all_finite c = answer (goal.at.returns-then-all_finite c).Start true false true (sym c.four_finite_clear.ensures ∙ c.if-not-four_finite_clear.false) (sym c.are_slow.ensures ∙ c.if-are_slow.false) (sym c.all_finite.ensures ∙ c.if-all_finite.true)
 
 pub returns-else-all_finite : goal.returns-else-all_finite
-returns-else-all_finite c = let d = c.before.before in answer (goal.at.returns-else-all_finite c).Start true false false (finite-clear-all (goal.at.returns-else-all_finite c).Else-not-four_finite_clear) (not-slow (goal.at.returns-else-all_finite c).Else-are_slow) (sym c.all_finite.ensures ∙ c.if-all_finite.false)
+returns-else-all_finite c = answer (goal.at.returns-else-all_finite c).Start true false false (sym c.four_finite_clear.ensures ∙ c.if-not-four_finite_clear.false) (sym c.are_slow.ensures ∙ c.if-are_slow.false) (sym c.all_finite.ensures ∙ c.if-all_finite.false)

@@ -7,12 +7,10 @@ use Rattle.sound_track.proofs.after.Goals as goal
 
 pub returns-then-on-track : goal.returns-then-on-track
 returns-then-on-track c =
-    let st = c.before.before in
-    let a = st.args in
-    next_ends a.track a.at st.requires.on _ (after_turn 1 a.track a.at st.requires.on st.requires.backwards_value c.if-on-track.true)
+    let a = c.args in
+    record { value = (after_turn 1 a.track a.at c.requires.on c.requires.backwards_value c.if-on-track.true); on_2 = (next_ends a.track a.at c.requires.on _ (after_turn 1 a.track a.at c.requires.on c.requires.backwards_value c.if-on-track.true)).1 }
 
 pub returns-else-on-track : goal.returns-else-on-track
 returns-else-on-track c =
-    let st = c.before.before in
-    let a = st.args in
-    next_ends a.track a.at st.requires.on _ (after_on 1 a.track a.at st.requires.on st.requires.backwards_value c.if-on-track.false)
+    let a = c.args in
+    record { value = (after_on 1 a.track a.at c.requires.on c.requires.backwards_value c.if-on-track.false); on_2 = (next_ends a.track a.at c.requires.on _ (after_on 1 a.track a.at c.requires.on c.requires.backwards_value c.if-on-track.false)).1 }

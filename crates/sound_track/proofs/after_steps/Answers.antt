@@ -10,25 +10,21 @@ use Rattle.sound_track.proofs.after_steps.Goals as goal
 
 pub returns-then-on-track : goal.returns-then-on-track
 returns-then-on-track c =
-    let st = c.before.before in
-    let a = st.args in
-    nexts_ends a.n a.track a.at st.requires.on _ (sym (forth_on a.n a.track a.at st.requires.on st.requires.backwards_value c.if-on-track.true).0)
+    let a = c.args in
+    record { value = (sym (forth_on a.n a.track a.at c.requires.on c.requires.backwards_value c.if-on-track.true).0); on_2 = (nexts_ends a.n a.track a.at c.requires.on _ (sym (forth_on a.n a.track a.at c.requires.on c.requires.backwards_value c.if-on-track.true).0)).1 }
 
 pub returns-then-over-round : goal.returns-then-over-round
 returns-then-over-round c =
-    let st = c.before.before.before.before.before.before in
-    let a = st.args in
-    nexts_ends a.n a.track a.at st.requires.on _ (forth_once a.n a.track a.at st.requires.on st.requires.backwards_value (omega arith) (omega arith))
+    let a = c.args in
+    record { value = (forth_once a.n a.track a.at c.requires.on c.requires.backwards_value (omega arith) (omega arith)); on_2 = (nexts_ends a.n a.track a.at c.requires.on _ (forth_once a.n a.track a.at c.requires.on c.requires.backwards_value (omega arith) (omega arith))).1 }
 
 pub overflow_add-result-2 : goal.overflow_add-result-2
 overflow_add-result-2 c =
-    let st = c.before.before.before.before.before.before in
-    let a = st.args in
-    let m = round_rest (a.at + a.n - a.track.high) a.track st.requires.on.some in
+    let a = c.args in
+    let m = round_rest (a.at + a.n - a.track.high) a.track c.requires.on.some in
     record { fits = omega (arith, m) }
 
 pub returns : goal.returns
 returns c =
-    let st = c.before.before.before.before.before.before in
-    let a = st.args in
-    record { value = (nexts_ends a.n a.track a.at st.requires.on _ (sym (forth_over a.n a.track a.at st.requires.on st.requires.backwards_value (omega arith)).0)).0; on_2 = (nexts_ends a.n a.track a.at st.requires.on _ (sym (forth_over a.n a.track a.at st.requires.on st.requires.backwards_value (omega arith)).0)).1 }
+    let a = c.args in
+    record { value = (sym (forth_over a.n a.track a.at c.requires.on c.requires.backwards_value (omega arith)).0); on_2 = (nexts_ends a.n a.track a.at c.requires.on _ (sym (forth_over a.n a.track a.at c.requires.on c.requires.backwards_value (omega arith)).0)).1 }

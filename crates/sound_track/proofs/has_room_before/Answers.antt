@@ -10,6 +10,5 @@ use Rattle.sound_track.proofs.has_room_before.Goals as goal
 
 pub returns : goal.returns
 returns c =
-    let st = c.before.before in
-    let a = st.args in
-    ap (λ (b : Bool). a.track.looped || cond b (leb (a.track.low + 4 + a.n) a.at) (ltb (a.at + 4 + a.n) a.track.high)) (sym st.requires.backwards_value)
+    let a = c.args in
+    ap (λ (b : Bool). a.track.looped || cond b (leb (a.track.low + 4 + a.n) a.at) (ltb (a.at + 4 + a.n) a.track.high)) (sym c.requires.backwards_value)

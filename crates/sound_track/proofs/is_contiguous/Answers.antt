@@ -20,43 +20,38 @@ use Rattle.sound_track.proofs.is_contiguous.Goals as goal
 
 pub returns-then-not-transport : goal.returns-then-not-transport
 returns-then-not-transport c =
-    let st = c.before.before.before.before.before.before in
-    let snd = st.args.sound.now in
-    let k = st.args.track in
-    let m = st.args.moving in
-    (no_playing snd k m (c.if-not-transport.true), λ e. absurd (false≢true e))
+    let snd = c.args.sound.now in
+    let k = c.args.track in
+    let m = c.args.moving in
+    record { value = no_playing snd k m (not_true _ c.if-not-transport.true); contiguous = λ e. absurd (false≢true e) }
 
 pub returns-then-not-is_on : goal.returns-then-not-is_on
 returns-then-not-is_on c =
-    let st = c.before.before.before.before.before.before.before.before in
-    let snd = st.args.sound.now in
-    let k = st.args.track in
-    let m = st.args.moving in
-    (no_place snd k m (c.if-not-transport.false) (sym c.is_on.ensures ∙ c.if-not-is_on.true), λ e. absurd (false≢true e))
+    let snd = c.args.sound.now in
+    let k = c.args.track in
+    let m = c.args.moving in
+    record { value = no_place snd k m (not_false _ c.if-not-transport.false) (sym c.is_on.ensures ∙ c.if-not-is_on.true); contiguous = λ e. absurd (false≢true e) }
 
 pub has_room-requires : goal.has_room-requires
 has_room-requires c =
-    let st = c.before.before.before.before.before.before.before.before in
-    let snd = st.args.sound.now in
-    let k = st.args.track in
-    let m = st.args.moving in
-    on_of snd k (first_index m) st.requires.inside_sound (sym c.is_on.ensures ∙ c.if-not-is_on.false)
+    let snd = c.args.sound.now in
+    let k = c.args.track in
+    let m = c.args.moving in
+    on_of snd k (first_index m) c.requires.inside_sound (sym c.is_on.ensures ∙ c.if-not-is_on.false)
 
 pub returns-then-not-has_room : goal.returns-then-not-has_room
 returns-then-not-has_room c =
-    let st = c.before.before.before.before.before.before.before.before.before.before in
-    let snd = st.args.sound.now in
-    let k = st.args.track in
-    let m = st.args.moving in
-    (no_room snd k m (c.if-not-transport.false) (sym c.is_on.ensures ∙ c.if-not-is_on.false) (sym c.has_room.ensures ∙ c.if-not-has_room.true), λ e. absurd (false≢true e))
+    let snd = c.args.sound.now in
+    let k = c.args.track in
+    let m = c.args.moving in
+    record { value = no_room snd k m (not_false _ c.if-not-transport.false) (sym c.is_on.ensures ∙ c.if-not-is_on.false) (sym c.has_room.ensures ∙ c.if-not-has_room.true); contiguous = λ e. absurd (false≢true e) }
 
 pub contiguous_at-there-requires : goal.contiguous_at-there-requires
 contiguous_at-there-requires c =
-    let st = c.before.before.before.before.before.before.before.before.before.before in
-    let snd = st.args.sound.now in
-    let k = st.args.track in
-    let m = st.args.moving in
-    (st.requires.inside_sound, on_of snd k (first_index m) st.requires.inside_sound (sym c.is_on.ensures ∙ c.if-not-is_on.false))
+    let snd = c.args.sound.now in
+    let k = c.args.track in
+    let m = c.args.moving in
+    record { inside_sound = c.requires.inside_sound; on = on_of snd k (first_index m) c.requires.inside_sound (sym c.is_on.ensures ∙ c.if-not-is_on.false) }
 
 pub is_same_window-requires : goal.is_same_window-requires
 is_same_window-requires c =
@@ -64,24 +59,19 @@ is_same_window-requires c =
 
 pub returns : goal.returns
 returns c =
-    let st = c.before.before.before.before.before.before.before.before.before.before.before.before.before.before.before.before in
-    let snd = st.args.sound.now in
-    let k = st.args.track in
-    let m = st.args.moving in
-    let e5 = c.before.before.before.before.before.before in
+    let snd = c.args.sound.now in
+    let k = c.args.track in
+    let m = c.args.moving in
     let there = c.contiguous_at-there.ensures in
-    let playing = not_false _ e5.if-not-transport.false in
-    let placed = sym e5.is_on.ensures ∙ not_false _ e5.if-not-is_on.false in
-    let room = sym e5.has_room.ensures ∙ not_false _ e5.if-not-has_room.false in
+    let playing = not_false _ c.if-not-transport.false in
+    let placed = sym c.is_on.ensures ∙ c.if-not-is_on.false in
+    let room = sym c.has_room.ensures ∙ c.if-not-has_room.false in
     let at = ap (λ (m : Moving). m.transport.position) there in
     let win = ap (λ (m : Moving). m.resampler) there in
     let t₁ = eqb m.transport.position c.contiguous_at-there.result.transport.position in
-    record { value = (let t₂ = c.is_same_window.result in (
-      ap₂ (λ (x : ℕ) (y : Bool). eqb m.transport.position x && y) at (c.is_same_window.ensures.value ∙ ap (same_window m.resampler) win) ∙ the_rest snd k m playing placed room,
-      λ t.
-          contiguous snd k m playing (on_of snd k (first_index m) st.requires.inside_sound placed) room (eqb-true m.transport.position _ (first_of t₁ t₂ t) ∙ at) (c.is_same_window.ensures.a_value (second_of t₁ t₂ t) ∙ win),
-    )).0; contiguous = (let t₂ = c.is_same_window.result in (
-      ap₂ (λ (x : ℕ) (y : Bool). eqb m.transport.position x && y) at (c.is_same_window.ensures.value ∙ ap (same_window m.resampler) win) ∙ the_rest snd k m playing placed room,
-      λ t.
-          contiguous snd k m playing (on_of snd k (first_index m) st.requires.inside_sound placed) room (eqb-true m.transport.position _ (first_of t₁ t₂ t) ∙ at) (c.is_same_window.ensures.a_value (second_of t₁ t₂ t) ∙ win),
-    )).1 }
+    let t₂ = c.is_same_window.result in
+    record {
+      value = ap₂ (λ (x : ℕ) (y : Bool). eqb m.transport.position x && y) at (c.is_same_window.ensures.value ∙ ap (same_window m.resampler) win) ∙ the_rest snd k m playing placed room;
+      contiguous = λ t.
+          contiguous snd k m playing (on_of snd k (first_index m) c.requires.inside_sound placed) room (eqb-true m.transport.position _ (first_of t₁ t₂ t) ∙ at) (c.is_same_window.ensures.a_value (second_of t₁ t₂ t) ∙ win);
+    }

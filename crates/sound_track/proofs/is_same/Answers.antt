@@ -17,7 +17,10 @@ float_to_bits-result-then-a-b c = (eq_number _ _ c.if-a-b.true).1
 pub returns-then-a-b : goal.returns-then-a-b
 returns-then-a-b c =
     let a = c.args in
-    (ap (λ (t : Bool). cond t (eqb (to_bits binary32 a.a) (to_bits binary32 a.b)) false) (sym c.if-a-b.true), λ e. same_bits _ _ (subst T (sym c.well_formed.0.1) tt) (subst T (sym c.well_formed.1.0.1) tt) e)
+    record {
+      value = ap (λ (t : Bool). cond t (eqb (to_bits binary32 a.a) (to_bits binary32 a.b)) false) (sym c.if-a-b.true);
+      a_value = λ e. same_bits _ _ (subst T (sym c.well_formed.0.1) tt) (subst T (sym c.well_formed.1.0.1) tt) e;
+    }
 
 pub returns : goal.returns
 returns c =

@@ -16,14 +16,10 @@ returns c =
     let a = c.args in
     let i = eqb a.a.frame_index a.b.frame_index in
     let x = c.is_same.result in
-    record { value = (let y = c.is_same-2.result in (
-      ap₂ (λ (x y : Bool). i && x && y) c.is_same.ensures.value c.is_same-2.ensures.value,
-      λ t.
+    let y = c.is_same-2.result in
+    record {
+      value = ap₂ (λ (x y : Bool). i && x && y) c.is_same.ensures.value c.is_same-2.ensures.value;
+      a_value = λ t.
           same_entry_lem a.a a.b (eqb-true a.a.frame_index a.b.frame_index (first_of i x (first_of (i && x) y t))) (c.is_same.ensures.a_value (second_of i x (first_of (i && x) y t)))
-          (c.is_same-2.ensures.a_value (second_of (i && x) y t)),
-    )).0; a_value = (let y = c.is_same-2.result in (
-      ap₂ (λ (x y : Bool). i && x && y) c.is_same.ensures.value c.is_same-2.ensures.value,
-      λ t.
-          same_entry_lem a.a a.b (eqb-true a.a.frame_index a.b.frame_index (first_of i x (first_of (i && x) y t))) (c.is_same.ensures.a_value (second_of i x (first_of (i && x) y t)))
-          (c.is_same-2.ensures.a_value (second_of (i && x) y t)),
-    )).1 }
+          (c.is_same-2.ensures.a_value (second_of (i && x) y t));
+    }

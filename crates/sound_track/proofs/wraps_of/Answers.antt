@@ -14,9 +14,8 @@ one-and x = omega arith
 
 pub returns-then-track-n : goal.returns-then-track-n
 returns-then-track-n c =
-    let st = c.before.before.before.before in
-    let a = st.args in
-    sym (back_on a.n a.track a.at st.requires.on c.if-track.true c.if-track-n.true).1
+    let a = c.args in
+    sym (back_on a.n a.track a.at c.requires.on c.if-track.true c.if-track-n.true).1
 
 pub overflow_add-result-then-track : goal.overflow_add-result-then-track
 overflow_add-result-then-track c =
@@ -26,15 +25,13 @@ overflow_add-result-then-track c =
 
 pub returns-then-track : goal.returns-then-track
 returns-then-track c =
-    let st = c.before.before.before.before.before in
-    let a = st.args in
-    sym ((back_over a.n a.track a.at st.requires.on c.if-track.true (omega arith)).1 ∙ one-and _)
+    let a = c.args in
+    sym ((back_over a.n a.track a.at c.requires.on c.if-track.true (omega arith)).1 ∙ one-and _)
 
 pub returns-then-at-n : goal.returns-then-at-n
 returns-then-at-n c =
-    let st = c.before.before.before.before in
-    let a = st.args in
-    sym (forth_on a.n a.track a.at st.requires.on c.if-track.false c.if-at-n.true).1
+    let a = c.args in
+    sym (forth_on a.n a.track a.at c.requires.on c.if-track.false c.if-at-n.true).1
 
 pub overflow_add-result-3 : goal.overflow_add-result-3
 overflow_add-result-3 c =
@@ -44,6 +41,5 @@ overflow_add-result-3 c =
 
 pub returns : goal.returns
 returns c =
-    let st = c.before.before.before.before.before in
-    let a = st.args in
-    sym ((forth_over a.n a.track a.at st.requires.on c.if-track.false (omega arith)).1 ∙ one-and _)
+    let a = c.args in
+    sym ((forth_over a.n a.track a.at c.requires.on c.if-track.false (omega arith)).1 ∙ one-and _)
