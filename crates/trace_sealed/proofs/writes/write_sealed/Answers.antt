@@ -31,7 +31,7 @@ returns-then-lanes-w c =
     let e = l.before in
     let f = e.before in
     let a = f.args in
-    let y = sym (not_false _ e.if-not-fits.false) ∙ f.fits2.ensures in
+    let y = sym e.if-not-fits.false ∙ f.fits2.ensures in
     not_whole a.buf.now a.at a.kind a.values a.lanes.now y l.lane_bytes-w.result l.lane_bytes-w.ensures c.if-lanes-w.true
 
 pub overflow_add-n : goal.overflow_add-n
@@ -40,7 +40,7 @@ overflow_add-n c =
     let e = l.before in
     let f = e.before in
     let a = f.args in
-    let y = sym (not_false _ e.if-not-fits.false) ∙ f.fits2.ensures in
+    let y = sym e.if-not-fits.false ∙ f.fits2.ensures in
     record { fits = omega (arith, few a.buf.now a.at a.kind a.values a.lanes.now y l.lane_bytes-w.result l.lane_bytes-w.ensures c.if-lanes-w.false c.fields_length.result c.fields_length.ensures) }
 
 pub overflow_add-n-2 : goal.overflow_add-n-2
@@ -49,7 +49,7 @@ overflow_add-n-2 c =
     let e = l.before in
     let f = e.before in
     let a = f.args in
-    let y = sym (not_false _ e.if-not-fits.false) ∙ f.fits2.ensures in
+    let y = sym e.if-not-fits.false ∙ f.fits2.ensures in
     record { fits = omega (arith, few a.buf.now a.at a.kind a.values a.lanes.now y l.lane_bytes-w.result l.lane_bytes-w.ensures c.if-lanes-w.false c.fields_length.result c.fields_length.ensures) }
 
 pub returns-then-buf-at : goal.returns-then-buf-at
@@ -59,7 +59,7 @@ returns-then-buf-at c =
     let e = l.before in
     let f = e.before in
     let a = f.args in
-    let y = sym (not_false _ e.if-not-fits.false) ∙ f.fits2.ensures in
+    let y = sym e.if-not-fits.false ∙ f.fits2.ensures in
     no_room a.buf.now a.at a.kind a.values a.lanes.now y l.lane_bytes-w.result l.lane_bytes-w.ensures n.if-lanes-w.false n.fields_length.result n.fields_length.ensures (omega (arith, c.if-buf-at.true))
 
 pub overflow_add-n-3 : goal.overflow_add-n-3
@@ -69,7 +69,7 @@ overflow_add-n-3 c =
     let e = l.before in
     let f = e.before in
     let a = f.args in
-    let y = sym (not_false _ e.if-not-fits.false) ∙ f.fits2.ensures in
+    let y = sym e.if-not-fits.false ∙ f.fits2.ensures in
     record { fits = omega (arith, few a.buf.now a.at a.kind a.values a.lanes.now y l.lane_bytes-w.result l.lane_bytes-w.ensures n.if-lanes-w.false n.fields_length.result n.fields_length.ensures) }
 
 pub returns-then-buf-at-2 : goal.returns-then-buf-at-2
@@ -79,7 +79,7 @@ returns-then-buf-at-2 c =
     let e = l.before in
     let f = e.before in
     let a = f.args in
-    let y = sym (not_false _ e.if-not-fits.false) ∙ f.fits2.ensures in
+    let y = sym e.if-not-fits.false ∙ f.fits2.ensures in
     no_room a.buf.now a.at a.kind a.values a.lanes.now y l.lane_bytes-w.result l.lane_bytes-w.ensures n.if-lanes-w.false n.fields_length.result n.fields_length.ensures c.if-buf-at-2.true
 
 pub returns : goal.returns
@@ -91,5 +91,5 @@ returns c =
     let e = l.before in
     let f = e.before in
     let a = f.args in
-    let y = sym (not_false _ e.if-not-fits.false) ∙ f.fits2.ensures in
+    let y = sym e.if-not-fits.false ∙ f.fits2.ensures in
     written a.buf.now a.at a.kind a.values a.lanes.now y l.lane_bytes-w.result l.lane_bytes-w.ensures n.if-lanes-w.false n.fields_length.result n.fields_length.ensures t.if-buf-at-2.false t.if-buf-at.false s.seal-next.new.0 s.seal-next.result s.seal-next.ensures.0 s.seal-next.ensures.1
