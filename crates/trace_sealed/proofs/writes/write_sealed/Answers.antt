@@ -92,4 +92,4 @@ returns c =
     let f = e.before in
     let a = f.args in
     let y = sym e.if-not-fits.false ∙ f.fits2.ensures in
-    written a.buf.now a.at a.kind a.values a.lanes.now y l.lane_bytes-w.result l.lane_bytes-w.ensures n.if-lanes-w.false n.fields_length.result n.fields_length.ensures t.if-buf-at-2.false t.if-buf-at.false s.seal-next.new.0 s.seal-next.result s.seal-next.ensures.0 s.seal-next.ensures.1
+    written a.buf.now a.at a.kind a.values a.lanes.now y l.lane_bytes-w.result l.lane_bytes-w.ensures n.if-lanes-w.false n.fields_length.result n.fields_length.ensures t.if-buf-at-2.false t.if-buf-at.false s.seal-next.new.buf s.seal-next.result s.seal-next.ensures.0 s.seal-next.ensures.1
