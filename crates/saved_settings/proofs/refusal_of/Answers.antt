@@ -1,7 +1,6 @@
 -- `saved_settings::refusal_of` meets its contract. Assumes nothing.
 use Rattle.std.proofs.Common.{ℕ, ◌<◌, ◌≤◌, sym, ◌∙◌, subst, rules, le-ltb, lt-ltb, eq-eqb, ne_eqb, le-leb}
 use borrow.Author.Tests.{lt-leb}
-use borrow.Author.Tests.{not_true, not_false}
 use Rattle.saved_settings.proofs.Stores.{no_room, enough}
 use Rattle.saved_settings.proofs.refusal_of.Reads as reads
 use Rattle.saved_settings.proofs.refusal_of.Lts as lts

@@ -1,7 +1,6 @@
 -- `trace_sealed::read_sealed` meets its contract: each return is one of the ways of proofs/Ways.antt. Assumes nothing.
 use mathlib.Core.Path.{◌≡◌, refl, sym, ap, ◌∙◌}
 use native.Mathlib.Omega.{arith}
-use borrow.Author.Tests.{not_true, not_false}
 use Rattle.trace_sealed.proofs.Ways.{some, no_head, no_length, no_fields, fields_read, closes}
 use borrow.Author.Rules.{rules}
 use Rattle.trace_sealed.proofs.read_sealed.Reads as reads
