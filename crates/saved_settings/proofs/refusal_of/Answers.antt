@@ -15,10 +15,10 @@ pub returns-then-room-size_of : goal.returns-then-room-size_of
 returns-then-room-size_of c =
     let e = c.before.before in
     let a = e.args in
-    no_room a.version a.s a.room (sym e.is_storable.ensures ∙ e.if-not-is_storable.false) (subst (λ (n : ℕ). a.room < n) c.type_size.ensures c.if-room-size_of.true)
+    no_room a.version a.s a.room (sym e.is_storable.ensures ∙ e.if-not-is_storable.false) (subst (λ (n : ℕ). a.room < n) c.size_of.ensures c.if-room-size_of.true)
 
 pub returns-else-room-size_of : goal.returns-else-room-size_of
 returns-else-room-size_of c =
     let e = c.before.before in
     let a = e.args in
-    enough a.version a.s a.room (sym e.is_storable.ensures ∙ e.if-not-is_storable.false) (subst (λ (n : ℕ). n ≤ a.room) c.type_size.ensures c.if-room-size_of.false)
+    enough a.version a.s a.room (sym e.is_storable.ensures ∙ e.if-not-is_storable.false) (subst (λ (n : ℕ). n ≤ a.room) c.size_of.ensures c.if-room-size_of.false)
