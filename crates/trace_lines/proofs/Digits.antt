@@ -5,7 +5,7 @@ use native.Mathlib.Omega.{arith}
 use native.Mathlib.Nat.{pow-succ', mod-add-div}
 use native.Mathlib.Numerals.{add-one}
 use mathlib.Core.List.{List, [], ◌∷◌, ◌++◌}
-use lib.ListN.{length, get_or, take, drop, set, length-set, length-drop, length_append}
+use lib.ListN.{length, get_or, take, drop, set, length-set, length-drop, length-append}
 use lib.Seq.{drop-cons, drop-set-lt, get_or-set_same, take_all, sets}
 use borrow.Author.Tests.{lt-ltb, le-ltb}
 use Rattle.byte_layout.proofs.Puts.{sets_append}
@@ -50,7 +50,7 @@ part i d t h e = take_all (20 - i) (drop i d) (omega (arith, length-drop i d)) �
 -- a word, then its number
 pub then : (l new end word ds : List ℕ) (at a b : ℕ) → new ≡ sets l at word → a ≡ at + length word → end ≡ sets new a ds → b ≡ a + length ds → (end ≡ sets l at (word ++ ds)) × (b ≡ at + length (word ++ ds))
 then l new end word ds at a b p q r s =
-    (r ∙ ap (λ (z : ℕ). sets new z ds) q ∙ ap (λ (z : List ℕ). sets z (at + length word) ds) p ∙ sym (sets_append l at word ds), omega (arith, s, q, length_append word ds))
+    (r ∙ ap (λ (z : ℕ). sets new z ds) q ∙ ap (λ (z : List ℕ). sets z (at + length word) ds) p ∙ sym (sets_append l at word ds), omega (arith, s, q, length-append word ds))
 
 pub part_short : (i : ℕ) (d : List ℕ) → length d ≡ 20 → length (take (20 - i) (drop i d)) ≤ 20
 part_short i d h = omega (arith, length-drop i d, ap length (part i d (drop i d) h refl))

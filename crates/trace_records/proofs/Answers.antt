@@ -5,7 +5,7 @@ use native.Mathlib.Omega.{arith}
 use mathlib.Core.Bool.{Bool, true, false, cond}
 use mathlib.Core.List.{List, [], ◌∷◌, ◌++◌, append_assoc}
 use lib.Dec.{leb, eqb}
-use lib.ListN.{length, take, drop, replicate, length_append, length-drop}
+use lib.ListN.{length, take, drop, replicate, length-append, length-drop}
 use lib.Seq.{take_at, drop_at, length-take-le}
 use Rattle.byte_layout.specs.declared.Row.{Row}
 use Rattle.byte_layout.specs.Rows.{rows, stands}
@@ -71,7 +71,7 @@ answer_written bs at buf to s z = go (read_record (drop at bs)) refl z
     go (found k ws rest) e q =
         let w = written_record (drop at bs) k ws rest (small_drop at bs s) e in
         let r = record_of k ws in
-        let l : length (drop at bs) ≡ length r + length rest = ap length w.same ∙ length_append r rest in
+        let l : length (drop at bs) ≡ length r + length rest = ap length w.same ∙ length-append r rest in
         let n : length bs - length rest - at ≡ length r = omega (arith, l, length-drop at bs, record_some k ws) in
         let v : take (fields k) (ws ++ replicate (80 - length ws) 0) ≡ ws = take_at ws (replicate (80 - length ws) 0) (fields k) (numbers_long k ws w.takes) in
         let b : take (length r) (drop at bs) ≡ r = ap (take (length r)) w.same ∙ take_at r rest (length r) refl in

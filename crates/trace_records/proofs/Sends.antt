@@ -5,7 +5,7 @@ use native.Mathlib.Omega.{arith}
 use mathlib.Core.Bool.{Bool, true, false, cond}
 use mathlib.Core.List.{List, [], ◌∷◌, ◌++◌}
 use lib.Dec.{eqb, leb}
-use lib.ListN.{length, get_or, take, drop, length_append}
+use lib.ListN.{length, get_or, take, drop, length-append}
 use lib.Seq.{sets, sets-eq}
 use borrow.Author.Tests.{le-leb, lt-leb, eq-eqb, ne_eqb}
 use Rattle.byte_layout.specs.declared.Row.{Row}
@@ -52,7 +52,7 @@ module _ (buf : List ℕ) (at k : ℕ) (ws : List ℕ) where
 
       size : length (record_of k ws) ≡ 5 + n
       unfolding record_of
-      size = length_append (payload head_rows [] (head_of k (length (payload (body k) [] ws)))) (payload (body k) [] ws) ∙ omega (arith, head_length k (length (payload (body k) [] ws)), e)
+      size = length-append (payload head_rows [] (head_of k (length (payload (body k) [] ws)))) (payload (body k) [] ws) ∙ omega (arith, head_length k (length (payload (body k) [] ws)), e)
 
       pub no_room : length buf - at < 5 + n → sent 19 at buf ≡ write_record buf at k ws
       unfolding write_record

@@ -5,7 +5,7 @@ use native.Mathlib.Omega.{arith}
 use mathlib.Core.Bool.{Bool, true, false, ◌&&◌, cond}
 use mathlib.Core.List.{List, [], ◌∷◌, ◌++◌, append_assoc, append-nil}
 use lib.Dec.{leb, eqb}
-use lib.ListN.{length, take, drop, length_append, take-append-drop, length-drop}
+use lib.ListN.{length, take, drop, length-append, take-append-drop, length-drop}
 use lib.Seq.{take_at, drop_at, drop-drop, length-take-le}
 use borrow.Author.Tests.{leb-true, eqb-true}
 use Rattle.byte_layout.specs.Writes.{payload, fine}
@@ -26,7 +26,7 @@ entry k ws = record { kind = k; numbers = ws }
 
 pub record_some : (k : ℕ) (ws : List ℕ) → 5 ≤ length (record_of k ws)
 unfolding record_of
-record_some k ws = let p = payload (body k) [] ws in omega (arith, length_append (payload head_rows [] (head_of k (length p))) p, head_length k (length p))
+record_some k ws = let p = payload (body k) [] ws in omega (arith, length-append (payload head_rows [] (head_of k (length p))) p, head_length k (length p))
 
 -- ---- by any reader
 
@@ -49,7 +49,7 @@ module _ (read : List ℕ → Found) where
   unfolding read_all_by onward
   one_first k ws [] rest f h = none (omega arith)
   one_first k ws (b ∷ r) rest f h =
-      let n : length (r ++ rest) - length rest ≡ length r = omega (arith, length_append r rest) in
+      let n : length (r ++ rest) - length rest ≡ length r = omega (arith, length-append r rest) in
       rw (f, n) (ap (and_then (entry k ws)) (passed r rest))
 
   pub by_refused : (b : ℕ) (bs : List ℕ) (n : ℕ) → read (b ∷ bs) ≡ refused n → read_all_by read 0 (b ∷ bs) ≡ broken n
@@ -103,7 +103,7 @@ one_again n (b ∷ bs) h ih s w = go (read_record (b ∷ bs)) refl
     go (found k ws rest) e =
         let x = written_record (b ∷ bs) k ws rest s e in
         let q = read_found (b ∷ bs) k ws rest s e in
-        let l : length (b ∷ bs) ≡ length (record_of k ws) + length rest = ap length x.same ∙ length_append (record_of k ws) rest in
+        let l : length (b ∷ bs) ≡ length (record_of k ws) + length rest = ap length x.same ∙ length-append (record_of k ws) rest in
         let i = ih rest (omega (arith, l, record_some k ws)) (small_after (record_of k ws) rest (rw x.same at s)) (sym (ap is_whole q) ∙ w) in
         x.same ∙ ap (λ (z : List ℕ). record_of k ws ++ z) i ∙ sym (ap (λ (z : Story). trace_of (entries z)) q)
 
@@ -156,11 +156,11 @@ put_put buf at p q h =
     let a = take at buf in
     let n = at + length p in
     let d = drop n buf in
-    let l : length (a ++ p) ≡ n = length_append a p ∙ ap (λ (z : ℕ). z + length p) (length-take-le at buf (omega arith)) in
+    let l : length (a ++ p) ≡ n = length-append a p ∙ ap (λ (z : ℕ). z + length p) (length-take-le at buf (omega arith)) in
     let f : take n ((a ++ p) ++ d) ≡ a ++ p = take_at (a ++ p) d n l in
     let g : drop (n + length q) ((a ++ p) ++ d) ≡ drop (n + length q) buf =
     sym (drop-drop (length q) n ((a ++ p) ++ d)) ∙ ap (drop (length q)) (drop_at (a ++ p) d n l) ∙ drop-drop (length q) n buf in
-    let m : n + length q ≡ at + length (p ++ q) = omega (arith, length_append p q) in
+    let m : n + length q ≡ at + length (p ++ q) = omega (arith, length-append p q) in
     ap (λ (z : List ℕ). (z ++ q) ++ drop (n + length q) ((a ++ p) ++ d)) f
     ∙ ap (λ (z : List ℕ). ((a ++ p) ++ q) ++ z) g
     ∙ ap (λ (z : List ℕ). z ++ drop (n + length q) buf) (append_assoc a p q)
@@ -170,7 +170,7 @@ pub put_length : (buf : List ℕ) (at : ℕ) (p : List ℕ) → at + length p �
 put_length buf at p h =
     let a = take at buf in
     let d = drop (at + length p) buf in
-    length_append (a ++ p) d ∙ omega (arith, length_append a p, length-take-le at buf (omega arith), length-drop (at + length p) buf)
+    length-append (a ++ p) d ∙ omega (arith, length-append a p, length-take-le at buf (omega arith), length-drop (at + length p) buf)
 
 record All (buf : List ℕ) (at : ℕ) (es : List Entry) (w : Written) : Type 0 where
   takes : takes_all es ≡ true
@@ -200,8 +200,8 @@ written_all buf at (e ∷ es) z = go (eqb w.number 0) refl z (λ b a y. written_
         let l : length w.buffer ≡ length buf = ap length o.buffer ∙ put_length buf at r o.room in
         record {
           takes = rw o.takes i.takes;
-          room = omega (arith, i.room, l, o.next, o.room, length_append r t);
-          next = i.next ∙ omega (arith, o.next, length_append r t);
+          room = omega (arith, i.room, l, o.next, o.room, length-append r t);
+          next = i.next ∙ omega (arith, o.next, length-append r t);
           buffer = i.buffer ∙ ap (λ (l : List ℕ). put l w.next t) o.buffer ∙ ap (λ (k : ℕ). put (put buf at r) k t) o.next ∙ put_put buf at r t o.room;
         }
     go false q f ih = never (sym q ∙ ap (λ (k : ℕ). eqb k 0) f)
@@ -214,7 +214,7 @@ some_appended buf at es w h i =
     let n = at + length x in
     let d = drop n buf in
     let l : length a ≡ at = length-take-le at buf h in
-    let m : length (a ++ x) ≡ n = length_append a x ∙ ap (λ (z : ℕ). z + length x) l in
+    let m : length (a ++ x) ≡ n = length-append a x ∙ ap (λ (z : ℕ). z + length x) l in
     let s : (a ++ x) ++ d ≡ a ++ (x ++ d) = append_assoc a x d in
     let y : n - at ≡ length x = omega arith in
     let t : take (n - at) (drop at ((a ++ x) ++ d)) ≡ x = ap (λ (z : List ℕ). take (n - at) (drop at z)) s ∙ ap (take (n - at)) (drop_at a (x ++ d) at l) ∙ ap (λ (z : ℕ). take z (x ++ d)) y ∙ take_at x d (length x) refl in
@@ -226,4 +226,4 @@ unfolding write_all trace_of takes_all
 appended buf at [] z = let y : at - at ≡ 0 = omega arith in record { before = refl; behind = refl; trace = rw y (read_trace [] refl) }
 appended buf at (e ∷ es) z =
     let i = written_all buf at (e ∷ es) z in
-    some_appended buf at (e ∷ es) (write_all buf at (e ∷ es)) (omega (arith, i.room, length_append (record_of e.kind e.numbers) (trace_of es), record_some e.kind e.numbers)) i
+    some_appended buf at (e ∷ es) (write_all buf at (e ∷ es)) (omega (arith, i.room, length-append (record_of e.kind e.numbers) (trace_of es), record_some e.kind e.numbers)) i

@@ -6,7 +6,7 @@ use native.Mathlib.Omega.{arith}
 use mathlib.Core.Bool.{Bool, true, false, ◌&&◌, cond}
 use mathlib.Core.List.{List, [], ◌∷◌, ◌++◌, append-nil}
 use lib.Dec.{leb, eqb}
-use lib.ListN.{length, get_or, take, drop, length_append, length-drop, take-append-drop, replicate}
+use lib.ListN.{length, get_or, take, drop, length-append, length-drop, take-append-drop, replicate}
 use lib.Seq.{length-take-le}
 use borrow.Author.Tests.{le-leb, leb-true, leb-false}
 use Rattle.byte_layout.specs.declared.Row.{Row}
@@ -66,11 +66,11 @@ one_row r d left vs win m h = go (stands r vs)
     room true e =
         let p = leb-true w left e in
         let a : w ≤ length win = omega arith in
-        let b : w ≤ length (win ++ m) = omega (arith, length_append win m) in
+        let b : w ≤ length (win ++ m) = omega (arith, length-append win m) in
         rw (le-leb w (length win) a, le-leb w (length (win ++ m)) b, take_front w win m a, drop_front w win m a) (fits p (within r n))
     room false e =
         let a : left ≤ length win = omega arith in
-        let b : left ≤ length (win ++ m) = omega (arith, length_append win m) in
+        let b : left ≤ length (win ++ m) = omega (arith, length-append win m) in
         rw (le-leb left (length win) a, le-leb left (length (win ++ m)) b) (record { equal = refl; holds = refusal 17 })
 
     go : (b : Bool) → Same d m (cond b (taken r left vs (win ++ m)) (good left (vs ++ (0 ∷ [])) (win ++ m))) (cond b (taken r left vs win) (good left (vs ++ (0 ∷ [])) win))
@@ -137,7 +137,7 @@ read_same win m h =
 valued_same : (len end at : ℕ) (m : List ℕ) (d : Found) → len ≡ end + length m → valued len at (beyond m d) ≡ valued end at d
 unfolding valued beyond
 valued_same len end at m (refused n) e = refl
-valued_same len end at m (found k ws rest) e = let q : len - length (rest ++ m) ≡ end - length rest = omega (arith, length_append rest m) in rw q refl
+valued_same len end at m (found k ws rest) e = let q : len - length (rest ++ m) ≡ end - length rest = omega (arith, length-append rest m) in rw q refl
 
 pub window : (bs : List ℕ) (at end : ℕ) → at + 575 ≤ end → record_at (take end bs) at ≡ record_at bs at
 unfolding record_at

@@ -3,7 +3,7 @@ use mathlib.Core.Path.{◌≡◌, refl, sym, ap, ◌∙◌}
 use Prim.Native.Nat.{ℕ, zero, suc, ◌+◌, ◌-◌, ◌*◌, ◌≤◌, ◌<◌}
 use native.Mathlib.Omega.{arith}
 use mathlib.Core.List.{List, [], ◌∷◌, ◌++◌}
-use lib.ListN.{length, take, drop, replicate, length-replicate, length_append}
+use lib.ListN.{length, take, drop, replicate, length-replicate, length-append}
 use lib.Seq.{sets, sets-eq, take_at, length-sets, length-take-le}
 
 none : {A : Type 0} → ⊥ → A

@@ -5,7 +5,7 @@ use native.Mathlib.Omega.{arith}
 use mathlib.Core.Bool.{Bool, true, false, ◌&&◌, cond}
 use mathlib.Core.List.{List, [], ◌∷◌, ◌++◌, append_assoc}
 use lib.Dec.{eqb, ltb, leb}
-use lib.ListN.{length, get_or, take, drop, set, length_append, length-drop, drop_of_length-le}
+use lib.ListN.{length, get_or, take, drop, set, length-append, length-drop, drop_of_length-le}
 use native.Mathlib.Numerals.{add-one}
 use lib.Seq.{take_at, drop_at, drop-cons, drop-drop, sets, length-sets, length-take-le}
 use Rattle.byte_layout.proofs.Puts.{sets_append}

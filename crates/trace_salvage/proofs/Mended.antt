@@ -5,7 +5,7 @@ use native.Mathlib.Omega.{arith}
 use mathlib.Core.Bool.{Bool, true, false, cond}
 use mathlib.Core.List.{List, [], ◌∷◌, ◌++◌, append_assoc}
 use lib.Dec.{eqb}
-use lib.ListN.{length, take, drop, length_append, length-drop}
+use lib.ListN.{length, take, drop, length-append, length-drop}
 use lib.Seq.{take_at, drop_at}
 use Rattle.byte_layout.proofs.Numbers.{Small, small_drop}
 use Rattle.byte_layout.proofs.Codec.{never}
@@ -45,7 +45,7 @@ record One (v k : ℕ) (ws r : List ℕ) : Type 0 where
 
 size_record : (v k : ℕ) (ws r rest : List ℕ) → One v k ws r → size_by v (r ++ rest) ≡ length r
 unfolding size_by size_in
-size_record v k ws r rest o = rw (o.reads rest) (omega (arith, length_append r rest))
+size_record v k ws r rest o = rw (o.reads rest) (omega (arith, length-append r rest))
 
 -- it is kept
 record Took (v at : ℕ) (r rest : List ℕ) : Type 0 where
@@ -59,7 +59,7 @@ took v at k ws r rest o =
     let size = size_by v in
     let bs = r ++ rest in
     let n : size bs ≡ length r = size_record v k ws r rest o in
-    let t = turn_keep size at bs (omega (arith, n, o.some)) (omega (arith, n, length_append r rest)) in
+    let t = turn_keep size at bs (omega (arith, n, o.some)) (omega (arith, n, length-append r rest)) in
     let x : take (size bs) bs ≡ r = ap (λ (z : ℕ). take z bs) n ∙ take_at r rest (length r) refl in
     let d : drop (size bs) bs ≡ rest = ap (λ (z : ℕ). drop z bs) n ∙ drop_at r rest (length r) refl in
     record {
@@ -90,7 +90,7 @@ module _ (v : ℕ) (P : List ℕ → Type 0) (t : Turns v P) where
       go (whole k ws rest x) =
           let r = x.front in
           let o : One v k ws r = record { some = x.some; reads = x.reads } in
-          let l : suc (length bs) ≡ length r + length rest = ap length x.same ∙ length_append r rest in
+          let l : suc (length bs) ≡ length r + length rest = ap length x.same ∙ length-append r rest in
           rw x.same (t.keep k ws r rest o (took v 0 k ws r rest o) (ih rest (omega (arith, l, x.some)) (small_after r rest (rw x.same at s))))
 
   no_bytes : (bs : List ℕ) → length bs ≤ 0 → P bs
@@ -175,7 +175,7 @@ same_turns v =
       skip = λ b bs n e k i w. never (sym (ap is_whole (by_refused (read_by v) b bs n e)) ∙ w);
       keep = λ k ws r rest o t i w.
           let j = i (sym (ap is_whole (read_one v k ws r rest o)) ∙ w) in
-          record { bytes = t.bytes ∙ ap (λ (z : List ℕ). r ++ z) j.bytes; none = t.skips ∙ j.none; place = omega (arith, moved v r rest t.place, j.place, length_append r rest) };
+          record { bytes = t.bytes ∙ ap (λ (z : List ℕ). r ++ z) j.bytes; none = t.skips ∙ j.none; place = omega (arith, moved v r rest t.place, j.place, length-append r rest) };
     }
 
 pub whole_kept : (v : ℕ) (bs : List ℕ) → Small bs → Undamaged v bs

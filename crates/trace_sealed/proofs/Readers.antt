@@ -5,7 +5,7 @@ use native.Mathlib.Omega.{arith}
 use mathlib.Core.Bool.{Bool, true, false, ◌&&◌, cond}
 use mathlib.Core.List.{List, [], ◌∷◌, ◌++◌}
 use lib.Dec.{leb, eqb}
-use lib.ListN.{length, get_or, drop, length_append}
+use lib.ListN.{length, get_or, drop, length-append}
 use borrow.Author.Tests.{leb-true, le-leb, lt-leb}
 use Rattle.byte_layout.specs.Numbers.{num, bytes}
 use Rattle.byte_layout.specs.Rows.{row_at, rows, stands, within}
@@ -58,7 +58,7 @@ unfolding sealed_of unsealed
 sealed_some k vs lanes =
     let b = body_of k vs lanes in
     let h = payload head_rows [] (head_of k (length b + 4)) in
-    omega (arith, length_append (h ++ b) (bytes 4 (checksum_of (drop 2 (h ++ b)))), length_append h b, head_length k (length b + 4))
+    omega (arith, length-append (h ++ b) (bytes 4 (checksum_of (drop 2 (h ++ b)))), length-append h b, head_length k (length b + 4))
 
 old_kind : (k : ℕ) (ws rest : List ℕ) → known k ≡ true → Old (record_of k ws ++ rest)
 old_kind k ws rest e =

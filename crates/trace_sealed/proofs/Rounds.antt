@@ -6,7 +6,7 @@ use native.Mathlib.Nat.{add-mul-mod_self_left}
 use mathlib.Core.Bool.{Bool, true, false, ◌&&◌, cond}
 use mathlib.Core.List.{List, [], ◌∷◌, ◌++◌, append_assoc}
 use lib.Dec.{leb, eqb, leb-zero}
-use lib.ListN.{length, get_or, take, drop, length_append, length-drop, take-append-drop}
+use lib.ListN.{length, get_or, take, drop, length-append, length-drop, take-append-drop}
 use lib.Seq.{take_at, drop_at, drop-append-le, drop-drop, length-take-le}
 use borrow.Author.Tests.{le-leb, leb-true, eqb-true, eq-eqb}
 use Rattle.byte_layout.specs.declared.Row.{Row}
@@ -132,10 +132,10 @@ read_back k vs lanes rest x = go (payload (field_rows k) [] vs) refl
         let c = bytes 4 sum in
         let y = lanes ++ (c ++ rest) in
         let bs = (u ++ c) ++ rest in
-        let lb : length b ≡ length p + w = length_append p lanes in
+        let lb : length b ≡ length p + w = length-append p lanes in
         let lc : length c ≡ 4 = length_bytes 4 sum in
         let lh : length h ≡ 5 = head_length k n in
-        let lu : length u ≡ 5 + length b = length_append h b ∙ ap (λ (z : ℕ). z + length b) lh in
+        let lu : length u ≡ 5 + length b = length-append h b ∙ ap (λ (z : ℕ). z + length b) lh in
         let pos : possible k n ≡ true = ap (λ (z : ℕ). possible k (z + 4)) lb ∙ (rw q at (body_possible k vs lanes x.takes x.whole)) in
         let all : bs ≡ u ++ (c ++ rest) = append_assoc u c rest in
         let apart-h : bs ≡ h ++ (p ++ y) = all ∙ append_assoc h b (c ++ rest) ∙ ap (λ (z : List ℕ). h ++ z) (append_assoc p lanes (c ++ rest)) in
@@ -151,9 +151,9 @@ read_back k vs lanes rest x = go (payload (field_rows k) [] vs) refl
         let dw : drop w y ≡ c ++ rest = drop_at lanes (c ++ rest) w refl in
         let read : num (take 4 (drop w y)) ≡ checksum_of (take (n - 1) (drop 2 bs)) =
         ap (λ (z : List ℕ). num (take 4 z)) dw ∙ ap num (take_at c rest 4 lc) ∙ num_bytes 4 sum (checksum_low (drop 2 u) small) ∙ ap checksum_of (sym covered) in
-        let ly : length y ≡ w + (4 + length rest) = length_append lanes (c ++ rest) ∙ ap (λ (z : ℕ). w + z) (length_append c rest ∙ ap (λ (z : ℕ). z + length rest) lc) in
+        let ly : length y ≡ w + (4 + length rest) = length-append lanes (c ++ rest) ∙ ap (λ (z : ℕ). w + z) (length-append c rest ∙ ap (λ (z : ℕ). z + length rest) lc) in
         let there : 0 ≡ tail w w (length y) = tail_there w w (length y) (omega arith) (omega arith) refl (omega arith) in
-        let after : drop (w + 4) y ≡ rest = ap (drop (w + 4)) (sym (append_assoc lanes c rest)) ∙ drop_at (lanes ++ c) rest (w + 4) (length_append lanes c ∙ ap (λ (z : ℕ). w + z) lc) in
+        let after : drop (w + 4) y ≡ rest = ap (drop (w + 4)) (sym (append_assoc lanes c rest)) ∙ drop_at (lanes ++ c) rest (w + 4) (length-append lanes c ∙ ap (λ (z : ℕ). w + z) lc) in
         let ended : closed (take (n - 1) (drop 2 bs)) k (good w vs y) ≡ found k (vs ++ lanes) rest =
         closed_found (take (n - 1) (drop 2 bs)) k w vs y w (sym x.whole) there read
         ∙ ap (λ (z : List ℕ). found k (vs ++ z) (drop (w + 4) y)) (take_at lanes (c ++ rest) w refl)
@@ -282,7 +282,7 @@ written_again bs k ws rest s e = go (steps head_rows (good 5 [] bs)) refl e
         let count : n - 4 ≡ length p + w = z.count ∙ ap (λ (q : List ℕ). length (payload (field_rows j) [] q) + w) m in
         let small2 : Small b2 = small_after p b2 (rw from at (small_after (payload head_rows [] hs) b1 (rw a at s))) in
         let ll : length lanes ≡ w = length-take-le w b2 (omega (arith, x.room)) in
-        let lb : length (p ++ lanes) ≡ length p + w = length_append p lanes ∙ ap (λ (q : ℕ). length p + q) ll in
+        let lb : length (p ++ lanes) ≡ length p + w = length-append p lanes ∙ ap (λ (q : ℕ). length p + q) ll in
         let n-is : n ≡ length (p ++ lanes) + 4 = omega (arith, count, lb, some j n o.length_is) in
         let h = payload head_rows [] (head_of j (length (p ++ lanes) + 4)) in
         let hs-is : payload head_rows [] hs ≡ h = ap (payload head_rows []) (f.is ∙ ap (λ (q : ℕ). head_of q (get_or hs 3 0)) (sym ej) ∙ ap (head_of j) (sym en ∙ n-is)) in
@@ -292,7 +292,7 @@ written_again bs k ws rest s e = go (steps head_rows (good 5 [] bs)) refl e
         let u = h ++ (p ++ lanes) in
         let all : bs ≡ u ++ (c ++ rest) =
         a ∙ ap (λ (q : List ℕ). q ++ b1) hs-is ∙ ap (λ (q : List ℕ). h ++ q) (from ∙ ap (λ (q : List ℕ). p ++ q) split2 ∙ sym (append_assoc p lanes (c ++ rest))) ∙ sym (append_assoc h (p ++ lanes) (c ++ rest)) in
-        let lu : length u ≡ 5 + length (p ++ lanes) = length_append h (p ++ lanes) ∙ ap (λ (q : ℕ). q + length (p ++ lanes)) (head_length j (length (p ++ lanes) + 4)) in
+        let lu : length u ≡ 5 + length (p ++ lanes) = length-append h (p ++ lanes) ∙ ap (λ (q : ℕ). q + length (p ++ lanes)) (head_length j (length (p ++ lanes) + 4)) in
         let covered : take (n - 1) (drop 2 bs) ≡ drop 2 u = ap (λ (q : List ℕ). take (n - 1) (drop 2 q)) all ∙ covers u (c ++ rest) (n - 1) (omega (arith, lu, n-is)) in
         let c-is : c ≡ bytes 4 (checksum_of (drop 2 u)) =
         sym (bytes_num 4 (drop w b2) (small_drop w b2 small2) (omega (arith, length-drop w b2, x.room))) ∙ ap (bytes 4) (x.sum ∙ ap checksum_of covered) in

@@ -5,7 +5,7 @@ use native.Mathlib.Omega.{arith}
 use mathlib.Core.Bool.{Bool, true, false, cond}
 use mathlib.Core.List.{List, [], ◌∷◌, ◌++◌, append_assoc}
 use lib.Dec.{eqb, leb}
-use lib.ListN.{length, get_or, take, drop, length_append}
+use lib.ListN.{length, get_or, take, drop, length-append}
 use lib.Seq.{sets, sets-eq, take_all, drop_at, drop-drop, length-take-le, get_or-take}
 use borrow.Author.Tests.{le-leb, lt-leb, eq-eqb, ne_eqb}
 use Rattle.byte_layout.specs.declared.Row.{Row}
@@ -71,12 +71,12 @@ sealing buf at k n vs lanes room e head two three four a b sum p q r s t u v =
     let h = payload head_rows [] (head_of k n) in
     let x = unsealed k vs lanes in
     let lh : length h ≡ 5 = head_length k n in
-    let lf : length (f ++ lanes) ≡ length f + length lanes = length_append f lanes in
+    let lf : length (f ++ lanes) ≡ length f + length lanes = length-append f lanes in
     let x-is : h ++ (f ++ lanes) ≡ x = unsealed_as k n vs lanes (omega arith) in
-    let lx : length x ≡ n + 1 = ap length (sym x-is) ∙ length_append h (f ++ lanes) ∙ omega arith in
+    let lx : length x ≡ n + 1 = ap length (sym x-is) ∙ length-append h (f ++ lanes) ∙ omega arith in
     let two_is : two ≡ sets buf at (h ++ f) =
     r ∙ ap (λ (z : ℕ). sets head z f) (omega arith) ∙ ap (λ (z : List ℕ). sets z (at + length h) f) p ∙ sym (sets_append buf at h f) in
-    let b-is : b ≡ at + length (h ++ f) = omega (arith, length_append h f) in
+    let b-is : b ≡ at + length (h ++ f) = omega (arith, length-append h f) in
     let three-is : three ≡ sets buf at x =
     t ∙ ap (sets two b) (take_all (length lanes - 0) lanes (omega arith)) ∙ ap (λ (z : ℕ). sets two z lanes) b-is ∙ ap (λ (z : List ℕ). sets z (at + length (h ++ f)) lanes) two_is
     ∙ sym (sets_append buf at (h ++ f) lanes) ∙ ap (sets buf at) (append_assoc h f lanes ∙ x-is) in
@@ -85,7 +85,7 @@ sealing buf at k n vs lanes room e head two three four a b sum p q r s t u v =
     let after : drop (at + 2) three ≡ drop 2 (x ++ rest) =
     sym (drop-drop 2 at three) ∙ ap (drop 2) (ap (drop at) laid ∙ drop_at (take at buf) (x ++ rest) at (length-take-le at buf (omega arith))) in
     let sum_is : sum ≡ checksum_of (drop 2 x) = u ∙ ap checksum_of (ap (take (n - 1)) after ∙ covers x rest (n - 1) (omega arith)) in
-    v ∙ ap (λ (z : ℕ). sets three z (bytes 4 sum)) (omega (arith, length_append h f)) ∙ ap (λ (z : List ℕ). sets z (at + length x) (bytes 4 sum)) three-is
+    v ∙ ap (λ (z : ℕ). sets three z (bytes 4 sum)) (omega (arith, length-append h f)) ∙ ap (λ (z : List ℕ). sets z (at + length x) (bytes 4 sum)) three-is
     ∙ sym (sets_append buf at x (bytes 4 sum)) ∙ ap (λ (z : ℕ). sets buf at (x ++ bytes 4 z)) sum_is ∙ ap (sets buf at) (sealed_as k vs lanes)
 
 -- ---- the write
@@ -118,9 +118,9 @@ module _ (buf : List ℕ) (at k : ℕ) (vals lanes : List ℕ) where
       size : length (sealed_of k vs lanes) ≡ 5 + (m + w + 4)
       unfolding sealed_of unsealed
       size =
-          length_append (unsealed k vs lanes) (bytes 4 (checksum_of (drop 2 (unsealed k vs lanes))))
-          ∙ (let a = length_append (payload head_rows [] (head_of k (length (body_of k vs lanes) + 4))) (body_of k vs lanes) in
-          let b = length_append (payload (field_rows k) [] vs) lanes in
+          length-append (unsealed k vs lanes) (bytes 4 (checksum_of (drop 2 (unsealed k vs lanes))))
+          ∙ (let a = length-append (payload head_rows [] (head_of k (length (body_of k vs lanes) + 4))) (body_of k vs lanes) in
+          let b = length-append (payload (field_rows k) [] vs) lanes in
           let c = length_bytes 4 (checksum_of (drop 2 (unsealed k vs lanes))) in
           let d = head_length k (length (body_of k vs lanes) + 4) in
           omega (arith, a, b, c, d))

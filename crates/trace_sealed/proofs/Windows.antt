@@ -6,7 +6,7 @@ use native.Mathlib.Omega.{arith}
 use mathlib.Core.Bool.{Bool, true, false, ◌&&◌, cond}
 use mathlib.Core.List.{List, [], ◌∷◌, ◌++◌}
 use lib.Dec.{leb, eqb}
-use lib.ListN.{length, get_or, take, drop, length_append, length-drop, take-append-drop}
+use lib.ListN.{length, get_or, take, drop, length-append, length-drop, take-append-drop}
 use lib.Seq.{take-append-le, drop-append-le, length-take-le, take_all}
 use borrow.Author.Tests.{le-leb, lt-leb, leb-true, leb-false, eqb-true, eq-eqb}
 use Rattle.byte_layout.specs.Numbers.{num}
@@ -38,7 +38,7 @@ closed_same : (covered : List ℕ) (k : ℕ) (m : List ℕ) (x : Reading) → Ho
 unfolding closed longer beyond
 closed_same covered k m _ (refusal n) = refl
 closed_same covered k m _ (input left vs bs h) =
-    rw (tail_same w left (length (bs ++ m)) (length bs) (omega (arith, length_append bs m)) h) (go (eqb (tail w left (length bs)) 0) refl)
+    rw (tail_same w left (length (bs ++ m)) (length bs) (omega (arith, length-append bs m)) h) (go (eqb (tail w left (length bs)) 0) refl)
   where
     w : ℕ
     w = lane_bytes k vs
@@ -92,7 +92,7 @@ read_same win m h =
 valued_same : (len end at : ℕ) (m : List ℕ) (d : Found) → len ≡ end + length m → valued len at (beyond m d) ≡ valued end at d
 unfolding valued beyond
 valued_same len end at m (refused n) e = refl
-valued_same len end at m (found k ws rest) e = let q : len - length (rest ++ m) ≡ end - length rest = omega (arith, length_append rest m) in rw q refl
+valued_same len end at m (found k ws rest) e = let q : len - length (rest ++ m) ≡ end - length rest = omega (arith, length-append rest m) in rw q refl
 
 none : {A : Type 0} → ⊥ → A
 none e = elim e [ ]

@@ -44,7 +44,7 @@ loop-i-preserved c =
     let m = row_room a.table.now a.n a.values l.i h k r q.row_at-r.ensures in (
       search rules,
       ap length p.put_row-a.ensures.0 ∙ simp length-sets e,
-      row_put a.table.now a.n a.values l.i h k r q.row_at-r.ensures l.buf p.put_row-a.new.0 l.a p.put_row-a.result p.put_row-a.ensures.0 p.put_row-a.ensures.1 ∙ l.invariant.2,
+      row_put a.table.now a.n a.values l.i h k r q.row_at-r.ensures l.buf p.put_row-a.new.buf l.a p.put_row-a.result p.put_row-a.ensures.0 p.put_row-a.ensures.1 ∙ l.invariant.2,
       omega (arith, m, p.put_row-a.ensures.1, l.invariant.3),
     )
 

@@ -12,10 +12,10 @@ pub put_rows-end-requires : goal.put_rows-end-requires
 unfolding second_table
 put_rows-end-requires c =
     let n = c.before.before in
-    (search rules, search rules, second_room n.args.s n.second_numbers_lem.result _ n.second_numbers_lem.ensures n.requires)
+    (search rules, search rules, second_room n.args.s n.second_numbers-values.result _ n.second_numbers-values.ensures n.requires)
 
 pub returns : goal.returns
 unfolding second_table
 returns c =
     let n = c.before.before.before.before.before in
-    second_put n.args.s n.second_numbers_lem.result n.args.buffer.now _ n.second_numbers_lem.ensures c.put_rows-end.ensures.0
+    second_put n.args.s n.second_numbers-values.result n.args.buffer.now _ n.second_numbers-values.ensures c.put_rows-end.ensures.0

@@ -1,7 +1,6 @@
 -- `saved_settings::refusal_of` meets its contract. Assumes nothing.
 use Rattle.std.proofs.Common.{ℕ, ◌<◌, ◌≤◌, sym, ◌∙◌, subst, rules, le-ltb, lt-ltb, eq-eqb, ne_eqb, le-leb}
 use borrow.Author.Tests.{lt-leb}
-use borrow.Author.Tests.{not_true, not_false}
 use Rattle.saved_settings.proofs.Stores.{no_room, enough}
 use Rattle.saved_settings.proofs.refusal_of.Reads as reads
 use Rattle.saved_settings.proofs.refusal_of.Lts as lts
@@ -16,10 +15,10 @@ pub returns-then-room-size_of : goal.returns-then-room-size_of
 returns-then-room-size_of c =
     let e = c.before.before in
     let a = e.args in
-    no_room a.version a.s a.room (sym e.is_storable.ensures ∙ not_false _ e.if-not-is_storable.false) (subst (λ (n : ℕ). a.room < n) c.type_size.ensures c.if-room-size_of.true)
+    no_room a.version a.s a.room (sym e.is_storable.ensures ∙ e.if-not-is_storable.false) (subst (λ (n : ℕ). a.room < n) c.size_of.ensures c.if-room-size_of.true)
 
 pub returns-else-room-size_of : goal.returns-else-room-size_of
 returns-else-room-size_of c =
     let e = c.before.before in
     let a = e.args in
-    enough a.version a.s a.room (sym e.is_storable.ensures ∙ not_false _ e.if-not-is_storable.false) (subst (λ (n : ℕ). n ≤ a.room) c.type_size.ensures c.if-room-size_of.false)
+    enough a.version a.s a.room (sym e.is_storable.ensures ∙ e.if-not-is_storable.false) (subst (λ (n : ℕ). n ≤ a.room) c.size_of.ensures c.if-room-size_of.false)

@@ -19,6 +19,6 @@ returns c =
     let a = f.args in
     let x = labelled (refused·by) a.refusal in
     let y = labelled (at·is) a.at in
-    let t = then f.put_labelled-a.new.0 b.put_labelled-b.new.0 p.put.new.0 y (10 ∷ []) f.put_labelled-a.result b.put_labelled-b.result p.put.result b.put_labelled-b.ensures.0 b.put_labelled-b.ensures.1 p.put.ensures.0 p.put.ensures.1 in
-    let s = then a.line.now f.put_labelled-a.new.0 p.put.new.0 x (y ++ (10 ∷ [])) 0 f.put_labelled-a.result p.put.result f.put_labelled-a.ensures.0 f.put_labelled-a.ensures.1 t.0 t.1 in
+    let t = then f.put_labelled-a.new.line b.put_labelled-b.new.line p.put.new.line y (10 ∷ []) f.put_labelled-a.result b.put_labelled-b.result p.put.result b.put_labelled-b.ensures.0 b.put_labelled-b.ensures.1 p.put.ensures.0 p.put.ensures.1 in
+    let s = then a.line.now f.put_labelled-a.new.line p.put.new.line x (y ++ (10 ∷ [])) 0 f.put_labelled-a.result p.put.result f.put_labelled-a.ensures.0 f.put_labelled-a.ensures.1 t.0 t.1 in
     (s.0, omega (arith, s.1), omega (arith, f.put_labelled-a.ensures.2, b.put_labelled-b.ensures.2, p.put.ensures.1))

@@ -28,7 +28,7 @@ returns-then-body-gt0 c =
     let b = c.before.before.before in
     let p = b.before.before in
     let h = p.before.before.before.before in
-    no_fields _ _ h.read_head-head.result h.read_head-head.ensures.0 p.if-head-gt0.false (sym (not_false _ b.if-not-is_possible.false) ∙ p.is_possible.ensures) b.read_body-body.result b.read_body-body.ensures _ c.if-body-gt0.true c.refuse-then-body-gt0.ensures
+    no_fields _ _ h.read_head-head.result h.read_head-head.ensures.0 p.if-head-gt0.false (sym b.if-not-is_possible.false ∙ p.is_possible.ensures) b.read_body-body.result b.read_body-body.ensures _ c.if-body-gt0.true c.refuse-then-body-gt0.ensures
 
 pub returns-then-body-gt0-2 : goal.returns-then-body-gt0-2
 returns-then-body-gt0-2 c =
@@ -36,7 +36,7 @@ returns-then-body-gt0-2 c =
     let b = e.before.before in
     let p = b.before.before in
     let h = p.before.before.before.before in
-    goes_on _ _ h.read_head-head.result h.read_head-head.ensures.0 p.if-head-gt0.false (sym (not_false _ b.if-not-is_possible.false) ∙ p.is_possible.ensures) b.read_body-body.result b.read_body-body.ensures _ e.if-body-gt0.false c.if-body-gt0-2.true c.refuse-then-body-gt0-2.ensures
+    goes_on _ _ h.read_head-head.result h.read_head-head.ensures.0 p.if-head-gt0.false (sym b.if-not-is_possible.false ∙ p.is_possible.ensures) b.read_body-body.result b.read_body-body.ensures _ e.if-body-gt0.false c.if-body-gt0-2.true c.refuse-then-body-gt0-2.ensures
 
 pub returns : goal.returns
 returns c =
@@ -44,4 +44,4 @@ returns c =
     let b = e.before.before in
     let p = b.before.before in
     let h = p.before.before.before.before in
-    read_found _ _ h.read_head-head.result h.read_head-head.ensures.0 p.if-head-gt0.false (sym (not_false _ b.if-not-is_possible.false) ∙ p.is_possible.ensures) b.read_body-body.result b.read_body-body.ensures e.if-body-gt0.false c.if-body-gt0-2.false
+    read_found _ _ h.read_head-head.result h.read_head-head.ensures.0 p.if-head-gt0.false (sym b.if-not-is_possible.false ∙ p.is_possible.ensures) b.read_body-body.result b.read_body-body.ensures e.if-body-gt0.false c.if-body-gt0-2.false

@@ -14,12 +14,12 @@ use Rattle.trace_records.proofs.read_body.Goals as goal
 pub read_rows-requires : goal.read_rows-requires
 read_rows-requires c =
     let t = c.fill_creation in
-    (omega (arith, ap (λ (x : Parsed). x.at) c.begin-p.ensures, c.requires), search rules, search rules, creation_sound t.new.0 t.ensures)
+    (omega (arith, ap (λ (x : Parsed). x.at) c.begin-p.ensures, c.requires), search rules, search rules, creation_sound t.new.table t.ensures)
 
 pub returns-then-kind-eq1 : goal.returns-then-kind-eq1
 returns-then-kind-eq1 c =
     let t = c.fill_creation in
-    read_creation _ _ _ _ _ c.read_rows.result c.begin-p.ensures t.new.0 t.ensures c.if-kind-eq1.true c.read_rows.ensures
+    read_creation _ _ _ _ _ c.read_rows.result c.begin-p.ensures t.new.table t.ensures c.if-kind-eq1.true c.read_rows.ensures
 
 pub read_rows-requires-then-kind-eq2 : goal.read_rows-requires-then-kind-eq2
 unfolding command_table

@@ -30,7 +30,7 @@ returns-then-record-ne0 c =
     let a = g.args in
     let e = q.put_refused-written.ensures in
     let l = refused_line r.read-record.result.refusal a.place in
-    (turned_back (replay_of a.run a.sound.now) a.place a.at a.bytes.now r.read-record.result r.read-record.ensures g.requires.0 o.if-at-bytes.false _ i.if-record-ne0.true (prefix a.line.now q.put_refused-written.new.0 l q.put_refused-written.result e.0 e.1 (omega (arith, e.1, e.2, g.requires.3))), g.requires.0, g.requires.2, fits a.line.now q.put_refused-written.new.0 l q.put_refused-written.result e.0 e.2 g.requires.3, le_refl a.at)
+    (turned_back (replay_of a.run a.sound.now) a.place a.at a.bytes.now r.read-record.result r.read-record.ensures g.requires.0 o.if-at-bytes.false _ i.if-record-ne0.true (prefix a.line.now q.put_refused-written.new.line l q.put_refused-written.result e.0 e.1 (omega (arith, e.1, e.2, g.requires.3))), g.requires.0, g.requires.2, fits a.line.now q.put_refused-written.new.line l q.put_refused-written.result e.0 e.2 g.requires.3, le_refl a.at)
 
 pub returns : goal.returns
 returns c =

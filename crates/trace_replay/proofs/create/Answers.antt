@@ -23,13 +23,13 @@ pub slice_bounds-new-end : goal.slice_bounds-new-end
 slice_bounds-new-end c =
     let ps = c.before.before.before in
     let a = ps.args in
-    inside a.sound.now ps.put_samples-samples.new.1.0 (samples_of a.values) ps.put_samples-samples.result ps.put_samples-samples.ensures.0 ps.put_samples-samples.ensures.1 (few_samples a.values (long (goal.at.slice_bounds-new-end c).After-put_samples-samples)) ps.requires
+    inside a.sound.now ps.put_samples-samples.new.out (samples_of a.values) ps.put_samples-samples.result ps.put_samples-samples.ensures.0 ps.put_samples-samples.ensures.1 (few_samples a.values (long (goal.at.slice_bounds-new-end c).After-put_samples-samples)) ps.requires
 
 pub slice_bounds-new-end-2 : goal.slice_bounds-new-end-2
 slice_bounds-new-end-2 c =
     let ps = c.before.before.before.before in
     let a = ps.args in
-    part_long ps.put_samples-samples.result ps.put_samples-samples.new.1.0 (inside a.sound.now ps.put_samples-samples.new.1.0 (samples_of a.values) ps.put_samples-samples.result ps.put_samples-samples.ensures.0 ps.put_samples-samples.ensures.1 (few_samples a.values (long (goal.at.slice_bounds-new-end-2 c).After-put_samples-samples)) ps.requires)
+    part_long ps.put_samples-samples.result ps.put_samples-samples.new.out (inside a.sound.now ps.put_samples-samples.new.out (samples_of a.values) ps.put_samples-samples.result ps.put_samples-samples.ensures.0 ps.put_samples-samples.ensures.1 (few_samples a.values (long (goal.at.slice_bounds-new-end-2 c).After-put_samples-samples)) ps.requires)
 
 pub returns : goal.returns
 returns c =
@@ -37,9 +37,9 @@ returns c =
     let s = n.before.before in
     let ps = s.before.before.before in
     let a = ps.args in
-    let h = inside a.sound.now ps.put_samples-samples.new.1.0 (samples_of a.values) ps.put_samples-samples.result ps.put_samples-samples.ensures.0 ps.put_samples-samples.ensures.1 (few_samples a.values (long (goal.at.returns c).After-put_samples-samples)) ps.requires in
+    let h = inside a.sound.now ps.put_samples-samples.new.out (samples_of a.values) ps.put_samples-samples.result ps.put_samples-samples.ensures.0 ps.put_samples-samples.ensures.1 (few_samples a.values (long (goal.at.returns c).After-put_samples-samples)) ps.requires in
     let e = ps.put_samples-samples.ensures in (
-      creation_replay n.new-created.result (take ps.put_samples-samples.result ps.put_samples-samples.new.1.0) (samples_of a.values) s.settings_of.result (settings_of a.values) a.run.blocks n.new-created.ensures
-          (prefix a.sound.now ps.put_samples-samples.new.1.0 (samples_of a.values) ps.put_samples-samples.result e.0 e.1 (omega (arith, few_samples a.values (long (goal.at.returns c).After-put_samples-samples), ps.requires))) s.settings_of.ensures,
+      creation_replay n.new-created.result (take ps.put_samples-samples.result ps.put_samples-samples.new.out) (samples_of a.values) s.settings_of.result (settings_of a.values) a.run.blocks n.new-created.ensures
+          (prefix a.sound.now ps.put_samples-samples.new.out (samples_of a.values) ps.put_samples-samples.result e.0 e.1 (omega (arith, few_samples a.values (long (goal.at.returns c).After-put_samples-samples), ps.requires))) s.settings_of.ensures,
       h,
     )

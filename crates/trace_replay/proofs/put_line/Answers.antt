@@ -21,7 +21,7 @@ returns-then-processed-eq0 c =
     let a = t.args in
     let e = q.put_block.ensures in
     let g = t.requires in
-    (line_played a.number a.frames a.processed n.number.result _ t.if-processed-eq0.true n.number.ensures (prefix a.line.now q.put_block.new.0 _ q.put_block.result e.0 e.1 (omega (arith, e.1, e.2, g))), fits a.line.now q.put_block.new.0 (block_line a.number a.frames a.processed.steps n.number.result a.processed.voice.moving.transport.position) q.put_block.result e.0 e.2 g)
+    (line_played a.number a.frames a.processed n.number.result _ t.if-processed-eq0.true n.number.ensures (prefix a.line.now q.put_block.new.line _ q.put_block.result e.0 e.1 (omega (arith, e.1, e.2, g))), fits a.line.now q.put_block.new.line (block_line a.number a.frames a.processed.steps n.number.result a.processed.voice.moving.transport.position) q.put_block.result e.0 e.2 g)
 
 pub returns : goal.returns
 returns c =
@@ -30,4 +30,4 @@ returns c =
     let a = t.args in
     let e = q.put_refused_block.ensures in
     let g = t.requires in
-    (line_refused a.number a.frames a.processed _ t.if-processed-eq0.false (prefix a.line.now q.put_refused_block.new.0 _ q.put_refused_block.result e.0 e.1 (omega (arith, e.1, e.2, g))), fits a.line.now q.put_refused_block.new.0 (refused_block_line a.number a.processed.refusal) q.put_refused_block.result e.0 e.2 g)
+    (line_refused a.number a.frames a.processed _ t.if-processed-eq0.false (prefix a.line.now q.put_refused_block.new.line _ q.put_refused_block.result e.0 e.1 (omega (arith, e.1, e.2, g))), fits a.line.now q.put_refused_block.new.line (refused_block_line a.number a.processed.refusal) q.put_refused_block.result e.0 e.2 g)

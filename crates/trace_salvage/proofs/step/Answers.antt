@@ -30,7 +30,7 @@ returns-then-n-gt0 c =
     let r = q.before.before.before in
     let a = r.args in
     let p = r.requires in
-    keeps a.reader a.s.now a.out.now a.t p.0 p.1 p.2 p.3 q.copy.new.1.1.1.0 r.record_size-n.result r.record_size-n.ensures q.if-n-gt0.true q.copy.ensures
+    keeps a.reader a.s.now a.out.now a.t p.0 p.1 p.2 p.3 q.copy.new.out r.record_size-n.result r.record_size-n.ensures q.if-n-gt0.true q.copy.ensures
 
 pub returns : goal.returns
 returns c =

@@ -1,7 +1,6 @@
 -- `trace_sealed::read_sealed` meets its contract: each return is one of the ways of proofs/Ways.antt. Assumes nothing.
 use mathlib.Core.Path.{◌≡◌, refl, sym, ap, ◌∙◌}
 use native.Mathlib.Omega.{arith}
-use borrow.Author.Tests.{not_true, not_false}
 use Rattle.trace_sealed.proofs.Ways.{some, no_head, no_length, no_fields, fields_read, closes}
 use borrow.Author.Rules.{rules}
 use Rattle.trace_sealed.proofs.read_sealed.Reads as reads
@@ -30,18 +29,18 @@ returns-then-p-gt0 c =
     let b = c.before.before.before in
     let p = b.before.before in
     let h = p.before.before.before.before in
-    no_fields _ _ h.read_head-head.result h.read_head-head.ensures.0 p.if-head-gt0.false _ _ refl refl (sym (not_false _ b.if-not-is_possible.false) ∙ p.is_possible.ensures) b.read_fields-p.result b.read_fields-p.ensures _ c.if-p-gt0.true c.refuse-then-p-gt0.ensures
+    no_fields _ _ h.read_head-head.result h.read_head-head.ensures.0 p.if-head-gt0.false _ _ refl refl (sym b.if-not-is_possible.false ∙ p.is_possible.ensures) b.read_fields-p.result b.read_fields-p.ensures _ c.if-p-gt0.true c.refuse-then-p-gt0.ensures
 
 pub close-requires : goal.close-requires
 close-requires c =
     let b = c.before.before in
     let p = b.before.before in
     let h = p.before.before.before.before in
-    fields_read _ _ h.read_head-head.result h.read_head-head.ensures.0 p.if-head-gt0.false _ _ refl refl (sym (not_false _ b.if-not-is_possible.false) ∙ p.is_possible.ensures) b.read_fields-p.result b.read_fields-p.ensures h.requires c.if-p-gt0.false
+    fields_read _ _ h.read_head-head.result h.read_head-head.ensures.0 p.if-head-gt0.false _ _ refl refl (sym b.if-not-is_possible.false ∙ p.is_possible.ensures) b.read_fields-p.result b.read_fields-p.ensures h.requires c.if-p-gt0.false
 
 pub returns : goal.returns
 returns c =
     let b = c.before.before.before in
     let p = b.before.before in
     let h = p.before.before.before.before in
-    closes _ _ h.read_head-head.result h.read_head-head.ensures.0 p.if-head-gt0.false _ _ refl refl (sym (not_false _ b.if-not-is_possible.false) ∙ p.is_possible.ensures) b.read_fields-p.result b.read_fields-p.ensures _ c.if-p-gt0.false c.close.ensures
+    closes _ _ h.read_head-head.result h.read_head-head.ensures.0 p.if-head-gt0.false _ _ refl refl (sym b.if-not-is_possible.false ∙ p.is_possible.ensures) b.read_fields-p.result b.read_fields-p.ensures _ c.if-p-gt0.false c.close.ensures

@@ -24,7 +24,7 @@ pub returns-then-kind-eq1 : goal.returns-then-kind-eq1
 returns-then-kind-eq1 c =
     let t = c.fill_creation in
     let a = c.args in
-    c.rows_fit.ensures ∙ of_creation (λ (rs : List Row) (m : ℕ). fine rs [] (take m a.values)) a.kind t.new.0 t.ensures c.if-kind-eq1.true
+    c.rows_fit.ensures ∙ of_creation (λ (rs : List Row) (m : ℕ). fine rs [] (take m a.values)) a.kind t.new.table t.ensures c.if-kind-eq1.true
 
 pub returns-then-kind-eq2 : goal.returns-then-kind-eq2
 unfolding command_table

@@ -21,13 +21,13 @@ use Rattle.byte_layout.proofs.rows_length.Reads as rows-length-reads
 use Rattle.trace_records.proofs.writes.payload_length.Goals as goal
 
 pub rows_length-requires : goal.rows_length-requires
-rows_length-requires c = (search rules, search rules, creation_sound c.fill_creation.new.0 c.fill_creation.ensures)
+rows_length-requires c = (search rules, search rules, creation_sound c.fill_creation.new.table c.fill_creation.ensures)
 
 pub returns-then-kind-eq1 : goal.returns-then-kind-eq1
 returns-then-kind-eq1 c =
     let t = c.fill_creation in
     let a = c.args in
-    c.rows_length.ensures ∙ of_creation (λ (rs : List Row) (m : ℕ). length (payload rs [] (take m a.values))) a.kind t.new.0 t.ensures c.if-kind-eq1.true
+    c.rows_length.ensures ∙ of_creation (λ (rs : List Row) (m : ℕ). length (payload rs [] (take m a.values))) a.kind t.new.table t.ensures c.if-kind-eq1.true
 
 pub rows_length-requires-then-kind-eq2 : goal.rows_length-requires-then-kind-eq2
 unfolding command_table

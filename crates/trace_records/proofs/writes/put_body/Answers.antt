@@ -24,14 +24,14 @@ pub put_rows-requires : goal.put_rows-requires
 put_rows-requires c =
     let t = c.fill_creation in
     let a = c.args in
-    (search rules, search rules, omega (arith, ap length (of_creation (λ (rs : List Row) (m : ℕ). payload rs [] (take m a.values)) a.kind t.new.0 t.ensures c.if-kind-eq1.true), c.requires))
+    (search rules, search rules, omega (arith, ap length (of_creation (λ (rs : List Row) (m : ℕ). payload rs [] (take m a.values)) a.kind t.new.table t.ensures c.if-kind-eq1.true), c.requires))
 
 pub returns-then-kind-eq1 : goal.returns-then-kind-eq1
 returns-then-kind-eq1 c =
     let q = c.before.before in
     let t = c.fill_creation in
     let a = c.args in
-    let e = of_creation (λ (rs : List Row) (m : ℕ). payload rs [] (take m a.values)) a.kind t.new.0 t.ensures c.if-kind-eq1.true in
+    let e = of_creation (λ (rs : List Row) (m : ℕ). payload rs [] (take m a.values)) a.kind t.new.table t.ensures c.if-kind-eq1.true in
     (q.put_rows.ensures.0 ∙ ap (λ (z : List ℕ). sets a.buf.now a.at z) e, q.put_rows.ensures.1 ∙ ap (λ (z : List ℕ). a.at + length z) e)
 
 pub put_rows-requires-then-kind-eq2 : goal.put_rows-requires-then-kind-eq2

@@ -24,6 +24,6 @@ returns c =
     let h = f.before.before.before.before in
     let s = h.before.before.before.before in
     let a = s.args in (
-      sealing a.buf.now a.at a.kind a.n (take (field_count a.kind) a.values) a.lanes.now s.requires.0 s.requires.1 h.put_head-a.new.0 f.put_fields-b.new.0 l.copy.new.1.1.1.0 p.put_sum.new.0 h.put_head-a.result f.put_fields-b.result k.checksum-sum.result h.put_head-a.ensures.0 h.put_head-a.ensures.1 f.put_fields-b.ensures.0 f.put_fields-b.ensures.1 l.copy.ensures k.checksum-sum.ensures p.put_sum.ensures.0,
+      sealing a.buf.now a.at a.kind a.n (take (field_count a.kind) a.values) a.lanes.now s.requires.0 s.requires.1 h.put_head-a.new.buf f.put_fields-b.new.buf l.copy.new.out p.put_sum.new.buf h.put_head-a.result f.put_fields-b.result k.checksum-sum.result h.put_head-a.ensures.0 h.put_head-a.ensures.1 f.put_fields-b.ensures.0 f.put_fields-b.ensures.1 l.copy.ensures k.checksum-sum.ensures p.put_sum.ensures.0,
       omega (arith, p.put_sum.ensures.1, f.put_fields-b.ensures.1, h.put_head-a.ensures.1, s.requires.1),
     )

@@ -3,7 +3,6 @@ use mathlib.Core.Path.{◌≡◌, refl, sym, ap, ◌∙◌}
 use Prim.Native.Nat.{ℕ, ◌+◌}
 use native.Mathlib.Omega.{arith}
 use lib.ListN.{take}
-use borrow.Author.Tests.{not_true, not_false}
 use Rattle.trace_sealed.proofs.Sends.{first_fits, unfit, not_whole, few, no_room, written}
 use borrow.Author.Rules.{rules}
 use Rattle.trace_sealed.proofs.writes.write_sealed.Reads as reads
@@ -18,12 +17,12 @@ pub returns-then-not-fits : goal.returns-then-not-fits
 returns-then-not-fits c =
     let f = c.before in
     let a = f.args in
-    unfit a.buf.now a.at a.kind a.values a.lanes.now (sym (c.if-not-fits.true) ∙ f.fits2.ensures)
+    unfit a.buf.now a.at a.kind a.values a.lanes.now (sym (c.if-not-fits.true) ∙ f.fits.ensures)
 
 pub lane_bytes-w-requires : goal.lane_bytes-w-requires
 lane_bytes-w-requires c =
     let a = c.args in
-    first_fits a.kind a.values (sym (c.if-not-fits.false) ∙ c.fits2.ensures)
+    first_fits a.kind a.values (sym (c.if-not-fits.false) ∙ c.fits.ensures)
 
 pub returns-then-lanes-w : goal.returns-then-lanes-w
 returns-then-lanes-w c =
@@ -31,7 +30,7 @@ returns-then-lanes-w c =
     let e = l.before in
     let f = e.before in
     let a = f.args in
-    let y = sym (not_false _ e.if-not-fits.false) ∙ f.fits2.ensures in
+    let y = sym e.if-not-fits.false ∙ f.fits.ensures in
     not_whole a.buf.now a.at a.kind a.values a.lanes.now y l.lane_bytes-w.result l.lane_bytes-w.ensures c.if-lanes-w.true
 
 pub overflow_add-n : goal.overflow_add-n
@@ -40,7 +39,7 @@ overflow_add-n c =
     let e = l.before in
     let f = e.before in
     let a = f.args in
-    let y = sym (not_false _ e.if-not-fits.false) ∙ f.fits2.ensures in
+    let y = sym e.if-not-fits.false ∙ f.fits.ensures in
     record { fits = omega (arith, few a.buf.now a.at a.kind a.values a.lanes.now y l.lane_bytes-w.result l.lane_bytes-w.ensures c.if-lanes-w.false c.fields_length.result c.fields_length.ensures) }
 
 pub overflow_add-n-2 : goal.overflow_add-n-2
@@ -49,7 +48,7 @@ overflow_add-n-2 c =
     let e = l.before in
     let f = e.before in
     let a = f.args in
-    let y = sym (not_false _ e.if-not-fits.false) ∙ f.fits2.ensures in
+    let y = sym e.if-not-fits.false ∙ f.fits.ensures in
     record { fits = omega (arith, few a.buf.now a.at a.kind a.values a.lanes.now y l.lane_bytes-w.result l.lane_bytes-w.ensures c.if-lanes-w.false c.fields_length.result c.fields_length.ensures) }
 
 pub returns-then-buf-at : goal.returns-then-buf-at
@@ -59,7 +58,7 @@ returns-then-buf-at c =
     let e = l.before in
     let f = e.before in
     let a = f.args in
-    let y = sym (not_false _ e.if-not-fits.false) ∙ f.fits2.ensures in
+    let y = sym e.if-not-fits.false ∙ f.fits.ensures in
     no_room a.buf.now a.at a.kind a.values a.lanes.now y l.lane_bytes-w.result l.lane_bytes-w.ensures n.if-lanes-w.false n.fields_length.result n.fields_length.ensures (omega (arith, c.if-buf-at.true))
 
 pub overflow_add-n-3 : goal.overflow_add-n-3
@@ -69,7 +68,7 @@ overflow_add-n-3 c =
     let e = l.before in
     let f = e.before in
     let a = f.args in
-    let y = sym (not_false _ e.if-not-fits.false) ∙ f.fits2.ensures in
+    let y = sym e.if-not-fits.false ∙ f.fits.ensures in
     record { fits = omega (arith, few a.buf.now a.at a.kind a.values a.lanes.now y l.lane_bytes-w.result l.lane_bytes-w.ensures n.if-lanes-w.false n.fields_length.result n.fields_length.ensures) }
 
 pub returns-then-buf-at-2 : goal.returns-then-buf-at-2
@@ -79,7 +78,7 @@ returns-then-buf-at-2 c =
     let e = l.before in
     let f = e.before in
     let a = f.args in
-    let y = sym (not_false _ e.if-not-fits.false) ∙ f.fits2.ensures in
+    let y = sym e.if-not-fits.false ∙ f.fits.ensures in
     no_room a.buf.now a.at a.kind a.values a.lanes.now y l.lane_bytes-w.result l.lane_bytes-w.ensures n.if-lanes-w.false n.fields_length.result n.fields_length.ensures c.if-buf-at-2.true
 
 pub returns : goal.returns
@@ -91,5 +90,5 @@ returns c =
     let e = l.before in
     let f = e.before in
     let a = f.args in
-    let y = sym (not_false _ e.if-not-fits.false) ∙ f.fits2.ensures in
-    written a.buf.now a.at a.kind a.values a.lanes.now y l.lane_bytes-w.result l.lane_bytes-w.ensures n.if-lanes-w.false n.fields_length.result n.fields_length.ensures t.if-buf-at-2.false t.if-buf-at.false s.seal-next.new.0 s.seal-next.result s.seal-next.ensures.0 s.seal-next.ensures.1
+    let y = sym e.if-not-fits.false ∙ f.fits.ensures in
+    written a.buf.now a.at a.kind a.values a.lanes.now y l.lane_bytes-w.result l.lane_bytes-w.ensures n.if-lanes-w.false n.fields_length.result n.fields_length.ensures t.if-buf-at-2.false t.if-buf-at.false s.seal-next.new.buf s.seal-next.result s.seal-next.ensures.0 s.seal-next.ensures.1
