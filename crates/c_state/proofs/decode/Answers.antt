@@ -2,7 +2,6 @@
 use Rattle.c_state.specs.Records.{decoded}
 use mathlib.Core.Path.{sym, ◌∙◌}
 use borrow.Author.Rules.{rules}
-use borrow.Author.Tests.{not_true, not_false}
 use Rattle.c_state.proofs.decode.Goals as goal
 
 pub returns-then-not-is_well_formed : goal.returns-then-not-is_well_formed

@@ -22,7 +22,7 @@ pub loop-i-preserved : goal.loop-i-preserved
 loop-i-preserved c =
     let l = c.loop-i in
     let a = c.args in
-    (omega arith, halves_more a.a a.b l.slots l.i (omega (arith, sixteen-a (goal.at.loop_i_preserved c).Start)) (omega (arith, sixteen-b (goal.at.loop_i_preserved c).Start)) l.invariant.1)
+    (omega arith, halves_more a.a a.b l.slots l.i (omega (arith, sixteen-a (goal.at.loop-i-preserved c).Start)) (omega (arith, sixteen-b (goal.at.loop-i-preserved c).Start)) l.invariant.1)
 
 pub returns : goal.returns
 returns c =

@@ -1,6 +1,5 @@
 -- `saved_loops::refusal_of` meets its contract. Assumes nothing.
 use mathlib.Core.Path.{sym, ◌∙◌}
-use borrow.Author.Tests.{not_true, not_false}
 use Rattle.saved_loops.proofs.Stores.{no_room, with_room}
 use borrow.Author.Rules.{rules}
 use Rattle.saved_loops.proofs.refusal_of.Goals as goal

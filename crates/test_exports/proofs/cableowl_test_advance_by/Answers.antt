@@ -32,7 +32,7 @@ returns-then-a c =
     let m = c.magnitude-a in
     let f = c.args.fraction in
     subst (λ (z : Float). copied c.advance_by-s.result ≡ moved f z) m.ensures
-    (ap copied c.advance_by-s.ensures ∙ went f m.result (proper-here (goal.at.returns_then_a c).Then-is_proper) c.if-a.true)
+    (ap copied c.advance_by-s.ensures ∙ went f m.result (proper-here (goal.at.returns-then-a c).Then-is_proper) c.if-a.true)
 
 pub returns-else-is_proper : goal.returns-else-is_proper
 unfolding of_bits

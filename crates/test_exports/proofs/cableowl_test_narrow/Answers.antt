@@ -12,7 +12,7 @@ proper-here : (c : Then-is_proper) → proper c.args.x ≡ true
 proper-here c = sym c.is_proper.ensures ∙ c.if-is_proper.true
 
 pub narrow-requires : goal.narrow-requires
-narrow-requires c = subst T (sym (proper-here (goal.at.narrow_requires c).Then-is_proper)) tt
+narrow-requires c = subst T (sym (proper-here (goal.at.narrow-requires c).Then-is_proper)) tt
 
 pub returns-then-is_proper : goal.returns-then-is_proper
 returns-then-is_proper c =

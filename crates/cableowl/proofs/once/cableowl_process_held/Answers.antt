@@ -17,7 +17,7 @@ pub answer-requires : goal.answer-requires
 answer-requires c =
     let p = c.before.before in
     let a = p.args in
-    block_few a.sound.now a.state a.dt (lent (goal.at.answer_requires c).Start) a.signals _ _
+    block_few a.sound.now a.state a.dt (lent (goal.at.answer-requires c).Start) a.signals _ _
     p.decode.ensures p.signals_of.ensures _ _ a.out.now p.process_held-processed.ensures
 
 pub returns : goal.returns

@@ -15,7 +15,7 @@ pub answer-requires : goal.answer-requires
 answer-requires c =
     let p = c.before.before in
     let a = p.args in
-    mix_few a.sound.now a.state a.dt (lent (goal.at.answer_requires c).Start) a.signals _ _
+    mix_few a.sound.now a.state a.dt (lent (goal.at.answer-requires c).Start) a.signals _ _
     p.decode.ensures p.signals_of.ensures _ _ a.mix.now a.from p.process_held_into-processed.ensures
 
 pub returns : goal.returns

@@ -23,7 +23,7 @@ same : (c : Else-changes) → let a = c.args in eqb (changes_of a.hall a.self) (
 same c = ap₂ eqb (sym c.changes.ensures) (sym c.changes-2.ensures) ∙ eq-eqb _ _ c.if-changes.false
 
 pub returns-then-changes : goal.returns-then-changes
-returns-then-changes c = rw (other (goal.at.returns_then_changes c).Then-changes)
+returns-then-changes c = rw (other (goal.at.returns-then-changes c).Then-changes)
 
 pub are_same_slots-requires : goal.are_same_slots-requires
 are_same_slots-requires c = first_low c.args.hall _ c.requires

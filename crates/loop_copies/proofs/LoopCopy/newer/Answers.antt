@@ -15,7 +15,7 @@ more : (c : Else-changes) → let a = c.args in ltb (changes_of a.hall a.self) (
 more c = ap₂ ltb (sym c.changes.ensures) (sym c.changes-2.ensures) ∙ le-ltb _ _ c.if-changes.false
 
 pub returns-then-changes : goal.returns-then-changes
-returns-then-changes c = rw (less (goal.at.returns_then_changes c).Then-changes)
+returns-then-changes c = rw (less (goal.at.returns-then-changes c).Then-changes)
 
 pub returns-else-changes : goal.returns-else-changes
-returns-else-changes c = rw (more (goal.at.returns_else_changes c).Else-changes)
+returns-else-changes c = rw (more (goal.at.returns-else-changes c).Else-changes)

@@ -2,7 +2,7 @@
 use mathlib.Core.Path.{◌≡◌, sym, ◌∙◌}
 use mathlib.Core.Bool.{true, false}
 use borrow.Author.Rules.{rules}
-use borrow.Author.Tests.{eq-eqb, ne_eqb, not_true, not_false}
+use borrow.Author.Tests.{eq-eqb, ne_eqb}
 use Rattle.loop_table.specs.Tables.{well_formed_table}
 use Rattle.loop_table.specs.declared.Hall.TheVariants as hall
 use Rattle.loop_copies.specs.Copies.{agrees, refused_merge}
@@ -43,13 +43,13 @@ returns-then-not-is_well_formed-2 c = rw (ours-so (goal.at.returns-then-not-is_w
 
 pub returns-then-ours-other : goal.returns-then-ours-other
 unfolding refused_merge
-returns-then-ours-other c = rw (ours-so (goal.at.returns_then_ours_other c).Else-not-is_well_formed, theirs-so (goal.at.returns_then_ours_other c).Else-not-is_well_formed-2, ne_eqb _ _ c.if-ours-other.true)
+returns-then-ours-other c = rw (ours-so (goal.at.returns-then-ours-other c).Else-not-is_well_formed, theirs-so (goal.at.returns-then-ours-other c).Else-not-is_well_formed-2, ne_eqb _ _ c.if-ours-other.true)
 
 pub returns-then-not-agrees : goal.returns-then-not-agrees
 unfolding refused_merge
 returns-then-not-agrees c =
     let three = c.before.before in
-    rw (ours-so (goal.at.returns_then_not_agrees c).Else-not-is_well_formed, theirs-so (goal.at.returns_then_not_agrees c).Else-not-is_well_formed-2, eq-eqb _ _ three.if-ours-other.false, a-not (goal.at.returns_then_not_agrees c).Then-not-agrees)
+    rw (ours-so (goal.at.returns-then-not-agrees c).Else-not-is_well_formed, theirs-so (goal.at.returns-then-not-agrees c).Else-not-is_well_formed-2, eq-eqb _ _ three.if-ours-other.false, a-not (goal.at.returns-then-not-agrees c).Then-not-agrees)
 
 pub returns-then-not-agrees-2 : goal.returns-then-not-agrees-2
 unfolding refused_merge

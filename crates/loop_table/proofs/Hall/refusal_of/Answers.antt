@@ -2,7 +2,7 @@
 use mathlib.Core.Path.{◌≡◌, sym, ◌∙◌}
 use mathlib.Core.Bool.{true, false}
 use borrow.Author.Rules.{rules}
-use borrow.Author.Tests.{le-leb, lt-leb, not_true, not_false}
+use borrow.Author.Tests.{le-leb, lt-leb}
 use Rattle.loop_table.specs.Tables.{owns}
 use Rattle.loop_table.proofs.Hall.refusal_of.Goals.{Else-not-owns, Then-not-owns}
 use Rattle.loop_table.proofs.Hall.refusal_of.Goals as goal
@@ -17,7 +17,7 @@ pub returns-then-slot-gt15 : goal.returns-then-slot-gt15
 returns-then-slot-gt15 c = rw (lt-leb _ _ c.if-slot-gt15.true)
 
 pub returns-then-not-owns : goal.returns-then-not-owns
-returns-then-not-owns c = rw (le-leb _ _ c.if-slot-gt15.false, own-not (goal.at.returns_then_not_owns c).Then-not-owns)
+returns-then-not-owns c = rw (le-leb _ _ c.if-slot-gt15.false, own-not (goal.at.returns-then-not-owns c).Then-not-owns)
 
 pub returns : goal.returns
 returns c = rw (le-leb _ _ c.if-slot-gt15.false, own-so (goal.at.returns c).Else-not-owns)

@@ -15,7 +15,7 @@ pub offset_bounds-slots-slot : goal.offset_bounds-slots-slot
 offset_bounds-slots-slot c = omega (arith, among (goal.at.offset_bounds-slots-slot c).Else-refusal-ne0)
 
 pub bounds-slots-slot : goal.bounds-slots-slot
-bounds-slots-slot c = among (goal.at.bounds_slots_slot c).Else-refusal-ne0
+bounds-slots-slot c = among (goal.at.bounds-slots-slot c).Else-refusal-ne0
 
 pub returns : goal.returns
 returns c = rw (eq-eqb _ _ c.if-refusal-ne0.false)

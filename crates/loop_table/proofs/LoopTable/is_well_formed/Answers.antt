@@ -15,14 +15,13 @@ pub loop-i-init : goal.loop-i-init
 loop-i-init c = (omega arith, refl)
 
 sixteen : (c : Start) → length c.args.self.slots ≡ 16
-sixteen c = simp length-map at c.well_formed.0.1.1.1.0.1.0.1
+sixteen c = c.well_formed.0.1.1.1.0.1.0.1
 
 pub loop-i-preserved : goal.loop-i-preserved
 loop-i-preserved c =
-    let t = c.before.before in
-    let l = t.loop-i in
-    let s = t.args.self in
-    (omega arith, all_turn (well_formed_slot s.num_frames) s.slots l.i empty l.ok _ (omega (arith, sixteen (goal.at.loop_i_preserved c).Start)) l.invariant.1 c.is_well_formed-ok.ensures)
+    let l = c.loop-i in
+    let s = c.args.self in
+    (omega arith, all_turn (well_formed_slot s.num_frames) s.slots l.i empty l.ok _ (omega (arith, sixteen (goal.at.loop-i-preserved c).Start)) l.invariant.1 c.is_well_formed-ok.ensures)
 
 pub returns : goal.returns
 unfolding well_formed_table

@@ -2,7 +2,7 @@
 use mathlib.Core.Path.{◌≡◌, sym, ◌∙◌}
 use mathlib.Core.Bool.{true, false}
 use borrow.Author.Rules.{rules}
-use borrow.Author.Tests.{le-leb, lt-leb, not_true, not_false}
+use borrow.Author.Tests.{le-leb, lt-leb}
 use Rattle.loop_table.specs.Tables.{well_formed_table, is_empty, held_in, refused_read, found}
 use Rattle.loop_table.proofs.LoopTable.read.Goals.{After-is_empty, Else-not-is_well_formed, Then-not-is_well_formed}
 use Rattle.loop_table.proofs.LoopTable.read.Goals as goal
@@ -28,11 +28,9 @@ returns-then-slot-gt15 c = rw (well-formed-so (goal.at.returns-then-slot-gt15 c)
 pub returns-then-is_empty : goal.returns-then-is_empty
 unfolding refused_read found
 returns-then-is_empty c =
-    let two = c.before.before.before.before in
-    rw (well-formed-so (goal.at.returns-then-is_empty c).Else-not-is_well_formed, le-leb _ _ two.if-slot-gt15.false, ← empty-told (goal.at.returns-then-is_empty c).After-is_empty, c.if-is_empty.true)
+    rw (well-formed-so (goal.at.returns-then-is_empty c).Else-not-is_well_formed, le-leb _ _ c.if-slot-gt15.false, ← empty-told (goal.at.returns-then-is_empty c).After-is_empty, c.if-is_empty.true)
 
 pub returns : goal.returns
 unfolding refused_read found
 returns c =
-    let two = c.before.before.before.before in
-    rw (well-formed-so (goal.at.returns c).Else-not-is_well_formed, le-leb _ _ two.if-slot-gt15.false, ← empty-told (goal.at.returns c).After-is_empty, c.if-is_empty.false)
+    rw (well-formed-so (goal.at.returns c).Else-not-is_well_formed, le-leb _ _ c.if-slot-gt15.false, ← empty-told (goal.at.returns c).After-is_empty, c.if-is_empty.false)

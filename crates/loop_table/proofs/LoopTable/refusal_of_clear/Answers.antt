@@ -2,7 +2,6 @@
 use mathlib.Core.Path.{◌≡◌, sym, ◌∙◌}
 use mathlib.Core.Bool.{true, false}
 use borrow.Author.Rules.{rules}
-use borrow.Author.Tests.{not_true, not_false}
 use Rattle.loop_table.specs.Tables.{well_formed_table, refused_clear}
 use Rattle.loop_table.proofs.LoopTable.refusal_of_clear.Goals.{Else-not-is_well_formed, Then-not-is_well_formed}
 use Rattle.loop_table.proofs.LoopTable.refusal_of_clear.Goals as goal

@@ -2,7 +2,6 @@
 use mathlib.Core.Path.{◌≡◌, sym, ◌∙◌}
 use mathlib.Core.Bool.{true, false}
 use borrow.Author.Rules.{rules}
-use borrow.Author.Tests.{not_true, not_false}
 use Rattle.loop_table.specs.Tables.{looping, well_formed_table, refused_write}
 use Rattle.loop_table.proofs.LoopTable.refusal_of_write.Goals.{Else-not-is_loop, Else-not-is_well_formed, Then-not-is_loop, Then-not-is_well_formed}
 use Rattle.loop_table.proofs.LoopTable.refusal_of_write.Goals as goal
