@@ -13,8 +13,8 @@ use Rattle.sound_slow_path.proofs.frame_steps.Goals as goal
 
 pub advance_by-sum-requires : goal.advance_by-sum-requires
 advance_by-sum-requires c =
-    let s = c.before.before.before in
-    (s.requires.below, asks _ _ _ _ (advance_is _ _ _ _ s.requires.is_time_step c.magnitude-advance.ensures) s.requires.is_time_step s.requires.slow)
+    let a = asks _ _ _ _ (advance_is _ _ _ _ c.requires.is_time_step c.magnitude-advance.ensures) c.requires.is_time_step c.requires.slow in
+    record { t = c.requires.below; t_2 = a.0; t_3 = a.1 }
 
 pub returns : goal.returns
 returns c = turned_as _ _ _ _ _ _ _ _ _ _ (advance_is _ _ _ _ c.requires.is_time_step c.magnitude-advance.ensures) c.advance_by-sum.ensures c.update_positions.ensures

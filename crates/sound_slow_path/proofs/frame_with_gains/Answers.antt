@@ -7,5 +7,5 @@ use Rattle.sound_slow_path.proofs.frame_with_gains.Goals as goal
 pub returns : goal.returns
 unfolding frame_at reading
 returns c =
-    let g = c.before.before.before.before.before.before.before in
+    let g = c in
     simp (g.get-read.ensures, g.narrow.ensures)

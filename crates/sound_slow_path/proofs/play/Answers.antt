@@ -21,12 +21,12 @@ same c = spread_same (lent c) _ c.requires.sized (half_of _ _ c.requires.long)
 
 pub play_spread-requires : goal.play_spread-requires
 play_spread-requires c =
-    let s = c.before.before.before.before.before.before.before.before in
+    let s = c in
     let a = s.args in
     record { alike = alike (lent (goal.at.play_spread-requires c).Start) s.requires.sized; playable = subst (λ (b : Lanes). Playable a.sound.now a.voice a.dt b (length a.out.now)) (sym (same (goal.at.play_spread-requires c).Start)) s.requires }
 
 pub returns : goal.returns
 returns c =
-    let s = c.before.before.before.before.before.before.before.before.before.before.before in
+    let s = c in
     let a = s.args in
     c.play_spread.ensures ∙ ap (λ (b : Lanes). accepted_as (plays a.sound.now a.dt (rows b) a.voice)) (same (goal.at.returns c).Start)

@@ -21,9 +21,52 @@ use Rattle.sound_slow_path.specs.Plays.{plays, lower}
 use Rattle.sound_slow_path.specs.FrameSteps.{spread, frame_steps, Steppable}
 use Rattle.sound_slow_path.proofs.Loops.{lane_at, framed, played, played_none, played_more, played_all, slow_at, turned_few, turned_on}
 use Rattle.sound_slow_path.proofs.Spread.{spread_at, spread_below}
-use Rattle.sound_slow_path.proofs.play_spread.Invariants.{Sofar, voice, given, lent, within-lanes, inside, lane_is, turning, turn-here, few}
-use Rattle.sound_slow_path.proofs.play_spread.Goals.{After-frame_steps-next, After-lane_frame-j, At-loop-i, In-loop-i}
+use Rattle.sound_slow_path.proofs.play_spread.Invariants.{Sofar}
+use Rattle.sound_slow_path.proofs.play_spread.Goals.{After-frame_steps-next, After-lane_frame-j, In-loop-i}
 use Rattle.sound_slow_path.proofs.play_spread.Goals as goal
+
+-- the lanes as they are passed, and as the block reads them
+abbrev given : In-loop-i → Lanes
+given c = let a = c.args in lanes_now a.fade a.volume a.left a.right a.rate
+
+abbrev lent : In-loop-i → Lanes
+lent c = spread (length c.args.out.now / 2) (given c)
+
+abbrev given-there : After-lane_frame-j → Lanes
+given-there c = let a = c.args in lanes_now a.fade a.volume a.left a.right a.rate
+
+abbrev lent-there : After-lane_frame-j → Lanes
+lent-there c = spread (length c.args.out.now / 2) (given-there c)
+
+-- a frame of the output is a frame of the lanes
+within-lanes : (m n i : ℕ) → m ≡ 2 * n → i < m / 2 → i < n
+within-lanes m n i e h = omega arith
+
+inside : (c : In-loop-i) → c.loop-i.i < length (lent c).rate
+inside c = within-lanes _ _ _ c.requires.playable.long c.loop-i-test.true
+
+inside-there : (c : After-lane_frame-j) → c.loop-i.i < length (lent-there c).rate
+inside-there c = within-lanes _ _ _ c.requires.playable.long c.loop-i-test.true
+
+-- the frame of the lanes that is read
+lane_is : (c : After-lane_frame-j) → lane_at (lent-there c) c.loop-i.i ≡ lane_at (given-there c) c.lane_frame-j.result
+lane_is c = spread_at (given-there c) _ c.loop-i.i c.lane_frame-j.result c.loop-i-test.true c.lane_frame-j.ensures
+
+-- what a frame's steps ask
+turning : (c : After-lane_frame-j)
+    → let a = c.args in
+    Steppable a.sound.now (slice_of a.voice) a.voice.setup.sample_rate (get_or a.rate.now c.lane_frame-j.result nan) a.dt c.loop-i.moving c.loop-i.fractional_position
+turning c =
+    let p = c.requires.playable in
+    let v = c.args.voice in
+    record {
+      updatable = updatable_of c.args.sound.now (moved v c.loop-i.fractional_position c.loop-i.moving) c.loop-i.invariant.well_formed p.lent;
+      below = c.loop-i.invariant.well_formed.fraction;
+      is_time_step = p.is_time_step;
+      slow =
+          subst (λ (l : Lane). T (slow v.setup.sample_rate c.args.dt l.rate)) (lane_is c)
+          (slow_at c.args.sound.now c.args.dt (lent-there c) v v.setup.sample_rate c.loop-i.i (inside-there c) p.near);
+    }
 
 -- what is known of the numbers in an iteration
 record Numbers (n i m steps : ℕ) : Type 0 where
@@ -32,35 +75,30 @@ record Numbers (n i m steps : ℕ) : Type 0 where
   long : m ≡ 2 * n
   few : steps ≤ 257 * i
 
-numbers : (c : In-loop-i) → Numbers (length (lent c.before).rate) c.loop-i.i (length c.loop-i.out) c.loop-i.steps
+numbers : (c : In-loop-i) → Numbers (length (lent c).rate) c.loop-i.i (length c.loop-i.out) c.loop-i.steps
 numbers c =
     let p = c.requires.playable in
-    let s = sized_parts (lent c.before) p.sized in
+    let s = sized_parts (lent c) p.sized in
     record { below = inside c; most = s.most; long = c.loop-i.invariant.as_long ∙ p.long; few = c.loop-i.invariant.few }
 
-lane-there : (c : After-lane_frame-j) → c.lane_frame-j.result < length (given c.before.before.before).rate
-lane-there c = let l = c.before.before in spread_below (given c.before.before.before) _ l.loop-i.i c.lane_frame-j.result (inside c.before.before) c.lane_frame-j.ensures
+lane-there : (c : After-lane_frame-j) → c.lane_frame-j.result < length (given-there c).rate
+lane-there c = spread_below (given-there c) _ c.loop-i.i c.lane_frame-j.result (inside-there c) c.lane_frame-j.ensures
 
--- and at the frame's own rate
-turn_is : (c : After-frame_steps-next)
-    → let at = c.before in
-    let a = at.args in
+-- the steps are the definition's, at the rate that is read
+turn-here : (c : After-frame_steps-next)
+    → let a = c.args in
     c.frame_steps-next.result
-    ≡ frame_steps a.sound.now (slice_of (voice c.before.before.before.before.before.before.before)) (voice at).setup.sample_rate (lane_at (lent c.before.before.before.before.before.before.before) at.loop-i.i).rate a.dt at.loop-i.moving at.loop-i.fractional_position
-turn_is c =
-    let at = c.before in
-    let a = at.args in
-    turn-here c
-    ∙ ap (λ (l : Lane). frame_steps a.sound.now (slice_of (voice c.before.before.before.before.before.before.before)) (voice at).setup.sample_rate l.rate a.dt at.loop-i.moving at.loop-i.fractional_position) (sym (lane_is c.before.before.before.before))
+    ≡ frame_steps a.sound.now (slice_of a.voice) a.voice.setup.sample_rate (get_or a.rate.now c.lane_frame-j.result nan) a.dt c.loop-i.moving c.loop-i.fractional_position
+turn-here c =
+    let a = c.args in
+    c.frame_steps-next.ensures
+    ∙ ap (λ (k : Slice). frame_steps a.sound.now k a.voice.setup.sample_rate (get_or a.rate.now c.lane_frame-j.result nan) a.dt c.loop-i.moving c.loop-i.fractional_position)
+    c.slice-slice.ensures
 
 -- ---- the needs
-pub slice-slice-requires : goal.slice-slice-requires
-slice-slice-requires : goal.slice-slice-requires
-slice-slice-requires c κs = search rules
-
 pub loop-i-init : goal.loop-i-init
 loop-i-init c =
-    let st = c.before.before.before.before.before.before.before.before.before in
+    let st = c in
     let a = st.args in
     record {
       within = omega arith;
@@ -73,10 +111,16 @@ loop-i-init c =
 
 pub frame_with_gains-read-requires : goal.frame_with_gains-read-requires
 frame_with_gains-read-requires c =
-    let l = c.before.before in
+    let l = c in
     let k = l.requires.alike in
     let h = lane-there (goal.at.frame_with_gains-read-requires c).After-lane_frame-j in
-    (l.loop-i.invariant.well_formed.fraction, (omega (arith, h, k.fade), (omega (arith, h, k.volume), (omega (arith, h, k.left), omega (arith, h, k.right)))))
+    record {
+      t = l.loop-i.invariant.well_formed.fraction;
+      i_in_bounds = omega (arith, h, k.fade);
+      i_in_bounds_2 = omega (arith, h, k.volume);
+      i_in_bounds_3 = omega (arith, h, k.left);
+      i_in_bounds_4 = omega (arith, h, k.right);
+    }
 
 pub overflow_mul-out : goal.overflow_mul-out
 overflow_mul-out c = omega (arith, numbers (goal.at.overflow_mul-out c).In-loop-i)
@@ -85,7 +129,7 @@ pub offset_bounds-out-i : goal.offset_bounds-out-i
 offset_bounds-out-i c = omega (arith, numbers (goal.at.offset_bounds-out-i c).In-loop-i)
 
 pub bounds-out-i : goal.bounds-out-i
-bounds-out-i c = omega (arith, numbers (goal.at.bounds_out_i c).In-loop-i)
+bounds-out-i c = omega (arith, numbers (goal.at.bounds-out-i c).In-loop-i)
 
 pub overflow_mul-out-in-loop-i : goal.overflow_mul-out-in-loop-i
 overflow_mul-out-in-loop-i c = omega (arith, numbers (goal.at.overflow_mul-out-in-loop-i c).In-loop-i)
@@ -97,47 +141,49 @@ pub offset_bounds-out-i-in-loop-i : goal.offset_bounds-out-i-in-loop-i
 offset_bounds-out-i-in-loop-i c = omega (arith, numbers (goal.at.offset_bounds-out-i-in-loop-i c).In-loop-i)
 
 pub bounds-out-i-in-loop-i : goal.bounds-out-i-in-loop-i
-bounds-out-i-in-loop-i c = simp length-set (omega (arith, numbers (goal.at.bounds_out_i_in_loop_i c).In-loop-i))
+bounds-out-i-in-loop-i c = simp length-set (omega (arith, numbers (goal.at.bounds-out-i-in-loop-i c).In-loop-i))
 
 pub offset_bounds-rate-j : goal.offset_bounds-rate-j
-offset_bounds-rate-j c = omega (arith, lane-there (goal.at.offset_bounds-rate-j c).After-lane_frame-j, c.good)
+offset_bounds-rate-j c = omega (arith, lane-there (goal.at.offset_bounds-rate-j c).After-lane_frame-j)
 
 pub bounds-rate-j : goal.bounds-rate-j
-bounds-rate-j c = lane-there (goal.at.bounds_rate_j c).After-lane_frame-j
+bounds-rate-j c = lane-there (goal.at.bounds-rate-j c).After-lane_frame-j
 
 pub frame_steps-next-requires : goal.frame_steps-next-requires
 frame_steps-next-requires c =
-    let l = c.before.before.before in
+    let l = c in
     rw l.slice-slice.ensures (turning (goal.at.frame_steps-next-requires c).After-lane_frame-j)
 
 pub overflow_add-steps : goal.overflow_add-steps
-overflow_add-steps c = let t = c.before.before in omega (arith, numbers (goal.at.overflow_add-steps c).In-loop-i, few (goal.at.overflow_add-steps c).After-frame_steps-next)
+overflow_add-steps c = let t = c in omega (arith, numbers (goal.at.overflow_add-steps c).In-loop-i, turned_few _ _ _ _ _ _ _ c.frame_steps-next.result (turning (goal.at.overflow_add-steps c).After-lane_frame-j) (turn-here (goal.at.overflow_add-steps c).After-frame_steps-next))
 
 pub overflow_add-i : goal.overflow_add-i
 overflow_add-i c = omega (arith, numbers (goal.at.overflow_add-i c).In-loop-i)
 
 pub loop-i-smaller : goal.loop-i-smaller
-loop-i-smaller c = omega (arith, numbers (goal.at.loop_i_smaller c).In-loop-i)
+loop-i-smaller c = omega (arith, numbers (goal.at.loop-i-smaller c).In-loop-i)
 
 pub loop-i-preserved : goal.loop-i-preserved
 unfolding reading
 loop-i-preserved c =
-    let a = c.before.before in
-    let t = a in
-    let at = t.before in
-    let st = at in
-    let n = numbers (goal.at.loop_i_preserved c).In-loop-i in
-    let w = few (goal.at.loop_i_preserved c).After-frame_steps-next in
-    let read = a.frame_with_gains-read in
+    let in-loop = (goal.at.loop-i-preserved c).In-loop-i in
+    let there = (goal.at.loop-i-preserved c).After-lane_frame-j in
+    let n = numbers in-loop in
+    let here = turn-here (goal.at.loop-i-preserved c).After-frame_steps-next in
+    let w = turned_few _ _ _ _ _ _ _ c.frame_steps-next.result (turning there) here in
+    let read = c.frame_with_gains-read in
+    let a = c.args in
+    let l = c.loop-i in
+    let turn = here ∙ ap (λ (l : Lane). frame_steps a.sound.now (slice_of a.voice) a.voice.setup.sample_rate l.rate a.dt c.loop-i.moving c.loop-i.fractional_position) (sym (lane_is there)) in
     record {
       within = omega (arith, n);
       few = omega (arith, n, w);
-      as_long = simp length-set at.loop-i.inv.as_long;
-      well_formed = turned_on st.args.sound.now st.args.dt (voice (goal.at.loop_i_preserved c).At-loop-i) _ at.loop-i.moving at.loop-i.fractional_position a.frame_steps-next.result at.loop-i.inv.well_formed (turning (goal.at.loop_i_preserved c).After-lane_frame-j) (turn-here (goal.at.loop_i_preserved c).After-frame_steps-next);
+      as_long = simp length-set l.invariant.as_long;
+      well_formed = turned_on a.sound.now a.dt a.voice _ l.moving l.fractional_position c.frame_steps-next.result l.invariant.well_formed (turning there) here;
       so_far_lem =
-          played_more st.args.sound.now st.args.dt (lent (goal.at.loop_i_preserved c).At-loop-i) (voice (goal.at.loop_i_preserved c).At-loop-i) at.loop-i.i at.loop-i.steps at.loop-i.lowest_count at.loop-i.out at.loop-i.moving at.loop-i.fractional_position
-          read.result.frame a.lower-lowest_count.result a.frame_steps-next.result (inside (goal.at.loop_i_preserved c).In-loop-i) (omega (arith, n)) at.loop-i.inv.so_far_lem
-          (ap (λ (r : Reading). r.frame) read.ensures ∙ ap (λ (l : Lane). framed at.loop-i.moving at.loop-i.fractional_position l) (sym (lane_is (goal.at.loop_i_preserved c).After-lane_frame-j))) (a.lower-lowest_count.ensures ∙ ap (λ (r : Reading). lower at.loop-i.lowest_count r.count) read.ensures) (turn_is (goal.at.loop_i_preserved c).After-frame_steps-next);
+          played_more a.sound.now a.dt (lent in-loop) a.voice l.i l.steps l.lowest_count l.out l.moving l.fractional_position
+          read.result.frame c.lower-lowest_count.result c.frame_steps-next.result (inside in-loop) (omega (arith, n)) l.invariant.so_far_lem
+          (ap (λ (r : Reading). r.frame) read.ensures ∙ ap (λ (l : Lane). framed c.loop-i.moving c.loop-i.fractional_position l) (sym (lane_is there))) (c.lower-lowest_count.ensures ∙ ap (λ (r : Reading). lower c.loop-i.lowest_count r.count) read.ensures) turn;
     }
 
 pub shape_of-out : goal.shape_of-out
@@ -148,8 +194,8 @@ all_lanes m n i e h = omega arith
 
 pub returns : goal.returns
 returns c =
-    let l = c.before in
-    let at = l.before in
-    let p = at.requires.playable in
-    played_all _ _ (lent (goal.at.returns c).At-loop-i) _ at.loop-i.i at.loop-i.steps at.loop-i.lowest_count at.loop-i.out _ (all_lanes _ _ _ p.long l.loop-i-test.false) at.loop-i.invariant.within (at.loop-i.invariant.as_long ∙ p.long)
-    at.loop-i.invariant.so_far_lem
+    let p = c.requires.playable in
+    let a = c.args in
+    let l = c.loop-i in
+    played_all _ _ (spread (length a.out.now / 2) (lanes_now a.fade a.volume a.left a.right a.rate)) _ l.i l.steps l.lowest_count l.out _ (all_lanes _ _ _ p.long c.loop-i-test.false) l.invariant.within (l.invariant.as_long ∙ p.long)
+    l.invariant.so_far_lem
