@@ -5,6 +5,7 @@ ghost use Rattle.test_leaf_examples.specs.Places.{at, plain};
 
 use playback_position::{EndPosition, FrameRange, PlaybackPosition, Region};
 use playback_state_manager::PlaybackState;
+use std::io;
 use transport::Transport;
 
 const N: usize = 10;
@@ -21,23 +22,20 @@ fn counted(n: u64) -> u64 {
 }
 
 // Prints an example and its result, and counts it.
-fn show(t: Tally, name: &[u8], got: u64, expected: u64) -> Tally {
-    io::write_all(1, name);
-    io::write_all(1, b": ");
-    io::print_decimal(1, got);
+fn show(rt: &impl Print, t: Tally, name: &str, got: u64, expected: u64) -> io::Result<Tally> {
     let examples = counted(t.examples);
     if got == expected {
-        io::write_all(1, b" ok\n");
-        return Tally {
+        println!(rt; "{name}: {got} ok")?;
+        return Ok(Tally {
             examples,
             differ: t.differ,
-        };
+        });
     }
-    io::write_all(1, b" differs\n");
-    Tally {
+    println!(rt; "{name}: {got} differs")?;
+    Ok(Tally {
         examples,
         differ: counted(t.differ),
-    }
+    })
 }
 
 fn number(yes: bool) -> u64 {
@@ -84,19 +82,19 @@ fn forward_in_a_loop_of_one() -> Transport {
     playing_at(4, 4, 5).increment_position(N)
 }
 
-fn show_moves(given: Tally) -> Tally {
+fn show_moves(rt: &impl Print, given: Tally) -> io::Result<Tally> {
     let mut t = given;
     let moved = backward(8, 3, 6);
-    t = show(t, b"backward from 8", moved.position as u64, 7);
+    t = show(rt, t, "backward from 8", moved.position as u64, 7)?;
     let moved = seek_9_to_8();
-    t = show(t, b"seek 9 to 8", moved.position as u64, 8);
+    t = show(rt, t, "seek 9 to 8", moved.position as u64, 8)?;
     let moved = seek_to_10_then_2();
-    t = show(t, b"no loop, seek to 10 then 2", moved.position as u64, 2);
-    t = show(t, b"and is playing", number(moved.playing), 0);
+    t = show(rt, t, "no loop, seek to 10 then 2", moved.position as u64, 2)?;
+    t = show(rt, t, "and is playing", number(moved.playing), 0)?;
     let moved = forward_in_a_loop_of_one();
-    t = show(t, b"loop (4, 5), forward from 4", moved.position as u64, 4);
+    t = show(rt, t, "loop (4, 5), forward from 4", moved.position as u64, 4)?;
     let moved = backward(4, 4, 5);
-    show(t, b"loop (4, 5), backward from 4", moved.position as u64, 4)
+    show(rt, t, "loop (4, 5), backward from 4", moved.position as u64, 4)
 }
 
 fn is_well_formed_loop(start: usize, end: usize) -> u64 {
@@ -107,45 +105,45 @@ fn is_well_formed_loop(start: usize, end: usize) -> u64 {
     number(region.is_well_formed(1, N))
 }
 
-fn show_places(given: Tally) -> Tally {
+fn show_places(rt: &impl Print, given: Tally) -> io::Result<Tally> {
     let mut t = given;
     t = show(
-        t,
-        b"loop (4, 4) is well formed",
+        rt, t,
+        "loop (4, 4) is well formed",
         is_well_formed_loop(4, 4),
         0,
-    );
+    )?;
     t = show(
-        t,
-        b"loop (4, 11) is well formed",
+        rt, t,
+        "loop (4, 11) is well formed",
         is_well_formed_loop(4, 11),
         0,
-    );
+    )?;
     t = show(
-        t,
-        b"loop (0, 10) is well formed",
+        rt, t,
+        "loop (0, 10) is well formed",
         is_well_formed_loop(0, 10),
         1,
-    );
+    )?;
     let start = PlaybackPosition::Seconds(2.5).into_samples(1);
-    t = show(t, b"2.5 s at 1 Hz, start", start as u64, 3);
-    show(t, b"2.5 s at 1 Hz, seek", numbers::cut(2.5) as u64, 2)
+    t = show(rt, t, "2.5 s at 1 Hz, start", start as u64, 3)?;
+    show(rt, t, "2.5 s at 1 Hz, seek", numbers::cut(2.5) as u64, 2)
 }
 
-fn show_states(given: Tally) -> Tally {
+fn show_states(rt: &impl Print, given: Tally) -> io::Result<Tally> {
     let mut t = given;
-    t = show(t, b"Playing", PlaybackState::Playing.number() as u64, 0);
-    t = show(t, b"Pausing", PlaybackState::Pausing.number() as u64, 1);
-    t = show(t, b"Paused", PlaybackState::Paused.number() as u64, 2);
+    t = show(rt, t, "Playing", PlaybackState::Playing.number() as u64, 0)?;
+    t = show(rt, t, "Pausing", PlaybackState::Pausing.number() as u64, 1)?;
+    t = show(rt, t, "Paused", PlaybackState::Paused.number() as u64, 2)?;
     t = show(
-        t,
-        b"WaitingToResume",
+        rt, t,
+        "WaitingToResume",
         PlaybackState::WaitingToResume.number() as u64,
         3,
-    );
-    t = show(t, b"Resuming", PlaybackState::Resuming.number() as u64, 4);
-    t = show(t, b"Stopping", PlaybackState::Stopping.number() as u64, 5);
-    show(t, b"Stopped", PlaybackState::Stopped.number() as u64, 6)
+    )?;
+    t = show(rt, t, "Resuming", PlaybackState::Resuming.number() as u64, 4)?;
+    t = show(rt, t, "Stopping", PlaybackState::Stopping.number() as u64, 5)?;
+    show(rt, t, "Stopped", PlaybackState::Stopped.number() as u64, 6)
 }
 
 // 1 - 2^-25, which lies half way between 1 and the f32 below it.
@@ -153,17 +151,16 @@ fn narrows_to_one() -> bool {
     numbers::narrow(0.9999999701976776123046875) == 1.0
 }
 
-fn main() {
+fn main(rt: HostRuntime) -> io::Result<()> {
     let mut t = Tally {
         examples: 0,
         differ: 0,
     };
-    t = show_moves(t);
-    t = show_places(t);
-    t = show_states(t);
-    t = show(t, b"1 - 2^-25 narrows to 1", number(narrows_to_one()), 1);
-    io::print_decimal(1, t.examples);
-    io::write_all(1, b" examples, ");
-    io::print_decimal(1, t.differ);
-    io::write_all(1, b" differ\n");
+    t = show_moves(&rt, t)?;
+    t = show_places(&rt, t)?;
+    t = show_states(&rt, t)?;
+    t = show(&rt, t, "1 - 2^-25 narrows to 1", number(narrows_to_one()), 1)?;
+    let examples = t.examples;
+    let differ = t.differ;
+    println!(rt; "{examples} examples, {differ} differ")
 }

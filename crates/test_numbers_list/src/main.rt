@@ -5,6 +5,9 @@ ghost use Rattle.std.specs.Prelude.{◌+◌, ◌≤◌, ◌<◌, ◌^◌, ◌≡
 ghost use Rattle.test_numbers_list.specs.Lines.{digit, number, narrows_to, right, agrees};
 ghost use Rattle.test_numbers_list.specs.Lines as Lines;
 
+use std::io;
+use std::io::{BufReader, Read};
+
 // The largest number of lines of a list.
 const MOST: u64 = 1_000_000;
 
@@ -97,17 +100,30 @@ enum Line {
     Differs,
 }
 
+// Reads until the line is full or the input ends: how many bytes.
+fn read_full(from: &mut impl Read, line: &mut [u8; 45]) -> io::Result<usize> {
+    let mut n: usize = 0;
+    while n < 45 {
+        let more = from.read(&mut line[n..])?;
+        if more == 0 {
+            return Ok(n);
+        }
+        n += more;
+    }
+    Ok(n)
+}
+
 // Reads one line. A line that is cut short counts as a difference.
-fn next_line() -> Line {
+fn next_line(from: &mut impl Read) -> io::Result<Line> {
     let mut line = [0u8; 45];
-    let n = io::read_full(0, &mut line);
+    let n = read_full(from, &mut line)?;
     if n == 0 {
-        return Line::End;
+        return Ok(Line::End);
     }
     if n == 45 && judge(&line) {
-        return Line::Agrees;
+        return Ok(Line::Agrees);
     }
-    Line::Differs
+    Ok(Line::Differs)
 }
 
 #[derive(Clone, Copy)]
@@ -116,25 +132,25 @@ struct Tally {
     differ: u64,
 }
 
-fn count_all() -> Tally {
+fn count_all(from: &mut impl Read) -> io::Result<Tally> {
     let mut cases: u64 = 0;
     let mut differ: u64 = 0;
     while cases < MOST {
-        let line = next_line();
+        let line = next_line(from)?;
         match line {
-            Line::End => return Tally { cases, differ },
+            Line::End => return Ok(Tally { cases, differ }),
             Line::Agrees => (),
             Line::Differs => differ += 1,
         }
         cases += 1;
     }
-    Tally { cases, differ }
+    Ok(Tally { cases, differ })
 }
 
-fn main() {
-    let t = count_all();
-    io::print_decimal(1, t.cases);
-    io::write_all(1, b" cases, ");
-    io::print_decimal(1, t.differ);
-    io::write_all(1, b" differ\n");
+fn main(rt: HostRuntime) -> io::Result<()> {
+    let mut from = BufReader::new(rt.alloc(), rt.reader())?;
+    let t = count_all(&mut from)?;
+    let cases = t.cases;
+    let differ = t.differ;
+    println!(rt; "{cases} cases, {differ} differ")
 }

@@ -9,6 +9,7 @@ use sound_creation::{OptionalRegion, Settings};
 use sound_slow_path::Processed;
 use sound_state::StaticSound;
 use start_time::StartSignal;
+use std::io;
 
 #[derive(Clone, Copy)]
 struct Tally {
@@ -22,23 +23,20 @@ fn counted(n: u64) -> u64 {
 }
 
 // Prints an example and its result, and counts it.
-fn show(t: Tally, name: &[u8], got: u64, expected: u64) -> Tally {
-    io::write_all(1, name);
-    io::write_all(1, b": ");
-    io::print_decimal(1, got);
+fn show(rt: &impl Print, t: Tally, name: &str, got: u64, expected: u64) -> io::Result<Tally> {
     let examples = counted(t.examples);
     if got == expected {
-        io::write_all(1, b" ok\n");
-        return Tally {
+        println!(rt; "{name}: {got} ok")?;
+        return Ok(Tally {
             examples,
             differ: t.differ,
-        };
+        });
     }
-    io::write_all(1, b" differs\n");
-    Tally {
+    println!(rt; "{name}: {got} differs")?;
+    Ok(Tally {
         examples,
         differ: counted(t.differ),
-    }
+    })
 }
 
 fn number(yes: bool) -> u64 {
@@ -143,16 +141,16 @@ fn state_after_four() -> u64 {
     state_number(made.voice)
 }
 
-fn show_three_frames(given: Tally) -> Tally {
+fn show_three_frames(rt: &impl Print, given: Tally) -> io::Result<Tally> {
     let mut t = given;
     t = show(
-        t,
-        b"three frames, six played: 1, 2, 3, 0, 0, 0",
+        rt, t,
+        "three frames, six played: 1, 2, 3, 0, 0, 0",
         number(six_frames()),
         1,
-    );
-    t = show(t, b"state after the third", state_after_three(), 0);
-    show(t, b"state after the fourth", state_after_four(), 6)
+    )?;
+    t = show(rt, t, "state after the third", state_after_three(), 0)?;
+    show(rt, t, "state after the fourth", state_after_four(), 6)
 }
 
 // ---- loops over ten frames
@@ -188,24 +186,24 @@ fn loop_command(start: usize, end: usize) -> u64 {
     commanded.refusal as u64
 }
 
-fn show_loops(given: Tally) -> Tally {
+fn show_loops(rt: &impl Print, given: Tally) -> io::Result<Tally> {
     let mut t = given;
-    t = show(t, b"created with loop (4, 4)", creation_with_loop(4, 4), 6);
+    t = show(rt, t, "created with loop (4, 4)", creation_with_loop(4, 4), 6)?;
     t = show(
-        t,
-        b"created with loop (4, 11)",
+        rt, t,
+        "created with loop (4, 11)",
         creation_with_loop(4, 11),
         6,
-    );
+    )?;
     t = show(
-        t,
-        b"created with loop (0, 10)",
+        rt, t,
+        "created with loop (0, 10)",
         creation_with_loop(0, 10),
         0,
-    );
-    t = show(t, b"loop command (4, 4)", loop_command(4, 4), 6);
-    t = show(t, b"loop command (4, 11)", loop_command(4, 11), 6);
-    show(t, b"loop command (0, 10)", loop_command(0, 10), 0)
+    )?;
+    t = show(rt, t, "loop command (4, 4)", loop_command(4, 4), 6)?;
+    t = show(rt, t, "loop command (4, 11)", loop_command(4, 11), 6)?;
+    show(rt, t, "loop command (0, 10)", loop_command(0, 10), 0)
 }
 
 // ---- an advance of 256
@@ -220,14 +218,14 @@ fn advanced(lane_rate: f64) -> Processed {
     play(made.voice, &sound, &unit, &rate, 1.0, &mut out)
 }
 
-fn show_advances(given: Tally) -> Tally {
+fn show_advances(rt: &impl Print, given: Tally) -> io::Result<Tally> {
     let mut t = given;
     let made = advanced(256.0);
-    t = show(t, b"advance 256", made.refusal as u64, 0);
-    t = show(t, b"its steps", made.steps as u64, 256);
+    t = show(rt, t, "advance 256", made.refusal as u64, 0)?;
+    t = show(rt, t, "its steps", made.steps as u64, 256)?;
     let made = advanced(float_bits::f64_of(0x4070_0000_0000_0001));
-    t = show(t, b"the next f64 above 256", made.refusal as u64, 12);
-    show(t, b"its steps", made.steps as u64, 0)
+    t = show(rt, t, "the next f64 above 256", made.refusal as u64, 12)?;
+    show(rt, t, "its steps", made.steps as u64, 0)
 }
 
 // ---- seek_by(0)
@@ -246,10 +244,10 @@ fn seek_by_nothing() -> u64 {
     position(commanded.voice)
 }
 
-fn show_seeks(given: Tally) -> Tally {
+fn show_seeks(rt: &impl Print, given: Tally) -> io::Result<Tally> {
     let mut t = given;
-    t = show(t, b"44,100 Hz, position", position(at_15()), 15);
-    show(t, b"and after seek_by(0)", seek_by_nothing(), 14)
+    t = show(rt, t, "44,100 Hz, position", position(at_15()), 15)?;
+    show(rt, t, "and after seek_by(0)", seek_by_nothing(), 14)
 }
 
 // ---- both zeros as held rates
@@ -316,42 +314,42 @@ fn amplitude_of_minus_zero() -> u64 {
     made.refusal as u64
 }
 
-fn show_zeros_at_creation(given: Tally) -> Tally {
+fn show_zeros_at_creation(rt: &impl Print, given: Tally) -> io::Result<Tally> {
     let mut t = given;
-    t = show(t, b"created at 0, position", created_at_rate(0.0, false), 3);
-    t = show(t, b"created at -0", created_at_rate(-0.0, false), 0);
-    t = show(t, b"created at 0, reverse", created_at_rate(0.0, true), 0);
-    show(t, b"created at -0, reverse", created_at_rate(-0.0, true), 3)
+    t = show(rt, t, "created at 0, position", created_at_rate(0.0, false), 3)?;
+    t = show(rt, t, "created at -0", created_at_rate(-0.0, false), 0)?;
+    t = show(rt, t, "created at 0, reverse", created_at_rate(0.0, true), 0)?;
+    show(rt, t, "created at -0, reverse", created_at_rate(-0.0, true), 3)
 }
 
-fn show_zeros_commanded(given: Tally) -> Tally {
+fn show_zeros_commanded(rt: &impl Print, given: Tally) -> io::Result<Tally> {
     let mut t = given;
     t = show(
-        t,
-        b"at 7, rate 0, a frame later",
+        rt, t,
+        "at 7, rate 0, a frame later",
         commanded_before(0.0, false),
         8,
-    );
-    t = show(t, b"rate -0", commanded_before(-0.0, false), 6);
-    t = show(t, b"at 2, rate 0, reverse", commanded_before(0.0, true), 1);
-    t = show(t, b"rate -0, reverse", commanded_before(-0.0, true), 3);
+    )?;
+    t = show(rt, t, "rate -0", commanded_before(-0.0, false), 6)?;
+    t = show(rt, t, "at 2, rate 0, reverse", commanded_before(0.0, true), 1)?;
+    t = show(rt, t, "rate -0, reverse", commanded_before(-0.0, true), 3)?;
     t = show(
-        t,
-        b"at 8, rate 0 at the cut",
+        rt, t,
+        "at 8, rate 0 at the cut",
         commanded_between(0.0, false),
         9,
-    );
-    t = show(t, b"rate -0", commanded_between(-0.0, false), 7);
-    t = show(t, b"at 1, rate 0, reverse", commanded_between(0.0, true), 0);
-    show(t, b"rate -0, reverse", commanded_between(-0.0, true), 2)
+    )?;
+    t = show(rt, t, "rate -0", commanded_between(-0.0, false), 7)?;
+    t = show(rt, t, "at 1, rate 0, reverse", commanded_between(0.0, true), 0)?;
+    show(rt, t, "rate -0, reverse", commanded_between(-0.0, true), 2)
 }
 
-fn show_zeros_in_lanes(given: Tally) -> Tally {
+fn show_zeros_in_lanes(rt: &impl Print, given: Tally) -> io::Result<Tally> {
     let mut t = given;
     let made = advanced(-0.0);
-    t = show(t, b"a lane rate of -0", made.refusal as u64, 0);
-    t = show(t, b"its steps", made.steps as u64, 0);
-    show(t, b"an amplitude of -0", amplitude_of_minus_zero(), 11)
+    t = show(rt, t, "a lane rate of -0", made.refusal as u64, 0)?;
+    t = show(rt, t, "its steps", made.steps as u64, 0)?;
+    show(rt, t, "an amplitude of -0", amplitude_of_minus_zero(), 11)
 }
 
 // ---- refused calls
@@ -385,36 +383,35 @@ fn refused_command_set() -> bool {
         & (float_bits::bits_of_f64(commanded.position) == 0)
 }
 
-fn show_refusals(given: Tally) -> Tally {
+fn show_refusals(rt: &impl Print, given: Tally) -> io::Result<Tally> {
     let t = show(
-        given,
-        b"a refused block writes nothing and moves nothing",
+        rt, given,
+        "a refused block writes nothing and moves nothing",
         number(refused_block()),
         1,
-    );
+    )?;
     show(
-        t,
-        b"a refused command set moves nothing",
+        rt, t,
+        "a refused command set moves nothing",
         number(refused_command_set()),
         1,
     )
 }
 
-fn main() {
+fn main(rt: HostRuntime) -> io::Result<()> {
     let mut t = Tally {
         examples: 0,
         differ: 0,
     };
-    t = show_three_frames(t);
-    t = show_loops(t);
-    t = show_advances(t);
-    t = show_seeks(t);
-    t = show_zeros_at_creation(t);
-    t = show_zeros_commanded(t);
-    t = show_zeros_in_lanes(t);
-    t = show_refusals(t);
-    io::print_decimal(1, t.examples);
-    io::write_all(1, b" examples, ");
-    io::print_decimal(1, t.differ);
-    io::write_all(1, b" differ\n");
+    t = show_three_frames(&rt, t)?;
+    t = show_loops(&rt, t)?;
+    t = show_advances(&rt, t)?;
+    t = show_seeks(&rt, t)?;
+    t = show_zeros_at_creation(&rt, t)?;
+    t = show_zeros_commanded(&rt, t)?;
+    t = show_zeros_in_lanes(&rt, t)?;
+    t = show_refusals(&rt, t)?;
+    let examples = t.examples;
+    let differ = t.differ;
+    println!(rt; "{examples} examples, {differ} differ")
 }

@@ -10,6 +10,7 @@ use sound_creation::{OptionalRegion, Settings};
 use sound_slow_path::Processed;
 use sound_state::StaticSound;
 use start_time::StartSignal;
+use std::io::Read;
 
 // The state after a call, and whether its result equals the list's.
 #[derive(Clone, Copy)]
@@ -21,62 +22,62 @@ pub struct Answer {
 // ---- the input of a call
 
 // 0 is frames, anything else seconds.
-fn next_position() -> PlaybackPosition {
-    let kind = input::next();
+fn next_position(from: &mut impl Read) -> PlaybackPosition {
+    let kind = input::next(from);
     if kind == 0 {
-        return PlaybackPosition::Samples(input::index());
+        return PlaybackPosition::Samples(input::index(from));
     }
-    PlaybackPosition::Seconds(input::double())
+    PlaybackPosition::Seconds(input::double(from))
 }
 
 // 0 is the end of the audio, anything else a position.
-fn next_end() -> EndPosition {
-    let kind = input::next();
+fn next_end(from: &mut impl Read) -> EndPosition {
+    let kind = input::next(from);
     if kind == 0 {
         return EndPosition::EndOfAudio;
     }
-    EndPosition::Custom(next_position())
+    EndPosition::Custom(next_position(from))
 }
 
-fn next_region() -> Region {
-    let start = next_position();
-    let end = next_end();
+fn next_region(from: &mut impl Read) -> Region {
+    let start = next_position(from);
+    let end = next_end(from);
     Region { start, end }
 }
 
 // 0 is none, anything else a region.
-fn next_optional_region() -> OptionalRegion {
-    let kind = input::next();
+fn next_optional_region(from: &mut impl Read) -> OptionalRegion {
+    let kind = input::next(from);
     if kind == 0 {
         return OptionalRegion::Absent;
     }
-    OptionalRegion::Present(next_region())
+    OptionalRegion::Present(next_region(from))
 }
 
 // 0 is none, anything else an amount.
-fn next_amount() -> Amount {
-    let kind = input::next();
+fn next_amount(from: &mut impl Read) -> Amount {
+    let kind = input::next(from);
     if kind == 0 {
         return Amount::Absent;
     }
-    Amount::Given(input::double())
+    Amount::Given(input::double(from))
 }
 
 // 0 keeps the loop, 1 clears it, anything else sets it.
-fn next_loop() -> LoopCommand {
-    let kind = input::next();
+fn next_loop(from: &mut impl Read) -> LoopCommand {
+    let kind = input::next(from);
     if kind == 0 {
         return LoopCommand::Keep;
     }
     if kind == 1 {
         return LoopCommand::Clear;
     }
-    LoopCommand::Set(next_region())
+    LoopCommand::Set(next_region(from))
 }
 
 // 0 is none, 1 at once, anything else one that waits.
-fn next_resume() -> ResumeCommand {
-    let kind = input::next();
+fn next_resume(from: &mut impl Read) -> ResumeCommand {
+    let kind = input::next(from);
     if kind == 0 {
         return ResumeCommand::Keep;
     }
@@ -87,8 +88,8 @@ fn next_resume() -> ResumeCommand {
 }
 
 // 0 is still waiting, 1 now, anything else never.
-fn next_answer() -> StartAnswer {
-    let kind = input::next();
+fn next_answer(from: &mut impl Read) -> StartAnswer {
+    let kind = input::next(from);
     if kind == 0 {
         return StartAnswer::Waiting;
     }
@@ -98,14 +99,14 @@ fn next_answer() -> StartAnswer {
     StartAnswer::Never
 }
 
-fn next_settings() -> Settings {
-    let sample_rate = input::half();
-    let slice = next_optional_region();
-    let start_position = next_position();
-    let loop_region = next_optional_region();
-    let reverse = input::yes();
-    let playback_rate = input::double();
-    let start_waits = input::yes();
+fn next_settings(from: &mut impl Read) -> Settings {
+    let sample_rate = input::half(from);
+    let slice = next_optional_region(from);
+    let start_position = next_position(from);
+    let loop_region = next_optional_region(from);
+    let reverse = input::yes(from);
+    let playback_rate = input::double(from);
+    let start_waits = input::yes(from);
     Settings {
         sample_rate,
         slice,
@@ -117,14 +118,14 @@ fn next_settings() -> Settings {
     }
 }
 
-fn next_commands() -> Commands {
-    let playback_rate = next_amount();
-    let loop_region = next_loop();
-    let pause = input::yes();
-    let resume = next_resume();
-    let stop = input::yes();
-    let seek_by = next_amount();
-    let seek_to = next_amount();
+fn next_commands(from: &mut impl Read) -> Commands {
+    let playback_rate = next_amount(from);
+    let loop_region = next_loop(from);
+    let pause = input::yes(from);
+    let resume = next_resume(from);
+    let stop = input::yes(from);
+    let seek_by = next_amount(from);
+    let seek_to = next_amount(from);
     Commands {
         playback_rate,
         loop_region,
@@ -136,10 +137,10 @@ fn next_commands() -> Commands {
     }
 }
 
-fn next_signals() -> Signals {
-    let finished = input::yes();
-    let start = StartSignal::Answer(next_answer());
-    let resume = next_answer();
+fn next_signals(from: &mut impl Read) -> Signals {
+    let finished = input::yes(from);
+    let start = StartSignal::Answer(next_answer(from));
+    let resume = next_answer(from);
     Signals {
         finished,
         start,
@@ -150,10 +151,10 @@ fn next_signals() -> Signals {
 // ---- the output
 
 // Before a call, sample i of an output is -(i + 1). The list says how many are passed.
-fn prepare(out: &mut [f32]) -> usize
+fn prepare(from: &mut impl Read, out: &mut [f32]) -> usize
     ensures { Counts result out.new }
 {
-    let n = input::count(out.len());
+    let n = input::count(from, out.len());
     let mut untouched: f32 = -1.0;
     let mut i: usize = 0;
     while i < out.len() {
@@ -165,13 +166,13 @@ fn prepare(out: &mut [f32]) -> usize
 }
 
 // Whether the next numbers of the list are the first samples of an output, and the others are unchanged.
-fn is_output(out: &[f32; 32], count: usize) -> bool {
+fn is_output(from: &mut impl Read, out: &[f32; 32], count: usize) -> bool {
     let mut same = true;
     let mut untouched: f32 = -1.0;
     let mut i: usize = 0;
     while i < 32 {
         if i < count {
-            same = input::is_single(out[i]) & same;
+            same = input::is_single(from, out[i]) & same;
         } else {
             same = (out[i] == untouched) & same;
         }
@@ -181,12 +182,12 @@ fn is_output(out: &[f32; 32], count: usize) -> bool {
     same
 }
 
-fn is_processed(made: Processed) -> bool {
+fn is_processed(from: &mut impl Read, made: Processed) -> bool {
     let voice = made.voice;
-    input::is(made.refusal as u64)
-        & input::is(made.steps as u64)
-        & input::is(made.lowest_count as u64)
-        & states::are(voice)
+    input::is(from, made.refusal as u64)
+        & input::is(from, made.steps as u64)
+        & input::is(from, made.lowest_count as u64)
+        & states::are(from, voice)
 }
 
 // ---- the calls
@@ -207,52 +208,52 @@ pub(crate) fn blank() -> StaticSound {
     made.voice
 }
 
-pub(crate) fn create(sound: &[f32]) -> Answer {
-    let settings = next_settings();
+pub(crate) fn create(from: &mut impl Read, sound: &[f32]) -> Answer {
+    let settings = next_settings(from);
     let made = sound_creation::new(settings, sound);
     let voice = made.voice;
     Answer {
         voice,
-        same: input::is(made.refusal as u64) & states::are(voice),
+        same: input::is(from, made.refusal as u64) & states::are(from, voice),
     }
 }
 
-pub(crate) fn command(voice: StaticSound, sound: &[f32]) -> Answer {
-    let commands = next_commands();
+pub(crate) fn command(from: &mut impl Read, voice: StaticSound, sound: &[f32]) -> Answer {
+    let commands = next_commands(from);
     let made = sound_commands::on_start_processing(voice, sound, commands);
     let voice = made.voice;
     Answer {
         voice,
-        same: input::is(made.refusal as u64) & input::is_double(made.position) & states::are(voice),
+        same: input::is(from, made.refusal as u64) & input::is_double(from, made.position) & states::are(from, voice),
     }
 }
 
-fn played(made: Processed, out: &[f32; 32], samples: usize) -> Answer {
+fn played(from: &mut impl Read, made: Processed, out: &[f32; 32], samples: usize) -> Answer {
     let voice = made.voice;
     Answer {
         voice,
-        same: is_processed(made) & is_output(out, samples),
+        same: is_processed(from, made) & is_output(from, out, samples),
     }
 }
 
 // A block, or a block into a mix, whose first frame comes last.
-pub(crate) fn block(voice: StaticSound, sound: &[f32], mixes: bool) -> Answer {
+pub(crate) fn block(from: &mut impl Read, voice: StaticSound, sound: &[f32], mixes: bool) -> Answer {
     let mut fade = [0.0f32; 32];
     let mut volume = [0.0f32; 32];
     let mut left = [0.0f32; 32];
     let mut right = [0.0f32; 32];
     let mut rate = [0.0f64; 32];
     let mut out = [0.0f32; 32];
-    let fades = input::singles(&mut fade);
-    let volumes = input::singles(&mut volume);
-    let lefts = input::singles(&mut left);
-    let rights = input::singles(&mut right);
-    let rates = input::doubles(&mut rate);
-    let dt = input::double();
-    let signals = next_signals();
-    let samples = prepare(&mut out);
+    let fades = input::singles(from, &mut fade);
+    let volumes = input::singles(from, &mut volume);
+    let lefts = input::singles(from, &mut left);
+    let rights = input::singles(from, &mut right);
+    let rates = input::doubles(from, &mut rate);
+    let dt = input::double(from);
+    let signals = next_signals(from);
+    let samples = prepare(from, &mut out);
     if mixes {
-        let from = input::index();
+        let first = input::index(from);
         let made = static_sound::process_into(
             voice,
             sound,
@@ -264,9 +265,9 @@ pub(crate) fn block(voice: StaticSound, sound: &[f32], mixes: bool) -> Answer {
             dt,
             signals,
             &mut out[..samples],
-            from,
+            first,
         );
-        return played(made, &out, samples);
+        return played(from, made, &out, samples);
     }
     let made = static_sound::process(
         voice,
@@ -280,19 +281,19 @@ pub(crate) fn block(voice: StaticSound, sound: &[f32], mixes: bool) -> Answer {
         signals,
         &mut out[..samples],
     );
-    played(made, &out, samples)
+    played(from, made, &out, samples)
 }
 
 // Whether the next numbers of the list are the voice's stretch: its length, then its samples.
-pub(crate) fn stretch(voice: StaticSound, sound: &[f32]) -> bool {
-    is_part(static_sound::stretch(voice, sound))
+pub(crate) fn stretch(from: &mut impl Read, voice: StaticSound, sound: &[f32]) -> bool {
+    is_part(from, static_sound::stretch(voice, sound))
 }
 
-fn is_part(part: &[f32]) -> bool {
-    let mut same = input::is(part.len() as u64);
+fn is_part(from: &mut impl Read, part: &[f32]) -> bool {
+    let mut same = input::is(from, part.len() as u64);
     let mut i: usize = 0;
     while i < part.len() {
-        same = input::is_single(part[i]) & same;
+        same = input::is_single(from, part[i]) & same;
         i += 1;
     }
     same

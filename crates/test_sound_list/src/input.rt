@@ -2,11 +2,15 @@
 ghost use Rattle.std.specs.Prelude.{◌≤◌};
 ghost use Rattle.test_sound_list.specs.Counts.{Counts};
 
+use std::io::Read;
+
 // A line end if the input has ended.
-fn next_byte() -> u8 {
+fn next_byte(from: &mut impl Read) -> u8 {
     let mut byte = [b'\n'; 1];
-    io::read_full(0, &mut byte);
-    first(&byte)
+    match from.read_exact(&mut byte) {
+        Ok(()) => first(&byte),
+        Err(_) => b'\n',
+    }
 }
 
 fn first(byte: &[u8; 1]) -> u8 {
@@ -14,18 +18,18 @@ fn first(byte: &[u8; 1]) -> u8 {
 }
 
 // The next number, of at most 16 digits; 0 if the input has ended.
-pub(crate) fn next() -> u64 {
+pub(crate) fn next(from: &mut impl Read) -> u64 {
     let mut value: u64 = 0;
     let mut left: usize = 16;
     while left > 0 {
-        let byte = next_byte();
+        let byte = next_byte(from);
         if byte == b'\n' {
             return value;
         }
         value = (value << 4) | float_bits::digit_value(byte);
         left -= 1;
     }
-    next_byte();
+    next_byte(from);
     value
 }
 
@@ -35,71 +39,71 @@ pub(crate) fn least(count: usize, most: usize) -> usize
     if count < most { count } else { most }
 }
 
-pub(crate) fn index() -> usize {
-    next() as usize
+pub(crate) fn index(from: &mut impl Read) -> usize {
+    next(from) as usize
 }
 
 // A number of at most this limit.
-pub(crate) fn count(most: usize) -> usize
+pub(crate) fn count(from: &mut impl Read, most: usize) -> usize
     ensures { result ≤ most }
 {
-    least(index(), most)
+    least(index(from), most)
 }
 
-pub(crate) fn half() -> u32 {
-    (next() % 0x1_0000_0000) as u32
+pub(crate) fn half(from: &mut impl Read) -> u32 {
+    (next(from) % 0x1_0000_0000) as u32
 }
 
-pub(crate) fn yes() -> bool {
-    next() == 1
+pub(crate) fn yes(from: &mut impl Read) -> bool {
+    next(from) == 1
 }
 
-pub(crate) fn double() -> f64 {
-    float_bits::f64_of(next())
+pub(crate) fn double(from: &mut impl Read) -> f64 {
+    float_bits::f64_of(next(from))
 }
 
-pub(crate) fn single() -> f32 {
-    float_bits::f32_of(half())
+pub(crate) fn single(from: &mut impl Read) -> f32 {
+    float_bits::f32_of(half(from))
 }
 
 // Samples or amplitudes: a count, then that many numbers, written to the start of `to`.
-pub(crate) fn singles(to: &mut [f32]) -> usize
+pub(crate) fn singles(from: &mut impl Read, to: &mut [f32]) -> usize
     ensures { Counts result to.new }
 {
-    let n = count(to.len());
+    let n = count(from, to.len());
     let mut i: usize = 0;
     while i < n {
-        to[i] = single();
+        to[i] = single(from);
         i += 1;
     }
     n
 }
 
-pub(crate) fn doubles(to: &mut [f64]) -> usize
+pub(crate) fn doubles(from: &mut impl Read, to: &mut [f64]) -> usize
     ensures { Counts result to.new }
 {
-    let n = count(to.len());
+    let n = count(from, to.len());
     let mut i: usize = 0;
     while i < n {
-        to[i] = double();
+        to[i] = double(from);
         i += 1;
     }
     n
 }
 
 // Whether the next number is this one. Each of these reads its number, whatever came before it.
-pub(crate) fn is(number: u64) -> bool {
-    next() == number
+pub(crate) fn is(from: &mut impl Read, number: u64) -> bool {
+    next(from) == number
 }
 
-pub(crate) fn is_yes(answer: bool) -> bool {
-    if answer { is(1) } else { is(0) }
+pub(crate) fn is_yes(from: &mut impl Read, answer: bool) -> bool {
+    if answer { is(from, 1) } else { is(from, 0) }
 }
 
-pub(crate) fn is_double(x: f64) -> bool {
-    is(float_bits::bits_of_f64(x))
+pub(crate) fn is_double(from: &mut impl Read, x: f64) -> bool {
+    is(from, float_bits::bits_of_f64(x))
 }
 
-pub(crate) fn is_single(x: f32) -> bool {
-    is(float_bits::bits_of_f32(x) as u64)
+pub(crate) fn is_single(from: &mut impl Read, x: f32) -> bool {
+    is(from, float_bits::bits_of_f32(x) as u64)
 }

@@ -5,6 +5,8 @@ mod input;
 mod states;
 
 use sound_state::StaticSound;
+use std::io;
+use std::io::{BufReader, Read};
 
 // The largest number of records of a list.
 const MOST: u64 = 1_000_000;
@@ -44,30 +46,30 @@ impl Replay {
         }
     }
 
-    fn call(self, kind: u64, sound: &[f32]) -> Replay {
+    fn call(self, from: &mut impl Read, kind: u64, sound: &[f32]) -> Replay {
         let voice = self.voice;
         if kind == 4 {
-            let made = calls::create(sound);
+            let made = calls::create(from, sound);
             return self.answered(made.voice, made.same);
         }
         if kind == 5 {
-            let made = calls::command(voice, sound);
+            let made = calls::command(from, voice, sound);
             return self.answered(made.voice, made.same);
         }
         if (kind == 6) | (kind == 7) {
-            let made = calls::block(voice, sound, kind == 7);
+            let made = calls::block(from, voice, sound, kind == 7);
             return self.answered(made.voice, made.same);
         }
         if kind == 8 {
-            return self.answered(voice, calls::stretch(voice, sound));
+            return self.answered(voice, calls::stretch(from, voice, sound));
         }
         self.answered(voice, false)
     }
 
     // Records that set something without a call: a scenario's sound, the state, how much of the sound is passed.
-    fn set(self, kind: u64, sound: &mut [f32]) -> Replay {
+    fn set(self, from: &mut impl Read, kind: u64, sound: &mut [f32]) -> Replay {
         if kind == 1 {
-            let lent = input::singles(sound);
+            let lent = input::singles(from, sound);
             return Replay {
                 lent,
                 scenarios: more(self.scenarios),
@@ -75,20 +77,20 @@ impl Replay {
             };
         }
         if kind == 2 {
-            let voice = states::next();
+            let voice = states::next(from);
             return Replay { voice, ..self };
         }
-        let lent = input::index();
+        let lent = input::index(from);
         Replay { lent, ..self }
     }
 
     // One record.
-    fn take(self, kind: u64, sound: &mut [f32]) -> Replay {
+    fn take(self, from: &mut impl Read, kind: u64, sound: &mut [f32]) -> Replay {
         if kind < 4 {
-            return self.set(kind, sound);
+            return self.set(from, kind, sound);
         }
         let lent = input::least(self.lent, sound.len());
-        self.call(kind, &sound[..lent])
+        self.call(from, kind, &sound[..lent])
     }
 }
 
@@ -103,27 +105,26 @@ fn begin() -> Replay {
     }
 }
 
-fn replay_all() -> Replay {
+fn replay_all(from: &mut impl Read) -> Replay {
     let mut sound = [0.0f32; 32];
     let mut replay = begin();
     let mut left = MOST;
     while left > 0 {
-        let kind = input::next();
+        let kind = input::next(from);
         if kind == 0 {
             return replay;
         }
-        replay = replay.take(kind, &mut sound);
+        replay = replay.take(from, kind, &mut sound);
         left -= 1;
     }
     replay
 }
 
-fn main() {
-    let r = replay_all();
-    io::print_decimal(1, r.scenarios);
-    io::write_all(1, b" scenarios, ");
-    io::print_decimal(1, r.calls);
-    io::write_all(1, b" calls, ");
-    io::print_decimal(1, r.differ);
-    io::write_all(1, b" differ\n");
+fn main(rt: HostRuntime) -> io::Result<()> {
+    let mut from = BufReader::new(rt.alloc(), rt.reader())?;
+    let r = replay_all(&mut from);
+    let scenarios = r.scenarios;
+    let calls = r.calls;
+    let differ = r.differ;
+    println!(rt; "{scenarios} scenarios, {calls} calls, {differ} differ")
 }

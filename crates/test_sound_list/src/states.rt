@@ -6,13 +6,14 @@ use playback_state_manager::PlaybackState;
 use resampler::{RecentFrame, Resampler};
 use sound_state::{Setup, StaticSound};
 use sound_update::{Moving, Wraps};
+use std::io::Read;
 use transport::Transport;
 
 // A range, or two zeros for none.
-fn next_range() -> FrameRange {
-    let there = input::yes();
-    let start = input::index();
-    let end = input::index();
+fn next_range(from: &mut impl Read) -> FrameRange {
+    let there = input::yes(from);
+    let start = input::index(from);
+    let end = input::index(from);
     if there {
         FrameRange::Frames(start, end)
     } else {
@@ -20,11 +21,11 @@ fn next_range() -> FrameRange {
     }
 }
 
-fn is_range(range: FrameRange) -> bool {
+fn is_range(from: &mut impl Read, range: FrameRange) -> bool {
     match range {
-        FrameRange::Absent => input::is(0) & input::is(0) & input::is(0),
+        FrameRange::Absent => input::is(from, 0) & input::is(from, 0) & input::is(from, 0),
         FrameRange::Frames(start, end) => {
-            input::is(1) & input::is(start as u64) & input::is(end as u64)
+            input::is(from, 1) & input::is(from, start as u64) & input::is(from, end as u64)
         }
     }
 }
@@ -52,96 +53,96 @@ fn playback_state(number: u64) -> PlaybackState {
     PlaybackState::Stopped
 }
 
-fn next_setup() -> Setup {
+fn next_setup(from: &mut impl Read) -> Setup {
     Setup {
-        sample_rate: input::half(),
-        num_frames: input::index(),
-        slice: next_range(),
-        reverse: input::yes(),
+        sample_rate: input::half(from),
+        num_frames: input::index(from),
+        slice: next_range(from),
+        reverse: input::yes(from),
     }
 }
 
-fn is_setup(setup: Setup) -> bool {
+fn is_setup(from: &mut impl Read, setup: Setup) -> bool {
     let slice = setup.slice;
-    input::is(setup.sample_rate as u64)
-        & input::is(setup.num_frames as u64)
-        & is_range(slice)
-        & input::is_yes(setup.reverse)
+    input::is(from, setup.sample_rate as u64)
+        & input::is(from, setup.num_frames as u64)
+        & is_range(from, slice)
+        & input::is_yes(from, setup.reverse)
 }
 
-fn next_transport() -> Transport {
+fn next_transport(from: &mut impl Read) -> Transport {
     Transport {
-        position: input::index(),
-        loop_region: next_range(),
-        playing: input::yes(),
+        position: input::index(from),
+        loop_region: next_range(from),
+        playing: input::yes(from),
     }
 }
 
-fn is_transport(transport: Transport) -> bool {
+fn is_transport(from: &mut impl Read, transport: Transport) -> bool {
     let loop_region = transport.loop_region;
-    input::is(transport.position as u64) & is_range(loop_region) & input::is_yes(transport.playing)
+    input::is(from, transport.position as u64) & is_range(from, loop_region) & input::is_yes(from, transport.playing)
 }
 
-fn next_entry() -> RecentFrame {
+fn next_entry(from: &mut impl Read) -> RecentFrame {
     let frame = Frame {
-        left: input::single(),
-        right: input::single(),
+        left: input::single(from),
+        right: input::single(from),
     };
     RecentFrame {
         frame,
-        frame_index: input::index(),
+        frame_index: input::index(from),
     }
 }
 
-fn is_entry(entry: RecentFrame) -> bool {
+fn is_entry(from: &mut impl Read, entry: RecentFrame) -> bool {
     let frame = entry.frame;
-    input::is_single(frame.left)
-        & input::is_single(frame.right)
-        & input::is(entry.frame_index as u64)
+    input::is_single(from, frame.left)
+        & input::is_single(from, frame.right)
+        & input::is(from, entry.frame_index as u64)
 }
 
-fn next_resampler() -> Resampler {
-    let a = next_entry();
-    let b = next_entry();
-    let c = next_entry();
-    let d = next_entry();
+fn next_resampler(from: &mut impl Read) -> Resampler {
+    let a = next_entry(from);
+    let b = next_entry(from);
+    let c = next_entry(from);
+    let d = next_entry(from);
     Resampler {
         frames: [a, b, c, d],
-        time_until_empty: input::index(),
+        time_until_empty: input::index(from),
     }
 }
 
-fn is_resampler(resampler: Resampler) -> bool {
+fn is_resampler(from: &mut impl Read, resampler: Resampler) -> bool {
     let a = resampler.frames[0];
     let b = resampler.frames[1];
     let c = resampler.frames[2];
     let d = resampler.frames[3];
-    is_entry(a)
-        & is_entry(b)
-        & is_entry(c)
-        & is_entry(d)
-        & input::is(resampler.time_until_empty as u64)
+    is_entry(from, a)
+        & is_entry(from, b)
+        & is_entry(from, c)
+        & is_entry(from, d)
+        & input::is(from, resampler.time_until_empty as u64)
 }
 
-fn next_wraps() -> Wraps {
-    let forward = input::half();
-    let backward = input::half();
+fn next_wraps(from: &mut impl Read) -> Wraps {
+    let forward = input::half(from);
+    let backward = input::half(from);
     Wraps { forward, backward }
 }
 
-fn is_wraps(wraps: Wraps) -> bool {
-    input::is(wraps.forward as u64) & input::is(wraps.backward as u64)
+fn is_wraps(from: &mut impl Read, wraps: Wraps) -> bool {
+    input::is(from, wraps.forward as u64) & input::is(from, wraps.backward as u64)
 }
 
-pub(crate) fn next() -> StaticSound {
-    let setup = next_setup();
-    let playback_rate = input::double();
-    let started = input::yes();
-    let fractional_position = input::double();
-    let state = playback_state(input::next());
-    let transport = next_transport();
-    let resampler = next_resampler();
-    let wraps = next_wraps();
+pub(crate) fn next(from: &mut impl Read) -> StaticSound {
+    let setup = next_setup(from);
+    let playback_rate = input::double(from);
+    let started = input::yes(from);
+    let fractional_position = input::double(from);
+    let state = playback_state(input::next(from));
+    let transport = next_transport(from);
+    let resampler = next_resampler(from);
+    let wraps = next_wraps(from);
     let moving = Moving {
         state,
         transport,
@@ -158,16 +159,16 @@ pub(crate) fn next() -> StaticSound {
 }
 
 // Whether the next numbers of the list are this state.
-pub(crate) fn are(voice: StaticSound) -> bool {
+pub(crate) fn are(from: &mut impl Read, voice: StaticSound) -> bool {
     let setup = voice.setup;
     let moving = voice.moving;
     let state = moving.state;
-    is_setup(setup)
-        & input::is_double(voice.playback_rate)
-        & input::is_yes(voice.started)
-        & input::is_double(voice.fractional_position)
-        & input::is(state.number() as u64)
-        & is_transport(moving.transport)
-        & is_resampler(moving.resampler)
-        & is_wraps(moving.wraps)
+    is_setup(from, setup)
+        & input::is_double(from, voice.playback_rate)
+        & input::is_yes(from, voice.started)
+        & input::is_double(from, voice.fractional_position)
+        & input::is(from, state.number() as u64)
+        & is_transport(from, moving.transport)
+        & is_resampler(from, moving.resampler)
+        & is_wraps(from, moving.wraps)
 }
