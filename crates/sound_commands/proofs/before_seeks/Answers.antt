@@ -14,7 +14,7 @@ use Rattle.sound_commands.proofs.before_seeks.Goals as goal
 
 told-by : (c : Commands) (v : StaticSound) (x : Float) (t : Transport) (p r s : PlaybackState)
     → x ≡ or_else c.playback_rate v.playback_rate → t ≡ reloop v.moving.transport (looped v c.loop_region)
-    → p ≡ cond c.pause-state (pausing v.moving.state) v.moving.state → r ≡ woken c.resume-state p → s ≡ cond c.stop-state (stopping r) r
+    → p ≡ cond c.pause (pausing v.moving.state) v.moving.state → r ≡ woken c.resume p → s ≡ cond c.stop (stopping r) r
     → ◌≡◌ {A = StaticSound}
     (record {
       setup = v.setup;
@@ -29,9 +29,5 @@ told-by c v x t p r s rate loop pause resume stop = rw (stop, resume, pause, loo
 
 pub returns : goal.returns
 returns c =
-    let stopped = c.before.before.before in
-    let resumed = stopped.before in
-    let paused = resumed.before in
-    let looped = paused.before in
-    let a = looped.args in
-    told-by a.commands a.voice _ _ _ _ _ looped.set_playback_rate-playback_rate.ensures looped.set_loop_region-transport.ensures paused.pause-state.ensures resumed.resume-state.ensures stopped.stop-state.ensures
+    let a = c.args in
+    told-by a.commands a.voice _ _ _ _ _ c.set_playback_rate-playback_rate.ensures c.set_loop_region-transport.ensures c.pause-state.ensures c.resume-state.ensures c.stop-state.ensures

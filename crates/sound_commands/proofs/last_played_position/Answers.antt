@@ -8,9 +8,7 @@ use Rattle.sound_commands.specs.Commands.{reported}
 use Rattle.sound_commands.proofs.last_played_position.Goals as goal
 
 pub int_to_float-result : goal.int_to_float-result
-int_to_float-result c =
-    let i = c.before in
-    number_held _ (subst (λ (n : ℕ). n ≤ most) (sym i.current_frame_index.ensures) i.requires)
+int_to_float-result c = number_held _ (subst (λ (n : ℕ). n ≤ most) (sym c.current_frame_index.ensures) c.requires)
 
 pub returns : goal.returns
 unfolding reported

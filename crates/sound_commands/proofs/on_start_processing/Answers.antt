@@ -14,7 +14,6 @@ use Rattle.sound_commands.specs.declared.Commands.{Commands}
 use Rattle.sound_commands.specs.declared.Commanded.{Commanded}
 use Rattle.sound_commands.specs.Commands.{refused_set, obeyed, reported, commanded}
 use Rattle.sound_commands.proofs.Refusals.{obeyable_parts}
-use Rattle.sound_commands.proofs.on_start_processing.Goals.{Else-refusal-ne0}
 use Rattle.sound_commands.proofs.on_start_processing.Goals as goal
 
 refused : (snd : List Float) (v : StaticSound) (c : Commands) (k : ℕ) → k ≡ refused_set (length snd) v c → (k ≡ 0 → ⊥)
@@ -27,22 +26,16 @@ accepted : (snd : List Float) (v : StaticSound) (c : Commands) (u : StaticSound)
 unfolding commanded
 accepted snd v c u x e o p = rw (← e, o, p)
 
--- nothing is refused
-clear : (c : Else-refusal-ne0) → 0 ≡ c.refusal_of-refusal.result
-clear c = sym c.if-refusal-ne0.false
-
 pub returns-then-refusal-ne0 : goal.returns-then-refusal-ne0
 unfolding of_bits
 returns-then-refusal-ne0 c = refused _ _ _ _ c.refusal_of-refusal.ensures c.if-refusal-ne0.true
 
 pub last_played_position-position-requires : goal.last_played_position-position-requires
 last_played_position-position-requires c =
-    heard_low _ (well_formed_for_parts _ _ (obeyable_parts _ _ _ (sym (clear (goal.at.last_played_position-position-requires c).Else-refusal-ne0 ∙ c.refusal_of-refusal.ensures))).well_formed_for).0.window
+    heard_low _ (well_formed_for_parts _ _ (obeyable_parts _ _ _ (sym c.refusal_of-refusal.ensures ∙ c.if-refusal-ne0.false)).well_formed_for).0.window
 
 pub read_commands-requires : goal.read_commands-requires
-read_commands-requires c = let e = c.before in sym (clear (goal.at.read_commands-requires c).Else-refusal-ne0 ∙ e.refusal_of-refusal.ensures)
+read_commands-requires c = sym c.refusal_of-refusal.ensures ∙ c.if-refusal-ne0.false
 
 pub returns : goal.returns
-returns c =
-    let e = c.before.before in
-    accepted _ _ _ _ _ (clear (goal.at.returns c).Else-refusal-ne0 ∙ e.refusal_of-refusal.ensures) c.read_commands.ensures c.last_played_position-position.ensures
+returns c = accepted _ _ _ _ _ (sym c.if-refusal-ne0.false ∙ c.refusal_of-refusal.ensures) c.read_commands.ensures c.last_played_position-position.ensures

@@ -31,27 +31,23 @@ by-well-formed-for len snd v a h =
     well_formed_for_of len (sought_by snd v a) (by_well_formed snd v a p.0) (p.1 ∙ ap (λ (k : Setup). 2 * k.num_frames) (sym (by_setup snd v a)))
 
 -- the voice before its seeks
-told-there : (c : After-before_seeks-ready) → let s = c.before.before in T (well_formed_for (length s.args.sound.now) c.before_seeks-ready.result)
+told-there : (c : After-before_seeks-ready) → T (well_formed_for (length c.args.sound.now) c.before_seeks-ready.result)
 told-there c =
-    let s = c.before.before in
-    subst (λ (v : StaticSound). T (well_formed_for (length s.args.sound.now) v)) (sym c.before_seeks-ready.ensures)
-    (told-well-formed-for (length s.args.sound.now) s.args.commands s.args.voice s.requires)
+    subst (λ (v : StaticSound). T (well_formed_for (length c.args.sound.now) v)) (sym c.before_seeks-ready.ensures)
+    (told-well-formed-for (length c.args.sound.now) c.args.commands c.args.voice c.requires)
 
 pub seek_by-sought-requires : goal.seek_by-sought-requires
 seek_by-sought-requires c = told-there (goal.at.seek_by-sought-requires c).After-before_seeks-ready
 
 pub seek_to-requires : goal.seek_to-requires
 seek_to-requires c =
-    let s = c.before.before.before in
-    subst (λ (v : StaticSound). T (well_formed_for (length s.args.sound.now) v)) (sym c.seek_by-sought.ensures)
-    (by-well-formed-for (length s.args.sound.now) s.args.sound.now c.before.before_seeks.result s.args.commands.seek_by (told-there (goal.at.seek_to-requires c).After-before_seeks-ready))
+    subst (λ (v : StaticSound). T (well_formed_for (length c.args.sound.now) v)) (sym c.seek_by-sought.ensures)
+    (by-well-formed-for (length c.args.sound.now) c.args.sound.now c.before_seeks-ready.result c.args.commands.seek_by (told-there (goal.at.seek_to-requires c).After-before_seeks-ready))
 
 pub returns : goal.returns
 unfolding obeyed
 returns c =
-    let b = c.before in
-    let s = b.before.before.before in
-    let snd = s.args.sound.now in
-    let k = s.args.commands in
+    let snd = c.args.sound.now in
+    let k = c.args.commands in
     c.seek_to.ensures
-    ∙ ap (λ (v : StaticSound). sought_to snd v k.seek_to) (b.seek_by-sought.ensures ∙ ap (λ (v : StaticSound). sought_by snd v k.seek_by-sought) b.before.before_seeks.ensures)
+    ∙ ap (λ (v : StaticSound). sought_to snd v k.seek_to) (c.seek_by-sought.ensures ∙ ap (λ (v : StaticSound). sought_by snd v k.seek_by) c.before_seeks-ready.ensures)

@@ -4,7 +4,6 @@ use Prim.Native.Nat.{ℕ}
 use mathlib.Core.Bool.{Bool, ◌&&◌}
 use lib.Dec.{T}
 use borrow.Author.Rules.{rules}
-use borrow.Author.Tests.{not_false}
 use Rattle.sound_state.specs.WellFormed.{well_formed_for}
 use Rattle.sound_state.proofs.WellFormed.{well_formed_for_parts}
 use Rattle.sound_state.specs.Refusals.{unless}
@@ -23,21 +22,18 @@ returns-then-not-is_well_formed c = refused_here _ _ _ _ c.is_well_formed.ensure
 pub returns-then-not-is_loop : goal.returns-then-not-is_loop
 unfolding refused_set
 returns-then-not-is_loop c =
-    let one = c.before.before in
-    passed_here _ _ _ _ _ one.is_well_formed.ensures one.if-not-is_well_formed.false
+    passed_here _ _ _ _ _ c.is_well_formed.ensures c.if-not-is_well_formed.false
     (refused_here _ _ _ _ c.is_loop.ensures c.if-not-is_loop.true)
 
 pub returns-then-not-is_rate : goal.returns-then-not-is_rate
 unfolding refused_set
 returns-then-not-is_rate c =
-    let two = c.before.before in
-    let one = two.before.before in
-    passed_here _ _ _ _ _ one.is_well_formed.ensures one.if-not-is_well_formed.false
-    (passed_here _ _ _ _ _ two.is_loop.ensures two.if-not-is_loop.false
+    passed_here _ _ _ _ _ c.is_well_formed.ensures c.if-not-is_well_formed.false
+    (passed_here _ _ _ _ _ c.is_loop.ensures c.if-not-is_loop.false
     (refused_here _ _ _ _ c.is_rate.ensures c.if-not-is_rate.true))
 
 pub is_seek_by-requires : goal.is_seek_by-requires
-is_seek_by-requires c = (well_formed_for_parts _ _ (well-formed c.before.before.before.before)).0.transport_well_formed.low
+is_seek_by-requires c = (well_formed_for_parts _ _ (well-formed (goal.at.is_seek_by-requires c).Else-not-is_well_formed)).0.transport_well_formed.low
 
 -- once three tests are passed, the seeks decide
 last-test : (c : After-is_seek_to) (n : ℕ) → let a = c.args in
@@ -45,12 +41,9 @@ last-test : (c : After-is_seek_to) (n : ℕ) → let a = c.args in
     → n ≡ refused_set a.samples a.voice a.commands
 unfolding refused_set
 last-test c n h =
-    let three = c.before.before in
-    let two = three.before.before in
-    let one = two.before.before in
-    passed_here _ _ _ _ _ one.is_well_formed.ensures one.if-not-is_well_formed.false
-    (passed_here _ _ _ _ _ two.is_loop.ensures two.if-not-is_loop.false
-    (passed_here _ _ _ _ _ three.is_rate.ensures three.if-not-is_rate.false h))
+    passed_here _ _ _ _ _ c.is_well_formed.ensures c.if-not-is_well_formed.false
+    (passed_here _ _ _ _ _ c.is_loop.ensures c.if-not-is_loop.false
+    (passed_here _ _ _ _ _ c.is_rate.ensures c.if-not-is_rate.false h))
 
 both : (c : After-is_seek_to) → let a = c.args in
     c.is_seek_by.result && c.is_seek_to.result

@@ -20,6 +20,5 @@ returns-in-Absent c = rw c.in-Absent.is
 
 pub returns-in-Given : goal.returns-in-Given
 returns-in-Given c =
-    let f = c.before.before in
-    rw f.in-Given.is
-    (c.seek_to_index.ensures ∙ ap (sought _ _) (c.cut.ensures ∙ ap cut_off f.frames_by.ensures))
+    rw c.in-Given.is
+    (c.seek_to_index.ensures ∙ ap (sought _ _) (c.cut.ensures ∙ ap cut_off c.frames_by.ensures))

@@ -23,7 +23,7 @@ use Rattle.sound_state.specs.WellFormed.{well_formed_for}
 use Rattle.sound_state.proofs.WellFormed.{well_formed_for_parts, updatable_of}
 use Rattle.sound_commands.specs.Commands.{sought}
 use Rattle.sound_commands.proofs.Orders.{jumped_kept}
-use Rattle.sound_commands.proofs.seek_to_index.Goals.{After-seek_to-transport}
+use Rattle.sound_commands.proofs.seek_to_index.Goals.{After-num_frames}
 use Rattle.sound_commands.proofs.seek_to_index.Goals as goal
 
 -- the moving part with another transport, and also with another window
@@ -48,35 +48,25 @@ sought-still : (snd : List Float) (v : StaticSound) (q : ℕ) (t : Transport) �
 unfolding sought
 sought-still snd v q t g e = rw (g, e)
 
-lands : (c : After-seek_to-transport) → let a = c.args in
-    c.seek_to-transport.result ≡ seek (length_of_slice a.voice.setup) a.voice.moving.transport a.index
-lands c =
+lands : (c : After-num_frames) → (t : Transport) → t ≡ seek c.num_frames.result c.args.voice.moving.transport c.args.index
+    → t ≡ seek (length_of_slice c.args.voice.setup) c.args.voice.moving.transport c.args.index
+lands c t e =
     let a = c.args in
-    c.seek_to-transport.ensures ∙ ap (λ (n : ℕ). seek n a.voice.moving.transport a.index) c.num_frames.ensures
+    e ∙ ap (λ (n : ℕ). seek n a.voice.moving.transport a.index) c.num_frames.ensures
 
 pub seek_to-transport-requires : goal.seek_to-transport-requires
 seek_to-transport-requires c =
-    let s = c.before.before.before.before.before in
-    let v = s.args.voice in
-    within_ordered (length_of_slice v.setup) v.moving.transport.loop_region (well_formed_for_parts _ v s.requires.t).0.transport_well_formed.loop
+    let v = c.args.voice in
+    within_ordered (length_of_slice v.setup) v.moving.transport.loop_region (well_formed_for_parts _ v c.requires.t).0.transport_well_formed.loop
 
 pub push_frame_to_resampler-resampler-requires : goal.push_frame_to_resampler-resampler-requires
 push_frame_to_resampler-resampler-requires c =
-    let l = c.before.before.before.before.before in
-    let s = l.before.before.before.before.before.before in
-    jumped-updatable _ s.args.voice s.args.index _ _ s.requires.t s.requires.index_le_most (lands (goal.at.push_frame_to_resampler-resampler-requires c).After-seek_to-transport) c.slice.ensures
+    jumped-updatable _ c.args.voice c.args.index _ _ c.requires.t c.requires.index_le_most (lands (goal.at.push_frame_to_resampler-resampler-requires c).After-num_frames _ c.seek_to-transport.ensures) c.slice.ensures
 
 pub returns-then-is_advancing : goal.returns-then-is_advancing
 returns-then-is_advancing c =
-    let p = c.before.before.before in
-    let i = p.before.before in
-    let l = i.before.before.before.before in
-    let s = l.before.before.before.before.before.before in
-    sought-going _ s.args.voice s.args.index _ _ _ (sym i.is_advancing.ensures ∙ i.if-is_advancing.true) (lands (goal.at.returns-then-is_advancing c).After-seek_to-transport) p.slice.ensures p.push_frame_to_resampler-resampler.ensures
+    sought-going _ c.args.voice c.args.index _ _ _ (sym c.is_advancing.ensures ∙ c.if-is_advancing.true) (lands (goal.at.returns-then-is_advancing c).After-num_frames _ c.seek_to-transport.ensures) c.slice.ensures c.push_frame_to_resampler-resampler.ensures
 
 pub returns : goal.returns
 returns c =
-    let i = c.before in
-    let l = i.before.before.before.before in
-    let s = l.before.before.before.before.before.before in
-    sought-still _ s.args.voice s.args.index _ (sym i.is_advancing.ensures ∙ i.if-is_advancing.false) (lands (goal.at.returns c).After-seek_to-transport)
+    sought-still _ c.args.voice c.args.index _ (sym c.is_advancing.ensures ∙ c.if-is_advancing.false) (lands (goal.at.returns c).After-num_frames _ c.seek_to-transport.ensures)

@@ -9,6 +9,4 @@ pub returns-in-Clear : goal.returns-in-Clear
 returns-in-Clear c = rw c.in-Clear.is c.set_loop_region.ensures
 
 pub returns-in-Set : goal.returns-in-Set
-returns-in-Set c =
-    let n = c.before.before in
-    rw (n.in-Set.is, ← n.num_frames.ensures, ← c.into_frames-frames.ensures) c.set_loop_region-in-Set.ensures
+returns-in-Set c = rw (c.in-Set.is, ← c.num_frames.ensures, ← c.into_frames-frames.ensures) c.set_loop_region-in-Set.ensures
