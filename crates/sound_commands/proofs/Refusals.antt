@@ -4,7 +4,6 @@ use Prim.Native.Nat.{ℕ}
 use mathlib.Core.Bool.{◌&&◌}
 use lib.Dec.{T}
 use lib.Ieee.Fits.{and_l, and_r}
-use Rattle.numbers.specs.Lists.{all}
 use Rattle.sound_state.specs.declared.StaticSound.{StaticSound}
 use Rattle.sound_state.specs.WellFormed.{well_formed_for}
 use Rattle.sound_commands.specs.declared.Commands.{Commands}

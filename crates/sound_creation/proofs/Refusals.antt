@@ -5,7 +5,6 @@ use mathlib.Core.Bool.{◌&&◌}
 use lib.Dec.{T, leb, ltb, eqb, leb→le, ltb→lt, eqb→eq}
 use lib.Ieee.Fits.{and_l, and_r}
 use Rattle.numbers.specs.Words.{finite}
-use Rattle.numbers.specs.Lists.{all}
 use Rattle.playback_position.specs.Positions.{finite_position, position_in_frames}
 use Rattle.sound_state.specs.Voices.{length_of_slice}
 use Rattle.sound_creation.specs.declared.Settings.{Settings}

@@ -2,7 +2,6 @@
 use mathlib.Core.Path.{◌≡◌}
 use mathlib.Core.Bool.{cond}
 use lib.Ieee.{Float}
-use borrow.Author.Rules.{rules}
 use Rattle.playback_state_manager.specs.declared.PlaybackState.{PlaybackState}
 use Rattle.playback_state_manager.specs.States.{pausing, stopping}
 use Rattle.transport.specs.declared.Transport.{Transport}

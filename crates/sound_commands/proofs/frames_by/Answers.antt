@@ -1,6 +1,5 @@
 -- `sound_commands::frames_by` meets its contract: an f64 represents a position in range exactly.
 use mathlib.Core.Path.{refl}
-use borrow.Author.Rules.{rules}
 use Rattle.numbers.proofs.Frames.{number_held}
 use Rattle.sound_commands.specs.Commands.{target_by}
 use Rattle.sound_commands.proofs.frames_by.Goals as goal

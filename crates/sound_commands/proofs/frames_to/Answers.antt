@@ -1,6 +1,5 @@
 -- `sound_commands::frames_to` meets its contract: it is the product of `target_to`.
 use mathlib.Core.Path.{refl}
-use borrow.Author.Rules.{rules}
 use Rattle.sound_commands.specs.Commands.{target_to}
 use Rattle.sound_commands.proofs.frames_to.Goals as goal
 

@@ -1,5 +1,4 @@
 -- `sound_commands::is_loop` meets its contract: each arm is a case of `loopable`, and N is the setup's.
-use borrow.Author.Rules.{rules}
 use Rattle.sound_commands.proofs.is_loop.Goals as goal
 
 pub returns-in-Keep : goal.returns-in-Keep

@@ -1,6 +1,5 @@
 -- `sound_commands::is_seek` meets its contract: both tests as they are written.
 use lib.Ieee.{of_bits}
-use borrow.Author.Rules.{rules}
 use Rattle.sound_commands.proofs.is_seek.Goals as goal
 
 pub returns : goal.returns

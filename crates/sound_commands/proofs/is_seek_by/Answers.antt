@@ -1,5 +1,4 @@
 -- `sound_commands::is_seek_by` meets its contract: each arm is a case of `seekable`, and the frames are those of `target_by`.
-use borrow.Author.Rules.{rules}
 use Rattle.sound_commands.proofs.is_seek_by.Goals as goal
 
 pub returns-in-Given : goal.returns-in-Given

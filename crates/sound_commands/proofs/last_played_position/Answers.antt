@@ -1,7 +1,6 @@
 -- `sound_commands::last_played_position` meets its contract: an f64 represents a number in range exactly.
 use mathlib.Core.Path.{sym, subst}
 use Prim.Native.Nat.{ℕ, ◌≤◌}
-use borrow.Author.Rules.{rules}
 use Rattle.numbers.specs.Frames.{most}
 use Rattle.numbers.proofs.Frames.{number_held}
 use Rattle.sound_commands.specs.Commands.{reported}

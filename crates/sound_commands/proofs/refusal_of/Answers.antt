@@ -3,7 +3,6 @@ use mathlib.Core.Path.{◌≡◌, refl, sym, ap₂, ◌∙◌, subst}
 use Prim.Native.Nat.{ℕ}
 use mathlib.Core.Bool.{Bool, ◌&&◌}
 use lib.Dec.{T}
-use borrow.Author.Rules.{rules}
 use Rattle.sound_state.specs.WellFormed.{well_formed_for}
 use Rattle.sound_state.proofs.WellFormed.{well_formed_for_parts}
 use Rattle.sound_state.specs.Refusals.{unless}

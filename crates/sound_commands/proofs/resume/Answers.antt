@@ -1,5 +1,4 @@
 -- `sound_commands::resume` meets its contract: each arm is a case of `woken`.
-use borrow.Author.Rules.{rules}
 use Rattle.sound_commands.proofs.resume.Goals as goal
 
 pub returns-in-Now : goal.returns-in-Now

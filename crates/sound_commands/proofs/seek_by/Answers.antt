@@ -1,7 +1,6 @@
 -- `sound_commands::seek_by` meets its contract: each arm is a case of `sought_by`, and a seek's frames are cut to a frame index in range.
 use mathlib.Core.Path.{sym, ap, ◌∙◌, subst}
 use Prim.Native.Nat.{ℕ, ◌≤◌}
-use borrow.Author.Rules.{rules}
 use Rattle.numbers.specs.Frames.{most, cut_off}
 use Rattle.numbers.proofs.Frames.{cut_le}
 use Rattle.sound_state.proofs.WellFormed.{well_formed_for_parts}

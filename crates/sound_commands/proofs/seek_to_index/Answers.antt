@@ -7,7 +7,6 @@ use mathlib.Core.List.{List}
 use lib.Dec.{T}
 use lib.ListN.{length}
 use lib.Ieee.{Float}
-use borrow.Author.Rules.{rules}
 use Rattle.numbers.specs.Frames.{most}
 use Rattle.playback_position.proofs.Ranges.{within_ordered}
 use Rattle.playback_state_manager.specs.States.{advancing}

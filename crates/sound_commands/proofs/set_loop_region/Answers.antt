@@ -1,5 +1,4 @@
 -- `sound_commands::set_loop_region` meets its contract: each arm is a case of `looped`, and N is the setup's.
-use borrow.Author.Rules.{rules}
 use Rattle.sound_commands.proofs.set_loop_region.Goals as goal
 
 pub returns-in-Keep : goal.returns-in-Keep

@@ -1,6 +1,5 @@
 -- `sound_creation::blank` meets its contract: a window of zeros at 0, and every other field as it is written.
 use lib.Ieee.{of_bits}
-use borrow.Author.Rules.{rules}
 use Rattle.sound_creation.proofs.blank.Goals as goal
 
 pub returns : goal.returns

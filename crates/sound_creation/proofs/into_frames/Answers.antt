@@ -1,5 +1,4 @@
 -- `sound_creation::into_frames` meets its contract: each arm is a case of `ranged`.
-use borrow.Author.Rules.{rules}
 use Rattle.sound_creation.proofs.into_frames.Goals as goal
 
 pub returns-in-Present : goal.returns-in-Present

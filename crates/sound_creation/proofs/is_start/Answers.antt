@@ -1,5 +1,4 @@
 -- `sound_creation::is_start` meets its contract: both tests by their functions.
-use borrow.Author.Rules.{rules}
 use Rattle.sound_creation.proofs.is_start.Goals as goal
 
 pub returns : goal.returns

@@ -1,5 +1,4 @@
 -- `sound_creation::is_well_formed` meets its contract: each arm is a case of `allowed`.
-use borrow.Author.Rules.{rules}
 use Rattle.sound_creation.proofs.is_well_formed.Goals as goal
 
 pub returns-in-Present : goal.returns-in-Present

@@ -5,7 +5,6 @@ use native.Mathlib.Omega.{arith}
 use mathlib.Core.List.{List}
 use lib.ListN.{length}
 use lib.Ieee.{Float}
-use borrow.Author.Rules.{rules}
 use Rattle.sound_state.specs.declared.StaticSound.{StaticSound}
 use Rattle.sound_update.specs.declared.Moving.{Moving}
 use Rattle.sound_update.specs.declared.Slice.{Slice}

@@ -1,7 +1,6 @@
 -- `sound_creation::refusal_of` meets its contract: it makes the tests of `refused_new` in the same order.
 use mathlib.Core.Path.{◌≡◌, refl, ap, ◌∙◌}
 use Prim.Native.Nat.{ℕ}
-use borrow.Author.Rules.{rules}
 use Rattle.numbers.specs.Words.{finite}
 use Rattle.sound_state.specs.Voices.{length_of_slice}
 use Rattle.sound_state.specs.Refusals.{unless}

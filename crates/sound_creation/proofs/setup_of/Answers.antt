@@ -1,5 +1,4 @@
 -- `sound_creation::setup_of` meets its contract: the slice by its function, every other field as it is written.
-use borrow.Author.Rules.{rules}
 use Rattle.sound_creation.proofs.setup_of.Goals as goal
 
 pub returns : goal.returns

@@ -1,5 +1,4 @@
 -- `is_playing_backwards` meets its contract: by the rate's sign.
-use borrow.Author.Rules.{rules}
 use Rattle.sound_state.proofs.is_playing_backwards.Goals as goal
 
 pub returns-then-is_negative : goal.returns-then-is_negative

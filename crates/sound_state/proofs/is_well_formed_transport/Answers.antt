@@ -1,5 +1,4 @@
 -- `is_well_formed_transport` meets its contract: test by test.
-use borrow.Author.Rules.{rules}
 use Rattle.sound_state.proofs.is_well_formed_transport.Goals as goal
 
 pub returns : goal.returns

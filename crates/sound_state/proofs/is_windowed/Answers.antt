@@ -1,7 +1,6 @@
 -- `is_windowed` meets its contract: entry by entry, since an array of four has four.
 use mathlib.Core.Path.{◌≡◌}
 use lib.ListN.{length}
-use borrow.Author.Rules.{rules}
 use Rattle.sound_state.proofs.Tests.{windowed_tests}
 use Rattle.sound_state.proofs.is_windowed.Goals.{Start}
 use Rattle.sound_state.proofs.is_windowed.Goals as goal

@@ -1,5 +1,4 @@
 -- `is_zero_frame` meets its contract: both channels are exactly zero.
-use borrow.Author.Rules.{rules}
 use Rattle.sound_state.proofs.is_zero_frame.Goals as goal
 
 pub returns : goal.returns

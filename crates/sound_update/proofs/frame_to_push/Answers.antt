@@ -1,6 +1,5 @@
 -- `frame_to_push` meets its contract: by whether it plays.
 use mathlib.Core.Path.{ap}
-use borrow.Author.Rules.{rules}
 use Rattle.resampler.specs.declared.MaybeFrame.TheVariants as maybe
 use Rattle.sound_update.proofs.frame_to_push.Goals as goal
 

@@ -1,6 +1,5 @@
 -- `transport::is_at_end` meets its contract: each arm is a case of the definition.
 -- Assumes nothing.
-use borrow.Author.Rules.{rules}
 use Rattle.transport.proofs.is_at_end.Goals as goal
 
 pub returns-in-Frames : goal.returns-in-Frames

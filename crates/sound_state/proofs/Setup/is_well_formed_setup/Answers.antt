@@ -1,5 +1,4 @@
 -- `Setup::is_well_formed_setup` meets its contract: test by test.
-use borrow.Author.Rules.{rules}
 use Rattle.sound_state.proofs.Setup.is_well_formed_setup.Goals as goal
 
 pub returns : goal.returns

@@ -2,7 +2,6 @@
 use mathlib.Core.Path.{◌≡◌}
 use Prim.Native.Nat.{ℕ, ◌-◌, ◌<◌}
 use native.Mathlib.Omega.{arith}
-use borrow.Author.Rules.{rules}
 use Rattle.sound_state.proofs.Setup.num_frames.Goals as goal
 
 none : (s e : ℕ) → e < s → 0 ≡ e - s

@@ -4,7 +4,6 @@ use mathlib.Core.Bool.{true}
 use Prim.Native.Nat.{◌≤◌}
 use native.Mathlib.Omega.{arith}
 use lib.Dec.{T}
-use borrow.Author.Rules.{rules}
 use Rattle.sound_state.specs.WellFormed.{well_formed_setup}
 use Rattle.sound_state.proofs.WellFormed.{setup_parts}
 use Rattle.sound_state.proofs.Tests.{well_formed_for_unset, well_formed_for_set}

@@ -1,5 +1,4 @@
 -- `StaticSound::slice` meets its contract: field by field.
-use borrow.Author.Rules.{rules}
 use Rattle.sound_state.proofs.StaticSound.slice.Goals as goal
 
 pub returns : goal.returns

@@ -1,5 +1,4 @@
 -- `Moving::push_frame_to_resampler` meets its contract: the frame that it pushes is the one at the position.
-use borrow.Author.Rules.{rules}
 use Rattle.sound_update.specs.Updates.{pushed}
 use Rattle.sound_update.proofs.Kept.{updatable_reads}
 use Rattle.sound_update.proofs.Moving.push_frame_to_resampler.Goals as goal

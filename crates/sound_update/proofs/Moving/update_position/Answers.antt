@@ -3,7 +3,6 @@ use mathlib.Core.Path.{◌≡◌, sym, ap, ap₂, ◌∙◌}
 use mathlib.Core.Bool.{Bool, not, ◌&&◌, cond}
 use mathlib.Core.List.{List}
 use lib.Ieee.{Float}
-use borrow.Author.Rules.{rules}
 use Rattle.playback_state_manager.specs.declared.PlaybackState.TheVariants as state
 use Rattle.transport.specs.declared.Transport.{Transport}
 use Rattle.resampler.specs.declared.Resampler.{Resampler}

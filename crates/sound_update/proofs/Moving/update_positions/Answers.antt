@@ -2,9 +2,6 @@
 -- The moving part is in pieces, and is assembled for each update with the same loop.
 use mathlib.Core.Path.{◌≡◌, refl, sym, ap, ◌∙◌, subst}
 use native.Mathlib.Omega.{arith}
-use lib.ListN.{length}
-use borrow.Author.Rules.{rules}
-use Rattle.sound_update.specs.declared.Moving.{Moving}
 use Rattle.sound_update.specs.Updates.{updates, moving_of, Updatable}
 use Rattle.sound_update.specs.Windows.{window_of}
 use Rattle.sound_update.proofs.Kept.{updated_updatable}

@@ -1,14 +1,8 @@
 -- `update_positions` makes as many updates as it is asked to. The invariant: the remaining updates from the current state lead to the same result.
 -- The moving part is in pieces, and is assembled for each update with the same loop.
-use mathlib.Core.Path.{◌≡◌, refl, sym, ap, ◌∙◌, subst}
-use native.Mathlib.Omega.{arith}
-use lib.ListN.{length, length-map}
-use borrow.Author.Rules.{rules}
-use Rattle.sound_update.specs.declared.Moving.{Moving}
+use mathlib.Core.Path.{◌≡◌}
 use Rattle.sound_update.specs.Updates.{updates, moving_of, Updatable}
 use Rattle.sound_update.specs.Windows.{window_of}
-use Rattle.sound_update.proofs.Kept.{updated_updatable}
-use Rattle.sound_update.proofs.Updates.{together_as, updates_one, updates_none, updated_apart}
 use Rattle.sound_update.proofs.Moving.update_positions.Given as goal
 
 abbrev pub invariant-loop-left : goal.invariant-loop-left

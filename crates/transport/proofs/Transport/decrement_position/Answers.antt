@@ -4,7 +4,6 @@ use Prim.Native.Nat.{ℕ, ◌-◌, ◌<◌}
 use mathlib.Core.Path.{◌≡◌, sym}
 use native.Mathlib.Nat.{mod-lt}
 use native.Mathlib.Omega.{arith}
-use borrow.Author.Rules.{rules}
 use Rattle.playback_position.proofs.Ranges.{ordered_more}
 use Rattle.transport.proofs.Wraps.{back_inside, back_start, back_wrap}
 use Rattle.transport.proofs.Steps.{backward_still, backward_looped, backward_ended, backward_plain}
@@ -48,16 +47,16 @@ never h z = omega arith
 
 pub returns-then-self-eq0 : goal.returns-then-self-eq0
 returns-then-self-eq0 c = elim c.match-loop_region.branch [
-    | in-Frames+else-self-start w ↦ absurd (never w.if-self-start.false c.if-self-eq0.true)
-    | in_default w ↦ sym (backward_ended c.args.self c.if-self.true w.in_default.is c.if-self-eq0.true)
-    ]
+  | in-Frames+else-self-start w ↦ absurd (never w.if-self-start.false c.if-self-eq0.true)
+  | in_default w ↦ sym (backward_ended c.args.self c.if-self.true w.in_default.is c.if-self-eq0.true)
+]
 
 pub returns-else-self-eq0 : goal.returns-else-self-eq0
 returns-else-self-eq0 c =
     let u = c.args.self in
     elim c.match-loop_region.branch [
-    | in-Frames+else-self-start w ↦ sym (backward_looped u _ _ (u.position - 1) c.if-self.true w.in-Frames.is (back_inside _ _ u.position w.if-self-start.false))
-    | in_default w ↦ sym (backward_plain u c.if-self.true w.in_default.is c.if-self-eq0.false)
+      | in-Frames+else-self-start w ↦ sym (backward_looped u _ _ (u.position - 1) c.if-self.true w.in-Frames.is (back_inside _ _ u.position w.if-self-start.false))
+      | in_default w ↦ sym (backward_plain u c.if-self.true w.in_default.is c.if-self-eq0.false)
     ]
 
 pub returns-else-self : goal.returns-else-self

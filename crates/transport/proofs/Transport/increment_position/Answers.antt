@@ -1,7 +1,6 @@
 -- `transport::Transport::increment_position` meets its contract: the position from `below_end`, the end from `ended_from`.
 -- Assumes nothing.
 use mathlib.Core.Path.{sym, ap, ◌∙◌}
-use borrow.Author.Rules.{rules}
 use Rattle.playback_position.proofs.Ranges.{within_ordered}
 use Rattle.transport.specs.Moves.{landed}
 use Rattle.transport.proofs.Steps.{forward_still, forward_going}

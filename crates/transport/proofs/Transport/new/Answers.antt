@@ -1,6 +1,5 @@
 -- `transport::Transport::new` meets its contract: its test is the definition's.
 -- Assumes nothing.
-use borrow.Author.Rules.{rules}
 use Rattle.transport.proofs.Transport.new.Goals as goal
 
 pub returns-then-reverse : goal.returns-then-reverse

@@ -2,7 +2,6 @@
 -- Assumes nothing.
 use mathlib.Core.Path.{◌∙◌}
 use mathlib.Core.Bool.{true, false}
-use borrow.Author.Rules.{rules}
 use Rattle.transport.proofs.Steps.{wraps_still, wraps_going}
 use Rattle.transport.proofs.Transport.wraps.Goals as goal
 
