@@ -17,6 +17,14 @@ fn is_equal(a: f32, b: f32) -> bool
     a == b
 }
 
+// The same for rates.
+fn is_equal_rate(a: f64, b: f64) -> bool
+    requires { eq b positive_zero ≡ false }
+    ensures { result ≡ true → a ≡ b }
+{
+    a == b
+}
+
 // Whether a lane's first and last number are equal. Most lanes that change differ there.
 fn has_equal_ends(lane: &[f32]) -> bool
     requires { 0 < length lane.now }
@@ -46,6 +54,25 @@ fn is_constant(lane: &[f32]) -> bool
     same
 }
 
+// The same for rates.
+fn is_constant_rate(lane: &[f64]) -> bool
+    requires { 0 < length lane.now }
+    ensures { result ≡ true → lane.now
+        ≡ replicate (length lane.now) (get_or lane.now 0 nan) }
+{
+    let first = lane[0];
+    if first == 0.0 {
+        return false;
+    }
+    let mut same = true;
+    let mut i: usize = 0;
+    while i < lane.len() {
+        same = is_equal_rate(lane[i], first) & same;
+        i += 1;
+    }
+    same
+}
+
 // Whether all lanes of a block repeat their first number, and none of these is 0.
 pub fn are_constant(fade: &[f32], volume: &[f32], left: &[f32], right: &[f32], rate: &[f64]) -> bool
     ensures { result ≡ true → Constant (lanes_at_entry fade volume left right rate) }
@@ -63,7 +90,7 @@ pub fn are_constant(fade: &[f32], volume: &[f32], left: &[f32], right: &[f32], r
     {
         return false;
     }
-    sound_lanes::is_constant_rate(rate)
+    is_constant_rate(rate)
         & is_constant(fade)
         & is_constant(volume)
         & is_constant(left)

@@ -29,22 +29,21 @@ pub struct Reached {
     pub next: usize,
 }
 
-// x without its sign. It is not NaN, so its bits need no test.
-fn magnitude_of(x: f64) -> f64
-    requires { T (not (is_nan x)) }
-    ensures { result ≡ magnitude x }
+// A rate without its sign. It is not NaN, so its bits need no test.
+fn magnitude_of(rate: f64) -> f64
+    requires { T (not (is_nan rate)) }
+    ensures { result ≡ magnitude rate }
 {
-    f64::from_bits(f64::to_bits(x) & 0x7fff_ffff_ffff_ffff)
+    f64::from_bits(f64::to_bits(rate) & 0x7fff_ffff_ffff_ffff)
 }
 
-// The advance of one frame at a rate: the magnitude of the product that sound_lanes judges.
+// The advance of one frame at a rate.
 pub fn advance_of(sample_rate: u32, dt: f64, rate: f64) -> f64
-    requires t { T (lt positive_zero dt) }
-    requires t_2 { T (slow sample_rate dt rate) }
+    requires { T (slow sample_rate dt rate) }
     ensures { result ≡ advance sample_rate rate dt }
 {
-    let product = (sample_rate as f64) * rate * dt;
-    magnitude_of(product)
+    let advance = (sample_rate as f64) * magnitude_of(rate) * dt;
+    advance
 }
 
 // The steps that an advance makes from a fraction, and the new fraction.

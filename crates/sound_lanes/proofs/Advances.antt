@@ -1,17 +1,38 @@
 -- A rate whose advance is bounded is finite, since an infinity times what is not negative is an infinity or a NaN. Assumes nothing.
-use mathlib.Core.Path.{subst}
-use Prim.Native.Nat.{ℕ}
+use mathlib.Core.Path.{◌≡◌, refl, ap, ap₂, ◌∙◌, subst}
+use Prim.Native.Nat.{ℕ, ◌*◌}
+use native.Mathlib.Nat.{mul_comm}
 use mathlib.Core.Bool.{Bool, true, false, not, cond}
 use mathlib.Core.List.{List, [], ◌∷◌}
 use lib.IntN.{pos}
 use lib.Dec.{T, eqb}
-use lib.Ieee.{Float, nan, inf, fin, Format, binary64, round, mul, lt, le, eq, of_int}
+use lib.Ieee.{Float, nan, inf, fin, Format, binary64, up, down, unlike, round, mul, lt, le, eq, of_int}
 use lib.Ieee.Fits.{and_i, and_l, and_r}
 use Rattle.numbers.specs.Words.{finite, finite_clear, magnitude, advance}
 use Rattle.numbers.specs.Lists.{all}
 use Rattle.numbers.proofs.Signs.{clear, round_clear, finite_clear_clear}
-use Rattle.numbers.proofs.Products.{mul_swap}
 use Rattle.sound_lanes.specs.Lanes.{is_time_step, slow}
+
+-- a product's factors changed over
+unlike_comm : (s t : Bool) → unlike s t ≡ unlike t s
+unlike_comm true true = refl
+unlike_comm true false = refl
+unlike_comm false true = refl
+unlike_comm false false = refl
+
+mul_swap : (f : Format) (x y : Float) → mul f x y ≡ mul f y x
+unfolding mul
+mul_swap f nan nan = refl
+mul_swap f nan (inf t) = refl
+mul_swap f nan (fin t n d) = refl
+mul_swap f (inf s) nan = refl
+mul_swap f (inf s) (inf t) = ap inf (unlike_comm s t)
+mul_swap f (inf s) (fin t n d) = ap (λ (u : Bool). cond (eqb n 0) nan (inf u)) (unlike_comm s t)
+mul_swap f (fin s m e) nan = refl
+mul_swap f (fin s m e) (inf t) = ap (λ (u : Bool). cond (eqb m 0) nan (inf u)) (unlike_comm s t)
+mul_swap f (fin s m e) (fin t n d) =
+    ap (λ (u : Bool). round f u (m * up e * (n * up d)) (down e * down d)) (unlike_comm s t)
+    ∙ ap₂ (λ (a c : ℕ). round f (unlike t s) a c) (mul_comm (m * up e) (n * up d)) (mul_comm (down e) (down d))
 
 abbrev most : Float
 most = fin false 1 (pos 8)

@@ -1,8 +1,6 @@
 // Checks the five lanes of a block. No pass returns early, so that clang vectorises its loop.
-ghost use Rattle.std.specs.Prelude.{◌≡◌, true, false, ◌<◌, T, length, get_or, replicate};
-ghost use Rattle.std.specs.Float.{nan};
-ghost use Rattle.std.specs.Float.Ieee.{eq};
-ghost use Rattle.numbers.specs.Words.{positive_zero, finite, finite_clear};
+ghost use Rattle.std.specs.Prelude.{◌≡◌, T, length};
+ghost use Rattle.numbers.specs.Words.{finite, finite_clear};
 ghost use Rattle.numbers.specs.Lists.{all};
 ghost use Rattle.sound_lanes.specs.Lanes.{
   lanes_now,
@@ -59,63 +57,16 @@ fn four_finite_clear(fade: &[f32], volume: &[f32], left: &[f32], right: &[f32]) 
     tops < 0x8000_0000
 }
 
-// Whether two rates are equal. The second is not 0, so they are the same number: only 0 and -0 are equal and differ.
-fn is_equal_rate(a: f64, b: f64) -> bool
-    requires { eq b positive_zero ≡ false }
-    ensures { result ≡ true → a ≡ b }
-{
-    a == b
-}
-
-// Whether there are rates, and all equal the first, which is not 0. The last one is compared before the others, since
-// most rates that change differ there.
-pub fn is_constant_rate(rate: &[f64]) -> bool
-    ensures rate_nonzero { result ≡ true → 0 < length rate.now }
-    ensures rate_value { result ≡ true → rate.now
-        ≡ replicate (length rate.now) (get_or rate.now 0 nan) }
-{
-    if rate.len() == 0 {
-        return false;
-    }
-    let first = rate[0];
-    if first == 0.0 {
-        return false;
-    }
-    let end = rate.len();
-    if !is_equal_rate(rate[end - 1], first) {
-        return false;
-    }
-    let mut same = true;
-    let mut i: usize = 0;
-    while i < end {
-        same = is_equal_rate(rate[i], first) & same;
-        i += 1;
-    }
-    same
-}
-
-// Whether the magnitude of the signed product is at most 256. The block's advance is the magnitude of the same product,
-// so in no rounding mode a rate passes here and is too fast there.
-fn is_slow(sample_rate: u32, dt: f64, rate: f64) -> bool
-    requires { T (is_time_step dt) }
-    ensures { result ≡ slow sample_rate dt rate }
-{
-    let product = (sample_rate as f64) * rate * dt;
-    (product <= 256.0) & (product >= -256.0)
-}
-
-// Whether all rates are slow. If they are one number, one advance is computed.
-fn are_slow(sample_rate: u32, dt: f64, rate: &[f64]) -> bool
-    requires { T (is_time_step dt) }
+// Computes the advance as the block does, so that in no rounding mode a rate passes here and is too fast there.
+fn all_slow(sample_rate: u32, dt: f64, rate: &[f64]) -> bool
     ensures { result ≡ all (slow sample_rate dt) rate.now }
 {
-    if is_constant_rate(rate) {
-        return is_slow(sample_rate, dt, rate[0]);
-    }
+    let hz = sample_rate as f64;
     let mut ok = true;
     let mut i: usize = 0;
     while i < rate.len() {
-        ok = is_slow(sample_rate, dt, rate[i]) & ok;
+        let advance = hz * numbers::magnitude(rate[i]) * dt;
+        ok = (advance <= 256.0) & ok;
         i += 1;
     }
     ok
@@ -150,7 +101,7 @@ pub fn judge(
     if !four_finite_clear(fade, volume, left, right) {
         return refusals::LANE;
     }
-    if are_slow(sample_rate, dt, rate) {
+    if all_slow(sample_rate, dt, rate) {
         return 0;
     }
     if all_finite(rate) {

@@ -88,8 +88,7 @@ fn frame_steps(
     requires { Steppable sound.now slice sample_rate rate dt moving fractional_position }
     ensures { result ≡ frame_steps sound.now slice sample_rate rate dt moving fractional_position }
 {
-    let product = (sample_rate as f64) * rate * dt;
-    let advance = numbers::magnitude(product);
+    let advance = (sample_rate as f64) * numbers::magnitude(rate) * dt;
     let sum = numbers::advance_by(fractional_position, advance);
     AfterFrame {
         moving: moving.update_positions(slice, sound, sum.steps),

@@ -5,7 +5,6 @@ use mathlib.Core.Bool.{Bool, true, false, false≢true, not, ◌&&◌}
 use native.Mathlib.Omega.{arith}
 use lib.Dec.{T}
 use lib.ListN.{length}
-use borrow.Author.Tests.{not_false}
 use borrow.Author.Rules.{rules}
 use Rattle.sound_lanes.specs.Lanes.{Lanes, lanes_now, sized}
 use Rattle.sound_lanes.proofs.Rows.{Sized, sized_parts}
@@ -15,7 +14,6 @@ use Rattle.sound_constant.proofs.are_constant.Lts as lts
 use Rattle.sound_lanes.proofs.are_sized.Reads as are-sized-reads
 use Rattle.sound_constant.proofs.has_equal_ends.Reads as has-equal-ends-reads
 use Rattle.sound_constant.proofs.is_constant.Reads as is-constant-reads
-use Rattle.sound_lanes.proofs.is_constant_rate.Reads as is-constant-rate-reads
 use Rattle.sound_constant.proofs.are_constant.Goals.{Else-not-are_sized}
 use Rattle.sound_constant.proofs.are_constant.Goals as goal
 
@@ -35,6 +33,9 @@ some c = positive _ c.if-rate-eq0.false
 lane_some : (m n : ℕ) → m ≡ n → 0 < n → 0 < m
 lane_some m n e h = omega arith
 
+pub is_constant_rate-requires : goal.is_constant_rate-requires
+is_constant_rate-requires c = some (goal.at.is_constant_rate-requires c).Else-not-are_sized
+
 pub returns-then-rate-eq0 : goal.returns-then-rate-eq0
 returns-then-rate-eq0 c = λ e. absurd (false≢true e)
 
@@ -42,31 +43,31 @@ pub returns-then-not-are_sized : goal.returns-then-not-are_sized
 returns-then-not-are_sized c = λ e. absurd (false≢true e)
 
 pub has_equal_ends-requires : goal.has_equal_ends-requires
-has_equal_ends-requires c = lane_some _ _ (sized_parts (lent (goal.at.has_equal_ends-requires c).Else-not-are_sized) (is-sized c)).fade (some (goal.at.has_equal_ends-requires c).Else-not-are_sized)
+has_equal_ends-requires c = lane_some _ _ (sized_parts (lent (goal.at.has_equal_ends-requires c).Else-not-are_sized) (is-sized (goal.at.has_equal_ends-requires c).Else-not-are_sized)).fade (some (goal.at.has_equal_ends-requires c).Else-not-are_sized)
 
 pub has_equal_ends-requires-2 : goal.has_equal_ends-requires-2
-has_equal_ends-requires-2 c = let s = c.before in lane_some _ _ (sized_parts (lent (goal.at.has_equal_ends-requires-2 c).Else-not-are_sized) (is-sized s)).volume (some (goal.at.has_equal_ends-requires-2 c).Else-not-are_sized)
+has_equal_ends-requires-2 c = lane_some _ _ (sized_parts (lent (goal.at.has_equal_ends-requires-2 c).Else-not-are_sized) (is-sized (goal.at.has_equal_ends-requires-2 c).Else-not-are_sized)).volume (some (goal.at.has_equal_ends-requires-2 c).Else-not-are_sized)
 
 pub has_equal_ends-requires-3 : goal.has_equal_ends-requires-3
-has_equal_ends-requires-3 c = let s = c.before.before in lane_some _ _ (sized_parts (lent (goal.at.has_equal_ends-requires-3 c).Else-not-are_sized) (is-sized s)).left (some (goal.at.has_equal_ends-requires-3 c).Else-not-are_sized)
+has_equal_ends-requires-3 c = lane_some _ _ (sized_parts (lent (goal.at.has_equal_ends-requires-3 c).Else-not-are_sized) (is-sized (goal.at.has_equal_ends-requires-3 c).Else-not-are_sized)).left (some (goal.at.has_equal_ends-requires-3 c).Else-not-are_sized)
 
 pub has_equal_ends-requires-4 : goal.has_equal_ends-requires-4
-has_equal_ends-requires-4 c = let s = c.before.before.before in lane_some _ _ (sized_parts (lent (goal.at.has_equal_ends-requires-4 c).Else-not-are_sized) (is-sized s)).right (some (goal.at.has_equal_ends-requires-4 c).Else-not-are_sized)
+has_equal_ends-requires-4 c = lane_some _ _ (sized_parts (lent (goal.at.has_equal_ends-requires-4 c).Else-not-are_sized) (is-sized (goal.at.has_equal_ends-requires-4 c).Else-not-are_sized)).right (some (goal.at.has_equal_ends-requires-4 c).Else-not-are_sized)
 
 pub returns-then-not-has_equal_ends : goal.returns-then-not-has_equal_ends
 returns-then-not-has_equal_ends c = λ e. absurd (false≢true e)
 
 pub is_constant-requires : goal.is_constant-requires
-is_constant-requires c = let s = c.before.before.before.before.before.before in lane_some _ _ (sized_parts (lent (goal.at.is_constant-requires c).Else-not-are_sized) (is-sized s)).fade (some (goal.at.is_constant-requires c).Else-not-are_sized)
+is_constant-requires c = lane_some _ _ (sized_parts (lent (goal.at.is_constant-requires c).Else-not-are_sized) (is-sized (goal.at.is_constant-requires c).Else-not-are_sized)).fade (some (goal.at.is_constant-requires c).Else-not-are_sized)
 
 pub is_constant-requires-2 : goal.is_constant-requires-2
-is_constant-requires-2 c = let s = c.before.before.before.before.before.before.before in lane_some _ _ (sized_parts (lent (goal.at.is_constant-requires-2 c).Else-not-are_sized) (is-sized s)).volume (some (goal.at.is_constant-requires-2 c).Else-not-are_sized)
+is_constant-requires-2 c = lane_some _ _ (sized_parts (lent (goal.at.is_constant-requires-2 c).Else-not-are_sized) (is-sized (goal.at.is_constant-requires-2 c).Else-not-are_sized)).volume (some (goal.at.is_constant-requires-2 c).Else-not-are_sized)
 
 pub is_constant-requires-3 : goal.is_constant-requires-3
-is_constant-requires-3 c = let s = c.before.before.before.before.before.before.before.before in lane_some _ _ (sized_parts (lent (goal.at.is_constant-requires-3 c).Else-not-are_sized) (is-sized s)).left (some (goal.at.is_constant-requires-3 c).Else-not-are_sized)
+is_constant-requires-3 c = lane_some _ _ (sized_parts (lent (goal.at.is_constant-requires-3 c).Else-not-are_sized) (is-sized (goal.at.is_constant-requires-3 c).Else-not-are_sized)).left (some (goal.at.is_constant-requires-3 c).Else-not-are_sized)
 
 pub is_constant-requires-4 : goal.is_constant-requires-4
-is_constant-requires-4 c = let s = c.before.before.before.before.before.before.before.before.before in lane_some _ _ (sized_parts (lent (goal.at.is_constant-requires-4 c).Else-not-are_sized) (is-sized s)).right (some (goal.at.is_constant-requires-4 c).Else-not-are_sized)
+is_constant-requires-4 c = lane_some _ _ (sized_parts (lent (goal.at.is_constant-requires-4 c).Else-not-are_sized) (is-sized (goal.at.is_constant-requires-4 c).Else-not-are_sized)).right (some (goal.at.is_constant-requires-4 c).Else-not-are_sized)
 
 -- five results at once
 record Five (a b c d e : Bool) : Type 0 where
@@ -88,4 +89,4 @@ pub returns : goal.returns
 returns c = λ e.
     (let s = c.before.before.before.before.before.before.before.before.before.before in
     let f = five-of c.is_constant_rate.result c.is_constant.result c.is_constant-2.result c.is_constant-3.result c.is_constant-4.result e in
-    constant_of (lent (goal.at.returns c).Else-not-are_sized) (is-sized (goal.at.returns c).Else-not-are_sized) (some (goal.at.returns c).Else-not-are_sized) (c.is_constant_rate.ensures.rate_value f.one) (c.is_constant.ensures f.two) (c.is_constant-2.ensures f.three) (c.is_constant-3.ensures f.four) (c.is_constant-4.ensures f.five-th))
+    constant_of (lent (goal.at.returns c).Else-not-are_sized) (is-sized (goal.at.returns c).Else-not-are_sized) (some (goal.at.returns c).Else-not-are_sized) (c.is_constant_rate.ensures f.one) (c.is_constant.ensures f.two) (c.is_constant-2.ensures f.three) (c.is_constant-3.ensures f.four) (c.is_constant-4.ensures f.five-th))

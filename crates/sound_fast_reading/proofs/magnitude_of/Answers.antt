@@ -8,7 +8,7 @@ pub float_to_bits-result : goal.float_to_bits-result
 float_to_bits-result c = c.requires
 
 pub float_from_bits-result : goal.float_from_bits-result
-float_from_bits-result c = number_bits c.args.x c.requires (subst T (sym c.well_formed.0.1) tt)
+float_from_bits-result c = number_bits c.args.rate c.requires (subst T (sym c.well_formed.0.1) tt)
 
 pub returns : goal.returns
-returns c = by_bits c.args.x c.requires (subst T (sym c.well_formed.0.1) tt)
+returns c = by_bits c.args.rate c.requires (subst T (sym c.well_formed.0.1) tt)

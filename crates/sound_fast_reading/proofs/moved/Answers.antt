@@ -7,8 +7,7 @@ use Rattle.sound_fast_reading.proofs.Moves.{slow_advance}
 use Rattle.sound_fast_reading.proofs.moved.Goals as goal
 
 pub advance_of-requires : goal.advance_of-requires
-advance_of-requires c =
-    record { t = c.requires.t_2; t_2 = c.requires.t_3 }
+advance_of-requires c = c.requires.t_3
 
 pub stepped_by-requires : goal.stepped_by-requires
 stepped_by-requires c =

@@ -38,11 +38,11 @@ four_finite_clear-requires c =
 pub returns-then-not-four_finite_clear : goal.returns-then-not-four_finite_clear
 returns-then-not-four_finite_clear c = answer (goal.at.returns-then-not-four_finite_clear c).Start false _ _ (sym c.four_finite_clear.ensures ∙ c.if-not-four_finite_clear.true) refl refl
 
-pub returns-then-are_slow : goal.returns-then-are_slow
-returns-then-are_slow c = answer (goal.at.returns-then-are_slow c).Start true true _ (sym c.four_finite_clear.ensures ∙ c.if-not-four_finite_clear.false) (sym c.are_slow.ensures ∙ c.if-are_slow.true) refl
+pub returns-then-all_slow : goal.returns-then-all_slow
+returns-then-all_slow c = answer (goal.at.returns-then-all_slow c).Start true true _ (sym c.four_finite_clear.ensures ∙ c.if-not-four_finite_clear.false) (sym c.all_slow.ensures ∙ c.if-all_slow.true) refl
 
 pub returns-then-all_finite : goal.returns-then-all_finite
-returns-then-all_finite c = answer (goal.at.returns-then-all_finite c).Start true false true (sym c.four_finite_clear.ensures ∙ c.if-not-four_finite_clear.false) (sym c.are_slow.ensures ∙ c.if-are_slow.false) (sym c.all_finite.ensures ∙ c.if-all_finite.true)
+returns-then-all_finite c = answer (goal.at.returns-then-all_finite c).Start true false true (sym c.four_finite_clear.ensures ∙ c.if-not-four_finite_clear.false) (sym c.all_slow.ensures ∙ c.if-all_slow.false) (sym c.all_finite.ensures ∙ c.if-all_finite.true)
 
 pub returns-else-all_finite : goal.returns-else-all_finite
-returns-else-all_finite c = answer (goal.at.returns-else-all_finite c).Start true false false (sym c.four_finite_clear.ensures ∙ c.if-not-four_finite_clear.false) (sym c.are_slow.ensures ∙ c.if-are_slow.false) (sym c.all_finite.ensures ∙ c.if-all_finite.false)
+returns-else-all_finite c = answer (goal.at.returns-else-all_finite c).Start true false false (sym c.four_finite_clear.ensures ∙ c.if-not-four_finite_clear.false) (sym c.all_slow.ensures ∙ c.if-all_slow.false) (sym c.all_finite.ensures ∙ c.if-all_finite.false)

@@ -3,7 +3,7 @@ use Prim.Native.Nat.{ℕ}
 use mathlib.Core.Path.{◌≡◌, refl, sym, ap, ◌∙◌, subst}
 use borrow.Author.Rules.{rules}
 use Rattle.sound_slow_path.specs.FrameSteps.{frame_steps}
-use Rattle.sound_slow_path.proofs.FrameSteps.{advance_is, asks, turned_as}
+use Rattle.sound_slow_path.proofs.FrameSteps.{asks, turned_as}
 use Rattle.sound_slow_path.proofs.frame_steps.Reads as reads
 use Rattle.sound_slow_path.proofs.frame_steps.Lts as lts
 use Rattle.numbers.proofs.advance_by.Reads as advance-by-reads
@@ -13,8 +13,8 @@ use Rattle.sound_slow_path.proofs.frame_steps.Goals as goal
 
 pub advance_by-sum-requires : goal.advance_by-sum-requires
 advance_by-sum-requires c =
-    let a = asks _ _ _ _ (advance_is _ _ _ _ c.requires.is_time_step c.magnitude-advance.ensures) c.requires.is_time_step c.requires.slow in
+    let a = asks _ _ _ _ c.magnitude.ensures c.requires.is_time_step c.requires.slow in
     record { t = c.requires.below; t_2 = a.0; t_3 = a.1 }
 
 pub returns : goal.returns
-returns c = turned_as _ _ _ _ _ _ _ _ _ _ (advance_is _ _ _ _ c.requires.is_time_step c.magnitude-advance.ensures) c.advance_by-sum.ensures c.update_positions.ensures
+returns c = turned_as _ _ _ _ _ _ _ _ _ _ c.magnitude.ensures c.advance_by-sum.ensures c.update_positions.ensures

@@ -3,7 +3,7 @@ use mathlib.Core.Path.{sym, subst}
 use lib.Dec.{T}
 use lib.Ieee.{binary64}
 use Rattle.numbers.proofs.Equal.{eq_same}
-use Rattle.sound_lanes.proofs.is_equal_rate.Goals as goal
+use Rattle.sound_constant.proofs.is_equal_rate.Goals as goal
 
 pub returns : goal.returns
 returns c = λ e. eq_same binary64 _ _ (subst T (sym c.well_formed.0.1) tt) (subst T (sym c.well_formed.1.0.1) tt) c.requires e
