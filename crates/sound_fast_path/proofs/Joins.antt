@@ -6,7 +6,7 @@ use native.Mathlib.Nat.{le_of_eq, le_refl}
 use native.Mathlib.Omega.{arith}
 use mathlib.Core.Bool.{Bool, true, false}
 use lib.Dec.{T}
-use lib.ListN.{length, take, drop, take-append-drop, length_append, length-drop, drop_of_length-le}
+use lib.ListN.{length, take, drop, take-append-drop, length-append, length-drop, drop_of_length-le}
 use lib.Seq.{take_all, length-take-le}
 use lib.Ieee.{Float}
 use Rattle.numbers.specs.Lists.{all}
@@ -104,7 +104,7 @@ module _ (snd : List Float) (v : StaticSound) (dt : Float) (b : Lanes) (out : Li
       let first : length (take (2 * i) out) ≡ 2 * i = length-take-le (2 * i) out (within (length out) (length b.rate) i p.long h) in
       let rest : length q.samples ≡ 2 * (length b.rate - i) = plays_length snd dt (drop i (rows b)) v ∙ ap (λ (n : ℕ). 2 * n) (rows_left i) in
       ap (λ (o : Outcome). length o.samples) e
-      ∙ length_append (take (2 * i) out) q.samples
+      ∙ length-append (take (2 * i) out) q.samples
       ∙ ap₂ (λ (m n : ℕ). m + n) first rest
       ∙ all_of (length out) (length b.rate) i p.long h
     where

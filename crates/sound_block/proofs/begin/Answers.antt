@@ -13,18 +13,18 @@ returns-then-voice c = begun_started _ _ _ c.update-state.ensures c.if-voice.tru
 
 pub returns-in-Waiting : goal.returns-in-Waiting
 returns-in-Waiting c =
-    let a = c.before.before.before in
-    let e = a.before in
+    let a = c in
+    let e = c in
     begun_waiting _ _ _ e.update-state.ensures e.if-voice.false (sym a.answer-answer.ensures ∙ c.in-Waiting.is)
 
 pub returns-in-Now : goal.returns-in-Now
 returns-in-Now c =
-    let a = c.before.before.before in
-    let e = a.before in
+    let a = c in
+    let e = c in
     begun_now _ _ _ e.update-state.ensures e.if-voice.false (sym a.answer-answer.ensures ∙ c.in-Now.is)
 
 pub returns-in-Never : goal.returns-in-Never
 returns-in-Never c =
-    let a = c.before.before.before.before.before.before in
-    let e = a.before in
+    let a = c in
+    let e = c in
     begun_never _ _ _ e.update-state.ensures e.if-voice.false (sym a.answer-answer.ensures ∙ c.in-Never.is)

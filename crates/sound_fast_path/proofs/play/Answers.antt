@@ -43,16 +43,14 @@ contiguous : (c : Else-not-is_contiguous) → Contiguous c.args.sound.now c.trac
 contiguous c = c.is_contiguous.ensures.contiguous (c.if-not-is_contiguous.false)
 
 -- the frames after the gains are applied
-heard : (c : After-by_frame)
-    → (let t = c.before.before.before.before.before.before.before.before.before.before in
-    let a = t.args in
-    Heard a.sound.now a.dt (lent c.before.before.before.before.before.before.before.before.before.before) a.voice t.track_of-track.result c.scan-reached.result c.by_frame.new.1.1.1.1.1.0)
-heard c =
-    let t = c.before.before.before.before.before.before.before.before.before.before in
-    let st = t in
-    let a = st.args in
+heard : (c : After-by_frame) → (let a = c.args in
+    let b = lanes_now a.fade a.volume a.left a.right a.rate in
+    Tracked a.sound.now a.voice c.track_of-track.result → Contiguous a.sound.now c.track_of-track.result a.voice.moving
+    → Heard a.sound.now a.dt b a.voice c.track_of-track.result c.scan-reached.result c.by_frame.new.out)
+heard c t w =
+    let a = c.args in
     let r = c.scan-reached in
-    heard_of a.sound.now a.dt (lent c.before.before.before.before.before.before.before.before.before.before) a.voice t.track_of-track.result (tracked c.before.before.before.before.before.before.before.before.before.before) (contiguous c.before.before.before.before.before.before.before.before) st.requires r.result r.new.1.1.1.0 c.by_frame.new.1.1.1.1.1.0 r.ensures c.by_frame.ensures
+    heard_of a.sound.now a.dt (lanes_now a.fade a.volume a.left a.right a.rate) a.voice c.track_of-track.result t w c.requires r.result r.new.out c.by_frame.new.out r.ensures c.by_frame.ensures
 
 passed_is : (c : After-contiguous_at)
     → (let t = c in
@@ -65,18 +63,18 @@ passed_is c =
     let r = c.scan-reached.result in
     ap (moved v r.fractional_position) (c.contiguous_at.ensures ∙ ap (λ (w : Wraps). contiguous_of t.args.sound.now t.track_of-track.result v.moving w r.at) c.wraps_after-wraps.ensures)
 
-passed-plays : (c : After-contiguous_at) (m : ℕ) → m ≡ 2 * length (lent c).rate
-    → (let t = c in
-    let v = t.args.voice in
+passed-plays : (c : After-contiguous_at) → (let a = c.args in
+    let b = lanes_now a.fade a.volume a.left a.right a.rate in
     let r = c.scan-reached.result in
-    Playable t.args.sound.now (moved v r.fractional_position c.contiguous_at.result) t.args.dt (lent c.before.before.before.before.before.before.before.before.before.before.before.before.before.before.before) m)
-passed-plays c m eq =
+    Heard a.sound.now a.dt b a.voice c.track_of-track.result r c.by_frame.new.out
+    → Playable a.sound.now (moved a.voice r.fractional_position c.contiguous_at.result) a.dt b (length c.by_frame.new.out))
+passed-plays c h =
     let st = c in
     record {
-      well_formed = subst WellFormed (sym (passed_is c)) (heard c.before.before.before.before).well_formed;
+      well_formed = subst WellFormed (sym (passed_is c)) h.well_formed;
       lent = st.requires.lent;
       sized = st.requires.sized;
-      long = eq;
+      long = h.as_long;
       is_time_step = st.requires.is_time_step;
       near = st.requires.near;
     }
@@ -92,12 +90,18 @@ at_most i n h l = omega arith
 
 pub is_contiguous-requires : goal.is_contiguous-requires
 is_contiguous-requires c =
-    record { inside_sound = (tracked c).lies; frames_len = c.requires.well_formed.window.four }
+    record { inside_sound = (tracked (goal.at.is_contiguous-requires c).After-track_of-track).lies; frames_len = c.requires.well_formed.window.four }
 
 pub scan-reached-requires : goal.scan-reached-requires
 scan-reached-requires c =
     let a = c.args in
-    (scannable a.sound.now a.dt (lent (goal.at.scan_reached_requires c).After-track_of-track) a.voice c.track_of-track.result (tracked (goal.at.scan_reached_requires c).After-track_of-track) (contiguous (goal.at.scan_reached_requires c).Else-not-is_contiguous) c.requires, scan_begins a.sound.now a.dt (lent (goal.at.scan_reached_requires c).After-track_of-track) a.voice c.track_of-track.result (tracked (goal.at.scan_reached_requires c).After-track_of-track) (contiguous (goal.at.scan_reached_requires c).Else-not-is_contiguous) c.requires a.out.now c.requires.long)
+    let b = lent (goal.at.scan-reached-requires c).After-track_of-track in
+    let t = tracked (goal.at.scan-reached-requires c).After-track_of-track in
+    let w = contiguous (goal.at.scan-reached-requires c).Else-not-is_contiguous in
+    record {
+      scannable = scannable a.sound.now a.dt b a.voice c.track_of-track.result t w c.requires;
+      scanned = scan_begins a.sound.now a.dt b a.voice c.track_of-track.result t w c.requires a.out.now c.requires.long;
+    }
 
 pub by_frame-requires : goal.by_frame-requires
 by_frame-requires c =
@@ -106,35 +110,47 @@ by_frame-requires c =
     record { n_in_bounds = fits_in _ _ _ w z.fade; n_in_bounds_2 = fits_in _ _ _ w z.volume; n_in_bounds_3 = fits_in _ _ _ w z.left; n_in_bounds_4 = fits_in _ _ _ w z.right; n_in_bounds_5 = twice _ _ _ w c.scan-reached.ensures.as_long; n_bound = at_most _ _ w z.most }
 
 pub wraps_after-wraps-requires : goal.wraps_after-wraps-requires
-wraps_after-wraps-requires c = (position_on _ _ _ (contiguous (goal.at.wraps_after-wraps-requires c).Else-not-is_contiguous), few-steps _ _ _ c.scan-reached.ensures.few c.scan-reached.ensures.within (sized_parts (lent (goal.at.wraps_after-wraps-requires c).After-track_of-track) c.requires.sized).most)
+wraps_after-wraps-requires c =
+    record {
+      on = position_on _ _ _ (contiguous (goal.at.wraps_after-wraps-requires c).Else-not-is_contiguous);
+      n_bound = few-steps _ _ _ c.scan-reached.ensures.few c.scan-reached.ensures.within (sized_parts (lent (goal.at.wraps_after-wraps-requires c).After-track_of-track) c.requires.sized).most;
+    }
 
 pub contiguous_at-requires : goal.contiguous_at-requires
 contiguous_at-requires c =
-    record { inside_sound = (tracked c.before.before.before.before.before.before.before.before.before.before.before.before.before).lies; on = c.scan-reached.ensures.on }
+    record { inside_sound = (tracked (goal.at.contiguous_at-requires c).After-track_of-track).lies; on = c.scan-reached.ensures.on }
 
 pub shape_of-out-then-reached-rate : goal.shape_of-out-then-reached-rate
-shape_of-out-then-reached-rate c = (heard c.before.before.before.before.before.before.before).as_long ∙ sym c.requires.long
+shape_of-out-then-reached-rate c =
+    let h = heard (goal.at.shape_of-out-then-reached-rate c).After-by_frame (tracked (goal.at.shape_of-out-then-reached-rate c).After-track_of-track) (contiguous (goal.at.shape_of-out-then-reached-rate c).Else-not-is_contiguous) in
+    h.as_long ∙ sym c.requires.long
 
 pub returns-then-reached-rate : goal.returns-then-reached-rate
-returns-then-reached-rate c = reached_whole c.args.sound.now c.args.dt (lent (goal.at.returns_then_reached_rate c).After-track_of-track) c.args.voice _ c.track_of-track.result c.scan-reached.result c.by_frame.new.1.1.1.1.1.0 (passed-plays (goal.at.returns_then_reached_rate c).After-contiguous_at _ (heard c.before.before.before.before.before.before.before).as_long) (heard (goal.at.returns_then_reached_rate c).After-by_frame) (passed_is (goal.at.returns_then_reached_rate c).After-contiguous_at) c.if-reached-rate.true
+returns-then-reached-rate c =
+    let h = heard (goal.at.returns-then-reached-rate c).After-by_frame (tracked (goal.at.returns-then-reached-rate c).After-track_of-track) (contiguous (goal.at.returns-then-reached-rate c).Else-not-is_contiguous) in
+    reached_whole c.args.sound.now c.args.dt (lent (goal.at.returns-then-reached-rate c).After-track_of-track) c.args.voice _ c.track_of-track.result c.scan-reached.result c.by_frame.new.out (passed-plays (goal.at.returns-then-reached-rate c).After-contiguous_at h) h (passed_is (goal.at.returns-then-reached-rate c).After-contiguous_at) c.if-reached-rate.true
 
 pub play_from-played-requires : goal.play_from-played-requires
-play_from-played-requires c = (passed-plays (goal.at.play_from-played-requires c).After-contiguous_at _ (heard c.before.before.before.before.before.before.before.before).as_long, c.scan-reached.ensures.within)
+play_from-played-requires c =
+    let h = heard (goal.at.play_from-played-requires c).After-by_frame (tracked (goal.at.play_from-played-requires c).After-track_of-track) (contiguous (goal.at.play_from-played-requires c).Else-not-is_contiguous) in
+    record { playable = passed-plays (goal.at.play_from-played-requires c).After-contiguous_at h; next_in_bounds = c.scan-reached.ensures.within }
 
 pub overflow_add-steps : goal.overflow_add-steps
 overflow_add-steps c =
     let q = c.play_from-played in
-    let h = (heard (goal.at.overflow_add-steps c).After-by_frame) in
-    let f = from_few c.args.sound.now _ c.args.dt (lent (goal.at.overflow_add-steps c).After-track_of-track) c.by_frame.new.1.1.1.1.1.0 (passed-plays (goal.at.overflow_add-steps c).After-contiguous_at _ h.as_long) c.scan-reached.result.next q.result _ q.ensures in
-    record { fits = sum_fits _ _ _ _ h.few f h.within (sized_parts (lent (goal.at.overflow_add-steps c).After-track_of-track) c.requires.sized).most }
+    let h = heard (goal.at.overflow_add-steps c).After-by_frame (tracked (goal.at.overflow_add-steps c).After-track_of-track) (contiguous (goal.at.overflow_add-steps c).Else-not-is_contiguous) in
+    let b = lent (goal.at.overflow_add-steps c).After-track_of-track in
+    let f = from_few c.args.sound.now _ c.args.dt b c.by_frame.new.out (passed-plays (goal.at.overflow_add-steps c).After-contiguous_at h) c.scan-reached.result.next q.result _ q.ensures in
+    record { fits = sum_fits _ _ _ _ h.few f h.within (sized_parts b c.requires.sized).most }
 
 pub shape_of-out : goal.shape_of-out
 shape_of-out c =
     let q = c.play_from-played in
-    let h = (heard (goal.at.shape_of-out c).After-by_frame) in
-    from_long c.args.sound.now _ c.args.dt (lent (goal.at.shape_of-out c).After-track_of-track) c.by_frame.new.1.1.1.1.1.0 (passed-plays (goal.at.shape_of-out c).After-contiguous_at _ h.as_long) c.scan-reached.result.next q.result _ h.within q.ensures ∙ (h.as_long ∙ sym c.requires.long)
+    let h = heard (goal.at.shape_of-out c).After-by_frame (tracked (goal.at.shape_of-out c).After-track_of-track) (contiguous (goal.at.shape_of-out c).Else-not-is_contiguous) in
+    from_long c.args.sound.now _ c.args.dt (lent (goal.at.shape_of-out c).After-track_of-track) c.by_frame.new.out (passed-plays (goal.at.shape_of-out c).After-contiguous_at h) c.scan-reached.result.next q.result _ h.within q.ensures ∙ (h.as_long ∙ sym c.requires.long)
 
 pub returns : goal.returns
 returns c =
     let q = c.play_from-played in
-    reached_on c.args.sound.now c.args.dt (lent (goal.at.returns c).After-track_of-track) c.args.voice _ c.track_of-track.result c.scan-reached.result q.result c.by_frame.new.1.1.1.1.1.0 _ (heard (goal.at.returns c).After-by_frame) (passed_is (goal.at.returns c).After-contiguous_at) q.ensures
+    let h = heard (goal.at.returns c).After-by_frame (tracked (goal.at.returns c).After-track_of-track) (contiguous (goal.at.returns c).Else-not-is_contiguous) in
+    reached_on c.args.sound.now c.args.dt (lent (goal.at.returns c).After-track_of-track) c.args.voice _ c.track_of-track.result c.scan-reached.result q.result c.by_frame.new.out _ h (passed_is (goal.at.returns c).After-contiguous_at) q.ensures

@@ -27,7 +27,7 @@ pub loop-more-init : goal.loop-more-init
 loop-more-init c = c.requires.scanned
 
 pub stretch-s-requires : goal.stretch-s-requires
-stretch-s-requires c = (c.requires.scannable, c.loop-more.invariant)
+stretch-s-requires c = record { scannable = c.requires.scannable; scanned = c.loop-more.invariant }
 
 pub loop-more-smaller : goal.loop-more-smaller
 loop-more-smaller c = less _ _ _ _ c.loop-more-test.true

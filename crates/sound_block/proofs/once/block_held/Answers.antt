@@ -19,22 +19,22 @@ lent c = let a = c.args in held_lanes a.held (length a.out.now / 2)
 
 pub play_held-requires : goal.play_held-requires
 play_held-requires c =
-    let b = c.before.before.before in
-    let s = b in
+    let b = c in
+    let s = c in
     let a = s.args in
     playable a.sound.now a.dt (lent (goal.at.play_held-requires c).After-begin-begun) a.signals a.voice b.begin-begun.result b.begin-begun.ensures (length a.out.now) s.requires
 
 pub returns-then-is_live : goal.returns-then-is_live
 returns-then-is_live c =
-    let l = c.before.before.before.before in
-    let b = l.before.before in
+    let l = c in
+    let b = c in
     let a = b.args in
     sounds a.sound.now a.dt (lent (goal.at.returns-then-is_live c).After-begin-begun) a.signals a.voice _ b.begin-begun.ensures (sym l.is_live.ensures ∙ l.if-is_live.true) _ c.play_held.ensures
 
 pub returns : goal.returns
 returns c =
-    let l = c.before.before.before.before in
-    let b = l.before.before in
-    let s = b in
+    let l = c in
+    let b = c in
+    let s = c in
     let a = s.args in
     rests a.sound.now a.dt (lent (goal.at.returns c).After-begin-begun) a.signals a.voice _ b.begin-begun.ensures (sym l.is_live.ensures ∙ l.if-is_live.false) _ (length a.out.now) c.silence.ensures s.requires.long

@@ -49,22 +49,20 @@ few_frames c = let a = c.args in most a.sound.now a.voice a.dt a.held (frames c)
 
 -- ---- the scan
 
-inside : (c : After-once) → c.scan_held-reached.result.next ≤ frames c.before.before.before.before.before.before.before.before.before.before
-inside c = subst (λ (n : ℕ). c.scan_held-reached.result.next ≤ n) (length-replicate (frames c.before.before.before.before.before.before.before.before.before.before) c.args.held.rate) c.scan_held-reached.ensures.within
+inside : (c : After-once) → c.scan_held-reached.result.next ≤ length c.args.out.now / 2
+inside c = subst (λ (n : ℕ). c.scan_held-reached.result.next ≤ n) (length-replicate (length c.args.out.now / 2) c.args.held.rate) c.scan_held-reached.ensures.within
 
 -- the frames after the are applied
 heard : (c : After-once)
-    → (let t = c in
-    let a = t.args in
-    Heard a.sound.now a.dt (lent c.before.before.before.before.before.before.before.before.before.before) a.voice t.track_of-track.result c.scan_held-reached.result c.once.new.1.1.0)
-heard c =
-    let t = c in
-    let st = t in
-    let a = st.args in
+    → (let a = c.args in
+    Tracked a.sound.now a.voice c.track_of-track.result → Contiguous a.sound.now c.track_of-track.result a.voice.moving
+    → Heard a.sound.now a.dt (held_lanes a.held (length a.out.now / 2)) a.voice c.track_of-track.result c.scan_held-reached.result c.once.new.out)
+heard c t w =
+    let a = c.args in
     let x = a.held in
     let r = c.scan_held-reached in
-    heard_of a.sound.now a.dt (lent c.before.before.before.before.before.before.before.before.before.before) a.voice t.track_of-track.result (tracked c.before.before.before.before.before.before.before.before.before.before) (contiguous c.before.before.before.before.before.before.before.before) st.requires r.result r.last.1.1.1.1.0 c.once.new.1.1.0 r.ensures
-    (c.once.ensures ∙ gained_fewer x.fade x.volume x.left x.right r.result.next (frames c.before.before.before.before.before.before.before.before.before.before) r.last.1.1.1.1.0 (inside c))
+    heard_of a.sound.now a.dt (held_lanes a.held (length a.out.now / 2)) a.voice c.track_of-track.result t w c.requires r.result r.new.out c.once.new.out r.ensures
+    (c.once.ensures ∙ gained_fewer x.fade x.volume x.left x.right r.result.next (length a.out.now / 2) r.new.out (inside c))
 
 -- the voice after the scan
 abbrev passed : After-contiguous_at → StaticSound
@@ -81,18 +79,18 @@ passed_is c =
     let r = c.scan_held-reached.result in
     ap (moved v r.fractional_position) (c.contiguous_at.ensures ∙ ap (λ (w : Wraps). contiguous_of t.args.sound.now t.track_of-track.result v.moving w r.at) c.wraps_after-wraps.ensures)
 
-passed-plays : (c : After-contiguous_at) (m : ℕ) → m ≡ 2 * length (lent c).rate
-    → (let t = c in
-    let v = t.args.voice in
+passed-plays : (c : After-contiguous_at) → (let a = c.args in
+    let b = held_lanes a.held (length a.out.now / 2) in
     let r = c.scan_held-reached.result in
-    Playable t.args.sound.now (moved v r.fractional_position c.contiguous_at.result) t.args.dt (lent c.before.before.before.before.before.before.before.before.before.before.before.before.before.before.before) m)
-passed-plays c m eq =
+    Heard a.sound.now a.dt b a.voice c.track_of-track.result r c.once.new.out
+    → Playable a.sound.now (moved a.voice r.fractional_position c.contiguous_at.result) a.dt b (length c.once.new.out))
+passed-plays c h =
     let st = c in
     record {
-      well_formed = subst WellFormed (sym (passed_is c)) (heard c).well_formed;
+      well_formed = subst WellFormed (sym (passed_is c)) h.well_formed;
       lent = st.requires.lent;
       sized = st.requires.sized;
-      long = eq;
+      long = h.as_long;
       is_time_step = st.requires.is_time_step;
       near = st.requires.near;
     }
@@ -115,95 +113,84 @@ as_many : (o m n : ℕ) → o ≡ 2 * m → m ≡ n → o / 2 ≡ n
 as_many o m n e f = omega arith
 
 -- ---- the needs
-pub slice-slice-requires : goal.slice-slice-requires
-slice-slice-requires : goal.slice-slice-requires
-slice-slice-requires c κs = search rules
-
 pub is_contiguous-requires : goal.is_contiguous-requires
 is_contiguous-requires c =
-    record { inside_sound = (tracked c).lies; frames_len = c.requires.well_formed.window.four }
+    record { inside_sound = (tracked (goal.at.is_contiguous-requires c).After-track_of-track).lies; frames_len = c.requires.well_formed.window.four }
 
 pub scan_held-reached-requires : goal.scan_held-reached-requires
 scan_held-reached-requires c =
-    let t = c.before.before.before.before.before in
-    let st = t in
-    let a = st.args in
-    let e = contiguous (goal.at.scan_held-reached-requires c).Else-not-is_contiguous in
-    (scannable a.sound.now a.dt (lent (goal.at.scan_held-reached-requires c).After-track_of-track) a.voice t.track_of-track.result (tracked (goal.at.scan_held-reached-requires c).After-track_of-track) e st.requires, scan_begins a.sound.now a.dt (lent (goal.at.scan_held-reached-requires c).After-track_of-track) a.voice t.track_of-track.result (tracked (goal.at.scan_held-reached-requires c).After-track_of-track) e st.requires a.out.now st.requires.long)
+    let a = c.args in
+    let b = lent (goal.at.scan_held-reached-requires c).After-track_of-track in
+    let t = tracked (goal.at.scan_held-reached-requires c).After-track_of-track in
+    let w = contiguous (goal.at.scan_held-reached-requires c).Else-not-is_contiguous in
+    record {
+      scannable = scannable a.sound.now a.dt b a.voice c.track_of-track.result t w c.requires;
+      scanned = scan_begins a.sound.now a.dt b a.voice c.track_of-track.result t w c.requires a.out.now c.requires.long;
+    }
 
 pub once-requires : goal.once-requires
 once-requires c =
-    let r = c.before.before.before in
-    let t = c.before.before.before.before.before.before.before.before.before in
-    let x = t.args.held in
-    let e = length-replicate (frames (goal.at.once_requires c).After-track_of-track) x.rate in
-    let w = subst (λ (n : ℕ). r.scan_held-reached.result.next ≤ n) e r.scan_held-reached.ensures.within in
-    record { n_in_bounds = twice_in _ _ _ _ w r.scan_held-reached.ensures.as_long e; n_bound = at_most _ _ w (few_frames (goal.at.once_requires c).After-track_of-track) }
+    let e = length-replicate (frames (goal.at.once-requires c).After-track_of-track) c.args.held.rate in
+    let w = subst (λ (n : ℕ). c.scan_held-reached.result.next ≤ n) e c.scan_held-reached.ensures.within in
+    record { n_in_bounds = twice_in _ _ _ _ w c.scan_held-reached.ensures.as_long e; n_bound = at_most _ _ w (few_frames (goal.at.once-requires c).After-track_of-track) }
 
 pub wraps_after-wraps-requires : goal.wraps_after-wraps-requires
 wraps_after-wraps-requires c =
-    let o = c.before.before in
-    let r = o.scan_held-reached.ensures in
-    (position_on _ _ _ (contiguous (goal.at.wraps_after-wraps-requires c).Else-not-is_contiguous), few-steps _ _ _ r.few (inside (goal.at.wraps_after-wraps-requires c).After-once) (few_frames (goal.at.wraps_after-wraps-requires c).After-track_of-track))
+    record {
+      on = position_on _ _ _ (contiguous (goal.at.wraps_after-wraps-requires c).Else-not-is_contiguous);
+      n_bound = few-steps _ _ _ c.scan_held-reached.ensures.few (inside (goal.at.wraps_after-wraps-requires c).After-once) (few_frames (goal.at.wraps_after-wraps-requires c).After-track_of-track);
+    }
 
 pub contiguous_at-requires : goal.contiguous_at-requires
 contiguous_at-requires c =
-    record { inside_sound = (let o = c.before.before.before in ((tracked o).lies, o.scan_held-reached.ensures.on)).0; on = (let o = c.before.before.before in ((tracked o).lies, o.scan_held-reached.ensures.on)).1 }
+    record { inside_sound = (tracked (goal.at.contiguous_at-requires c).After-track_of-track).lies; on = c.scan_held-reached.ensures.on }
 
 pub shape_of-out-then-reached-frames : goal.shape_of-out-then-reached-frames
-shape_of-out-then-reached-frames c = let o = c.before.before.before in (heard o).as_long ∙ sym o.requires.long
+shape_of-out-then-reached-frames c =
+    let h = heard (goal.at.shape_of-out-then-reached-frames c).After-once (tracked (goal.at.shape_of-out-then-reached-frames c).After-track_of-track) (contiguous (goal.at.shape_of-out-then-reached-frames c).Else-not-is_contiguous) in
+    h.as_long ∙ sym c.requires.long
 
 pub returns-then-reached-frames : goal.returns-then-reached-frames
 returns-then-reached-frames c =
-    let p = c.before.before.before in
-    let o = p in
-    let t = o in
-    let a = t.args in
-    reached_whole a.sound.now a.dt (lent (goal.at.returns_then_reached_frames c).After-track_of-track) a.voice _ t.track_of-track.result o.scan_held-reached.result o.once.last.1.1.0 (passed-plays (goal.at.returns_then_reached_frames c).After-contiguous_at _ (heard o).as_long) (heard (goal.at.returns_then_reached_frames c).After-once) (passed_is (goal.at.returns_then_reached_frames c).After-contiguous_at)
-    (c.if-reached-frames.true ∙ sym (length-replicate (frames (goal.at.returns_then_reached_frames c).After-track_of-track) a.held.rate))
+    let a = c.args in
+    let h = heard (goal.at.returns-then-reached-frames c).After-once (tracked (goal.at.returns-then-reached-frames c).After-track_of-track) (contiguous (goal.at.returns-then-reached-frames c).Else-not-is_contiguous) in
+    reached_whole a.sound.now a.dt (lent (goal.at.returns-then-reached-frames c).After-track_of-track) a.voice _ c.track_of-track.result c.scan_held-reached.result c.once.new.out (passed-plays (goal.at.returns-then-reached-frames c).After-contiguous_at h) h (passed_is (goal.at.returns-then-reached-frames c).After-contiguous_at)
+    (c.if-reached-frames.true ∙ sym (length-replicate (frames (goal.at.returns-then-reached-frames c).After-track_of-track) a.held.rate))
 
 pub play_rest-played-requires : goal.play_rest-played-requires
 play_rest-played-requires c =
-    let p = c.before.before.before.before in
-    let o = p in
-    let t = o in
-    let a = t.args in
-    let e = as_many _ _ _ (heard o).as_long (length-replicate (frames (goal.at.play_rest-played-requires c).After-track_of-track) a.held.rate) in
-    (subst (λ (n : ℕ). Playable a.sound.now (passed (goal.at.play_rest-played-requires c).After-contiguous_at) a.dt (held_lanes a.held n) (length o.once.last.1.1.0)) (sym e) (passed-plays (goal.at.play_rest-played-requires c).After-contiguous_at _ (heard o).as_long), subst (λ (n : ℕ). o.scan_held-reached.result.next ≤ n) (sym e) (inside (goal.at.play_rest-played-requires c).After-once))
+    let a = c.args in
+    let h = heard (goal.at.play_rest-played-requires c).After-once (tracked (goal.at.play_rest-played-requires c).After-track_of-track) (contiguous (goal.at.play_rest-played-requires c).Else-not-is_contiguous) in
+    let e = as_many _ _ _ h.as_long (length-replicate (frames (goal.at.play_rest-played-requires c).After-track_of-track) a.held.rate) in
+    record {
+      playable = subst (λ (n : ℕ). Playable a.sound.now (passed (goal.at.play_rest-played-requires c).After-contiguous_at) a.dt (held_lanes a.held n) (length c.once.new.out)) (sym e) (passed-plays (goal.at.play_rest-played-requires c).After-contiguous_at h);
+      next_in_bounds = subst (λ (n : ℕ). c.scan_held-reached.result.next ≤ n) (sym e) (inside (goal.at.play_rest-played-requires c).After-once);
+    }
 
 pub overflow_add-steps : goal.overflow_add-steps
 overflow_add-steps c =
     let q = c.play_rest-played in
-    let p = c.before.before.before.before.before.before.before.before.before.before in
-    let o = p in
-    let t = o in
-    let a = t.args in
-    let h = heard (goal.at.overflow_add-steps c).After-once in
+    let a = c.args in
+    let h = heard (goal.at.overflow_add-steps c).After-once (tracked (goal.at.overflow_add-steps c).After-track_of-track) (contiguous (goal.at.overflow_add-steps c).Else-not-is_contiguous) in
     let e = as_many _ _ _ h.as_long (length-replicate (frames (goal.at.overflow_add-steps c).After-track_of-track) a.held.rate) in
-    let rest = q.ensures ∙ ap (λ (n : ℕ). played_from a.sound.now a.dt (held_lanes a.held n) o.scan_held-reached.result.next (passed (goal.at.overflow_add-steps c).After-contiguous_at) o.once.last.1.1.0) e in
-    let f = from_few a.sound.now _ a.dt (lent (goal.at.overflow_add-steps c).After-track_of-track) o.once.last.1.1.0 (passed-plays (goal.at.overflow_add-steps c).After-contiguous_at _ h.as_long) o.scan_held-reached.result.next q.result _ rest in
+    let rest = q.ensures ∙ ap (λ (n : ℕ). played_from a.sound.now a.dt (held_lanes a.held n) c.scan_held-reached.result.next (passed (goal.at.overflow_add-steps c).After-contiguous_at) c.once.new.out) e in
+    let f = from_few a.sound.now _ a.dt (lent (goal.at.overflow_add-steps c).After-track_of-track) c.once.new.out (passed-plays (goal.at.overflow_add-steps c).After-contiguous_at h) c.scan_held-reached.result.next q.result _ rest in
     record { fits = sum_fits _ _ _ _ _ h.few f (inside (goal.at.overflow_add-steps c).After-once) (length-replicate (frames (goal.at.overflow_add-steps c).After-track_of-track) a.held.rate) (few_frames (goal.at.overflow_add-steps c).After-track_of-track) }
 
 pub shape_of-out : goal.shape_of-out
 shape_of-out c =
     let q = c.play_rest-played in
-    let p = c.before.before.before.before.before.before.before.before.before.before in
-    let o = p in
-    let t = o in
-    let a = t.args in
-    let h = heard (goal.at.shape_of-out c).After-once in
+    let a = c.args in
+    let h = heard (goal.at.shape_of-out c).After-once (tracked (goal.at.shape_of-out c).After-track_of-track) (contiguous (goal.at.shape_of-out c).Else-not-is_contiguous) in
     let e = as_many _ _ _ h.as_long (length-replicate (frames (goal.at.shape_of-out c).After-track_of-track) a.held.rate) in
-    let rest = q.ensures ∙ ap (λ (n : ℕ). played_from a.sound.now a.dt (held_lanes a.held n) o.scan_held-reached.result.next (passed (goal.at.shape_of-out c).After-contiguous_at) o.once.last.1.1.0) e in
-    from_long a.sound.now _ a.dt (lent (goal.at.shape_of-out c).After-track_of-track) o.once.last.1.1.0 (passed-plays (goal.at.shape_of-out c).After-contiguous_at _ h.as_long) o.scan_held-reached.result.next q.result _ h.within rest ∙ (h.as_long ∙ sym t.requires.long)
+    let rest = q.ensures ∙ ap (λ (n : ℕ). played_from a.sound.now a.dt (held_lanes a.held n) c.scan_held-reached.result.next (passed (goal.at.shape_of-out c).After-contiguous_at) c.once.new.out) e in
+    from_long a.sound.now _ a.dt (lent (goal.at.shape_of-out c).After-track_of-track) c.once.new.out (passed-plays (goal.at.shape_of-out c).After-contiguous_at h) c.scan_held-reached.result.next q.result _ h.within rest ∙ (h.as_long ∙ sym c.requires.long)
 
 pub returns : goal.returns
 returns c =
     let q = c.play_rest-played in
-    let p = c.before.before.before.before.before.before.before.before.before.before in
-    let o = p in
-    let t = o in
-    let a = t.args in
-    let h = heard (goal.at.returns c).After-once in
+    let a = c.args in
+    let h = heard (goal.at.returns c).After-once (tracked (goal.at.returns c).After-track_of-track) (contiguous (goal.at.returns c).Else-not-is_contiguous) in
     let e = as_many _ _ _ h.as_long (length-replicate (frames (goal.at.returns c).After-track_of-track) a.held.rate) in
-    let rest = q.ensures ∙ ap (λ (n : ℕ). played_from a.sound.now a.dt (held_lanes a.held n) o.scan_held-reached.result.next (passed (goal.at.returns c).After-contiguous_at) o.once.last.1.1.0) e in
-    reached_on a.sound.now a.dt (lent (goal.at.returns c).After-track_of-track) a.voice _ t.track_of-track.result o.scan_held-reached.result q.result o.once.last.1.1.0 _ h (passed_is (goal.at.returns c).After-contiguous_at) rest
+    let rest = q.ensures ∙ ap (λ (n : ℕ). played_from a.sound.now a.dt (held_lanes a.held n) c.scan_held-reached.result.next (passed (goal.at.returns c).After-contiguous_at) c.once.new.out) e in
+    reached_on a.sound.now a.dt (lent (goal.at.returns c).After-track_of-track) a.voice _ c.track_of-track.result c.scan_held-reached.result q.result c.once.new.out _ h (passed_is (goal.at.returns c).After-contiguous_at) rest

@@ -8,17 +8,17 @@ use Rattle.sound_fast_path.proofs.After.{twice, most, playable_rest, played_rest
 use Rattle.sound_fast_path.proofs.held.play_rest.Goals as goal
 
 pub overflow_mul-k : goal.overflow_mul-k
-overflow_mul-k c = let st = c.before.before in let a = st.args in omega (arith, st.requires.next_in_bounds, most a.sound.now a.voice a.dt a.held (length a.out.now / 2) a.out.now st.requires.playable)
+overflow_mul-k c = let st = c in let a = st.args in omega (arith, st.requires.next_in_bounds, most a.sound.now a.voice a.dt a.held (length a.out.now / 2) a.out.now st.requires.playable)
 
 pub play-requires : goal.play-requires
 play-requires c =
-    let st = c.before.before.before in
+    let st = c in
     let a = st.args in
     playable_rest a.sound.now a.voice a.dt a.held (length a.out.now / 2) a.out.now st.requires.playable a.next st.requires.next_in_bounds
 
 pub returns : goal.returns
 returns c =
-    let st = c.before.before.before.before.before.before in
+    let st = c in
     let a = st.args in
     let p = c.play in
     played_rest a.sound.now a.voice a.dt a.held (length a.out.now / 2) a.out.now st.requires.playable a.next st.requires.next_in_bounds p.result _ p.ensures
