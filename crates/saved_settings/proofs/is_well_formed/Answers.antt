@@ -8,4 +8,4 @@ use Rattle.saved_settings.proofs.is_pitch.Reads as is-pitch-reads
 use Rattle.saved_settings.proofs.is_well_formed.Goals as goal
 
 pub returns : goal.returns
-returns c = rw (c.is_pitch.ensures, c.is_finite.ensures, c.«is_Loop».ensures) refl
+returns c = rw (c.is_pitch.ensures, c.is_finite.ensures, c.is_loop.ensures) refl

@@ -8,4 +8,4 @@ use Rattle.trace_inputs.proofs.position_of.Reads as position-of-reads
 use Rattle.trace_inputs.proofs.region_of.Goals as goal
 
 pub returns : goal.returns
-returns c = rw (c.position_of.ensures, c.end_of_lem.ensures)
+returns c = rw (c.position_of.ensures, c.end_of.ensures)
