@@ -6,7 +6,7 @@ use native.Mathlib.Omega.{arith}
 use mathlib.Core.Bool.{Bool, true, false, ◌&&◌, cond}
 use mathlib.Core.List.{List, [], ◌∷◌, ◌++◌, append_assoc}
 use lib.Dec.{T, leb, eqb}
-use lib.ListN.{length, get_or, take, drop, length_append, length-drop}
+use lib.ListN.{length, get_or, take, drop, length-append, length-drop}
 use lib.Seq.{sets, sets-eq, take_at, drop_at, take-add, length-take-le}
 use borrow.Author.Tests.{eq-eqb, eqb-true, leb-true, le-leb}
 use Rattle.byte_layout.specs.declared.Row.{Row}
@@ -101,7 +101,7 @@ module _ (ws names rest : List ℕ) (nineteen : length ws ≡ 19) (words : (i : 
 
   is_long : 666 ≤ length (body ws names ++ (bytes 4 (checksum_of (body ws names)) ++ rest))
   is_long =
-      omega (arith, length_append (body ws names) (bytes 4 (checksum_of (body ws names)) ++ rest), length_append (bytes 4 (checksum_of (body ws names))) rest, body_length ws names nineteen named, length_bytes 4 (checksum_of (body ws names)))
+      omega (arith, length-append (body ws names) (bytes 4 (checksum_of (body ws names)) ++ rest), length-append (bytes 4 (checksum_of (body ws names))) rest, body_length ws names nineteen named, length_bytes 4 (checksum_of (body ws names)))
 
   pub shown_again : loaded (encoded ws names ++ rest) ≡ whole ws
   unfolding loaded judged

@@ -5,7 +5,7 @@ use native.Mathlib.Omega.{arith}
 use mathlib.Core.Bool.{Bool, true, false, ◌&&◌, cond}
 use mathlib.Core.List.{List, [], ◌∷◌, ◌++◌}
 use lib.Dec.{eqb, leb}
-use lib.ListN.{length, get_or, take, drop, replicate, length_append}
+use lib.ListN.{length, get_or, take, drop, replicate, length-append}
 use lib.Seq.{sets, sets-eq, take_at}
 use borrow.Author.Tests.{eq-eqb, ne_eqb, eqb-true, leb-true, le-leb, lt-leb}
 use Rattle.byte_layout.specs.declared.Row.{Row}
@@ -30,7 +30,7 @@ unfolding payload field
 words_length zero vs ws h = refl
 words_length (suc n) vs [] h = absurd (omega (arith, h))
 words_length (suc n) vs (x ∷ ws) h =
-    rw (always word_row vs refl) (length_append (bytes 8 x) (payload (replicate n word_row) (vs ++ (x ∷ [])) ws) ∙ omega (arith, length_bytes 8 x, words_length n (vs ++ (x ∷ [])) ws (omega (arith, h))))
+    rw (always word_row vs refl) (length-append (bytes 8 x) (payload (replicate n word_row) (vs ++ (x ∷ [])) ws) ∙ omega (arith, length_bytes 8 x, words_length n (vs ++ (x ∷ [])) ws (omega (arith, h))))
 
 words_fine : (n : ℕ) (vs ws : List ℕ) → length ws ≡ n → ((i : ℕ) → get_or ws i 0 < 2 ^ 64) → fine (replicate n word_row) vs ws ≡ true
 words_fine zero vs [] h s = none vs
@@ -68,12 +68,12 @@ half_put ws vs buffer after e h = h ∙ ap (λ (xs : List ℕ). sets buffer 0 (p
 
 pub body_length : (ws names : List ℕ) → length ws ≡ 19 → length names ≡ 512 → length (body ws names) ≡ 662
 unfolding body half_rows
-body_length ws names h l = length_append (payload (rows half_table 0 23) [] (half_numbers ws)) names ∙ omega (arith, half_length ws h, l)
+body_length ws names h l = length-append (payload (rows half_table 0 23) [] (half_numbers ws)) names ∙ omega (arith, half_length ws h, l)
 
 pub encoded_length : (ws names : List ℕ) → length ws ≡ 19 → length names ≡ 512 → length (encoded ws names) ≡ 666
 unfolding encoded
 encoded_length ws names h l =
-    length_append (body ws names) (bytes 4 (checksum_of (body ws names))) ∙ omega (arith, body_length ws names h l, length_bytes 4 (checksum_of (body ws names)))
+    length-append (body ws names) (bytes 4 (checksum_of (body ws names))) ∙ omega (arith, body_length ws names h l, length_bytes 4 (checksum_of (body ws names)))
 
 module _ (ws names buffer : List ℕ) (nineteen : length ws ≡ 19) (named : length names ≡ 512) (room : 666 ≤ length buffer) where
   pub body_put : (first second : List ℕ) → first ≡ sets buffer 0 (payload half_rows [] (half_numbers ws)) → second ≡ sets first 150 (take 512 names) → second ≡ sets buffer 0 (body ws names)

@@ -3,7 +3,7 @@ use borrow.Author.Rules.{rules}
 use Rattle.c_inputs.proofs.region_if.Goals as goal
 
 pub returns-then-known : goal.returns-then-known
-returns-then-known c = rw (c.if-known.true, c.position_of.ensures, c.end_of_lem.ensures)
+returns-then-known c = rw (c.if-known.true, c.position_of.ensures, c.end_of.ensures)
 
 pub returns : goal.returns
 returns c = rw (c.if-known.false, c.nonsense.ensures)

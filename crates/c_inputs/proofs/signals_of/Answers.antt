@@ -3,4 +3,4 @@ use borrow.Author.Rules.{rules}
 use Rattle.c_inputs.proofs.signals_of.Goals as goal
 
 pub returns : goal.returns
-returns c = rw (c.start_of_lem.ensures, c.answer_of.ensures)
+returns c = rw (c.start_of.ensures, c.answer_of.ensures)

@@ -11,7 +11,7 @@ returns c =
       c.ending_of-2.ensures,
       c.start_of-2.ensures,
       c.ending_of.ensures,
-      c.start_of_lem.ensures,
+      c.start_of.ensures,
       c.has_range-2.ensures,
       c.has_range.ensures,
       c.bit_of-3.ensures,

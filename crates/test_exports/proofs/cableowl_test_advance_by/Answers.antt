@@ -10,21 +10,23 @@ use Rattle.numbers.specs.Words.{proper, magnitude}
 use Rattle.numbers.proofs.Signs.{clear, bounded, magnitude_clear}
 use Rattle.test_exports.specs.Answers.{moved}
 use Rattle.test_exports.proofs.Answers.{copied, still, went, stayed}
-use Rattle.test_exports.proofs.cableowl_test_advance_by.Goals.{Then-is_proper}
+use Rattle.test_exports.proofs.cableowl_test_advance_by.Goals.{Then-is_proper, else-is_proper-via-then-is_proper+else-a, else-is_proper-via-else-is_proper}
 use Rattle.test_exports.proofs.cableowl_test_advance_by.Goals as goal
 
 -- what the first test says
 proper-here : (c : Then-is_proper) → proper c.args.fraction ≡ true
-proper-here c = sym c.is_proper.ensures ∙ c.else-is_proper.true
+proper-here c = sym c.is_proper.ensures ∙ c.if-is_proper.true
 
 pub advance_by-s-requires : goal.advance_by-s-requires
 unfolding of_bits
 advance_by-s-requires c =
     let m = c.magnitude-a in
-    let low : T (le m.result _) = subst T (sym c.if-a.true) tt in (
-      subst T (sym (proper-here (goal.at.advance_by-s-requires c).Then-is_proper)) tt,
-      (bounded m.result 1 (pos 8) (subst (λ (z : Float). T (clear z)) (sym m.ensures) (magnitude_clear _)) low, low),
-    )
+    let low : T (le m.result _) = subst T (sym c.if-a.true) tt in
+    record {
+      t = subst T (sym (proper-here (goal.at.advance_by-s-requires c).Then-is_proper)) tt;
+      t_2 = bounded m.result 1 (pos 8) (subst (λ (z : Float). T (clear z)) (sym m.ensures) (magnitude_clear _)) low;
+      t_3 = low;
+    }
 
 pub returns-then-a : goal.returns-then-a
 unfolding of_bits
@@ -40,4 +42,7 @@ returns-else-is_proper c =
     let m = c.magnitude-a in
     let f = c.args.fraction in
     subst (λ (z : Float). still ≡ moved f z) m.ensures
-    (stayed f m.result (⊎_elim (λ w. inr w.1.left) (λ w. inl (sym c.is_proper.ensures ∙ w.left)) c.else-is_proper.branch))
+    (stayed f m.result (elim c.else-is_proper.branch [
+      else-is_proper-via-then-is_proper+else-a w ↦ inr w.if-a.false
+      | else-is_proper-via-else-is_proper w ↦ inl (sym c.is_proper.ensures ∙ w.if-is_proper.false)
+    ]))

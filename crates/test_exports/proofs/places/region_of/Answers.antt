@@ -3,4 +3,4 @@ use borrow.Author.Rules.{rules}
 use Rattle.test_exports.proofs.places.region_of.Goals as goal
 
 pub returns : goal.returns
-returns c = rw (c.position_of.ensures, c.end_of_lem.ensures)
+returns c = rw (c.position_of.ensures, c.end_of.ensures)
