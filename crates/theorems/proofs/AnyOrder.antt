@@ -1,7 +1,7 @@
 -- The order of steps in a loop does not matter: a step is a remainder, and a remainder behaves like its number. By induction on the steps. Assumes nothing.
 use mathlib.Core.Path.{◌≡◌, refl, sym, ap, ap₂, ◌∙◌, subst}
 use Prim.Native.Nat.{ℕ, suc, ◌+◌, ◌-◌, ◌*◌, ◌/◌, ◌%◌, ◌≤◌, ◌<◌}
-use native.Mathlib.Nat.{mod-lt, mod_add_mod, add-mul-mod_self_left, mod-eq_of_lt, mod-add-div, add_assoc, sub-zero}
+use native.Mathlib.Nat.{mod-lt, mod-add-mod, add-mul-mod_self_left, mod-eq_of_lt, mod-add-div, add_assoc, sub-zero}
 use native.Mathlib.Omega.{arith}
 use mathlib.Core.Bool.{Bool, true, false, cond}
 use mathlib.Core.List.{List, [], ◌∷◌}
@@ -66,7 +66,7 @@ cycled_cycled a b c d l p =
     cycled_is (cycled a b l + c) d l p
     ∙ ap (λ (n : ℕ). (n + c + (l - 1) * d) % l) (cycled_is a b l p)
     ∙ ap (λ (n : ℕ). n % l) (add_assoc ((a + (l - 1) * b) % l) c ((l - 1) * d))
-    ∙ mod_add_mod (a + (l - 1) * b) l (c + (l - 1) * d)
+    ∙ mod-add-mod (a + (l - 1) * b) l (c + (l - 1) * d)
     ∙ ap (λ (n : ℕ). n % l) (sorted a b c d (l - 1))
     ∙ sym (cycled_is (a + c) (b + d) l p)
   where

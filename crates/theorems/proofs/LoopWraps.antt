@@ -4,7 +4,7 @@ use mathlib.Core.Path.{◌≡◌, refl, sym, ap, ap₂, ◌∙◌, subst}
 use Prim.Native.Nat.{ℕ, zero, suc, ◌+◌, ◌-◌, ◌*◌, ◌≤◌, ◌<◌}
 use native.Mathlib.Nat.{le_refl, le_trans, lt_of_le_of_lt, add-zero}
 use native.Mathlib.Omega.{arith}
-use mathlib.Core.Bool.{Bool, true, false, not, ◌&&◌, cond, and_true, and_false}
+use mathlib.Core.Bool.{Bool, true, false, not, ◌&&◌, cond, and-true, and-false}
 use mathlib.Core.List.{List}
 use lib.Dec.{T, leb, ltb}
 use lib.ListN.{length}
@@ -182,12 +182,12 @@ module _ (s e : ℕ) where
         count : raised (wraps c.backwards t && not c.backwards) a ≡ raised (leb e (p + 1)) a
         count =
             ap (λ (b : Bool). raised (wraps b t && not b) a) d
-            ∙ ap (λ (b : Bool). raised b a) (and_true (wraps false t) ∙ wraps_on t s e h.going h.loop)
+            ∙ ap (λ (b : Bool). raised b a) (and-true (wraps false t) ∙ wraps_on t s e h.going h.loop)
 
         still : raised (wraps c.backwards t && c.backwards) m.wraps.backward ≡ m.wraps.backward
         still =
             ap (λ (b : Bool). raised (wraps b t && b) m.wraps.backward) d
-            ∙ ap (λ (b : Bool). raised b m.wraps.backward) (and_false (wraps false t))
+            ∙ ap (λ (b : Bool). raised b m.wraps.backward) (and-false (wraps false t))
 
         place : (cond c.backwards (backward t) (forward c.num_frames t)).position ≡ under (Frames s e) (p + 1)
         place =
@@ -235,12 +235,12 @@ module _ (s e : ℕ) where
         count : raised (wraps c.backwards t && c.backwards) a ≡ raised (leb p s) a
         count =
             ap (λ (b : Bool). raised (wraps b t && b) a) d
-            ∙ ap (λ (b : Bool). raised b a) (and_true (wraps true t) ∙ wraps_back t s e h.going h.loop)
+            ∙ ap (λ (b : Bool). raised b a) (and-true (wraps true t) ∙ wraps_back t s e h.going h.loop)
 
         still : raised (wraps c.backwards t && not c.backwards) m.wraps.forward ≡ m.wraps.forward
         still =
             ap (λ (b : Bool). raised (wraps b t && not b) m.wraps.forward) d
-            ∙ ap (λ (b : Bool). raised b m.wraps.forward) (and_false (wraps true t))
+            ∙ ap (λ (b : Bool). raised b m.wraps.forward) (and-false (wraps true t))
 
         place : (cond c.backwards (backward t) (forward c.num_frames t)).position ≡ back (Frames s e) p
         place =

@@ -4,7 +4,7 @@ use Prim.Native.Nat.{ℕ, ◌+◌, ◌-◌, ◌*◌, ◌/◌, ◌%◌, ◌≤◌
 use native.Mathlib.Omega.{arith}
 use mathlib.Core.List.{List, ◌++◌, append_assoc}
 use lib.Dec.{T, leb, eqb, leb→le, le→leb, eqb→eq}
-use lib.ListN.{length, take, drop, length_append, length-drop}
+use lib.ListN.{length, take, drop, length-append, length-drop}
 use lib.Seq.{length-take-le, take_at, drop-append-add, drop-drop}
 use lib.Ieee.{Float}
 use lib.Ieee.Fits.{and_i, and_l, and_r, eq→eqb}
@@ -25,8 +25,8 @@ use Rattle.theorems.proofs.Cut.{first_accepted, rest_accepted, accepted_cut}
 -- writing into a mix does not change its length
 pub mixed_length : (from n : ℕ) (mix xs : List Float) → length xs ≡ 2 * n → 2 * (from + n) ≤ length mix → length (mixed from n mix xs) ≡ length mix
 mixed_length from n mix xs e h =
-    let a = length_append (take (2 * from) mix) (xs ++ drop (2 * (from + n)) mix) in
-    let b = length_append xs (drop (2 * (from + n)) mix) in
+    let a = length-append (take (2 * from) mix) (xs ++ drop (2 * (from + n)) mix) in
+    let b = length-append xs (drop (2 * (from + n)) mix) in
     let c = length-take-le (2 * from) mix (omega arith) in
     let d = length-drop (2 * (from + n)) mix in
     omega arith
@@ -48,7 +48,7 @@ mixed_cut from k m mix xs ys e h =
 
     long : length (take (2 * from) mix ++ xs) ≡ 2 * (from + k)
     long =
-        let a = length_append (take (2 * from) mix) xs in
+        let a = length-append (take (2 * from) mix) xs in
         let b = length-take-le (2 * from) mix (omega arith) in
         omega arith
 

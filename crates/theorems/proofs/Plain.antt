@@ -6,7 +6,7 @@ use native.Mathlib.Omega.{arith}
 use mathlib.Core.Bool.{true}
 use mathlib.Core.List.{List, ◌++◌, append_assoc}
 use lib.Dec.{T}
-use lib.ListN.{length, take, drop, length-drop, length_append, take-append-drop}
+use lib.ListN.{length, take, drop, length-drop, length-append, take-append-drop}
 use lib.Seq.{length-take-le, take_at, drop_at}
 use lib.Ieee.{Float}
 use lib.Ieee.Fits.{eq→eqb}
@@ -93,7 +93,7 @@ mixed_rest from n k mix xs e h q =
 
     long : length (take (2 * from) mix ++ take (2 * k) xs) ≡ 2 * (from + k)
     long =
-        let a = length_append (take (2 * from) mix) (take (2 * k) xs) in
+        let a = length-append (take (2 * from) mix) (take (2 * k) xs) in
         let b = length-take-le (2 * from) mix h in
         let c = length-take-le (2 * k) xs (omega (arith, e, q)) in
         omega (arith, a, b, c)

@@ -5,7 +5,7 @@ use native.Mathlib.Omega.{arith}
 use mathlib.Core.Bool.{Bool, true, false, not, ◌&&◌, ◌||◌, cond}
 use mathlib.Core.List.{List, [], ◌∷◌, ◌++◌}
 use lib.Dec.{T, eqb, ltb}
-use lib.ListN.{length, get_or, take, drop, take-append-drop, length_append, length-drop}
+use lib.ListN.{length, get_or, take, drop, take-append-drop, length-append, length-drop}
 use lib.Seq.{length-take-le, take-append-le, take-take, drop_at, get_or-take, get_or-drop, ext_get_or}
 use lib.Ieee.Fits.{and_i, and_l, and_r}
 use borrow.Author.Tests.{eqb-true, eqb-false, eq-eqb, ltb-true, ltb-false, lt-ltb, le-ltb, le-leb}
@@ -133,7 +133,7 @@ view_merged hall.B c d s t =
 
 pub sixteen_merged : (c d : LoopCopy) → Sixteen c → Sixteen d → Sixteen (merged c d)
 sixteen_merged c d s t =
-    length_append (take 8 a) (drop 8 b) ∙ ap₂ ◌+◌ (length-take-le 8 a (omega (arith, newer_sixteen hall.A c d s t))) (length-drop 8 b ∙ ap (λ (n : ℕ). n - 8) (newer_sixteen hall.B c d s t))
+    length-append (take 8 a) (drop 8 b) ∙ ap₂ ◌+◌ (length-take-le 8 a (omega (arith, newer_sixteen hall.A c d s t))) (length-drop 8 b ∙ ap (λ (n : ℕ). n - 8) (newer_sixteen hall.B c d s t))
   where
     a : List LoopSlot
     a = (newer hall.A c d).table.slots

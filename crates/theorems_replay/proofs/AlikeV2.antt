@@ -5,7 +5,7 @@ use native.Mathlib.Omega.{arith}
 use mathlib.Core.Bool.{Bool, true, false, cond, not, ◌&&◌, ◌||◌}
 use mathlib.Core.List.{List, [], ◌∷◌, ◌++◌}
 use lib.Dec.{eqb, leb}
-use lib.ListN.{length, take, drop, length-take, length_append, take-append-drop}
+use lib.ListN.{length, take, drop, length-take, length-append, take-append-drop}
 use lib.Seq.{sets, length-sets}
 use lib.Ieee.{Float}
 use borrow.Author.Tests.{eqb-true}
@@ -116,9 +116,9 @@ processed_long x v dt b g out = go (eqb k 0) refl
 
 joined : (n : ℕ) (part out : List Float) → length part ≡ length (take n out) → length (part ++ drop n out) ≡ length out
 joined n part out e =
-    length_append part (drop n out)
+    length-append part (drop n out)
     ∙ ap (λ (m : ℕ). m + length (drop n out)) e
-    ∙ sym (length_append (take n out) (drop n out))
+    ∙ sym (length-append (take n out) (drop n out))
     ∙ ap length (take-append-drop n out)
 
 -- the buffers of a step keep their lengths

@@ -5,7 +5,7 @@ use native.Mathlib.Omega.{arith}
 use mathlib.Core.Bool.{Bool, true, false, cond, not, ◌&&◌, ◌||◌}
 use mathlib.Core.List.{List, [], ◌∷◌, ◌++◌}
 use lib.Dec.{T, eqb, leb, leb→le}
-use lib.ListN.{length, take, drop, replicate, get_or, length-replicate, length_append, length-drop}
+use lib.ListN.{length, take, drop, replicate, get_or, length-replicate, length-append, length-drop}
 use lib.Seq.{sets, take_all, length-sets, length-take-le}
 use lib.Ieee.{Float}
 use borrow.Author.Tests.{eq-eqb, ne_eqb, eqb-true, eqb-false, le-leb}
@@ -246,7 +246,7 @@ module _ (r : CableowlReplay) (snd out : List Float) (f : Fit r snd out) (n : �
   longer =
       let l = (block_outcome x r.voice b (take (2 * b.frames) out)).samples in
       let g = f.output in
-      omega (arith, length_append l (drop (2 * b.frames) out), length-drop (2 * b.frames) out, part_long)
+      omega (arith, length-append l (drop (2 * b.frames) out), length-drop (2 * b.frames) out, part_long)
 
   block_goes : Goes (block_step r n vs snd out) r n (below.after_block (replay_c r snd) vs)
   unfolding block_step block_c

@@ -5,7 +5,7 @@ use native.Mathlib.Omega.{arith}
 use mathlib.Core.Bool.{Bool, true, false, cond}
 use mathlib.Core.List.{List, [], ◌∷◌, ◌++◌}
 use lib.Dec.{leb, eqb}
-use lib.ListN.{length, get_or, take, drop, length_append, take-append-drop}
+use lib.ListN.{length, get_or, take, drop, length-append, take-append-drop}
 use lib.Seq.{take-append-le, drop-append-le}
 use borrow.Author.Tests.{le-leb, leb-true}
 use Rattle.byte_layout.specs.declared.Row.{Row}
@@ -45,7 +45,7 @@ one_row r left vs win m = go (stands r vs)
         (cond b (cond (within r n) (good (left - w) (vs ++ (n ∷ [])) (drop w win)) (bad r.refusal)) (bad 18))
     inside true e =
         let a = leb-true w (length win) e in
-        let b : w ≤ length (win ++ m) = omega (arith, length_append win m) in
+        let b : w ≤ length (win ++ m) = omega (arith, length-append win m) in
         rw (le-leb w (length (win ++ m)) b, take-append-le w win m a, drop-append-le w win m a) (fits (within r n))
     inside false e = short _
 
@@ -53,7 +53,7 @@ one_row r left vs win m = go (stands r vs)
         → Beside m (cond (leb left (length (win ++ m))) (bad 17) (bad 18)) (cond b (bad 17) (bad 18))
     past true e =
         let a = leb-true left (length win) e in
-        let b : left ≤ length (win ++ m) = omega (arith, length_append win m) in
+        let b : left ≤ length (win ++ m) = omega (arith, length-append win m) in
         rw (le-leb left (length (win ++ m)) b) (alike 17)
     past false e = short _
 
@@ -129,7 +129,7 @@ unfolding valued
 valued_beside m len end _ _ e (missing x) = cut_off refl
 valued_beside m len end _ _ e (refusal k) = whole refl
 valued_beside m len end _ _ e (both k ws rest) =
-    let q : end - length rest ≡ len - length (rest ++ m) = omega (arith, length_append rest m) in
+    let q : end - length rest ≡ len - length (rest ++ m) = omega (arith, length-append rest m) in
     whole (rw q refl)
 
 pub narrow : (w : ℕ) (bs : List ℕ) → Shown (record_at bs 0) (record_at (take w bs) 0)
@@ -138,5 +138,5 @@ narrow w bs = subst (λ (l : List ℕ). Shown (record_at l 0) (record_at (take w
   where
     of_parts : Shown (record_at (take w bs ++ drop w bs) 0) (record_at (take w bs) 0)
     of_parts =
-        valued_beside (drop w bs) (length (take w bs ++ drop w bs)) (length (take w bs)) _ _ (length_append (take w bs) (drop w bs))
+        valued_beside (drop w bs) (length (take w bs ++ drop w bs)) (length (take w bs)) _ _ (length-append (take w bs) (drop w bs))
         (bodied_beside (drop w bs) _ _ (rows_beside head_rows (drop w bs) _ _ (onwards 5 [] (take w bs))))

@@ -5,7 +5,7 @@ use native.Mathlib.Omega.{arith}
 use mathlib.Core.Bool.{Bool, true, false, cond}
 use mathlib.Core.List.{List, [], ◌∷◌, ◌++◌}
 use lib.Dec.{eqb}
-use lib.ListN.{length, take, drop, length_append}
+use lib.ListN.{length, take, drop, length-append}
 use borrow.Author.Tests.{ne_eqb}
 use Rattle.byte_layout.proofs.Numbers.{Small}
 use Rattle.byte_layout.proofs.Codec.{never}
@@ -42,7 +42,7 @@ sized c at bs s o = go (read_record bs) refl o
     go (refused n) e f = never (sym f ∙ rw (ne_eqb n 0 (λ z. omega (arith, z, refusal_numbered bs n e))) refl)
     go (found k ws rest) e f =
         let w = written_record bs k ws rest s e in
-        let l : length bs ≡ length (record_of k ws) + length rest = ap length w.same ∙ length_append (record_of k ws) rest in
+        let l : length bs ≡ length (record_of k ws) + length rest = ap length w.same ∙ length-append (record_of k ws) rest in
         record { some = omega (arith, l, record_some k ws); few = omega arith }
 
 -- the first line, then the rest
