@@ -61,7 +61,10 @@ impl Tree {
     fn with_a_kit(&self, rt: &str) {
         for (file, text) in [
             ("bin/rt", rt),
-            ("toolchain/bin/clang", "#!/bin/sh\necho \"$@\" >>\"$SAID\"\n"),
+            (
+                "toolchain/bin/clang",
+                "#!/bin/sh\necho \"$@\" >>\"$SAID\"\n",
+            ),
         ] {
             let file = self.root.join("../kit").join(file);
             fs::create_dir_all(file.parent().unwrap()).unwrap();
@@ -140,10 +143,7 @@ fn the_kit_proves_and_a_copy_of_it_inlines_more() {
         )
     };
     let inlines = format!(" -mllvm {}", kit::INLINING);
-    assert_eq!(
-        fs::read_to_string(said).unwrap(),
-        run("") + &run(&inlines)
-    );
+    assert_eq!(fs::read_to_string(said).unwrap(), run("") + &run(&inlines));
     let x86 = Target {
         arch: "x86_64".to_owned(),
     };

@@ -241,7 +241,10 @@ fn a_call_is_found_by_its_path() {
     assert!(!found[0].calls("k::held") && !found[1].calls("j::held"));
     let source = "use j::{\n    held, low::{Low, of_low},\n    T,\n};\nfn one() -> u32 {\n    held(1) + of_low(2)\n}\n";
     let found = functions("k", source);
-    assert_eq!(found[0].used, ["j::held", "j::low::Low", "j::low::of_low", "j::T"]);
+    assert_eq!(
+        found[0].used,
+        ["j::held", "j::low::Low", "j::low::of_low", "j::T"]
+    );
     assert!(found[0].calls("j::held") && !found[0].calls("j::T"));
 }
 
