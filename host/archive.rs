@@ -1,11 +1,10 @@
-// For build scripts: runs `rt` to prove a crate of this repository, and links its archive. On x86-64 that is the
-// archive that the kit writes, with more inlining; on Arm (aarch64) it is compiled from the same module
-// (archive/module.rs).
+// For build scripts: runs `rt` to prove a static library of this repository, and links its archive. The kit writes it
+// for x86-64 or, on x86-64 too, for Arm (aarch64), with more inlining (archive/kit.rs). The kit itself runs on x86-64
+// alone, so on Arm an archive that was made before is linked.
 //
 // CABLEOWL_NO_ARCHIVE=1 skips all of this, for lints, which link nothing. CABLEOWL_ARCHIVE=PATH/libcableowl.a links
-// that archive if it is what this crate expects (archive/given.rs), and proves nothing. CABLEOWL_ARCHIVE=module
-// compiles the module on x86-64 too, to test the way that Arm uses. CABLEOWL_PROGRESS=FILE prints the progress of a
-// long proof to that file; without it, to the terminal, if there is one.
+// that archive if it is what this crate expects (archive/given.rs), and proves nothing. CABLEOWL_PROGRESS=FILE prints
+// the progress of a long proof to that file; without it, to the terminal, if there is one.
 
 use std::{
     collections::BTreeSet,
@@ -18,12 +17,10 @@ use std::{
     process::{Command, ExitCode},
 };
 
-#[path = "archive/convention.rs"]
-mod convention;
 #[path = "archive/given.rs"]
 pub mod given;
-#[path = "archive/module.rs"]
-mod module;
+#[path = "archive/kit.rs"]
+mod kit;
 #[allow(dead_code)]
 #[path = "sha256/src/lib.rs"]
 mod sha256;
@@ -33,8 +30,8 @@ type Result<T> = std::result::Result<T, Box<dyn Error>>;
 /// What a crate is proved from.
 const PARTS: [&str; 3] = ["src", "specs", "proofs"];
 
-/// The whole work of a build script: links the archive of the crate `name`, and passes its path to the package's code
-/// as LINKED_ARCHIVE.
+/// The whole work of a build script: links the archive `libNAME.a`, and passes its path to the package's code as
+/// LINKED_ARCHIVE.
 pub fn link(name: &str) -> ExitCode {
     for variable in [
         "CABLEOWL_NO_ARCHIVE",
@@ -68,30 +65,22 @@ fn prove_and_link(name: &str) -> Result<()> {
     {
         return link_given(&archive, &root, name, &target, &out);
     }
-    let crates = crates_of(&root, name)?;
+    let crates = crates_of(&root, &static_library(&root, name))?;
     watch(&root, &crates);
-    let Some(kit) = module::kit() else {
+    let Some(kit) = kit::kit() else {
         return without_the_kit(&root, &out);
     };
+    if env::consts::ARCH != "x86_64" {
+        return Err(no_kit_on(env::consts::ARCH, name));
+    }
     // Only one run at a time: two would write the same files.
     let turn = File::open(root.join("crates.txt"))?;
     turn.lock()?;
-    let (work, proved) = proved(&root, &out, &crates, name, &kit)?;
-    let folder = work.join("target/archive").join(target.folder());
+    let (work, proved) = proved(&root, &out, &crates, name, &target, &kit)?;
+    let folder = work.join("target/archive").join(&target.arch);
     fs::create_dir_all(&folder)?;
     let archive = folder.join(format!("lib{name}.a"));
-    match target.way {
-        Way::Kit => {
-            fs::copy(proved.archive, &archive)?;
-        }
-        Way::Module => {
-            let src = |name: &str| root.join("crates").join(name).join("src");
-            let below = crates.iter().filter(|below| *below != name);
-            let below: Vec<_> = below.map(|below| src(below)).collect();
-            let exports = convention::exports(&src(name), &below)?;
-            module::compile(&kit, &proved.module, &exports, &target.arch, &archive)?;
-        }
-    }
+    fs::copy(proved.archive, &archive)?;
     let sources = sources_of(&root, &crates)?;
     given::Note::of(&archive, &target.arch, &kit.identity()?, &sources)?.write(&archive)?;
     link_copy(&archive, name, &out)
@@ -108,7 +97,25 @@ fn root() -> Result<PathBuf> {
     Ok(host.join("..").canonicalize()?)
 }
 
-/// Links a copy, because `rt ci` removes target/ when it starts.
+/// The crate of crates.txt that is the static library `libNAME.a`: `NAME_c`, the C interface of the crate NAME, or NAME
+/// itself.
+fn static_library(root: &Path, name: &str) -> String {
+    let interface = format!("{name}_c");
+    match root.join("crates").join(&interface).is_dir() {
+        true => interface,
+        false => name.to_owned(),
+    }
+}
+
+fn no_kit_on(arch: &str, name: &str) -> Box<dyn Error> {
+    format!(
+        "the Rattle kit runs on x86-64, and this is {arch}: make lib{name}.a on x86-64, with `--target {arch}-unknown-linux-gnu` \
+         or tools/arm, and give its path as CABLEOWL_ARCHIVE"
+    )
+    .into()
+}
+
+/// Links a copy, so that each package has its own.
 fn link_copy(archive: &Path, name: &str, out: &Path) -> Result<()> {
     let copy = out.join(format!("lib{name}.a"));
     fs::copy(archive, &copy)?;
@@ -120,7 +127,7 @@ fn link_copy(archive: &Path, name: &str, out: &Path) -> Result<()> {
 fn link_given(archive: &Path, root: &Path, name: &str, target: &Target, out: &Path) -> Result<()> {
     let sources = match root.join("crates.txt").is_file() {
         true => {
-            let crates = crates_of(root, name)?;
+            let crates = crates_of(root, &static_library(root, name))?;
             watch(root, &crates);
             Some(sources_of(root, &crates)?)
         }
@@ -130,43 +137,29 @@ fn link_given(archive: &Path, root: &Path, name: &str, target: &Target, out: &Pa
     link_copy(archive, name, out)
 }
 
-/// How an archive is made: by the kit, or from the module that the kit compiles.
-enum Way {
-    Kit,
-    Module,
-}
-
 /// The target of the archive.
 struct Target {
     arch: String,
-    way: Way,
 }
 
 impl Target {
     fn asked_for(name: &str) -> Result<Self> {
         let arch = env::var("CARGO_CFG_TARGET_ARCH")?;
         let os = env::var("CARGO_CFG_TARGET_OS")?;
-        let asked = env::var("CABLEOWL_ARCHIVE").unwrap_or_default();
-        let way = match (arch.as_str(), os.as_str(), asked.as_str()) {
-            ("x86_64", "linux", "module") | ("aarch64", "linux", _) => Way::Module,
-            // Any other word is the path of an archive of `cableowl`. Other crates' archives are made as if the
-            // variable were not set.
-            ("x86_64", "linux", _) => Way::Kit,
-            _ => {
-                return Err(format!(
-                    "the archive of {name} links into programs for Linux on x86-64 or Arm (aarch64), and this is {arch} {os}"
-                )
-                .into());
-            }
-        };
-        Ok(Self { arch, way })
+        match (arch.as_str(), os.as_str()) {
+            ("x86_64" | "aarch64", "linux") => Ok(Self { arch }),
+            _ => Err(format!(
+                "the archive of {name} links into programs for Linux on x86-64 or Arm (aarch64), and this is {arch} {os}"
+            )
+            .into()),
+        }
     }
 
-    /// The folder of its archives below target/archive/. C programs use it too.
-    fn folder(&self) -> String {
-        match (self.arch.as_str(), &self.way) {
-            ("x86_64", Way::Module) => "x86_64-module".to_owned(),
-            (arch, _) => arch.to_owned(),
+    /// The words for `rt lib`. Without them its code needs a newer x86-64 processor.
+    fn words(&self) -> Vec<String> {
+        match self.arch.as_str() {
+            "x86_64" => vec!["--cpu=x86-64".to_owned()],
+            arch => vec![format!("--target={arch}-unknown-linux-gnu")],
         }
     }
 }
@@ -199,11 +192,11 @@ fn crates_of(root: &Path, name: &str) -> Result<BTreeSet<String>> {
     Ok(found)
 }
 
-/// The dependencies of this crate, from its line `NAME: DEP DEP` in crates.txt.
+/// The dependencies of this crate, from its line `NAME: DEP DEP` or `NAME staticlib: DEP DEP` in crates.txt.
 fn dependencies<'a>(list: &'a str, name: &str) -> impl Iterator<Item = &'a str> {
     list.lines()
         .filter_map(|line| line.split('#').next()?.split_once(':'))
-        .find(|(crate_name, _)| crate_name.trim() == name)
+        .find(|(crate_name, _)| crate_name.split_whitespace().next() == Some(name))
         .map_or("", |(_, dependencies)| dependencies)
         .split_whitespace()
 }
@@ -226,31 +219,33 @@ fn folders(root: &Path, crates: &BTreeSet<String>) -> impl Iterator<Item = PathB
         .filter(|folder| folder.is_dir())
 }
 
-/// The proved files of the crate, and the folder to work in: the repository, or a folder below OUT_DIR if the
-/// repository cannot be written to. In that case the proved files beside the sources are used if they were proved from
-/// exactly this text; otherwise the crates are copied and proved below OUT_DIR.
+/// The proved archive, and the folder to work in: the repository, or a folder below OUT_DIR if the repository cannot be
+/// written to. In that case the archive beside the sources is used if it was proved from exactly this text; otherwise
+/// the crates are copied and proved below OUT_DIR.
 fn proved(
     root: &Path,
     out: &Path,
     crates: &BTreeSet<String>,
     name: &str,
-    kit: &module::Kit,
+    target: &Target,
+    kit: &kit::Kit,
 ) -> Result<(PathBuf, Proved)> {
     if can_write(root) {
-        return Ok((root.to_owned(), Proved::of(root, crates, name, kit)?));
+        let proved = Proved::of(root, crates, name, target, kit)?;
+        return Ok((root.to_owned(), proved));
     }
     let work = out.join("source");
     fs::create_dir_all(work.join("target/archive"))?;
-    let beside = Proved::files(root, name);
-    if beside.is_from(&proved_from(root, crates, kit)?) {
+    let beside = Proved::files(root, name, target);
+    if beside.is_from(&proved_from(root, crates, target, kit)?) {
         return Ok((work, beside));
     }
     copy_crates(root, &work, crates)?;
-    let proved = Proved::of(&work, crates, name, kit)?;
+    let proved = Proved::of(&work, crates, name, target, kit)?;
     Ok((work, proved))
 }
 
-/// Whether `rt` can write to target/ beside crates.txt.
+/// Whether target/ beside crates.txt can be written to.
 fn can_write(root: &Path) -> bool {
     let probe = root.join("target/archive/probe");
     let created = fs::create_dir_all(root.join("target/archive")).is_ok();
@@ -266,7 +261,14 @@ fn copy_crates(root: &Path, to: &Path, crates: &BTreeSet<String>) -> Result<()> 
             fs::write(to, fs::read(file)?)?;
         }
     }
-    fs::write(to.join("crates.txt"), fs::read(root.join("crates.txt"))?)?;
+    // `rt` wants a folder for each crate of the list.
+    let list = fs::read_to_string(root.join("crates.txt"))?;
+    let of_these = |line: &&str| {
+        let name = line.split([':', ' ']).next().unwrap_or("");
+        crates.contains(name)
+    };
+    let lines: Vec<&str> = list.lines().filter(of_these).collect();
+    fs::write(to.join("crates.txt"), lines.join("\n") + "\n")?;
     Ok(())
 }
 
@@ -288,61 +290,64 @@ fn files(folder: &Path) -> io::Result<Vec<PathBuf>> {
     Ok(found)
 }
 
-/// What `rt staticlib` wrote for a crate: its archive for x86-64, and the module that was compiled for it.
+/// The archive that `rt lib` wrote for a crate.
 struct Proved {
     archive: PathBuf,
-    module: PathBuf,
-    /// The digest of the text that both were made from.
+    /// The digest of the text that it was made from.
     from: PathBuf,
 }
 
 impl Proved {
     /// The paths of its files below a repository, whether they exist or not.
-    fn files(root: &Path, name: &str) -> Self {
-        let kept = root.join("target/archive/proved");
+    fn files(root: &Path, name: &str, target: &Target) -> Self {
+        let kept = root.join("target/archive/proved").join(&target.arch);
         Self {
             archive: kept.join(format!("lib{name}.a")),
-            module: kept.join(format!("{name}.bc")),
             from: kept.join(format!("{name}.from")),
         }
     }
 
-    /// Whether the files exist and were made from this text.
+    /// Whether the archive exists and was made from this text.
     fn is_from(&self, text: &[u8]) -> bool {
-        fs::read(&self.from).is_ok_and(|from| from == text)
-            && self.archive.is_file()
-            && self.module.is_file()
+        fs::read(&self.from).is_ok_and(|from| from == text) && self.archive.is_file()
     }
 
     /// Runs `rt` to prove the crate, unless the same kit has already proved exactly this text.
-    fn of(root: &Path, crates: &BTreeSet<String>, name: &str, kit: &module::Kit) -> Result<Self> {
-        let kept = root.join("target/archive/proved");
-        fs::create_dir_all(&kept)?;
-        let proved = Self::files(root, name);
-        let text = proved_from(root, crates, kit)?;
+    fn of(
+        root: &Path,
+        crates: &BTreeSet<String>,
+        name: &str,
+        target: &Target,
+        kit: &kit::Kit,
+    ) -> Result<Self> {
+        let proved = Self::files(root, name, target);
+        let text = proved_from(root, crates, target, kit)?;
         if proved.is_from(&text) {
             return Ok(proved);
         }
+        fs::create_dir_all(root.join("target/archive/proved").join(&target.arch))?;
         let _ = fs::remove_file(&proved.from);
-        let shadow = kit.that_keeps_the_module(&kept.join(format!("kit-{name}")))?;
         report(&format!(
-            "proving {name} and what it depends on, {} crates; this takes minutes if nothing is proved yet",
+            "proving lib{name}.a, {} crates; this takes minutes if nothing is proved yet",
             crates.len()
         ));
-        prove(root, crates, name, &shadow)?;
-        fs::copy(
-            root.join(format!("target/staticlib/lib{name}.a")),
-            &proved.archive,
-        )?;
-        fs::copy(shadow.module()?, &proved.module)?;
+        let library = static_library(root, name);
+        let made = prove(root, crates, &library, target, kit)?;
+        fs::copy(made, &proved.archive)?;
         fs::write(&proved.from, text)?;
         Ok(proved)
     }
 }
 
-/// Everything that the result of `rt` depends on: the kit, the option of its clang, and the sources.
-fn proved_from(root: &Path, crates: &BTreeSet<String>, kit: &module::Kit) -> Result<Vec<u8>> {
-    let mut text = format!("{}\n{}\n", kit.identity()?, module::INLINING).into_bytes();
+/// Everything that the result of `rt` depends on: the kit, the options of `rt` and of its clang, and the sources.
+fn proved_from(
+    root: &Path,
+    crates: &BTreeSet<String>,
+    target: &Target,
+    kit: &kit::Kit,
+) -> Result<Vec<u8>> {
+    let words = target.words().join(" ");
+    let mut text = format!("{}\n{words}\n{}\n", kit.identity()?, kit::INLINING).into_bytes();
     text.extend(sources_of(root, crates)?);
     Ok(text)
 }
@@ -360,29 +365,30 @@ fn sources_of(root: &Path, crates: &BTreeSet<String>) -> Result<Vec<u8>> {
     Ok(text)
 }
 
-/// Proves the crates that the crate depends on, several at a time, then the crate itself, and makes its archive.
+/// Proves the crate and those below it by the kit itself, and has its archive compiled with more inlining. `rt` finds
+/// its kit by its own path, so that the second run compiles with the clang of the copied kit; it proves nothing anew.
 fn prove(
     root: &Path,
     crates: &BTreeSet<String>,
-    name: &str,
-    shadow: &module::Shadow,
-) -> Result<()> {
+    library: &str,
+    target: &Target,
+    kit: &kit::Kit,
+) -> Result<PathBuf> {
+    let folder = root.join("crates").join(library);
     let mut progress = Progress::new(crates);
-    let below = crates
-        .iter()
-        .map(String::as_str)
-        .filter(|other| *other != name);
-    let check: Vec<&str> = ["check"].into_iter().chain(below).collect();
-    if check.len() > 1 {
-        rt(root, &check, shadow, &mut progress)?;
-    }
-    rt(root, &["staticlib", name], shadow, &mut progress)
+    rt_lib(kit, &folder, target, &mut progress)?;
+    let shadow = kit.that_inlines_more()?;
+    rt_lib(&shadow.kit, &folder, target, &mut progress)?;
+    shadow.has_inlined()?;
+    Ok(folder.join(format!("out/lib{library}.a")))
 }
 
 /// How many of the crates are proved.
 struct Progress<'a> {
     crates: &'a BTreeSet<String>,
     proved: BTreeSet<&'a str>,
+    /// The crate of which `rt` last said how many modules it checked.
+    last: Option<&'a str>,
 }
 
 impl<'a> Progress<'a> {
@@ -390,36 +396,40 @@ impl<'a> Progress<'a> {
         Self {
             crates,
             proved: BTreeSet::new(),
+            last: None,
         }
     }
 
     /// The message for a line of `rt` that says that a crate is proved now: the crate, and how many are proved.
     fn message(&mut self, line: &str) -> Option<String> {
-        let (name, _) = line.strip_prefix("rt: ")?.split_once(" proved (")?;
-        self.proved.insert(self.crates.get(name)?);
-        let (proved, all) = (self.proved.len(), self.crates.len());
-        match line.contains("(unchanged") {
-            true => None,
-            false => Some(format!(
-                "{proved} of {all}: {}",
-                line.trim_start_matches("rt: ")
-            )),
+        if let Some((name, _)) = line
+            .strip_prefix("crate ")
+            .and_then(|rest| rest.split_once(": modules "))
+        {
+            self.last = self.crates.get(name).map(String::as_str);
         }
+        line.strip_prefix("logic=proved ")?;
+        let name = self.last.take()?;
+        if !self.proved.insert(name) {
+            return None;
+        }
+        let (proved, all) = (self.proved.len(), self.crates.len());
+        Some(format!("{proved} of {all}: {name} proved"))
     }
 }
 
-/// Runs one command of `rt` and prints each crate when it is proved.
-fn rt(
-    root: &Path,
-    words: &[&str],
-    shadow: &module::Shadow,
+/// Runs `rt lib` in a crate's folder and prints each crate when it is proved.
+fn rt_lib(
+    kit: &kit::Kit,
+    folder: &Path,
+    target: &Target,
     progress: &mut Progress<'_>,
 ) -> Result<()> {
     let (reader, writer) = io::pipe()?;
-    let mut rt = Command::new("rt")
-        .args(words)
-        .current_dir(root)
-        .env("RATTLE_HOME", &shadow.home)
+    let mut rt = Command::new(kit.rt())
+        .arg("lib")
+        .args(target.words())
+        .current_dir(folder)
         .stdout(writer.try_clone()?)
         .stderr(writer)
         .spawn()?;
@@ -438,11 +448,11 @@ fn rt(
     }
     let failed: Vec<&str> = said
         .lines()
-        .filter(|line| line.contains("NOT PROVED"))
+        .filter(|line| line.contains(" did not build"))
         .collect();
     Err(format!(
-        "{said}\n`rt {}` failed, so nothing is linked. {}",
-        words.join(" "),
+        "{said}\n`rt lib` failed in {}, so nothing is linked. {}",
+        folder.display(),
         failed.join("\n")
     )
     .into())
@@ -450,16 +460,22 @@ fn rt(
 
 /// What `rt` lists for each proved crate, and its notes.
 fn is_noise(line: &str) -> bool {
-    const LISTED: [&str; 7] = [
-        "fn ",
+    const LISTED: [&str; 11] = [
         "struct ",
         "enum ",
         "const ",
         "library ",
+        "statements ",
+        "crate ",
+        "axioms ",
+        "logic ",
         "logic=proved",
         "note: ",
+        "rt: chose ",
     ];
-    LISTED.iter().any(|start| line.starts_with(start)) || line.contains(": note: ")
+    LISTED.iter().any(|start| line.starts_with(start))
+        || line.starts_with("fn ") && line.ends_with(": proved")
+        || line.contains(": note: ")
 }
 
 /// Prints the progress of long work. Cargo does not show a build script's output, so this goes to a file or the

@@ -62,7 +62,7 @@ impl Note {
 /// proved sources, the one that pkg-config knows.
 pub fn asked_for(root: &Path) -> Result<Option<PathBuf>> {
     let asked = env::var("CABLEOWL_ARCHIVE").unwrap_or_default();
-    if !asked.is_empty() && asked != "module" {
+    if !asked.is_empty() {
         return Ok(Some(PathBuf::from(asked)));
     }
     if root.join("crates.txt").is_file() {

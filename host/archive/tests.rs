@@ -10,7 +10,8 @@ struct Tree {
     root: PathBuf,
     out: PathBuf,
     crates: BTreeSet<String>,
-    kit: module::Kit,
+    target: Target,
+    kit: kit::Kit,
 }
 
 impl Tree {
@@ -23,22 +24,52 @@ impl Tree {
             ("root/crates.txt", "low:\nhigh: low\n"),
             ("root/crates/low/src/lib.rt", "low"),
             ("root/crates/high/src/lib.rt", "high"),
-            ("root/target/archive/proved/libhigh.a", "archive"),
-            ("root/target/archive/proved/high.bc", "module"),
+            ("root/target/archive/proved/aarch64/libhigh.a", "archive"),
         ] {
             let file = folder.join(file);
             fs::create_dir_all(file.parent().unwrap()).unwrap();
             fs::write(file, text).unwrap();
         }
         let crates = crates_of(&root, "high").unwrap();
-        let kit = module::Kit::from(kit);
-        let text = proved_from(&root, &crates, &kit).unwrap();
-        fs::write(root.join("target/archive/proved/high.from"), text).unwrap();
+        let kit = kit::Kit::from(kit);
+        let target = Target {
+            arch: "aarch64".to_owned(),
+        };
+        let text = proved_from(&root, &crates, &target, &kit).unwrap();
+        fs::write(root.join("target/archive/proved/aarch64/high.from"), text).unwrap();
         Self {
             out: folder.join("out"),
             root,
             crates,
+            target,
             kit,
+        }
+    }
+
+    fn proved(&self) -> Result<(PathBuf, Proved)> {
+        proved(
+            &self.root,
+            &self.out,
+            &self.crates,
+            "high",
+            &self.target,
+            &self.kit,
+        )
+    }
+
+    /// Puts scripts into the kit in place of `rt` and of clang.
+    fn with_a_kit(&self, rt: &str) {
+        for (file, text) in [
+            ("bin/rt", rt),
+            (
+                "toolchain/bin/clang",
+                "#!/bin/sh\necho \"$@\" >>\"$SAID\"\n",
+            ),
+        ] {
+            let file = self.root.join("../kit").join(file);
+            fs::create_dir_all(file.parent().unwrap()).unwrap();
+            fs::write(&file, text).unwrap();
+            fs::set_permissions(file, PermissionsExt::from_mode(0o755)).unwrap();
         }
     }
 
@@ -57,14 +88,12 @@ impl Drop for Tree {
 #[test]
 fn a_read_only_source_uses_the_archive_beside_it() {
     let tree = Tree::new("beside");
-    let beside = tree.root.join("target/archive/proved/libhigh.a");
-    let found = || proved(&tree.root, &tree.out, &tree.crates, "high", &tree.kit);
-    let (work, there) = found().unwrap();
+    let beside = tree.root.join("target/archive/proved/aarch64/libhigh.a");
+    let (work, there) = tree.proved().unwrap();
     assert_eq!((work, there.archive), (tree.root.clone(), beside.clone()));
     tree.lock();
-    let (work, there) = found().unwrap();
+    let (work, there) = tree.proved().unwrap();
     assert_eq!((work, there.archive), (tree.out.join("source"), beside));
-    assert!(there.module.is_file());
     assert!(
         !tree.out.join("source/crates").exists(),
         "nothing is copied"
@@ -82,50 +111,81 @@ fn an_archive_of_another_text_is_not_used() {
         tree.lock();
         fs::write(tree.root.join(file), text).unwrap();
         // The rest needs a whole kit: it is asked to prove, and this one cannot.
-        let found = proved(&tree.root, &tree.out, &tree.crates, "high", &tree.kit);
-        assert!(found.is_err(), "{file}");
+        assert!(tree.proved().is_err(), "{file}");
         let copied = tree.out.join("source/crates/low/src/lib.rt");
         assert!(copied.is_file(), "{file}");
     }
 }
 
+/// An `rt` that says where it is and with which words, and compiles.
+const RT: &str = r#"#!/bin/sh
+kit=$(cd "$(dirname "$(readlink -f "$0")")/.." && pwd)
+echo "rt $* in $(basename "$PWD")" >>"$SAID"
+"$kit/toolchain/bin/clang" -O3 module.bc
+"$kit/toolchain/bin/clang" --version
+mkdir -p out
+echo "an archive" >"out/lib$(basename "$PWD").a"
+"#;
+
 #[test]
-fn the_clang_in_place_of_the_kits_keeps_a_module_and_inlines_it() {
-    let tree = Tree::new("clang");
-    let tools = format!("on/{}/toolchain/bin", env::consts::ARCH);
-    let clang = tree.root.join("../kit").join(&tools).join("clang");
-    fs::create_dir_all(clang.parent().unwrap()).unwrap();
-    fs::write(&clang, "#!/bin/sh\necho \"$@\"\n").unwrap();
-    fs::set_permissions(&clang, PermissionsExt::from_mode(0o755)).unwrap();
-    let shadow = tree.kit.that_keeps_the_module(&tree.out).unwrap();
-    let said = |words: &[&str]| {
-        let mut clang = Command::new(shadow.home.join(&tools).join("clang"));
-        let answer = clang.args(words).current_dir(&tree.root).output().unwrap();
-        String::from_utf8(answer.stdout).unwrap()
+fn the_kit_proves_and_a_copy_of_it_inlines_more() {
+    let tree = Tree::new("inlines");
+    let said = tree.root.join("../said");
+    // Each file of the kit has the place of what is said in it.
+    let place = format!("SAID='{}'\n", said.display());
+    tree.with_a_kit(&RT.replacen('\n', &format!("\nexport {place}"), 1));
+    fs::write(tree.root.join("crates/high/src/lib.rt"), "higher").unwrap();
+    let (_, proved) = tree.proved().unwrap();
+    assert_eq!(fs::read_to_string(proved.archive).unwrap(), "an archive\n");
+    let run = |more: &str| {
+        format!(
+            "rt lib --target=aarch64-unknown-linux-gnu in high\n-O3 module.bc{more}\n--version\n"
+        )
     };
-    assert_eq!(said(&["-c", "entries.c"]), "-c entries.c\n");
-    assert!(shadow.module().is_err(), "no module yet");
-    fs::write(tree.root.join("high.bc"), "the module").unwrap();
-    let inlines = format!("-O3 high.bc -o high.o -mllvm {}\n", module::INLINING);
-    assert_eq!(said(&["-O3", "high.bc", "-o", "high.o"]), inlines);
-    let kept = fs::read_to_string(shadow.module().unwrap()).unwrap();
-    assert_eq!(kept, "the module");
+    let inlines = format!(" -mllvm {}", kit::INLINING);
+    assert_eq!(fs::read_to_string(said).unwrap(), run("") + &run(&inlines));
+    let x86 = Target {
+        arch: "x86_64".to_owned(),
+    };
+    assert_eq!(x86.words(), ["--cpu=x86-64"]);
+}
+
+#[test]
+fn a_kit_that_hands_no_module_to_clang_is_told() {
+    let tree = Tree::new("no-module");
+    tree.with_a_kit("#!/bin/sh\nmkdir -p out\n: >out/libhigh.a\n");
+    fs::write(tree.root.join("crates/high/src/lib.rt"), "higher").unwrap();
+    let told = tree.proved().err().unwrap().to_string();
+    assert!(told.contains("host/archive/kit.rs"), "{told}");
+}
+
+#[test]
+fn the_static_library_of_a_crate_is_its_c_interface() {
+    let tree = Tree::new("interface");
+    assert_eq!(static_library(&tree.root, "high"), "high");
+    fs::create_dir_all(tree.root.join("crates/high_c/src")).unwrap();
+    assert_eq!(static_library(&tree.root, "high"), "high_c");
+    let list = "low:\nhigh_c staticlib: high\nhigh: low\n";
+    fs::write(tree.root.join("crates.txt"), list).unwrap();
+    let crates = crates_of(&tree.root, "high_c").unwrap();
+    assert!(crates.iter().eq(["high", "high_c", "low"]), "{crates:?}");
 }
 
 #[test]
 fn the_progress_says_how_many_of_how_many() {
     let crates = ["low", "middle", "high"].map(str::to_owned).into();
     let mut progress = Progress::new(&crates);
+    let proved = "logic=proved functions=2 sum=0";
     for (line, expected) in [
-        ("rt: low proved (3 s)", Some("1 of 3: low proved (3 s)")),
+        ("rt: chose --jobs 2 for low", None),
         ("fn low::id: proved", None),
-        (
-            "rt: middle proved (unchanged since it was last proved)",
-            None,
-        ),
-        ("rt: ok, 2 crates proved", None),
-        ("rt: low proved (unchanged since it was last proved)", None),
-        ("rt: high proved (57 s)", Some("3 of 3: high proved (57 s)")),
+        ("crate low: modules loaded=0 checked=72", None),
+        (proved, Some("1 of 3: low proved")),
+        ("library low: modules loaded=46 checked=0", None),
+        ("crate high: modules loaded=89 checked=0", None),
+        (proved, Some("2 of 3: high proved")),
+        ("crate high: modules loaded=89 checked=0", None),
+        (proved, None),
     ] {
         assert_eq!(progress.message(line).as_deref(), expected, "{line}");
     }

@@ -49,9 +49,9 @@ pub fn packages(host: &Path) -> Vec<String> {
     found
 }
 
-/// The name of a function's line in `Coincide`: `transport::Transport::seek_to` has `transport-transport-seek-to`.
+/// The name of a function's line in `Coincide`: `transport::Transport::seek_to` has `transport_transport_seek_to`.
 pub fn law_of(function: &str) -> String {
-    function.replace("::", "-").replace('_', "-").to_lowercase()
+    function.replace("::", "_").to_lowercase()
 }
 
 /// The texts of the records `Coincide`: `specs/Coincide.antt` of every crate below `crates/` that has one.
@@ -159,15 +159,65 @@ pub struct Function {
     pub used: Vec<String>,
 }
 
+/// What a line says after `requires {` or `ensures {`, if a clause of this kind begins there. The clause may have a name,
+/// as in `requires in_order {`, or a star.
+pub fn clause<'a>(line: &'a str, kind: &str) -> Option<&'a str> {
+    let (name, says) = line.trim_start().strip_prefix(kind)?.split_once('{')?;
+    let is_name = |name: &str| name.chars().all(|c| c.is_alphanumeric() || c == '_');
+    let name = name.strip_prefix('*').unwrap_or(name);
+    (name.starts_with(' ') && is_name(name.trim())).then_some(says)
+}
+
+/// The paths that a source uses: `use a::{b, c::d};` has `a::b` and `a::c::d`. A list may take several lines.
+fn used(source: &str) -> Vec<String> {
+    let mut found = Vec::new();
+    let mut lines = source.lines();
+    while let Some(line) = lines.next() {
+        let Some(first) = line.trim_start_matches("pub ").strip_prefix("use ") else {
+            continue;
+        };
+        let mut path = first.to_string();
+        while !path.contains(';') {
+            match lines.next() {
+                Some(line) => path.push_str(line.trim()),
+                None => break,
+            }
+        }
+        paths_of("", path.split(';').next().expect("a path"), &mut found);
+    }
+    found
+}
+
+/// The paths of a part of a `use`, after what stands before it.
+fn paths_of(before: &str, part: &str, found: &mut Vec<String>) {
+    let part = part.trim();
+    let Some((start, inside)) = part.split_once('{') else {
+        if !part.is_empty() {
+            found.push(format!("{before}{part}"));
+        }
+        return;
+    };
+    let before = format!("{before}{start}");
+    let inside = inside.trim_end().strip_suffix('}').unwrap_or(inside);
+    let mut depth = 0;
+    let outside_lists = |c: char| {
+        match c {
+            '{' => depth += 1,
+            '}' => depth -= 1,
+            _ => {}
+        }
+        c == ',' && depth == 0
+    };
+    for part in inside.split(outside_lists) {
+        paths_of(&before, part, found);
+    }
+}
+
 /// Every function of one file of Rattle.
 pub fn functions(krate: &str, source: &str) -> Vec<Function> {
     let mut owner = String::new();
     let mut found: Vec<Function> = Vec::new();
-    let used = source.lines().filter_map(|line| {
-        let path = line.strip_prefix("use ")?.strip_suffix(';')?;
-        Some(path.to_string())
-    });
-    let used: Vec<String> = used.collect();
+    let used = used(source);
     let mut in_signature = false;
     for line in source.lines() {
         if let Some(rest) = line.strip_prefix("impl ") {
@@ -202,9 +252,9 @@ pub fn functions(krate: &str, source: &str) -> Vec<Function> {
         let Some(function) = found.last_mut() else {
             continue;
         };
-        if text.starts_with("requires {") {
+        if clause(text, "requires").is_some() {
             function.asks = true;
-        } else if text.starts_with("ensures {") {
+        } else if clause(text, "ensures").is_some() {
             function.promises = true;
         } else if in_signature {
             function.signature.push_str(line);

@@ -1,7 +1,7 @@
 //! The records of promises: functions that do nothing, whose contract is one record with a field for each theorem.
 //! Finds which theorems have a hypothesis, and whether the record `Witnesses` beside them has an input that meets it.
 
-use super::{of_every_source, sorted};
+use super::{clause, of_every_source, sorted};
 use std::fs;
 use std::path::Path;
 
@@ -57,13 +57,8 @@ pub fn record_contracts(krate: &str, source: &str) -> Vec<(String, String, Strin
         if let Some(rest) = after_pub.strip_prefix("fn ") {
             function = format!("{krate}::{}", rest.split('(').next().expect("a name"));
         }
-        let Some(contract) = line.strip_prefix("ensures {") else {
-            continue;
-        };
-        let inside = contract
-            .split_once('⌜')
-            .and_then(|(_, rest)| rest.split_once('⌝'));
-        let Some(name) = inside.map(|(name, _)| name.trim()) else {
+        let contract = clause(line, "ensures").and_then(|says| says.split_once('}'));
+        let Some(name) = contract.map(|(name, _)| name.trim()) else {
             continue;
         };
         if is_name(name) {
@@ -74,16 +69,15 @@ pub fn record_contracts(krate: &str, source: &str) -> Vec<(String, String, Strin
     found
 }
 
-/// The file of the crate's `specs/` from which a source imports a name.
+/// The file of the crate's `specs/` from which a source imports a name. A list of names may take several lines.
 fn file_of(krate: &str, source: &str, name: &str) -> String {
-    let start = format!("ghost use Rattle·{krate}·specs.specs.");
-    let file = source.lines().find_map(|line| {
-        let (file, names) = line.strip_prefix(start.as_str())?.split_once(".{")?;
-        let names = names.trim_end_matches("};");
-        names
-            .split(", ")
-            .any(|n| n == name)
-            .then(|| file.to_string())
+    let start = format!("ghost use Rattle.{krate}.specs.");
+    let mut imports = source.split(start.as_str()).skip(1);
+    let file = imports.find_map(|import| {
+        let (file, names) = import.split_once(".{")?;
+        let (names, _) = names.split_once('}')?;
+        let mut names = names.split(',').map(str::trim);
+        names.any(|n| n == name).then(|| file.to_string())
     });
     file.unwrap_or_else(|| panic!("{krate}: no file of specs/ is used for {name}"))
 }

@@ -1,7 +1,7 @@
 //! The promise of every public function is documented, and docs/EXCEPTIONS.md lists every function with a `requires`.
 
 use promises::{
-    Documents, EXCEPTIONS, Function, all_functions, all_laws, files_named, functions, rows,
+    Documents, EXCEPTIONS, Function, all_functions, all_laws, clause, files_named, functions, rows,
     with_callers,
 };
 use std::fs;
@@ -63,9 +63,25 @@ fn public(krate: &str, name: &str, parameter: &str, contract: &str) -> Function 
 }
 
 #[test]
+fn a_clause_is_found_with_its_name_and_without() {
+    for (line, says) in [
+        ("    ensures { result ≡ x }", Some(" result ≡ x }")),
+        ("    ensures value {", Some("")),
+        ("    ensures* { x }", Some(" x }")),
+        ("    ensures: Struct {", None),
+        ("    ensures_more { x }", None),
+        ("    requires { x }", None),
+    ] {
+        assert_eq!(clause(line, "ensures"), says, "{line}");
+    }
+    let named = public("numbers", "widen", "x: f64", "requires t_2 { x }");
+    assert!(named.asks && !named.promises);
+}
+
+#[test]
 fn a_missing_document_is_found() {
     let mut documents = documents();
-    let ensures = "ensures { λ r. ⌜ x ⌝ }";
+    let ensures = "ensures { x }";
     let narrow = public("numbers", "narrow", "x: f64", ensures);
     let widen = public("numbers", "widen", "x: f64", ensures);
     assert!(documents.missing(&narrow).is_none());
@@ -74,8 +90,8 @@ fn a_missing_document_is_found() {
         .promises
         .push_str("\n| `numbers::widen` | `wide` | |\n");
     let words = documents.missing(&widen).expect("it has no line");
-    assert!(words.contains("numbers-widen"), "{words}");
-    let law = "\npub numbers-widen : Decides numbers.widen.Reads.Post\n";
+    assert!(words.contains("numbers_widen"), "{words}");
+    let law = "\npub numbers_widen : Decides numbers.widen.Reads.Post\n";
     documents.laws.push_str(&law.replace(".widen", ".narrow"));
     let words = documents
         .missing(&widen)
@@ -85,7 +101,7 @@ fn a_missing_document_is_found() {
         .laws
         .replace(&law.replace(".widen", ".narrow"), law);
     assert!(documents.missing(&widen).is_none());
-    let unpromised = public("numbers", "widen", "x: f64", "requires { ⌜ x ⌝ }");
+    let unpromised = public("numbers", "widen", "x: f64", "requires { x }");
     let words = documents.missing(&unpromised).expect("it promises nothing");
     assert!(words.contains("no `ensures`"), "{words}");
     let writing = public("numbers", "widen", "x: &mut f64", ensures);
@@ -100,7 +116,7 @@ fn a_missing_document_is_found() {
 #[test]
 fn what_is_excused_has_no_law_and_is_no_entry() {
     let mut documents = documents();
-    let ensures = "ensures { λ r. ⌜ x ⌝ }";
+    let ensures = "ensures { x }";
     let excuse = |documents: &mut Documents, name: &str| {
         documents
             .exceptions
@@ -120,7 +136,7 @@ fn what_is_excused_has_no_law_and_is_no_entry() {
         let words = documents
             .missing(&entry)
             .expect("an entry is never excused");
-        assert!(words.contains("cableowl-cableowl-new"), "{words}");
+        assert!(words.contains("cableowl_cableowl_new"), "{words}");
     }
 }
 
@@ -205,7 +221,7 @@ fn each_row_lists_the_callers_that_the_sources_have() {
 
 #[test]
 fn callers_are_written_into_the_last_column_only() {
-    let source = "fn held(x: u32) -> u32\n    requires { ⌜ x ⌝ }\n{\n    x\n}\nfn one() -> u32 {\n    held(1)\n}\nfn two() -> u32 {\n    held(2)\n}\n";
+    let source = "fn held(x: u32) -> u32\n    requires { x }\n{\n    x\n}\nfn one() -> u32 {\n    held(1)\n}\nfn two() -> u32 {\n    held(2)\n}\n";
     let page = "text\n\n| function | asks | called by |\n|---|---|---|\n| `k::held` | x `y` | `k::gone` |\n| `k::one` | asks nothing | `k::two` |\n\n| function | why |\n|---|---|\n| `k::held` | because |\n";
     let right = page.replace("`k::gone`", "`k::one`, `k::two`");
     let all = functions("k", source);
@@ -218,11 +234,18 @@ fn callers_are_written_into_the_last_column_only() {
 
 #[test]
 fn a_call_is_found_by_its_path() {
-    let source = "fn held(x: u32) -> u32\n    requires { ⌜ x ⌝ }\n{\n    x\n}\nfn one() -> u32 {\n    // held(2)\n    upheld(1) + k::other(held(1))\n}\n";
+    let source = "fn held(x: u32) -> u32\n    requires { x }\n{\n    x\n}\nfn one() -> u32 {\n    // held(2)\n    upheld(1) + k::other(held(1))\n}\n";
     let found = functions("k", source);
     assert!(found[0].asks && !found[1].asks);
     assert!(found[1].calls("k::held") && found[1].calls("k::other"));
     assert!(!found[0].calls("k::held") && !found[1].calls("j::held"));
+    let source = "use j::{\n    held, low::{Low, of_low},\n    T,\n};\nfn one() -> u32 {\n    held(1) + of_low(2)\n}\n";
+    let found = functions("k", source);
+    assert_eq!(
+        found[0].used,
+        ["j::held", "j::low::Low", "j::low::of_low", "j::T"]
+    );
+    assert!(found[0].calls("j::held") && !found[0].calls("j::T"));
 }
 
 #[test]

@@ -15,16 +15,19 @@ static TURN: Mutex<()> = Mutex::new(());
 /// What the tools print and how they end.
 struct Tools {
     machine: &'static str,
+    /// What `rt ci` prints.
     rt: Option<&'static str>,
-    /// What the trial of the only crate's control prints.
+    /// What `rt check` of the only crate with its control prints.
     control: &'static str,
+    arm: &'static str,
     documents: &'static str,
     cargo_test: &'static str,
     rustc: &'static str,
 }
 
-const PROVED: &str = "echo 'rt: ok, 19 crates proved'; echo '206 passed, 0 failed'";
-const ACCEPTED: &str = "echo 'rt: must-fail leaf/control: NOT REFUSED: the crate is still proved with this edit (1 s)'; exit 1";
+const PROVED: &str = "[ $# = 1 ] && echo 'rt: ok; handles allowed: none; must-fail edits: 1 refused; every proof and must-fail edit was done in this run' && echo '206 passed, 0 failed'";
+const ACCEPTED: &str =
+    "echo 'crate leaf: modules loaded=9 checked=2'; echo 'logic=proved functions=2'";
 const TESTED: &str = "echo 'test result: ok. 4 passed; 0 failed; 0 ignored'; echo 'test result: ok. 3 passed; 0 failed; 0 ignored'";
 const LINKS: &str =
     r#"while [ "$1" != -o ]; do shift; done; printf '#!/bin/sh\n' >"$2"; chmod +x "$2""#;
@@ -32,9 +35,10 @@ const LINKS: &str =
 impl Default for Tools {
     fn default() -> Self {
         Self {
-            machine: "aarch64",
+            machine: "x86_64",
             rt: Some(PROVED),
             control: ACCEPTED,
+            arm: "true",
             documents: "true",
             cargo_test: TESTED,
             rustc: LINKS,
@@ -60,7 +64,7 @@ fn gate(name: &str, tools: &Tools) -> (String, bool, String) {
         script(
             "rt",
             &format!(
-                "case $1 in version) echo kit ;; ci) {ci} ;; must-fail) {} ;; esac",
+                "case $1 in version) echo kit ;; ci) {ci} ;; check) {} ;; esac",
                 tools.control
             ),
         );
@@ -79,6 +83,9 @@ fn gate(name: &str, tools: &Tools) -> (String, bool, String) {
             tools.documents, tools.cargo_test
         ),
     );
+    let arm = room.0.join("tools/arm");
+    fs::write(&arm, format!("#!/bin/sh\n{}\n", tools.arm)).unwrap();
+    fs::set_permissions(arm, fs::Permissions::from_mode(0o755)).unwrap();
     let run = Command::new("bash")
         .arg(room.0.join("tools/gate"))
         .env("PATH", format!("{}:/usr/bin:/bin", bin.display()))
@@ -102,8 +109,7 @@ impl Room {
             "tools/controls",
             "host",
             "crates/leaf/must-fail",
-            "target/rlib",
-            "target/stamp",
+            "crates/leaf/src",
         ] {
             fs::create_dir_all(path.join(folder)).unwrap();
         }
@@ -111,20 +117,16 @@ impl Room {
             ("KIT", "kit\n"),
             ("crates.txt", "leaf:\n"),
             ("crates/leaf/must-fail/slip.edit", ""),
-            ("tools/controls/leaf.edit", "# slip: said otherwise\n"),
+            ("crates/leaf/src/lib.rt", "one\n"),
+            (
+                "tools/controls/leaf.edit",
+                "# slip: said otherwise\nfile: src/lib.rt\nold: one\nnew: 1\n# other: as well\nfile: src/lib.rt\nold: gone\nnew: 2\n",
+            ),
         ] {
             fs::write(path.join(file), text).unwrap();
         }
         let tools = Path::new(env!("CARGO_MANIFEST_DIR")).join("../../../tools");
-        for tool in [
-            "gate",
-            "from-proved",
-            "together",
-            "depends",
-            "reach.awk",
-            "apply-edit",
-            "controls/accepted",
-        ] {
+        for tool in ["gate", "apply-edit", "controls/accepted", "controls/try"] {
             fs::copy(tools.join(tool), path.join("tools").join(tool)).unwrap();
         }
         Self(path)
@@ -147,13 +149,12 @@ fn ends(name: &str, tools: &Tools, last: &str) -> String {
 
 #[test]
 fn both_halves_are_counted() {
-    ends("well", &Tools::default(), "214 passed, 0 failed");
-    // On x86-64 the way that Arm uses is tried too.
+    ends("well", &Tools::default(), "215 passed, 0 failed");
     let tools = Tools {
-        machine: "x86_64",
+        arm: "echo 'arm: the archive for Arm has other functions'; exit 1",
         ..Tools::default()
     };
-    ends("x86", &tools, "221 passed, 0 failed");
+    ends("arm", &tools, "214 passed, 1 failed");
 }
 
 #[test]
@@ -165,7 +166,7 @@ fn a_failing_rust_test_is_seen_in_the_last_line() {
             cargo_test,
             ..Tools::default()
         },
-        "214 passed, 2 failed",
+        "213 passed, 2 failed",
     );
     assert!(all.contains("2 tests of host/ failed"), "{all}");
 }
@@ -179,7 +180,7 @@ fn a_rust_side_that_does_not_build_is_a_failure() {
             cargo_test,
             ..Tools::default()
         },
-        "207 passed, 1 failed",
+        "206 passed, 1 failed",
     );
     ends(
         "none",
@@ -187,7 +188,7 @@ fn a_rust_side_that_does_not_build_is_a_failure() {
             cargo_test: "true",
             ..Tools::default()
         },
-        "207 passed, 1 failed",
+        "206 passed, 1 failed",
     );
 }
 
@@ -224,29 +225,64 @@ fn a_failing_proof_or_edit_is_seen_in_the_last_line() {
 }
 
 #[test]
+fn an_edit_that_rt_did_not_refuse_is_a_failure() {
+    for (name, rt, last, words) in [
+        (
+            "bad",
+            "echo 'rt: leaf/slip.edit: BAD EDIT: an old text is not there'; echo 'rt: ok; handles allowed: none; must-fail edits: 0 refused, 1 bad; every proof was done in this run'; echo '205 passed, 0 failed'",
+            "212 passed, 1 failed",
+            "1 of the 1 must-fail edits are bad",
+        ),
+        (
+            "lost",
+            "echo 'rt: ok; handles allowed: none; every proof and must-fail edit was done in this run'; echo '205 passed, 0 failed'",
+            "212 passed, 1 failed",
+            "rt ci refused 0 must-fail edits, and crates/ has 1",
+        ),
+        (
+            "not-ok",
+            "echo '205 passed, 0 failed'",
+            "212 passed, 1 failed",
+            "without its line 'rt: ok'",
+        ),
+    ] {
+        let tools = Tools {
+            rt: Some(rt),
+            ..Tools::default()
+        };
+        let all = ends(name, &tools, last);
+        assert!(all.contains(words), "{all}");
+    }
+    let limited = "echo 'rt: ok; handles allowed: none; must-fail edits: 1 refused, 1 of them only by a limit, 0 bad; rest'; echo '206 passed, 0 failed'";
+    let tools = Tools {
+        rt: Some(limited),
+        ..Tools::default()
+    };
+    ends("limited", &tools, "215 passed, 0 failed");
+}
+
+#[test]
 fn a_control_that_is_not_accepted_is_a_failure() {
     for (name, control, words) in [
         (
             "refused",
-            "echo 'rt: must-fail leaf/control: refused, as it must be (1 s)'; exit 0",
-            "leaf: NOT accepted: refused, as it must be",
+            "echo 'fn leaf::one: not proved'; exit 1",
+            "leaf: NOT accepted: not proved\n  fn leaf::one: not proved",
         ),
         (
-            "unread",
-            "echo 'rt: must-fail leaf/control: BAD EDIT: an old text is not there'; exit 1",
-            "leaf: NOT accepted: BAD EDIT",
-        ),
-        (
-            "untried",
-            "echo 'rt: a fault in rt'; exit 2",
-            "leaf: NOT accepted: no control was tried: rt: a fault in rt",
+            "no-verdict",
+            "echo 'crate leaf: modules loaded=9 checked=2'",
+            "leaf: NOT accepted: not proved",
         ),
         (
             "unchanged",
-            "mkdir -p target/must-fail/leaf/control; \
-             echo 'crate leaf: modules loaded=9 checked=0' >target/must-fail/leaf/control/.log; \
-             echo 'rt: must-fail leaf/control: NOT REFUSED: the crate is still proved with this edit (1 s)'; exit 1",
+            "echo 'crate leaf: modules loaded=9 checked=0'; echo 'logic=proved functions=2'",
             "leaf: NOT accepted: its control changes no module",
+        ),
+        (
+            "original",
+            "grep -q one src/lib.rt && echo 'logic=proved functions=2'",
+            "leaf: NOT accepted: not proved",
         ),
     ] {
         let tools = Tools {
@@ -255,6 +291,8 @@ fn a_control_that_is_not_accepted_is_a_failure() {
         };
         let all = ends(name, &tools, "213 passed, 1 failed");
         assert!(all.contains(words), "{all}");
+        // The second control of the crate is not tried.
+        assert!(!all.contains("gone"), "{all}");
     }
 }
 
@@ -273,12 +311,12 @@ fn what_will_not_do_is_said_before_anything_is_proved() {
     let another = ends(
         "processor",
         &Tools {
-            machine: "riscv64",
+            machine: "aarch64",
             ..Tools::default()
         },
         none,
     );
-    assert!(another.contains("riscv64"), "{another}");
+    assert!(another.contains("aarch64"), "{another}");
     let rustc = "echo 'linker `cc` not found'; exit 1";
     let unlinked = ends(
         "linker",

@@ -128,7 +128,7 @@ fn named_in_another(fields: &[Field]) -> Vec<String> {
     wrong
 }
 
-/// tools/together checks edits of different fields in one copy: what is wrong with one field must not change another.
+/// What is wrong with one field must not change another, so that an edit says which field it makes false.
 #[test]
 fn no_field_mentions_another_of_its_record() {
     let crates = crates();
@@ -158,11 +158,11 @@ fn no_field_mentions_another_of_its_record() {
 
 #[test]
 fn a_contract_that_is_one_name_is_found() {
-    let source = "ghost use Rattle·k·specs.specs.All.{Other, Promises};\nfn low()\n    ensures { λ r. ⌜ r ≡ low x ⌝ }\n{}\n\npub fn promised()\n    ensures { λ r. ⌜ Promises ⌝ }\n{}\n";
+    let source = "ghost use Rattle.k.specs.All.{\n  Other,\n  Promises,\n};\nfn low()\n    ensures { result ≡ low x }\n{}\n\npub fn promised()\n    ensures { Promises }\n{}\n\npub fn others()\n    ensures held { Other }\n{}\n";
     let found = record_contracts("k", source);
     let words = |(a, b, c): &(String, String, String)| format!("{a} {b} {c}");
     let found: Vec<String> = found.iter().map(words).collect();
-    assert_eq!(found, ["k::promised All Promises"]);
+    assert_eq!(found, ["k::promised All Promises", "k::others All Other"]);
 }
 
 /// A record with one promise, a theorem of another file, and the witnesses.
