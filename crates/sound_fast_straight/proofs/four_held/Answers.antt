@@ -3,16 +3,20 @@ use borrow.Author.Rules.{rules}
 use Rattle.sound_fast_straight.proofs.four_held.Goals as goal
 
 pub stepped_by-first-requires : goal.stepped_by-first-requires
-stepped_by-first-requires c = (c.requires.t, c.requires.slow)
+stepped_by-first-requires c =
+    record { t = c.requires.t; slow = c.requires.slow }
 
 pub stepped_by-second-requires : goal.stepped_by-second-requires
-stepped_by-second-requires c = (c.stepped_by-first.ensures.below, c.requires.slow)
+stepped_by-second-requires c =
+    record { t = c.stepped_by-first.ensures.below; slow = c.requires.slow }
 
 pub stepped_by-third-requires : goal.stepped_by-third-requires
-stepped_by-third-requires c = (c.stepped_by-second.ensures.below, c.requires.slow)
+stepped_by-third-requires c =
+    record { t = c.stepped_by-second.ensures.below; slow = c.requires.slow }
 
 pub stepped_by-fourth-requires : goal.stepped_by-fourth-requires
-stepped_by-fourth-requires c = (c.stepped_by-third.ensures.below, c.requires.slow)
+stepped_by-fourth-requires c =
+    record { t = c.stepped_by-third.ensures.below; slow = c.requires.slow }
 
 pub returns : goal.returns
 returns c =

@@ -19,16 +19,20 @@ less3 : (i n : ℕ) → i + 3 < n → i + 3 < n
 less3 i n h = h
 
 pub moved-first-requires : goal.moved-first-requires
-moved-first-requires c = (c.requires.t, (c.requires.t_2, all_at (slow c.args.sample_rate c.args.dt) c.args.rate.now c.args.i (less0 _ _ c.requires.i_in_bounds) c.requires.t_3))
+moved-first-requires c =
+    record { t = c.requires.t; t_2 = c.requires.t_2; t_3 = all_at (slow c.args.sample_rate c.args.dt) c.args.rate.now c.args.i (less0 _ _ c.requires.i_in_bounds) c.requires.t_3 }
 
 pub moved-second-requires : goal.moved-second-requires
-moved-second-requires c = (c.moved-first.ensures.below, (c.requires.t_2, all_at (slow c.args.sample_rate c.args.dt) c.args.rate.now (c.args.i + 1) (less1 _ _ c.requires.i_in_bounds) c.requires.t_3))
+moved-second-requires c =
+    record { t = c.moved-first.ensures.below; t_2 = c.requires.t_2; t_3 = all_at (slow c.args.sample_rate c.args.dt) c.args.rate.now (c.args.i + 1) (less1 _ _ c.requires.i_in_bounds) c.requires.t_3 }
 
 pub moved-third-requires : goal.moved-third-requires
-moved-third-requires c = (c.moved-second.ensures.below, (c.requires.t_2, all_at (slow c.args.sample_rate c.args.dt) c.args.rate.now (c.args.i + 2) (less2 _ _ c.requires.i_in_bounds) c.requires.t_3))
+moved-third-requires c =
+    record { t = c.moved-second.ensures.below; t_2 = c.requires.t_2; t_3 = all_at (slow c.args.sample_rate c.args.dt) c.args.rate.now (c.args.i + 2) (less2 _ _ c.requires.i_in_bounds) c.requires.t_3 }
 
 pub moved-fourth-requires : goal.moved-fourth-requires
-moved-fourth-requires c = (c.moved-third.ensures.below, (c.requires.t_2, all_at (slow c.args.sample_rate c.args.dt) c.args.rate.now (c.args.i + 3) (less3 _ _ c.requires.i_in_bounds) c.requires.t_3))
+moved-fourth-requires c =
+    record { t = c.moved-third.ensures.below; t_2 = c.requires.t_2; t_3 = all_at (slow c.args.sample_rate c.args.dt) c.args.rate.now (c.args.i + 3) (less3 _ _ c.requires.i_in_bounds) c.requires.t_3 }
 
 pub returns : goal.returns
 returns c =

@@ -24,7 +24,8 @@ long : (c : At-loop-i) → length c.loop-i.out ≡ 2 * c.args.frames
 long c = let a = c.args in c.loop-i.invariant.scanned.as_long ∙ ap (λ (n : ℕ). 2 * n) (length-replicate a.frames a.rate)
 
 pub advance_of-advance-requires : goal.advance_of-advance-requires
-advance_of-advance-requires c = (c.requires.scannable.is_time_step, c.requires.t)
+advance_of-advance-requires c =
+    record { t = c.requires.scannable.is_time_step; t_2 = c.requires.t }
 
 pub overflow_add-way : goal.overflow_add-way
 overflow_add-way c = record { fits = deep3 _ _ c.requires.scannable.lies.some c.requires.scannable.lies.inside c.requires.scannable.lies.few }
@@ -48,7 +49,8 @@ pub overflow_add-i : goal.overflow_add-i
 overflow_add-i c = omega (arith, numbers (goal.at.overflow_add-i c).At-loop-i)
 
 pub four_held-m-requires : goal.four_held-m-requires
-four_held-m-requires c = let st = c.before in (c.loop-i.invariant.scanned.below, slow_advance _ _ _ _ (made (goal.at.four_held-m-requires c).At-loop-i) st.requires.scannable.is_time_step st.requires.t)
+four_held-m-requires c =
+    record { t = c.loop-i.invariant.scanned.below; slow = slow_advance _ _ _ _ (made (goal.at.four_held-m-requires c).At-loop-i) c.requires.scannable.is_time_step c.requires.t }
 
 pub overflow_add-n2 : goal.overflow_add-n2
 overflow_add-n2 c = omega (arith, c.four_held-m.ensures.fact.few, c.four_held-m.ensures.fact_2.few)
@@ -81,31 +83,35 @@ pub returns-then-p-limit : goal.returns-then-p-limit
 returns-then-p-limit c = c.loop-i.invariant.scanned
 
 pub read_back-w-requires : goal.read_back-w-requires
-read_back-w-requires c = (reads0 _ _ _ _ _ (numbers (goal.at.read_back-w-requires c).At-loop-i), c.loop-i.invariant.scanned.below)
+read_back-w-requires c =
+    record { p_in_bounds = reads0 _ _ _ _ _ (numbers (goal.at.read_back-w-requires c).At-loop-i); t = c.loop-i.invariant.scanned.below }
 
 pub overflow_sub-p : goal.overflow_sub-p
 overflow_sub-p c = lower1 _ _ _ _ _ _ c.if-p-limit.false
 
 pub read_back-x-requires : goal.read_back-x-requires
-read_back-x-requires c = (reads1 _ _ _ _ _ _ (numbers (goal.at.read_back-x-requires c).At-loop-i), c.four_held-m.ensures.fact.below)
+read_back-x-requires c =
+    record { p_in_bounds = reads1 _ _ _ _ _ _ (numbers (goal.at.read_back-x-requires c).At-loop-i); t = c.four_held-m.ensures.fact.below }
 
 pub overflow_sub-p-in-loop-i : goal.overflow_sub-p-in-loop-i
 overflow_sub-p-in-loop-i c = lower2 _ _ _ _ _ _ c.if-p-limit.false
 
 pub read_back-y-requires : goal.read_back-y-requires
-read_back-y-requires c = (reads1 _ _ _ _ _ _ (numbers (goal.at.read_back-y-requires c).At-loop-i), c.four_held-m.ensures.fact_2.below)
+read_back-y-requires c =
+    record { p_in_bounds = reads1 _ _ _ _ _ _ (numbers (goal.at.read_back-y-requires c).At-loop-i); t = c.four_held-m.ensures.fact_2.below }
 
 pub overflow_sub-p-in-loop-i-2 : goal.overflow_sub-p-in-loop-i-2
 overflow_sub-p-in-loop-i-2 c = lower3 _ _ _ _ _ _ c.if-p-limit.false
 
 pub read_back-z-requires : goal.read_back-z-requires
-read_back-z-requires c = (reads1 _ _ _ _ _ _ (numbers (goal.at.read_back-z-requires c).At-loop-i), c.four_held-m.ensures.fact_3.below)
+read_back-z-requires c =
+    record { p_in_bounds = reads1 _ _ _ _ _ _ (numbers (goal.at.read_back-z-requires c).At-loop-i); t = c.four_held-m.ensures.fact_3.below }
 
 pub overflow_mul-i : goal.overflow_mul-i
 overflow_mul-i c = omega (arith, numbers (goal.at.overflow_mul-i c).At-loop-i, c.loop-i-test.true)
 
 pub store-requires : goal.store-requires
-store-requires c = fits1 _ c.loop-i.i c.loop-i-test.true c.loop-i.out (long (goal.at.store_requires c).At-loop-i)
+store-requires c = fits1 _ c.loop-i.i c.loop-i-test.true c.loop-i.out (long (goal.at.store-requires c).At-loop-i)
 
 pub overflow_mul-i-in-loop-i : goal.overflow_mul-i-in-loop-i
 overflow_mul-i-in-loop-i c = omega (arith, numbers (goal.at.overflow_mul-i-in-loop-i c).At-loop-i, c.loop-i-test.true)
@@ -114,7 +120,7 @@ pub overflow_add-i-in-loop-i : goal.overflow_add-i-in-loop-i
 overflow_add-i-in-loop-i c = omega (arith, numbers (goal.at.overflow_add-i-in-loop-i c).At-loop-i, c.loop-i-test.true)
 
 pub store-requires-in-loop-i : goal.store-requires-in-loop-i
-store-requires-in-loop-i c = fits2 _ c.loop-i.i c.loop-i-test.true c.loop-i.out (long (goal.at.store_requires_in_loop_i c).At-loop-i) c.read_back-w.result c.store.new.0 c.store.ensures
+store-requires-in-loop-i c = fits2 _ c.loop-i.i c.loop-i-test.true c.loop-i.out (long (goal.at.store-requires-in-loop-i c).At-loop-i) c.read_back-w.result c.store.new.out c.store.ensures
 
 pub overflow_mul-i-in-loop-i-2 : goal.overflow_mul-i-in-loop-i-2
 overflow_mul-i-in-loop-i-2 c = omega (arith, numbers (goal.at.overflow_mul-i-in-loop-i-2 c).At-loop-i, c.loop-i-test.true)
@@ -123,7 +129,7 @@ pub overflow_add-i-in-loop-i-2 : goal.overflow_add-i-in-loop-i-2
 overflow_add-i-in-loop-i-2 c = omega (arith, numbers (goal.at.overflow_add-i-in-loop-i-2 c).At-loop-i, c.loop-i-test.true)
 
 pub store-requires-in-loop-i-2 : goal.store-requires-in-loop-i-2
-store-requires-in-loop-i-2 c = fits3 _ c.loop-i.i c.loop-i-test.true c.loop-i.out (long (goal.at.store-requires-in-loop-i-2 c).At-loop-i) c.read_back-w.result c.store.new.0 c.store.ensures c.read_back-x.result c.store-in-loop-i.new.0 c.store-in-loop-i.ensures
+store-requires-in-loop-i-2 c = fits3 _ c.loop-i.i c.loop-i-test.true c.loop-i.out (long (goal.at.store-requires-in-loop-i-2 c).At-loop-i) c.read_back-w.result c.store.new.out c.store.ensures c.read_back-x.result c.store-in-loop-i.new.out c.store-in-loop-i.ensures
 
 pub overflow_mul-i-in-loop-i-3 : goal.overflow_mul-i-in-loop-i-3
 overflow_mul-i-in-loop-i-3 c = omega (arith, numbers (goal.at.overflow_mul-i-in-loop-i-3 c).At-loop-i, c.loop-i-test.true)
@@ -132,7 +138,7 @@ pub overflow_add-i-in-loop-i-3 : goal.overflow_add-i-in-loop-i-3
 overflow_add-i-in-loop-i-3 c = omega (arith, numbers (goal.at.overflow_add-i-in-loop-i-3 c).At-loop-i, c.loop-i-test.true)
 
 pub store-requires-in-loop-i-3 : goal.store-requires-in-loop-i-3
-store-requires-in-loop-i-3 c = fits4 _ c.loop-i.i c.loop-i-test.true c.loop-i.out (long (goal.at.store-requires-in-loop-i-3 c).At-loop-i) c.read_back-w.result c.store.new.0 c.store.ensures c.read_back-x.result c.store-in-loop-i.new.0 c.store-in-loop-i.ensures c.read_back-y.result c.store-in-loop-i-2.new.0 c.store-in-loop-i-2.ensures
+store-requires-in-loop-i-3 c = fits4 _ c.loop-i.i c.loop-i-test.true c.loop-i.out (long (goal.at.store-requires-in-loop-i-3 c).At-loop-i) c.read_back-w.result c.store.new.out c.store.ensures c.read_back-x.result c.store-in-loop-i.new.out c.store-in-loop-i.ensures c.read_back-y.result c.store-in-loop-i-2.new.out c.store-in-loop-i-2.ensures
 
 pub overflow_sub-p-in-loop-i-3 : goal.overflow_sub-p-in-loop-i-3
 overflow_sub-p-in-loop-i-3 c = lower4 _ _ _ _ _ _ c.if-p-limit.false
@@ -145,13 +151,12 @@ loop-i-smaller c = less _ _ c.loop-i-test.true
 
 pub loop-i-preserved : goal.loop-i-preserved
 loop-i-preserved c =
-    let l = c.before.before.before.before.before.before.before.before.before.before.before.before.before.before.before.before.before.before.before.before.before.before.before.before.before.before in
-    let a = l.args in
+    let a = c.args in
     let m = c.four_held-m in
     let t = c.loop-i-test.true in
-    going_back a.sound.now a.way (replicate a.frames a.rate) l.requires.scannable l.requires.backwards_value a.from l.loop-i.i l.loop-i.p l.loop-i.fractional_position l.loop-i.out l.loop-i.invariant m.result
-    c.read_back-w.result c.read_back-x.result c.read_back-y.result c.read_back-z.result c.store.new.0 c.store-in-loop-i.new.0 c.store-in-loop-i-2.new.0 c.store-in-loop-i-3.new.0
-    (counted a.frames a.rate t) (held_moves a.frames a.rate a.way _ l.loop-i.fractional_position l.loop-i.i m.result (made (goal.at.loop_i_preserved c).At-loop-i) t m.ensures) c.if-p-limit.false c.read_back-w.ensures c.read_back-x.ensures c.read_back-y.ensures c.read_back-z.ensures
+    going_back a.sound.now a.way (replicate a.frames a.rate) c.requires.scannable c.requires.backwards_value a.from c.loop-i.i c.loop-i.p c.loop-i.fractional_position c.loop-i.out c.loop-i.invariant m.result
+    c.read_back-w.result c.read_back-x.result c.read_back-y.result c.read_back-z.result c.store.new.out c.store-in-loop-i.new.out c.store-in-loop-i-2.new.out c.store-in-loop-i-3.new.out
+    (counted a.frames a.rate t) (held_moves a.frames a.rate a.way _ c.loop-i.fractional_position c.loop-i.i m.result (made (goal.at.loop-i-preserved c).At-loop-i) t (m.ensures.fact, (m.ensures.fact_2, (m.ensures.fact_3, m.ensures.fact_4)))) c.if-p-limit.false c.read_back-w.ensures c.read_back-x.ensures c.read_back-y.ensures c.read_back-z.ensures
     c.store.ensures c.store-in-loop-i.ensures c.store-in-loop-i-2.ensures c.store-in-loop-i-3.ensures
 
 pub overflow_add-result-2 : goal.overflow_add-result-2

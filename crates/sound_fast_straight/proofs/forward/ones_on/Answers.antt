@@ -39,9 +39,8 @@ bounds-rate-i c = c.loop-r-test.true
 
 pub moved-m-requires : goal.moved-m-requires
 moved-m-requires c =
-    let l = c.before.before.before in
-    let a = l.args in
-    (l.loop-r.invariant.below, (l.requires.scannable.is_time_step, slow_at a.sound.now a.way a.rate.now l.requires.scannable l.loop-r.r.next c.loop-r-test.true))
+    let a = c.args in
+    record { t = c.loop-r.invariant.below; t_2 = c.requires.scannable.is_time_step; t_3 = slow_at a.sound.now a.way a.rate.now c.requires.scannable c.loop-r.r.next c.loop-r-test.true }
 
 pub overflow_add-r : goal.overflow_add-r
 overflow_add-r c = omega (arith, numbers (goal.at.overflow_add-r c).At-loop-r, c.moved-m.ensures.few, c.loop-r-test.true)
@@ -59,7 +58,8 @@ pub overflow_add-start : goal.overflow_add-start
 overflow_add-start c = omega (arith, numbers (goal.at.overflow_add-start c).At-loop-r, c.moved-m.ensures.few, c.loop-r-test.true)
 
 pub read_on-x-requires : goal.read_on-x-requires
-read_on-x-requires c = (reads _ _ _ _ _ _ c.requires.scannable.lies.lent c.requires.scannable.lies.inside c.if-way-r.false, c.loop-r.invariant.below)
+read_on-x-requires c =
+    record { p_in_bounds = reads _ _ _ _ _ _ c.requires.scannable.lies.lent c.requires.scannable.lies.inside c.if-way-r.false; t = c.loop-r.invariant.below }
 
 pub overflow_mul-i : goal.overflow_mul-i
 overflow_mul-i c = omega (arith, numbers (goal.at.overflow_mul-i c).At-loop-r, c.moved-m.ensures.few, c.loop-r-test.true)
@@ -81,13 +81,12 @@ loop-r-smaller c = less _ _ c.loop-r-test.true
 
 pub loop-r-preserved : goal.loop-r-preserved
 loop-r-preserved c =
-    let at = c.before.before.before.before.before.before.before.before.before.before.before.before.before.before.before.before.before.before in
     let a = c.args in
     let m = c.moved-m in
-    subst (λ (q : ℕ). Scanned a.sound.now a.way a.rate.now (place q m.result.fraction (at.loop-r.r.steps + m.result.steps) (at.loop-r.r.next + 1)) c.store.new.0) (back a.way.track.start at.loop-r.r.at m.result.steps)
-    (on_more a.sound.now a.way a.rate.now c.requires.scannable c.requires.backwards_value at.loop-r.r.next at.loop-r.r.steps (a.way.track.start + at.loop-r.r.at) at.loop-r.r.fractional_position at.loop-r.out c.read_on-x.result m.result (a.way.track.start + at.loop-r.r.at + m.result.steps) (at.loop-r.r.steps + m.result.steps) (at.loop-r.r.next + 1) c.store.new.0
-    (subst (λ (q : ℕ). Scanned a.sound.now a.way a.rate.now (place q at.loop-r.r.fractional_position at.loop-r.r.steps at.loop-r.r.next) at.loop-r.out) (there a.way.track.start at.loop-r.r.at) at.loop-r.invariant)
-    c.loop-r-test.true c.read_on-x.ensures m.ensures (above _ _, refl, ends _ _ _ _ c.if-way-r.false) refl refl (stored_at c.store.new.0 at.loop-r.out (2 * at.loop-r.r.next) at.loop-r.r.next c.read_on-x.result refl c.store.ensures))
+    subst (λ (q : ℕ). Scanned a.sound.now a.way a.rate.now (place q m.result.fraction (c.loop-r.r.steps + m.result.steps) (c.loop-r.r.next + 1)) c.store.new.out) (back a.way.track.start c.loop-r.r.at m.result.steps)
+    (on_more a.sound.now a.way a.rate.now c.requires.scannable c.requires.backwards_value c.loop-r.r.next c.loop-r.r.steps (a.way.track.start + c.loop-r.r.at) c.loop-r.r.fractional_position c.loop-r.out c.read_on-x.result m.result (a.way.track.start + c.loop-r.r.at + m.result.steps) (c.loop-r.r.steps + m.result.steps) (c.loop-r.r.next + 1) c.store.new.out
+    (subst (λ (q : ℕ). Scanned a.sound.now a.way a.rate.now (place q c.loop-r.r.fractional_position c.loop-r.r.steps c.loop-r.r.next) c.loop-r.out) (there a.way.track.start c.loop-r.r.at) c.loop-r.invariant)
+    c.loop-r-test.true c.read_on-x.ensures m.ensures (above _ _, refl, ends _ _ _ _ c.if-way-r.false) refl refl (stored_at c.store.new.out c.loop-r.out (2 * c.loop-r.r.next) c.loop-r.r.next c.read_on-x.result refl c.store.ensures))
 
 pub shape_of-out : goal.shape_of-out
 shape_of-out c = c.loop-r.invariant.as_long ∙ sym c.requires.scanned.as_long

@@ -35,7 +35,8 @@ pub overflow_add-i : goal.overflow_add-i
 overflow_add-i c = omega (arith, numbers (goal.at.overflow_add-i c).At-loop-i)
 
 pub four_moves-m-requires : goal.four_moves-m-requires
-four_moves-m-requires c = (c.loop-i.invariant.scanned.below, (c.requires.scannable.is_time_step, (c.requires.scannable.slow, (c.loop-i-test.true, small _ c.requires.scannable.most))))
+four_moves-m-requires c =
+    record { t = c.loop-i.invariant.scanned.below; t_2 = c.requires.scannable.is_time_step; t_3 = c.requires.scannable.slow; i_in_bounds = c.loop-i-test.true; rate_len_bound = small _ c.requires.scannable.most }
 
 pub overflow_add-p1 : goal.overflow_add-p1
 overflow_add-p1 c = omega (arith, numbers (goal.at.overflow_add-p1 c).At-loop-i, c.four_moves-m.ensures.fact.few)
@@ -65,16 +66,20 @@ pub returns-then-end-p4 : goal.returns-then-end-p4
 returns-then-end-p4 c = c.loop-i.invariant.scanned
 
 pub read_on-w-requires : goal.read_on-w-requires
-read_on-w-requires c = (reads0 _ _ _ _ _ (numbers (goal.at.read_on-w-requires c).At-loop-i), c.loop-i.invariant.scanned.below)
+read_on-w-requires c =
+    record { p_in_bounds = reads0 _ _ _ _ _ (numbers (goal.at.read_on-w-requires c).At-loop-i); t = c.loop-i.invariant.scanned.below }
 
 pub read_on-x-requires : goal.read_on-x-requires
-read_on-x-requires c = (reads1 _ _ _ _ _ _ _ _ _ (numbers (goal.at.read_on-x-requires c).At-loop-i) c.if-end-p4.false, c.four_moves-m.ensures.fact.below)
+read_on-x-requires c =
+    record { p_in_bounds = reads1 _ _ _ _ _ _ _ _ _ (numbers (goal.at.read_on-x-requires c).At-loop-i) c.if-end-p4.false; t = c.four_moves-m.ensures.fact.below }
 
 pub read_on-y-requires : goal.read_on-y-requires
-read_on-y-requires c = (reads2 _ _ _ _ _ _ _ _ _ (numbers (goal.at.read_on-y-requires c).At-loop-i) c.if-end-p4.false, c.four_moves-m.ensures.fact_2.below)
+read_on-y-requires c =
+    record { p_in_bounds = reads2 _ _ _ _ _ _ _ _ _ (numbers (goal.at.read_on-y-requires c).At-loop-i) c.if-end-p4.false; t = c.four_moves-m.ensures.fact_2.below }
 
 pub read_on-z-requires : goal.read_on-z-requires
-read_on-z-requires c = (reads3 _ _ _ _ _ _ _ _ _ (numbers (goal.at.read_on-z-requires c).At-loop-i) c.if-end-p4.false, c.four_moves-m.ensures.fact_3.below)
+read_on-z-requires c =
+    record { p_in_bounds = reads3 _ _ _ _ _ _ _ _ _ (numbers (goal.at.read_on-z-requires c).At-loop-i) c.if-end-p4.false; t = c.four_moves-m.ensures.fact_3.below }
 
 pub overflow_mul-i : goal.overflow_mul-i
 overflow_mul-i c = omega (arith, numbers (goal.at.overflow_mul-i c).At-loop-i, c.loop-i-test.true)
@@ -89,7 +94,7 @@ pub overflow_add-i-in-loop-i : goal.overflow_add-i-in-loop-i
 overflow_add-i-in-loop-i c = omega (arith, numbers (goal.at.overflow_add-i-in-loop-i c).At-loop-i, c.loop-i-test.true)
 
 pub store-requires-in-loop-i : goal.store-requires-in-loop-i
-store-requires-in-loop-i c = fits2 _ c.loop-i.i c.loop-i-test.true c.loop-i.out c.loop-i.invariant.scanned.as_long c.read_on-w.result c.store.new.0 c.store.ensures
+store-requires-in-loop-i c = fits2 _ c.loop-i.i c.loop-i-test.true c.loop-i.out c.loop-i.invariant.scanned.as_long c.read_on-w.result c.store.new.out c.store.ensures
 
 pub overflow_mul-i-in-loop-i-2 : goal.overflow_mul-i-in-loop-i-2
 overflow_mul-i-in-loop-i-2 c = omega (arith, numbers (goal.at.overflow_mul-i-in-loop-i-2 c).At-loop-i, c.loop-i-test.true)
@@ -98,7 +103,7 @@ pub overflow_add-i-in-loop-i-2 : goal.overflow_add-i-in-loop-i-2
 overflow_add-i-in-loop-i-2 c = omega (arith, numbers (goal.at.overflow_add-i-in-loop-i-2 c).At-loop-i, c.loop-i-test.true)
 
 pub store-requires-in-loop-i-2 : goal.store-requires-in-loop-i-2
-store-requires-in-loop-i-2 c = fits3 _ c.loop-i.i c.loop-i-test.true c.loop-i.out c.loop-i.invariant.scanned.as_long c.read_on-w.result c.store.new.0 c.store.ensures c.read_on-x.result c.store-in-loop-i.new.0 c.store-in-loop-i.ensures
+store-requires-in-loop-i-2 c = fits3 _ c.loop-i.i c.loop-i-test.true c.loop-i.out c.loop-i.invariant.scanned.as_long c.read_on-w.result c.store.new.out c.store.ensures c.read_on-x.result c.store-in-loop-i.new.out c.store-in-loop-i.ensures
 
 pub overflow_mul-i-in-loop-i-3 : goal.overflow_mul-i-in-loop-i-3
 overflow_mul-i-in-loop-i-3 c = omega (arith, numbers (goal.at.overflow_mul-i-in-loop-i-3 c).At-loop-i, c.loop-i-test.true)
@@ -107,7 +112,7 @@ pub overflow_add-i-in-loop-i-3 : goal.overflow_add-i-in-loop-i-3
 overflow_add-i-in-loop-i-3 c = omega (arith, numbers (goal.at.overflow_add-i-in-loop-i-3 c).At-loop-i, c.loop-i-test.true)
 
 pub store-requires-in-loop-i-3 : goal.store-requires-in-loop-i-3
-store-requires-in-loop-i-3 c = fits4 _ c.loop-i.i c.loop-i-test.true c.loop-i.out c.loop-i.invariant.scanned.as_long c.read_on-w.result c.store.new.0 c.store.ensures c.read_on-x.result c.store-in-loop-i.new.0 c.store-in-loop-i.ensures c.read_on-y.result c.store-in-loop-i-2.new.0 c.store-in-loop-i-2.ensures
+store-requires-in-loop-i-3 c = fits4 _ c.loop-i.i c.loop-i-test.true c.loop-i.out c.loop-i.invariant.scanned.as_long c.read_on-w.result c.store.new.out c.store.ensures c.read_on-x.result c.store-in-loop-i.new.out c.store-in-loop-i.ensures c.read_on-y.result c.store-in-loop-i-2.new.out c.store-in-loop-i-2.ensures
 
 pub overflow_add-i-in-loop-i-4 : goal.overflow_add-i-in-loop-i-4
 overflow_add-i-in-loop-i-4 c = omega (arith, numbers (goal.at.overflow_add-i-in-loop-i-4 c).At-loop-i, c.loop-i-test.true)
@@ -117,13 +122,12 @@ loop-i-smaller c = less _ _ c.loop-i-test.true
 
 pub loop-i-preserved : goal.loop-i-preserved
 loop-i-preserved c =
-    let l = c.before.before.before.before.before.before.before.before.before.before.before.before.before.before.before.before.before.before.before.before.before.before.before.before.before.before.before in
-    let a = l.args in
+    let a = c.args in
     let m = c.four_moves-m in
     let t = c.loop-i-test.true in
-    going_on a.sound.now a.way a.rate.now l.requires.scannable l.requires.backwards_value a.from l.loop-i.i l.loop-i.p l.loop-i.fractional_position l.loop-i.out l.loop-i.invariant m.result
-    c.read_on-w.result c.read_on-x.result c.read_on-y.result c.read_on-z.result c.store.new.0 c.store-in-loop-i.new.0 c.store-in-loop-i-2.new.0 c.store-in-loop-i-3.new.0
-    t m.ensures c.if-end-p4.false c.read_on-w.ensures c.read_on-x.ensures c.read_on-y.ensures c.read_on-z.ensures
+    going_on a.sound.now a.way a.rate.now c.requires.scannable c.requires.backwards_value a.from c.loop-i.i c.loop-i.p c.loop-i.fractional_position c.loop-i.out c.loop-i.invariant m.result
+    c.read_on-w.result c.read_on-x.result c.read_on-y.result c.read_on-z.result c.store.new.out c.store-in-loop-i.new.out c.store-in-loop-i-2.new.out c.store-in-loop-i-3.new.out
+    t (m.ensures.fact, (m.ensures.fact_2, (m.ensures.fact_3, m.ensures.fact_4))) c.if-end-p4.false c.read_on-w.ensures c.read_on-x.ensures c.read_on-y.ensures c.read_on-z.ensures
     c.store.ensures c.store-in-loop-i.ensures c.store-in-loop-i-2.ensures c.store-in-loop-i-3.ensures
 
 pub overflow_sub-result-2 : goal.overflow_sub-result-2

@@ -17,18 +17,17 @@ more : (c : After-after_steps)
     let r = c.loop-r.r in
     let g = c.moved-a.result in
     let h = c.moved-b.result in
-    Scanned a.sound.now a.way a.rate.now (place c.after_steps.result h.fraction (r.steps + g.steps + h.steps) (r.next + 2)) c.store-in-loop-r.new.0
+    Scanned a.sound.now a.way a.rate.now (place c.after_steps.result h.fraction (r.steps + g.steps + h.steps) (r.next + 2)) c.store-in-loop-r.new.out
 more c =
-    let l = c in
-    let a = l.args in
+    let a = c.args in
     let x = c.read_after-x in
     let y = c.read_after-y in
     let s = c.store in
     let p = c.store-in-loop-r in
     let q = c.after_steps-half in
-    two_more a.sound.now a.way a.rate.now l.requires.scannable l.loop-r.r l.loop-r.out l.loop-r.inv c.loop-r-test.true x.result s.new.0 s.ensures y.result p.new.0 p.ensures
+    two_more a.sound.now a.way a.rate.now c.requires.scannable c.loop-r.r c.loop-r.out c.loop-r.invariant c.loop-r-test.true x.result s.new.out s.ensures y.result p.new.out p.ensures
     c.moved-a.result c.moved-b.result q.result c.after_steps.result c.has_room_after.result c.moved-a.ensures c.moved-b.ensures c.has_room_after.ensures c.if-not-has_room_after.false
-    q.ensures.0 c.after_steps.ensures.value x.ensures y.ensures
+    q.ensures.value c.after_steps.ensures.value x.ensures y.ensures
 
 pub loop-r-init : goal.loop-r-init
 loop-r-init c = c.requires.scanned
@@ -43,7 +42,9 @@ pub bounds-rate-i : goal.bounds-rate-i
 bounds-rate-i c = less1 _ _ c.loop-r-test.true
 
 pub moved-a-requires : goal.moved-a-requires
-moved-a-requires c = let l = c.before.before.before in let a = l.args in (l.loop-r.invariant.below, (l.requires.scannable.is_time_step, slow_at a.sound.now a.way a.rate.now l.requires.scannable l.loop-r.r l.loop-r.out l.loop-r.invariant l.loop-r.r.next (less1 _ _ c.loop-r-test.true)))
+moved-a-requires c =
+    let a = c.args in
+    record { t = c.loop-r.invariant.below; t_2 = c.requires.scannable.is_time_step; t_3 = slow_at a.sound.now a.way a.rate.now c.requires.scannable c.loop-r.r c.loop-r.out c.loop-r.invariant c.loop-r.r.next (less1 _ _ c.loop-r-test.true) }
 
 pub overflow_add-i : goal.overflow_add-i
 overflow_add-i c = omega (arith, numbers (goal.at.overflow_add-i c).At-loop-r, c.loop-r-test.true)
@@ -55,7 +56,9 @@ pub bounds-rate-i-in-loop-r : goal.bounds-rate-i-in-loop-r
 bounds-rate-i-in-loop-r c = c.loop-r-test.true
 
 pub moved-b-requires : goal.moved-b-requires
-moved-b-requires c = let l = c.before.before.before.before.before in let a = l.args in (c.moved-a.ensures.below, (l.requires.scannable.is_time_step, slow_at a.sound.now a.way a.rate.now l.requires.scannable l.loop-r.r l.loop-r.out l.loop-r.invariant (l.loop-r.r.next + 1) c.loop-r-test.true))
+moved-b-requires c =
+    let a = c.args in
+    record { t = c.moved-a.ensures.below; t_2 = c.requires.scannable.is_time_step; t_3 = slow_at a.sound.now a.way a.rate.now c.requires.scannable c.loop-r.r c.loop-r.out c.loop-r.invariant (c.loop-r.r.next + 1) c.loop-r-test.true }
 
 pub overflow_add-a : goal.overflow_add-a
 overflow_add-a c = omega (arith, c.moved-a.ensures.few, c.moved-b.ensures.few)
@@ -71,19 +74,22 @@ pub returns-then-not-has_room_after : goal.returns-then-not-has_room_after
 returns-then-not-has_room_after c = c.loop-r.invariant
 
 pub after_steps-half-requires : goal.after_steps-half-requires
-after_steps-half-requires c = (c.loop-r.invariant.on, (few _ c.moved-a.ensures.few, c.requires.backwards_value))
+after_steps-half-requires c =
+    record { on = c.loop-r.invariant.on; n_bound = few _ c.moved-a.ensures.few; backwards_value = c.requires.backwards_value }
 
 pub read_after-x-requires : goal.read_after-x-requires
-read_after-x-requires c = (c.requires.scannable.lies, (c.loop-r.invariant.on, (c.loop-r.invariant.below, c.requires.backwards_value)))
+read_after-x-requires c =
+    record { inside_sound = c.requires.scannable.lies; on = c.loop-r.invariant.on; t = c.loop-r.invariant.below; backwards_value = c.requires.backwards_value }
 
 pub read_after-y-requires : goal.read_after-y-requires
-read_after-y-requires c = (c.requires.scannable.lies, (c.after_steps-half.ensures.on_2, (c.moved-a.ensures.below, c.requires.backwards_value)))
+read_after-y-requires c =
+    record { inside_sound = c.requires.scannable.lies; on = c.after_steps-half.ensures.on_2; t = c.moved-a.ensures.below; backwards_value = c.requires.backwards_value }
 
 pub overflow_mul-i : goal.overflow_mul-i
 overflow_mul-i c = omega (arith, numbers (goal.at.overflow_mul-i c).At-loop-r, c.loop-r-test.true)
 
 pub store-requires : goal.store-requires
-store-requires c = let l = c.before.before.before.before.before.before.before.before.before.before.before.before.before.before in let a = l.args in first_fits a.sound.now a.way a.rate.now l.requires.scannable l.loop-r.r l.loop-r.out l.loop-r.invariant c.loop-r-test.true
+store-requires c = let a = c.args in first_fits a.sound.now a.way a.rate.now c.requires.scannable c.loop-r.r c.loop-r.out c.loop-r.invariant c.loop-r-test.true
 
 pub overflow_mul-i-in-loop-r : goal.overflow_mul-i-in-loop-r
 overflow_mul-i-in-loop-r c = omega (arith, numbers (goal.at.overflow_mul-i-in-loop-r c).At-loop-r, c.loop-r-test.true)
@@ -92,7 +98,7 @@ pub overflow_add-i-in-loop-r : goal.overflow_add-i-in-loop-r
 overflow_add-i-in-loop-r c = omega (arith, numbers (goal.at.overflow_add-i-in-loop-r c).At-loop-r, c.loop-r-test.true)
 
 pub store-requires-in-loop-r : goal.store-requires-in-loop-r
-store-requires-in-loop-r c = let l = c.before.before.before.before.before.before.before.before.before.before.before.before.before.before.before.before.before.before in let a = l.args in second_fits a.sound.now a.way a.rate.now l.requires.scannable l.loop-r.r l.loop-r.out l.loop-r.invariant c.loop-r-test.true c.read_after-x.result c.store.new.0 c.store.ensures
+store-requires-in-loop-r c = let a = c.args in second_fits a.sound.now a.way a.rate.now c.requires.scannable c.loop-r.r c.loop-r.out c.loop-r.invariant c.loop-r-test.true c.read_after-x.result c.store.new.out c.store.ensures
 
 pub after_steps-requires : goal.after_steps-requires
 after_steps-requires c =
@@ -112,19 +118,18 @@ overflow_add-r-in-loop-r-4 c = omega (arith, numbers (goal.at.overflow_add-r-in-
 
 pub shape_of-out-then-r-track : goal.shape_of-out-then-r-track
 shape_of-out-then-r-track c =
-    let l = c.before.before.before.before.before.before.before.before.before.before.before.before.before.before.before.before.before.before.before.before.before.before.before.before.before.before.before.before in
-    let a = l.args in
-    long2 a.sound.now a.way a.rate.now l.requires.scannable l.loop-r.r l.loop-r.out l.loop-r.invariant c.loop-r-test.true c.read_after-x.result c.store.new.0 c.store.ensures c.read_after-y.result c.store-in-loop-r.new.0 c.store-in-loop-r.ensures
-    ∙ sym l.requires.scanned.as_long
+    let a = c.args in
+    long2 a.sound.now a.way a.rate.now c.requires.scannable c.loop-r.r c.loop-r.out c.loop-r.invariant c.loop-r-test.true c.read_after-x.result c.store.new.out c.store.ensures c.read_after-y.result c.store-in-loop-r.new.out c.store-in-loop-r.ensures
+    ∙ sym c.requires.scanned.as_long
 
 pub returns-then-r-track : goal.returns-then-r-track
-returns-then-r-track c = more (goal.at.returns_then_r_track c).After-after_steps
+returns-then-r-track c = more (goal.at.returns-then-r-track c).After-after_steps
 
 pub loop-r-smaller : goal.loop-r-smaller
 loop-r-smaller c = less _ _ c.loop-r-test.true
 
 pub loop-r-preserved : goal.loop-r-preserved
-loop-r-preserved c = more (goal.at.loop_r_preserved c).After-after_steps
+loop-r-preserved c = more (goal.at.loop-r-preserved c).After-after_steps
 
 pub shape_of-out : goal.shape_of-out
 shape_of-out c = c.loop-r.invariant.as_long ∙ sym c.requires.scanned.as_long
