@@ -25,7 +25,7 @@ long c = let a = c.args in c.loop-i.invariant.scanned.as_long ∙ ap (λ (n : �
 
 pub advance_of-advance-requires : goal.advance_of-advance-requires
 advance_of-advance-requires c =
-    record { t = c.requires.scannable.is_time_step; t_2 = c.requires.t }
+    c.requires.t
 
 pub overflow_add-way : goal.overflow_add-way
 overflow_add-way c = record { fits = deep3 _ _ c.requires.scannable.lies.some c.requires.scannable.lies.inside c.requires.scannable.lies.few }

@@ -25,7 +25,7 @@ long c = let a = c.args in c.loop-i.invariant.scanned.as_long ∙ ap (λ (n : �
 
 pub advance_of-advance-requires : goal.advance_of-advance-requires
 advance_of-advance-requires c =
-    record { t = c.requires.scannable.is_time_step; t_2 = c.requires.t }
+    c.requires.t
 
 pub overflow_add-from : goal.overflow_add-from
 overflow_add-from c = record { fits = tall _ c.requires.scanned.on.here c.requires.scanned.on.few }
