@@ -9,7 +9,7 @@ use lib.ListN.{length, take, drop, length-take, length-drop}
 use lib.Seq.{drop-drop}
 use lib.Ieee.{Float}
 use lib.Ieee.Fits.{and_r}
-use borrow.Author.Tests.{ne_eqb, not_true, not_false}
+use borrow.Author.Tests.{ne_eqb}
 use Rattle.numbers.specs.Words.{finite, positive_zero}
 use lib.Ieee.{lt}
 use Rattle.sound_lanes.specs.Lanes.{Lanes, rows, sized, is_time_step, judged}
@@ -27,11 +27,11 @@ use Rattle.static_sound.proofs.Refusals.{accepted_parts}
 -- ---- the number, test by test
 
 -- a callee's test that failed, and one that passed
-pub fails : {b d : Bool} → b ≡ d → not b ≡ true → d ≡ false
-fails {b} e t = sym e ∙ not_true b t
+pub fails : {b d : Bool} → b ≡ d → b ≡ false → d ≡ false
+fails e t = sym e ∙ t
 
-pub passes : {b d : Bool} → b ≡ d → not b ≡ false → d ≡ true
-passes {b} e t = sym e ∙ not_false b t
+pub passes : {b d : Bool} → b ≡ d → b ≡ true → d ≡ true
+passes e t = sym e ∙ t
 
 module _ (len : ℕ) (v : StaticSound) (dt : Float) (b : Lanes) (placed : Bool) where
   pub number_1 : well_formed_for len v ≡ false → 1 ≡ refused_block len v dt b placed

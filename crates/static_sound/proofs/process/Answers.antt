@@ -3,7 +3,6 @@ use mathlib.Core.Path.{◌≡◌, sym, ap, ◌∙◌}
 use Prim.Native.Nat.{◌*◌}
 use lib.Dec.{eqb}
 use lib.ListN.{length}
-use borrow.Author.Tests.{not_true, not_false}
 use Rattle.sound_lanes.specs.Lanes.{Lanes, lanes_now}
 use Rattle.static_sound.proofs.Whole.{lanes_whole, lanes_never, constant_into}
 use borrow.Author.Rules.{rules}
@@ -22,31 +21,31 @@ lent c = let a = c.args in lanes_now a.fade a.volume a.left a.right a.rate
 
 pub returns-then-not-holds : goal.returns-then-not-holds
 returns-then-not-holds c =
-    let p = c.before.before in
-    let e = p.before.before in
-    let h = e.before in
+    let p = c in
+    let e = c in
+    let h = c in
     let a = h.args in
-    lanes_never a.sound.now a.voice a.dt (lent (goal.at.returns_then_not_holds c).After-holds) a.signals a.out.now _ (sym h.holds.ensures ∙ not_true _ e.if-not-holds.true) p.process_lanes.ensures
+    lanes_never a.sound.now a.voice a.dt (lent (goal.at.returns-then-not-holds c).After-holds) a.signals a.out.now _ (sym h.holds.ensures ∙ e.if-not-holds.true) p.process_lanes.ensures
 
 pub first_of-held-requires : goal.first_of-held-requires
 first_of-held-requires c = c.are_constant.ensures c.if-are_constant.true
 
 pub returns-then-are_constant : goal.returns-then-are_constant
 returns-then-are_constant c =
-    let p = c.before.before in
-    let f = p.before.before in
-    let e = f.before in
-    let k = e.before in
-    let h = k.before.before in
+    let p = c in
+    let f = c in
+    let e = c in
+    let k = c in
+    let h = c in
     let a = h.args in
-    lanes_whole a.sound.now a.voice a.dt (lent (goal.at.returns-then-are_constant c).After-holds) a.signals a.out.now _ (sym h.holds.ensures ∙ not_false _ k.if-not-holds.false)
+    lanes_whole a.sound.now a.voice a.dt (lent (goal.at.returns-then-are_constant c).After-holds) a.signals a.out.now _ (sym h.holds.ensures ∙ k.if-not-holds.false)
     (constant_into a.sound.now a.voice a.dt (lent (goal.at.returns-then-are_constant c).After-holds) a.signals a.out.now 0 _ (k.are_constant.ensures e.if-are_constant.true) _ f.first_of-held.ensures p.process_held_into.ensures)
 
 pub returns : goal.returns
 returns c =
-    let p = c.before.before in
-    let e = p.before.before in
-    let k = e.before in
-    let h = k.before.before in
+    let p = c in
+    let e = c in
+    let k = c in
+    let h = c in
     let a = h.args in
-    lanes_whole a.sound.now a.voice a.dt (lent (goal.at.returns c).After-holds) a.signals a.out.now _ (sym h.holds.ensures ∙ not_false _ k.if-not-holds.false) p.process_lanes-2.ensures
+    lanes_whole a.sound.now a.voice a.dt (lent (goal.at.returns c).After-holds) a.signals a.out.now _ (sym h.holds.ensures ∙ k.if-not-holds.false) p.process_lanes-2.ensures

@@ -5,7 +5,6 @@ use mathlib.Core.Bool.{true}
 use Rattle.sound_lanes.specs.Lanes.{lanes_now, sized, is_time_step}
 use Rattle.sound_state.specs.WellFormed.{well_formed_for}
 use Rattle.static_sound.proofs.Calls.{number_1, number_9, number_9_place, number_10, number_judged, fails, passes}
-use borrow.Author.Tests.{not_true, not_false}
 use borrow.Author.Rules.{rules}
 use Rattle.static_sound.proofs.refusal_of.Reads as reads
 use Rattle.static_sound.proofs.refusal_of.Lts as lts
@@ -32,17 +31,17 @@ pub returns-then-not-are_sized : goal.returns-then-not-are_sized
 returns-then-not-are_sized c = number_9 _ _ _ _ _ (well_formed (goal.at.returns-then-not-are_sized c).Else-not-is_well_formed) (fails c.are_sized.ensures c.if-not-are_sized.true)
 
 pub returns-then-not-placed : goal.returns-then-not-placed
-returns-then-not-placed c = number_9_place _ _ _ _ _ (well_formed (goal.at.returns_then_not_placed c).Else-not-is_well_formed) (lanes-sized (goal.at.returns_then_not_placed c).Else-not-are_sized) (c.if-not-placed.true)
+returns-then-not-placed c = number_9_place _ _ _ _ _ (well_formed (goal.at.returns-then-not-placed c).Else-not-is_well_formed) (lanes-sized (goal.at.returns-then-not-placed c).Else-not-are_sized) (c.if-not-placed.true)
 
 pub returns-then-not-is_time_step : goal.returns-then-not-is_time_step
-returns-then-not-is_time_step c = let p = c.before.before in number_10 _ _ _ _ _ (well_formed (goal.at.returns-then-not-is_time_step c).Else-not-is_well_formed) (lanes-sized (goal.at.returns-then-not-is_time_step c).Else-not-are_sized) (not_false _ p.if-not-placed.false) (fails c.is_time_step.ensures c.if-not-is_time_step.true)
+returns-then-not-is_time_step c = let p = c in number_10 _ _ _ _ _ (well_formed (goal.at.returns-then-not-is_time_step c).Else-not-is_well_formed) (lanes-sized (goal.at.returns-then-not-is_time_step c).Else-not-are_sized) p.if-not-placed.false (fails c.is_time_step.ensures c.if-not-is_time_step.true)
 
 pub judge-requires : goal.judge-requires
 judge-requires c =
-    record { t = (let q = c in (subst T (sym (lanes-sized (goal.at.judge_requires c).Else-not-are_sized)) tt, subst T (sym (time-step-one (goal.at.judge_requires c).Else-not-is_time_step)) tt)).0; t_2 = (let q = c in (subst T (sym (lanes-sized (goal.at.judge_requires c).Else-not-are_sized)) tt, subst T (sym (time-step-one (goal.at.judge_requires c).Else-not-is_time_step)) tt)).1 }
+    record { t = subst T (sym (lanes-sized (goal.at.judge-requires c).Else-not-are_sized)) tt; t_2 = subst T (sym (time-step-one (goal.at.judge-requires c).Else-not-is_time_step)) tt }
 
 pub returns : goal.returns
 returns c =
-    let q = c.before in
-    let p = q.before.before in
-    c.judge.ensures ∙ number_judged _ _ _ _ _ (well_formed (goal.at.returns c).Else-not-is_well_formed) (lanes-sized (goal.at.returns c).Else-not-are_sized) (not_false _ p.if-not-placed.false) (time-step-one (goal.at.returns c).Else-not-is_time_step)
+    let q = c in
+    let p = c in
+    c.judge.ensures ∙ number_judged _ _ _ _ _ (well_formed (goal.at.returns c).Else-not-is_well_formed) (lanes-sized (goal.at.returns c).Else-not-are_sized) p.if-not-placed.false (time-step-one (goal.at.returns c).Else-not-is_time_step)

@@ -33,5 +33,5 @@ returns-then-found-ne0 c = refused _ _ _ _ _ c.read-found.ensures c.if-found-ne0
 
 pub returns : goal.returns
 returns c =
-    let e = c.before.before in
+    let e = c in
     set _ _ _ _ _ e.read-found.ensures _ _ e.if-found-ne0.false c.loop_command.ensures c.on_start_processing.ensures

@@ -21,9 +21,9 @@ first_of-held-requires c = c.are_constant.ensures c.if-are_constant.true
 
 pub returns-then-are_constant : goal.returns-then-are_constant
 returns-then-are_constant c =
-    let p = c.before.before in
-    let f = p.before.before in
-    let e = f.before in
+    let p = c in
+    let f = c in
+    let e = c in
     let a = e.args in
     constant_into a.sound.now a.voice a.dt (lent (goal.at.returns-then-are_constant c).After-are_constant) a.signals a.mix.now a.from _ (e.are_constant.ensures e.if-are_constant.true) _ f.first_of-held.ensures p.process_held_into.ensures
 

@@ -8,6 +8,6 @@ use Rattle.static_sound.proofs.once.process_held.Goals as goal
 
 pub returns : goal.returns
 returns c =
-    let s = c.before.before.before.before.before.before in
+    let s = c in
     let a = s.args in
     held_whole a.sound.now a.voice a.dt a.held a.signals a.out.now _ c.process_held_into.ensures

@@ -8,7 +8,6 @@ use Rattle.sound_held.specs.Held.{held_lanes}
 use Rattle.sound_state.specs.WellFormed.{well_formed_for}
 use Rattle.static_sound.proofs.Calls.{number_1, number_9, number_9_place, number_10, number_judged, fails, passes}
 use Rattle.static_sound.proofs.Held.{sized_few, sized_many, judged_some, judged_none}
-use borrow.Author.Tests.{not_true, not_false}
 use borrow.Author.Rules.{rules}
 use Rattle.static_sound.proofs.once.refusal_held.Reads as reads
 use Rattle.static_sound.proofs.once.refusal_held.Lts as lts
@@ -34,24 +33,24 @@ pub returns-then-frames-gt4096 : goal.returns-then-frames-gt4096
 returns-then-frames-gt4096 c = number_9 _ _ _ _ _ (well_formed (goal.at.returns-then-frames-gt4096 c).Else-not-is_well_formed) (sized_many _ _ c.if-frames-gt4096.true)
 
 pub returns-then-not-placed : goal.returns-then-not-placed
-returns-then-not-placed c = number_9_place _ _ _ _ _ (well_formed (goal.at.returns_then_not_placed c).Else-not-is_well_formed) (few (goal.at.returns_then_not_placed c).Else-frames-gt4096) (c.if-not-placed.true)
+returns-then-not-placed c = number_9_place _ _ _ _ _ (well_formed (goal.at.returns-then-not-placed c).Else-not-is_well_formed) (few (goal.at.returns-then-not-placed c).Else-frames-gt4096) (c.if-not-placed.true)
 
 pub returns-then-not-is_time_step : goal.returns-then-not-is_time_step
-returns-then-not-is_time_step c = let p = c.before.before in number_10 _ _ _ _ _ (well_formed (goal.at.returns-then-not-is_time_step c).Else-not-is_well_formed) (few (goal.at.returns-then-not-is_time_step c).Else-frames-gt4096) (not_false _ p.if-not-placed.false) (fails c.is_time_step.ensures c.if-not-is_time_step.true)
+returns-then-not-is_time_step c = let p = c in number_10 _ _ _ _ _ (well_formed (goal.at.returns-then-not-is_time_step c).Else-not-is_well_formed) (few (goal.at.returns-then-not-is_time_step c).Else-frames-gt4096) p.if-not-placed.false (fails c.is_time_step.ensures c.if-not-is_time_step.true)
 
 pub returns-then-frames-eq0 : goal.returns-then-frames-eq0
 returns-then-frames-eq0 c =
-    let q = c.before in
-    let p = q.before.before in
-    judged_none _ _ _ _ c.if-frames-eq0.true ∙ number_judged _ _ _ _ _ (well_formed (goal.at.returns-then-frames-eq0 c).Else-not-is_well_formed) (few (goal.at.returns-then-frames-eq0 c).Else-frames-gt4096) (not_false _ p.if-not-placed.false) (time-step-one (goal.at.returns-then-frames-eq0 c).Else-not-is_time_step)
+    let q = c in
+    let p = c in
+    judged_none _ _ _ _ c.if-frames-eq0.true ∙ number_judged _ _ _ _ _ (well_formed (goal.at.returns-then-frames-eq0 c).Else-not-is_well_formed) (few (goal.at.returns-then-frames-eq0 c).Else-frames-gt4096) p.if-not-placed.false (time-step-one (goal.at.returns-then-frames-eq0 c).Else-not-is_time_step)
 
 pub judge-requires : goal.judge-requires
 judge-requires c =
-    record { t = tt; t_2 = subst T (sym (time-step-one (goal.at.judge_requires c).Else-not-is_time_step)) tt }
+    record { t = tt; t_2 = subst T (sym (time-step-one (goal.at.judge-requires c).Else-not-is_time_step)) tt }
 
 pub returns : goal.returns
 returns c =
-    let e = c.before.before.before.before.before.before in
-    let q = e.before in
-    let p = q.before.before in
-    c.judge.ensures ∙ judged_some _ _ _ _ e.if-frames-eq0.false ∙ number_judged _ _ _ _ _ (well_formed (goal.at.returns c).Else-not-is_well_formed) (few (goal.at.returns c).Else-frames-gt4096) (not_false _ p.if-not-placed.false) (time-step-one (goal.at.returns c).Else-not-is_time_step)
+    let e = c in
+    let q = c in
+    let p = c in
+    c.judge.ensures ∙ judged_some _ _ _ _ e.if-frames-eq0.false ∙ number_judged _ _ _ _ _ (well_formed (goal.at.returns c).Else-not-is_well_formed) (few (goal.at.returns c).Else-frames-gt4096) p.if-not-placed.false (time-step-one (goal.at.returns c).Else-not-is_time_step)

@@ -37,13 +37,10 @@ record Numbers (s e n len : ℕ) : Type 0 where
   few : n ≤ 16777216
   lent : len ≡ 2 * n
 
-numbers : (c : In-Frames)
-    → (let st = c.before.before.before in
-    Numbers c.in-Frames.start c.in-Frames.end st.args.voice.setup.num_frames (length st.args.sound.now))
+numbers : (c : In-Frames) → Numbers c.in-Frames.start c.in-Frames.end c.args.voice.setup.num_frames (length c.args.sound.now)
 numbers c =
-    let e = c.before.before.before in
-    let a = e.args in
-    let o = well_formed_for_parts (length a.sound.now) a.voice (is_true (well_formed c.before.before.before.before)) in
+    let a = c.args in
+    let o = well_formed_for_parts (length a.sound.now) a.voice (is_true (passes c.is_well_formed.ensures c.if-not-is_well_formed.false)) in
     let k = setup_parts a.voice.setup o.0.setup in
     let r = ranged_parts a.voice.setup.num_frames c.in-Frames.start c.in-Frames.end (subst (λ (r : FrameRange). T (within a.voice.setup.num_frames r)) c.in-Frames.is k.slice) in
     record { more = r.more; inside = r.inside; few = k.few; lent = o.1 }
@@ -52,7 +49,7 @@ pub returns-then-not-is_well_formed : goal.returns-then-not-is_well_formed
 unfolding stretch_of stretch_at
 returns-then-not-is_well_formed c =
     let e = fails c.is_well_formed.ensures c.if-not-is_well_formed.true in
-    (simp e, simp e (at-start c.args.sound.ref_ptr))
+    record { result_value = simp e; ref_ptr_value = simp e (at-start c.args.sound.ref_ptr) }
 
 pub overflow_mul-result : goal.overflow_mul-result
 overflow_mul-result c = omega (arith, numbers (goal.at.overflow_mul-result c).In-Frames)
@@ -66,16 +63,22 @@ offset_bounds-sound-start c = omega (arith, numbers (goal.at.offset_bounds-sound
 pub slice_bounds-result-count : goal.slice_bounds-result-count
 slice_bounds-result-count c = omega (arith, numbers (goal.at.slice_bounds-result-count c).In-Frames)
 
+pub slice_bounds-result-start : goal.slice_bounds-result-start
+slice_bounds-result-start c = omega (arith, numbers (goal.at.slice_bounds-result-start c).In-Frames)
+
+pub slice_bounds-result-end-in-Frames : goal.slice_bounds-result-end-in-Frames
+slice_bounds-result-end-in-Frames c = omega (arith, numbers (goal.at.slice_bounds-result-end-in-Frames c).In-Frames)
+
 pub returns-in-Absent : goal.returns-in-Absent
 unfolding stretch_of stretch_at
 returns-in-Absent c =
     let e = well_formed (goal.at.returns-in-Absent c).Else-not-is_well_formed in
     let h = c.in-Absent.is in
-    (simp (e, h), simp (e, h) (at-start c.args.sound.ref_ptr))
+    record { result_value = simp (e, h); ref_ptr_value = simp (e, h) (at-start c.args.sound.ref_ptr) }
 
 pub returns-in-Frames : goal.returns-in-Frames
 unfolding stretch_of stretch_at
 returns-in-Frames c =
     let e = well_formed (goal.at.returns-in-Frames c).Else-not-is_well_formed in
     let h = c.in-Frames.is in
-    (simp (e, h), simp (e, h) refl)
+    record { result_value = simp (e, h); ref_ptr_value = simp (e, h) refl }
