@@ -21,25 +21,23 @@ long c = search rules
 
 pub slice_bounds-new-end : goal.slice_bounds-new-end
 slice_bounds-new-end c =
-    let ps = c.before.before.before in
-    let a = ps.args in
-    inside a.sound.now ps.put_samples-samples.new.out (samples_of a.values) ps.put_samples-samples.result ps.put_samples-samples.ensures.0 ps.put_samples-samples.ensures.1 (few_samples a.values (long (goal.at.slice_bounds-new-end c).After-put_samples-samples)) ps.requires
+    let ps = c.put_samples-samples in
+    let a = c.args in
+    inside a.sound.now ps.new.out (samples_of a.values) ps.result ps.ensures.0 ps.ensures.1 (few_samples a.values (long (goal.at.slice_bounds-new-end c).After-put_samples-samples)) c.requires
 
 pub slice_bounds-new-end-2 : goal.slice_bounds-new-end-2
 slice_bounds-new-end-2 c =
-    let ps = c.before.before.before.before in
-    let a = ps.args in
-    part_long ps.put_samples-samples.result ps.put_samples-samples.new.out (inside a.sound.now ps.put_samples-samples.new.out (samples_of a.values) ps.put_samples-samples.result ps.put_samples-samples.ensures.0 ps.put_samples-samples.ensures.1 (few_samples a.values (long (goal.at.slice_bounds-new-end-2 c).After-put_samples-samples)) ps.requires)
+    let ps = c.put_samples-samples in
+    let a = c.args in
+    part_long ps.result ps.new.out (inside a.sound.now ps.new.out (samples_of a.values) ps.result ps.ensures.0 ps.ensures.1 (few_samples a.values (long (goal.at.slice_bounds-new-end-2 c).After-put_samples-samples)) c.requires)
 
 pub returns : goal.returns
 returns c =
-    let n = c.before in
-    let s = n.before.before in
-    let ps = s.before.before.before in
-    let a = ps.args in
-    let h = inside a.sound.now ps.put_samples-samples.new.out (samples_of a.values) ps.put_samples-samples.result ps.put_samples-samples.ensures.0 ps.put_samples-samples.ensures.1 (few_samples a.values (long (goal.at.returns c).After-put_samples-samples)) ps.requires in
-    let e = ps.put_samples-samples.ensures in (
-      creation_replay n.new-created.result (take ps.put_samples-samples.result ps.put_samples-samples.new.out) (samples_of a.values) s.settings_of.result (settings_of a.values) a.run.blocks n.new-created.ensures
-          (prefix a.sound.now ps.put_samples-samples.new.out (samples_of a.values) ps.put_samples-samples.result e.0 e.1 (omega (arith, few_samples a.values (long (goal.at.returns c).After-put_samples-samples), ps.requires))) s.settings_of.ensures,
+    let ps = c.put_samples-samples in
+    let a = c.args in
+    let h = inside a.sound.now ps.new.out (samples_of a.values) ps.result ps.ensures.0 ps.ensures.1 (few_samples a.values (long (goal.at.returns c).After-put_samples-samples)) c.requires in
+    let e = ps.ensures in (
+      creation_replay c.new-created.result (take ps.result ps.new.out) (samples_of a.values) c.settings_of.result (settings_of a.values) a.run.blocks c.new-created.ensures
+          (prefix a.sound.now ps.new.out (samples_of a.values) ps.result e.0 e.1 (omega (arith, few_samples a.values (long (goal.at.returns c).After-put_samples-samples), c.requires))) c.settings_of.ensures,
       h,
     )
