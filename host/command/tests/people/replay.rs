@@ -108,7 +108,7 @@ fn program() -> Option<Program> {
     let program = Program::find();
     if program.is_none() {
         eprintln!(
-            "SKIPPED: no target/bin/replay or no kit here, so the command was not compared with the proved program"
+            "SKIPPED: no crates/replay/out/replay here, so the command was not compared with the proved program"
         );
     }
     program

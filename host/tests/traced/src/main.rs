@@ -99,7 +99,8 @@ fn run() -> Result<String, String> {
 }
 
 fn program() -> Result<Program, String> {
-    Program::find().ok_or_else(|| "no target/bin/replay, or no kit: `rt check replay`".to_owned())
+    Program::find()
+        .ok_or_else(|| "no crates/replay/out/replay: run `rt run` in crates/replay".to_owned())
 }
 
 /// Writes a trace to standard output.

@@ -1,8 +1,6 @@
-//! The program `replay` that the kit compiled for x86-64; on Arm it runs in the kit's emulator.
+//! The program `replay` that `rt ci` or `rt run` compiled.
 
 use std::{
-    env,
-    ffi::OsString,
     fs::File,
     io::{self, Read, Write},
     path::{Path, PathBuf},
@@ -13,31 +11,21 @@ use std::{
 /// How the program is run.
 #[derive(Debug, Clone)]
 pub struct Program {
-    words: Vec<OsString>,
+    path: PathBuf,
 }
 
 impl Program {
-    /// The program of this repository, if `rt` has compiled it and its kit is available.
+    /// The program of this repository, if `rt` has compiled it.
     #[must_use]
     pub fn find() -> Option<Self> {
         let root = Path::new(env!("CARGO_MANIFEST_DIR")).join("../../..");
-        let program = root.join("target/bin/replay").canonicalize().ok()?;
-        let machine = kit()?.join("on").join(env::consts::ARCH).join("toolchain");
-        let emulator = machine.join("bin/qemu-x86_64");
-        let library = machine.join("lib");
-        let loader = library.join("ld-linux-x86-64.so.2");
-        let mut words = Vec::new();
-        if emulator.is_file() {
-            words.push(emulator.into());
-        }
-        words.push(loader.is_file().then_some(loader)?.into());
-        words.extend(["--library-path".into(), library.into(), program.into()]);
-        Some(Self { words })
+        let path = root.join("crates/replay/out/replay").canonicalize().ok()?;
+        Some(Self { path })
     }
 
     fn command(&self) -> Command {
-        let mut command = Command::new(&self.words[0]);
-        command.args(&self.words[1..]).stdout(Stdio::piped());
+        let mut command = Command::new(&self.path);
+        command.stdout(Stdio::piped());
         command
     }
 
@@ -80,15 +68,4 @@ impl Program {
             false => Err(io::Error::other(format!("it ended with {status}"))),
         }
     }
-}
-
-/// The kit that `rt` on PATH belongs to.
-fn kit() -> Option<PathBuf> {
-    if let Some(home) = env::var_os("RATTLE_HOME") {
-        return Some(home.into());
-    }
-    let rt = env::split_paths(&env::var_os("PATH")?)
-        .map(|folder| folder.join("rt"))
-        .find(|rt| rt.is_file())?;
-    Some(rt.canonicalize().ok()?.parent()?.parent()?.to_owned())
 }

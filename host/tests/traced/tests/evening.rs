@@ -35,7 +35,7 @@ fn recorded_and_played_again() {
         // Written past the test's capture, so that a person sees it.
         let _ = writeln!(
             std::io::stderr(),
-            "skipped: target/bin/replay is not there, so the program did not print the evening"
+            "skipped: crates/replay/out/replay is not there, so the program did not print the evening"
         );
         return;
     };

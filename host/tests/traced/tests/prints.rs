@@ -11,7 +11,7 @@ fn program(what: &str) -> Option<Program> {
         // Written past the test's capture, so that a person sees it.
         let _ = writeln!(
             std::io::stderr(),
-            "skipped: target/bin/replay or the kit is not there, so {what} were not printed by the program"
+            "skipped: crates/replay/out/replay is not there, so {what} were not printed by the program"
         );
     }
     found

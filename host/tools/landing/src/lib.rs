@@ -115,7 +115,10 @@ fn function(line: &str) -> Option<&str> {
 
 fn is_clause(line: &str) -> bool {
     let line = line.trim_start();
-    line.starts_with("requires ") || line.starts_with("ensures ")
+    let rest = ["requires", "ensures"]
+        .iter()
+        .find_map(|word| line.strip_prefix(word));
+    rest.is_some_and(|rest| rest.starts_with([' ', '*']))
 }
 
 /// How a set of items changed.

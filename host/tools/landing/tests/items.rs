@@ -2,9 +2,9 @@
 
 use landing::{change, contracts, definitions};
 
-const SPECS: &str = "-- A block.\nuse lib.Ieee.{Float}\n\n-- the sum\nunfoldable pub total : Float → Float\nunfolding advance\ntotal dt = add dt\n\npub record Outcome : Type 0 where\n  pub answer : Processed\n\nabbrev pub holds : Lanes → Bool\nholds b = true\n";
+const SPECS: &str = "-- A block.\nuse Rattle.std.specs.Prelude.{Float}\n\n-- the sum\nunfoldable pub total : Float → Float\nunfolding advance\ntotal dt = add dt\n\npub record Outcome : Type 0 where\n  pub answer : Processed\n\nabbrev pub holds : Lanes → Bool\nholds b = true\n";
 
-const SOURCE: &str = "struct S {\n    a: u32,\n}\n\nfn plain(n: u32) -> u32 {\n    n\n}\n\nimpl Voice {\n    // Moves on.\n    pub fn turned(self, n: u32) -> Voice\n        requires { ⌜ n < 4 ⌝ }\n        ensures { λ r. ⌜ r ≡ turned self n ⌝ }\n    {\n        self\n    }\n}\n\n#[no_mangle]\npub extern \"C\" fn entry(\n    n: u32,\n) -> u32\n    ensures { λ r. ⌜ r ≡ n ⌝ }\n{\n    n\n}\n";
+const SOURCE: &str = "struct S {\n    a: u32,\n}\n\nfn plain(n: u32) -> u32 {\n    n\n}\n\nimpl Voice {\n    // Moves on.\n    pub fn turned(self, n: u32) -> Voice\n        requires below_four { n < 4 }\n        ensures { result ≡ turned self n }\n    {\n        self\n    }\n}\n\n#[unsafe(no_mangle)]\npub extern \"C\" fn entry(\n    n: u32,\n) -> u32\n    ensures* { result ≡ n }\n{\n    n\n}\n";
 
 #[test]
 fn definitions_by_name() {

@@ -40,7 +40,7 @@ fn words(page: &str) -> (BTreeSet<String>, BTreeSet<String>) {
     (not.collect(), kept.filter(|word| word != "word").collect())
 }
 
-/// The parts of an identifier in lower case: `isTrail`, `is_trail` and `is-trail` have the same two.
+/// The parts of an identifier in lower case: `isTrail`, `is_trail` and `is.trail` have the same two.
 fn parts(identifier: &str) -> Vec<String> {
     let mut parts = vec![String::new()];
     let mut before = ' ';
@@ -66,11 +66,15 @@ fn identifiers(text: &str) -> BTreeSet<&str> {
         let end = [line.find("//"), line.find("-- ")];
         &line[..end.into_iter().flatten().min().unwrap_or(line.len())]
     });
-    let is_part = |c: char| c.is_alphanumeric() || "_-·'".contains(c);
+    let is_part = |c: char| c.is_alphanumeric() || "_.'".contains(c);
     let code = code.flat_map(|line| line.split('"').step_by(2));
     let found = code.flat_map(|line| line.split(move |c| !is_part(c)));
+    // `Rattle.NAME.specs`: the crate NAME is no identifier of its own.
     found
-        .filter(|name| !name.starts_with("Rattle·"))
+        .filter_map(|name| match name.strip_prefix("Rattle.") {
+            Some(path) => path.split_once('.').map(|(_, inside)| inside),
+            None => Some(name),
+        })
         .filter(|name| !name.to_lowercase().starts_with("cableowl"))
         .collect()
 }
@@ -114,13 +118,15 @@ fn a_word_that_the_glossary_rejects_is_no_part_of_an_identifier() {
 
 #[test]
 fn an_identifier_is_seen_part_by_part() {
-    for name in ["isTrail", "is_trail", "is-trail"] {
+    for name in ["isTrail", "is_trail", "is.trail"] {
         assert_eq!(parts(name), ["is", "trail"], "{name}");
     }
-    let found = identifiers("use Rattle·trail.{isTrail} -- a trail\nlet x = trail_at(y); // trail");
+    let found = identifiers(
+        "use Rattle.trail.specs.Tracks.{is_trail} -- a trail\nlet x = trail_at(y.trail); // trail",
+    );
     let found: Vec<&str> = found
         .into_iter()
         .filter(|name| name.contains("rail"))
         .collect();
-    assert_eq!(found, ["isTrail", "trail_at"]);
+    assert_eq!(found, ["is_trail", "trail_at", "y.trail"]);
 }

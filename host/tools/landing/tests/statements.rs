@@ -7,8 +7,8 @@ use landing::{FILE, Sources, changes, contracts, definitions, pinned, statements
 
 const SPECS: &str = "\
 -- A block.
-use lib.Ieee.{Float, add}
-use Rattle·numbers.specs.Lists.{all}
+use Rattle.std.specs.Float.Ieee.{Float, add}
+use Rattle.numbers.specs.Lists.{all}
 
 -- the sum
 unfoldable pub total : Float → Float
@@ -21,32 +21,32 @@ module _ {K : Type 0} where
 
 pub record Promises : Type 0 where
   -- the first
-  pub cut-blocks :
+  pub cut_blocks :
     (n : ℕ) → Cut n
-  pub cut-mixes : CutMixes
+  pub cut_mixes : CutMixes
 ";
 
 const SOURCE: &str = "\
-ghost use Rattle·block·specs.specs.Blocks.{total};
+ghost use Rattle.block.specs.Blocks.{total};
 
 use numbers::narrow;
 
 // Plays.
 pub fn plays(dt: f64, n: u32) -> f64
-    requires { ⌜ n < 4 ⌝ }
-    ensures { λ r. ⌜ r ≡ total dt ⌝ }
+    requires { n < 4 }
+    ensures value { result ≡ total dt }
 {
     narrow(dt)
 }
 
 fn helper(n: u32) -> u32
-    ensures { λ r. ⌜ r ≡ n ⌝ }
+    ensures { result ≡ n }
 {
     n
 }
 
 pub fn promised()
-    ensures { λ r. ⌜ Promises ⌝ }
+    ensures { Promises }
 {}
 ";
 
@@ -143,8 +143,8 @@ fn the_statements_of_a_crate() {
             "block/src/lib.rt names",
             "block::Decides definition",
             "block::Promises definition",
-            "block::Promises.cut-blocks field",
-            "block::Promises.cut-mixes field",
+            "block::Promises.cut_blocks field",
+            "block::Promises.cut_mixes field",
             "block::plays contract",
             "block::promised contract",
             "block::total definition",
@@ -162,7 +162,7 @@ fn comments_layout_bodies_and_private_functions_do_not_count() {
             "total dt = add dt (last dt)",
             "total dt =\n    add dt ( last dt ) -- all",
         ),
-        ("  pub cut-blocks :\n    (n", "  pub cut-blocks : (n"),
+        ("  pub cut_blocks :\n    (n", "  pub cut_blocks : (n"),
         ("{Float, add}", "{add, Float}"),
     ] {
         assert_eq!(differ(edit, same), none, "{edit:?}");
@@ -171,7 +171,7 @@ fn comments_layout_bodies_and_private_functions_do_not_count() {
         ("// Plays.\n", "// Plays on.\n"),
         ("    narrow(dt)\n", "    dt\n"),
         ("(dt: f64, n: u32)", "(\n    dt: f64, n: u32\n)"),
-        ("r ≡ n ⌝", "r ≡ 0 ⌝"),
+        ("result ≡ n }", "result ≡ 0 }"),
         ("use numbers::narrow;\n", ""),
     ] {
         assert_eq!(differ(same, edit), none, "{edit:?}");
@@ -199,19 +199,19 @@ fn a_weaker_statement_is_a_line() {
         // a promise, a removed promise, two that changed places
         (
             ("(n : ℕ) → Cut n", "(n : ℕ) → n ≡ 0 → Cut n"),
-            vec!["block::Promises.cut-blocks field"],
+            vec!["block::Promises.cut_blocks field"],
         ),
         (
-            ("  pub cut-mixes : CutMixes\n", ""),
+            ("  pub cut_mixes : CutMixes\n", ""),
             vec![
                 "block::Promises definition",
-                "-block::Promises.cut-mixes field",
+                "-block::Promises.cut_mixes field",
             ],
         ),
         (
             (
-                "  pub cut-mixes : CutMixes\n",
-                "  pub cut-mixes : CutMixes\n  pub more : Cut\n",
+                "  pub cut_mixes : CutMixes\n",
+                "  pub cut_mixes : CutMixes\n  pub more : Cut\n",
             ),
             vec!["block::Promises definition", "+block::Promises.more field"],
         ),
@@ -229,12 +229,12 @@ fn a_weaker_statement_is_a_line() {
     }
     for (edit, lines) in [
         (
-            ("r ≡ total dt", "r ≤ total dt"),
+            ("result ≡ total dt", "result ≤ total dt"),
             vec!["block::plays contract"],
         ),
         (("n < 4", "n < 3"), vec!["block::plays contract"]),
         (
-            ("    ensures { λ r. ⌜ r ≡ total dt ⌝ }\n", ""),
+            ("    ensures value { result ≡ total dt }\n", ""),
             vec!["block::plays contract"],
         ),
         (
@@ -242,7 +242,7 @@ fn a_weaker_statement_is_a_line() {
             vec!["block::plays contract"],
         ),
         (
-            ("    ensures { λ r. ⌜ Promises ⌝ }\n", ""),
+            ("    ensures { Promises }\n", ""),
             vec!["-block::promised contract"],
         ),
         (
@@ -266,7 +266,7 @@ fn a_crate_under_another_name_moves_its_lines_and_changes_no_digest() {
     assert!(moved.contains(&"block::plays contract → slab::plays contract".to_owned()));
     // In other files only the lines that say where names come from change.
     assert_eq!(
-        differ(("Rattle·numbers", "Rattle·figures"), ("", "")),
+        differ(("Rattle.numbers", "Rattle.figures"), ("", "")),
         ["block/specs/Blocks.antt names"]
     );
 }

@@ -43,7 +43,7 @@ fn every_promise_is_documented() {
 
 #[test]
 fn a_function_is_found_in_its_type_and_alone() {
-    let source = "impl Transport {\n    pub fn seek_to(mut self) -> Transport\n    {\n    }\n}\n\npub fn judge(\n    dt: f64,\n) -> u32\n{\n}\n#[no_mangle]\npub extern \"C\" fn cableowl_new() -> u32 {\n}\nfn private() {\n}\npub(crate) fn sealed() {\n}\n";
+    let source = "impl Transport {\n    pub fn seek_to(mut self) -> Transport\n    {\n    }\n}\n\npub fn judge(\n    dt: f64,\n) -> u32\n{\n}\n#[unsafe(no_mangle)]\npub extern \"C\" fn cableowl_new() -> u32 {\n}\nfn private() {\n}\npub(crate) fn sealed() {\n}\n";
     let found = functions("k", source);
     let named = |public: bool| -> Vec<&str> {
         let found = found.iter().filter(|f| f.public == public);
