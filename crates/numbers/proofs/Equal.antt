@@ -1,5 +1,5 @@
 -- Equal floats that are not 0 are the same float, and a list of them is one float repeated. Assumes nothing.
-use Rattle.std.proofs.Common.{◌≡◌, ℕ, zero, suc, ◌+◌, ◌*◌, ◌<◌, ◌≤◌, Bool, true, false, ◌&&◌, ◌||◌, T, eqb, ltb, List, [], ◌∷◌, length, get_or, replicate, ℤ, pos, sym, refl, ap, ◌∙◌, subst, ap₂, true≢false, not-suc-le-zero, zero-mul, arith, ltb-false, ltb-true, eq-eqb, eqb-true}
+use Rattle.std.proofs.Common.{◌≡◌, ℕ, zero, suc, ◌+◌, ◌*◌, ◌<◌, ◌≤◌, Bool, true, false, ◌&&◌, ◌||◌, T, eqb, ltb, List, [], ◌∷◌, length, get_or, replicate, ℤ, pos, sym, refl, ap, ◌∙◌, ap₂, true≢false, not-suc-le-zero, zero-mul, arith, ltb-false, ltb-true, eq-eqb, eqb-true}
 use mathlib.Core.Bool.{false≢true, beq}
 use native.Mathlib.Nat.{eq_of_mul-eq-mul_right}
 use lib.Ieee.{Float, nan, inf, fin, Format, up, down, eq, fits}

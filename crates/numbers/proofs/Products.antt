@@ -1,8 +1,8 @@
 -- The sign of a product: factors may be exchanged, a negative factor makes a negative product, and the magnitude of a
 -- product is the product with the factor's magnitude. A magnitude is bounded if the number is, on both sides. Assumes nothing.
-use Rattle.std.proofs.Common.{◌≡◌, ℕ, ◌+◌, ◌*◌, ◌≤◌, Bool, true, false, cond, not, ◌&&◌, ◌||◌, T, eqb, ltb, ℤ, pos, sym, refl, ap, ◌∙◌, ap₂, mul_comm, add_comm, arith, ltb-false, eq-eqb, ne_eqb, eqb-true}
+use Rattle.std.proofs.Common.{◌≡◌, ℕ, ◌+◌, ◌*◌, ◌≤◌, Bool, true, false, cond, not, ◌&&◌, ◌||◌, T, eqb, ltb, ℤ, pos, sym, refl, ap, ◌∙◌, ap₂, mul_comm, arith, ltb-false, eq-eqb, ne_eqb, eqb-true}
 use mathlib.Core.Bool.{false≢true}
-use lib.Ieee.{Float, nan, inf, fin, Format, binary64, up, down, unlike, round, neg, mul, lt, le, eq, of_int, is_nan}
+use lib.Ieee.{Float, nan, inf, fin, Format, binary64, up, down, unlike, round, neg, mul, lt, le, eq, of_int}
 use borrow.Author.Tests.{eqb-false}
 use Rattle.numbers.specs.Words.{positive_zero, magnitude, advance}
 use Rattle.numbers.proofs.Signs.{clear, round_clear, mul_clear}

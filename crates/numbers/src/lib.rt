@@ -1,4 +1,6 @@
 // Float arithmetic of the player: fractions of a frame, seconds to frames, narrowing an f64, and tests on floats.
+#![tactic(auto)]
+
 ghost use Rattle.std.specs.Prelude.{◌≡◌, false, T, pos};
 ghost use Rattle.std.specs.Float.Ieee as Ieee;
 ghost use Rattle.std.specs.Float.{fin, binary64};

@@ -1,6 +1,7 @@
 // The refusals by name, in the order of document 01's table; 0 is no refusal. The header has the same names and
 // numbers, and the sentence for each.
 
+#![tactic(auto)]
 pub mod words;
 
 // The state, or the table of loops, is not well formed.

@@ -1,6 +1,7 @@
 // Plays a trace from standard input: one line per block on standard output (docs/formats/TRACE.md).
 // `trace_replay::advance` plays each record; this file only reads and writes. The input can have any length: a window
 // moves over it that holds a whole record or the input's end.
+#![tactic(auto)]
 ghost use Rattle.std.specs.Prelude.{◌≡◌, ◌-◌, ◌≤◌, length};
 ghost use Rattle.replay.specs.Windows.{Held};
 

@@ -1,5 +1,6 @@
 // The marked examples of docs/assurance/RULES.md about the leaves that no theorem states: each is run, printed and
 // compared. N = 10 and loop (3, 6) unless stated otherwise. 1 means yes.
+#![tactic(auto)]
 ghost use Rattle.std.specs.Prelude.{◌≡◌, ◌<◌};
 ghost use Rattle.test_leaf_examples.specs.Places.{at, plain};
 

@@ -1,6 +1,7 @@
 // The marked examples of docs/assurance/RULES.md about voices that no theorem states, and both zeros as held rates:
 // each is run, printed and compared. 1 Hz, rate 1, a time step of 1 and unit lanes unless stated otherwise. 1 means
 // yes.
+#![tactic(auto)]
 use playback_position::{EndPosition, PlaybackPosition, Region};
 use playback_state_manager::StartAnswer;
 use sound_block::Signals;

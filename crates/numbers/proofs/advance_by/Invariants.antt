@@ -1,9 +1,8 @@
 -- `numbers::advance_by` meets its contract. The invariant: the steps made plus the rest are the sum (`Spinning`).
 -- The measure is the whole part of the rest. Assumes nothing.
-use Rattle.std.proofs.Common.{arith}
-use lib.Ieee.{binary64, add, of_bits}
+use lib.Ieee.{binary64, add}
 use Rattle.numbers.specs.Words.{whole}
-use Rattle.numbers.proofs.Stepping.{Spinning, spinning, spun, spun_out}
+use Rattle.numbers.proofs.Stepping.{Spinning}
 use Rattle.numbers.proofs.advance_by.Given as goal
 
 abbrev pub invariant-loop-rest : goal.invariant-loop-rest

@@ -1,5 +1,5 @@
 -- `numbers::narrow` meets its contract: `proofs/Narrowing.antt` has the proof. Assumes nothing.
-use Rattle.std.proofs.Common.{not, ◌&&◌, T, sym, subst, inl, inr, ⊎_elim, arith}
+use Rattle.std.proofs.Common.{not, ◌&&◌, T, sym, subst, inl, inr, arith}
 use lib.Ieee.{Float, binary32, fits, is_nan}
 use Rattle.numbers.proofs.Narrowing.{Narrows, narrows, proper_no_nan, magic_no_nan, narrowed_fits}
 use Rattle.numbers.proofs.narrow.Goals as goal
@@ -12,8 +12,8 @@ all : (c : Joined-field-lt897) → Narrows c.args.x c.if-field-lt897.at
 all c =
     narrows c.args.x c.if-field-lt897.at (subst T (sym c.well_formed.0.1) tt) c.requires
     (elim c.if-field-lt897.branch [
-      then-field-lt897 w ↦ let e = w.at-is in record { least = omega arith; field = omega arith; which = inl e }
-    | else-field-lt897 w ↦ let e = w.at-is in record { least = omega arith; field = omega arith; which = inr e }
+      | then-field-lt897 w ↦ let e = w.at-is in record { least = omega arith; field = omega arith; which = inl e }
+      | else-field-lt897 w ↦ let e = w.at-is in record { least = omega arith; field = omega arith; which = inr e }
     ])
 
 pub overflow_add-c : goal.overflow_add-c
