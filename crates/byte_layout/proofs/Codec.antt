@@ -1,19 +1,19 @@
 -- A layout reads what it writes, and writes what it reads. By induction on the rows; each row is one case of `stands`.
 use mathlib.Core.Path.{◌≡◌, refl, sym, ap, ◌∙◌}
-use Prim.Native.Nat.{ℕ, zero, suc, ◌+◌, ◌-◌, ◌*◌, ◌^◌, ◌≤◌, ◌<◌}
+use Prim.Native.Nat.{ℕ, ◌+◌, ◌-◌, ◌^◌, ◌≤◌, ◌<◌}
 use native.Mathlib.Omega.{arith}
 use mathlib.Core.Bool.{Bool, true, false, ◌&&◌, cond}
 use mathlib.Core.List.{List, [], ◌∷◌, ◌++◌, append_assoc, append-nil}
-use lib.Dec.{ltb, leb, eqb}
-use lib.ListN.{length, get_or, take, drop, length-append, take-append-drop, length-drop}
-use lib.Seq.{take_at, drop_at, length-take-le}
+use lib.Dec.{ltb, leb}
+use lib.ListN.{length, take, drop, length-append, take-append-drop}
+use lib.Seq.{take_at, drop_at}
 use borrow.Author.Tests.{le-leb, leb-true, ltb-true, eqb-true}
 use Rattle.byte_layout.specs.declared.Row.{Row}
 use Rattle.byte_layout.specs.Numbers.{num, bytes}
 use Rattle.byte_layout.specs.Rows.{stands, within, sound}
 use Rattle.byte_layout.specs.Reads.{Reading, bad, good, taken, step, steps}
 use Rattle.byte_layout.specs.Writes.{field, payload, fits, fine}
-use Rattle.byte_layout.proofs.Numbers.{Small, small_drop, length_bytes, num_lt, num_bytes, bytes_num}
+use Rattle.byte_layout.proofs.Numbers.{Small, small_drop, length_bytes, num_bytes, bytes_num}
 
 none : {A : Type 0} → ⊥ → A
 none e = elim e [ ]

@@ -1,13 +1,12 @@
 -- The loop over the rows: one more row, and what holds for every row of a `sound` table.
 use mathlib.Core.Path.{◌≡◌, refl, sym, ap, ◌∙◌}
-use Prim.Native.Nat.{ℕ, zero, suc, ◌+◌, ◌-◌, ◌*◌, ◌≤◌, ◌<◌}
+use Prim.Native.Nat.{ℕ, zero, suc, ◌+◌, ◌-◌, ◌≤◌, ◌<◌}
 use native.Mathlib.Omega.{arith}
 use native.Mathlib.Numerals.{add-one}
 use mathlib.Core.Bool.{true}
 use mathlib.Core.List.{List}
 use lib.ListN.{drop}
 use lib.Seq.{drop-drop}
-use Rattle.byte_layout.specs.declared.Row.{Row}
 use Rattle.byte_layout.specs.Rows.{row_at, rows, sound}
 use Rattle.byte_layout.specs.Reads.{Reading, step, steps}
 use Rattle.byte_layout.proofs.Codec.{Sound, sound_cons}

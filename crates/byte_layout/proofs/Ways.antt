@@ -1,19 +1,18 @@
 -- Each result that one row can have, from the tests of the code.
-use mathlib.Core.Path.{◌≡◌, refl, sym, ap, ◌∙◌}
-use Prim.Native.Nat.{ℕ, zero, suc, ◌+◌, ◌-◌, ◌*◌, ◌≤◌, ◌<◌}
+use mathlib.Core.Path.{◌≡◌, refl, ap}
+use Prim.Native.Nat.{ℕ, ◌+◌, ◌-◌, ◌≤◌, ◌<◌}
 use native.Mathlib.Omega.{arith}
 use native.Mathlib.Numerals.{add-one}
-use mathlib.Core.Bool.{Bool, true, false, cond}
-use mathlib.Core.List.{List, [], ◌∷◌, ◌++◌}
-use lib.Dec.{ltb, leb, eqb}
-use lib.ListN.{length, get_or, take, drop, set, length-drop, replicate}
+use mathlib.Core.Bool.{true, false}
+use mathlib.Core.List.{List, []}
+use lib.ListN.{length, take, drop, set, length-drop, replicate}
 use lib.Seq.{take-suc-set, drop-drop}
 use borrow.Author.Tests.{le-leb, lt-leb, eq-eqb, ne_eqb}
 use Rattle.byte_layout.specs.declared.Row.{Row}
 use Rattle.byte_layout.specs.declared.Parsed.{Parsed}
 use Rattle.byte_layout.specs.Numbers.{num}
 use Rattle.byte_layout.specs.Rows.{stands, within}
-use Rattle.byte_layout.specs.Reads.{Reading, bad, good, taken, step, steps, view}
+use Rattle.byte_layout.specs.Reads.{bad, good, taken, step, view}
 
 pub opened : (s : List ℕ) (i : ℕ) (p : Parsed) → p.refused ≤ 0 → view s i p ≡ good p.left (take i p.values) (drop p.at s)
 opened s i p h = rw (eq-eqb p.refused 0 (omega arith)) refl

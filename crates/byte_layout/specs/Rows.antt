@@ -1,7 +1,7 @@
 -- A layout is a list of rows, one number each, kept as a table of six numbers a row: width, guard, low, least, most,
 -- refusal. A row is present if the number of an earlier row, its guard, is at least `low`; a row with `low` 0 is
 -- always present.
-use Rattle.std.specs.Prelude.{ℕ, zero, suc, ◌+◌, ◌*◌, ◌^◌, Bool, true, false, ◌&&◌, List, [], ◌∷◌, ltb, leb, get_or}
+use Rattle.std.specs.Prelude.{ℕ, zero, suc, ◌+◌, ◌*◌, ◌^◌, Bool, true, ◌&&◌, List, [], ◌∷◌, ltb, leb, get_or}
 use Rattle.byte_layout.specs.declared.Row.{Row}
 
 -- row j of a table

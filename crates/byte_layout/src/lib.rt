@@ -1,6 +1,7 @@
 // Numbers as bytes, by a table of rows: one reader and one writer for every table. What is written is read back as
 // the same numbers, and what is read is written again byte for byte (proofs/Codec.antt).
 #![tactic(auto)]
+
 ghost use Rattle.std.specs.Prelude.{◌≡◌, ◌+◌, ◌-◌, ◌*◌, ◌≤◌, ◌<◌, true, [], length, take, drop, get_or, replicate};
 ghost use Rattle.std.proofs.lemmas.List.Edits.{sets};
 ghost use Rattle.byte_layout.specs.Numbers.{num, bytes};

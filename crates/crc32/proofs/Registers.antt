@@ -1,14 +1,14 @@
 -- Eight bits of the register at once: the table has the effect of the low byte, and the rest is shifted. Assumes nothing.
 use mathlib.Core.Path.{◌≡◌, refl, sym, ap, ap₂, ◌∙◌, subst}
-use mathlib.Core.Bool.{Bool, true, false}
-use mathlib.Core.List.{List, [], ◌∷◌}
+use mathlib.Core.Bool.{Bool}
+use mathlib.Core.List.{List, []}
 use Prim.Native.Nat.{ℕ, zero, suc, ◌+◌, ◌-◌, ◌*◌, ◌/◌, ◌%◌, ◌^◌, ◌<◌}
 use native.Mathlib.Omega.{arith}
 use lib.Dec.{T, eqb, eqb→eq}
 use lib.ListN.{length, get_or, take, drop, length-drop, drop_of_length-le}
 use native.Mathlib.Numerals.{add-one}
 use lib.Seq.{drop-cons, take_all}
-use lib.Bits.{bit_xor, bit_and, differ, and_mask, shifted_half, shifted_even, xor_shr, xor_zero_r}
+use lib.Bits.{bit_xor, bit_and, differ, and_mask, shifted_half, shifted_even}
 use Rattle.tables.proofs.Every.{every, at}
 use Rattle.crc32.specs.Checksums.{bit, bits, byte, register, checksum_of, Table}
 use Rattle.crc32.proofs.Xor.{xor_half, xor_odd, xor_four, xor_split}

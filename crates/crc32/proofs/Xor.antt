@@ -5,7 +5,7 @@ use native.Mathlib.Nat.{mod-lt, div-add-mod'}
 use native.Mathlib.Omega.{arith}
 use lib.Arith.{bin_ind}
 use lib.Pow.{pow_pos}
-use lib.Bits.{bit_xor, differ, xor_step, xor_shr, xor_mod, xor_comm, xor_zero_r, xor_shifted}
+use lib.Bits.{bit_xor, differ, xor_step, xor_shr, xor_mod, xor_comm, xor_shifted}
 
 none : {A : Type 0} → ⊥ → A
 none e = elim e [ ]

@@ -1,5 +1,6 @@
 // CRC-32, the checksum of IEEE 802.3. It shows whether a flash fault has changed bytes.
 #![tactic(auto)]
+
 ghost use Rattle.std.specs.Prelude.{◌≡◌, take, drop};
 ghost use Rattle.crc32.specs.Checksums as Checksums;
 ghost use Rattle.crc32.specs.Checksums.{Table, register, byte, checksum_of};

@@ -1,9 +1,9 @@
 -- An entry divided by 2^24 is an f32 exactly: below 2^24 it has 24 digits, and 2^24 itself is a power of two. Assumes nothing.
 use mathlib.Core.Path.{◌≡◌, refl, sym, ap, ◌∙◌, subst}
 use mathlib.Core.Bool.{Bool, true, false, cond, not}
-use Prim.Native.Nat.{ℕ, ◌*◌, ◌^◌, ◌≤◌, ◌<◌}
+use Prim.Native.Nat.{ℕ, ◌^◌, ◌≤◌, ◌<◌}
 use native.Mathlib.Nat.{le_antisymm, lt_of_lt_of_le, mul_assoc}
-use lib.Dec.{T, ltb, leb, le→leb, lit<, lit≤}
+use lib.Dec.{T, ltb, le→leb, lit<, lit≤}
 use lib.IntN.{pos}
 use lib.Pow.{shl_lt}
 use lib.Ieee.{Float, nan, inf, fin, binary32, round, div, of_int, of_bits, in_float}

@@ -5,7 +5,7 @@ use mathlib.Core.Bool.{Bool, not}
 use mathlib.Core.List.{List}
 use Prim.Native.Nat.{ℕ, suc, ◌*◌, ◌^◌, ◌≤◌, ◌<◌}
 use native.Mathlib.Nat.{le_trans, zero-mul, one-le-pow, pow-le-pow_left, mul-le-mul_right, mul-le-mul_left, lt_of_lt_of_le, le_of_eq, mul-one, not-le_of_lt}
-use lib.Dec.{T, leb, leb→le, le→leb, nleb→lt, not_T, lit<, lit≤}
+use lib.Dec.{T, leb→le, le→leb, nleb→lt, not_T, lit<, lit≤}
 use lib.ListN.{length, get_or}
 use Rattle.tables.specs.Largest.{largest}
 use Rattle.tables.proofs.Every.{every}

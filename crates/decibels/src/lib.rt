@@ -1,6 +1,7 @@
 // Levels in tenths of a decibel below full level, 601 for silence: their amplitudes, and the ramp that fills a fade
 // lane.
 #![tactic(auto)]
+
 ghost use Rattle.std.specs.Prelude.{◌≡◌, ◌/◌, ◌<◌, ◌≤◌, length};
 ghost use Rattle.decibels.specs.Levels as Levels;
 ghost use Rattle.decibels.specs.Levels.{Table, level_refusal, amplitude_or};

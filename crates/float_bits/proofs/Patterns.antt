@@ -1,10 +1,10 @@
 -- A pattern is a NaN's if and only if it lies above infinity's, its top bit aside. Assumes nothing.
 use mathlib.Core.Path.{◌≡◌, sym, ap, subst, ◌∙◌}
-use Prim.Native.Nat.{ℕ, ◌*◌, ◌^◌, ◌≤◌, ◌<◌, ◌-◌}
+use Prim.Native.Nat.{ℕ, ◌≤◌, ◌<◌}
 use mathlib.Core.Bool.{Bool, true, false, not, cond}
 use lib.Bits.{bit_and, and_mask}
 use lib.Dec.{T, ltb}
-use lib.Ieee.{Float, nan, Format, binary32, binary64, of_bits, nan_bits, ones, hid}
+use lib.Ieee.{nan, Format, binary32, binary64, of_bits, nan_bits}
 use lib.Ieee.Bits.{nan_bits_above}
 use borrow.Author.Tests.{lt-ltb, le-ltb}
 use Rattle.float_bits.specs.Patterns.{float_of}

@@ -1,5 +1,6 @@
 // Hexadecimal digits, and floats from their bits and back. Every NaN is represented by one canonical bit pattern.
 #![tactic(auto)]
+
 ghost use Rattle.std.specs.Prelude.{◌≡◌};
 ghost use Rattle.std.specs.Float.{binary32, binary64};
 ghost use Rattle.float_bits.specs.Patterns.{digit, float_of, bits_of};

@@ -2,12 +2,12 @@
 -- round to zero. Assumes nothing.
 use mathlib.Core.Path.{◌≡◌, refl, sym, ap, ap₂, ◌∙◌, subst}
 use Prim.Native.Nat.{ℕ, zero, suc, ◌+◌, ◌-◌, ◌*◌, ◌^◌, ◌<◌, ◌≤◌}
-use native.Mathlib.Nat.{le_trans, le_of_eq, one-mul, zero-mul, mul-one, mul_comm, mul_assoc, mul_right_comm, mul-pos, mul-sub, add-mul, zero-lt-suc, mul-le-mul_right, mul-lt-mul_of_pos_right, lt_of_mul-lt-mul_right}
+use native.Mathlib.Nat.{le_trans, le_of_eq, one-mul, zero-mul, mul_comm, mul_assoc, mul_right_comm, mul-pos, mul-sub, add-mul, zero-lt-suc, mul-le-mul_right, mul-lt-mul_of_pos_right, lt_of_mul-lt-mul_right}
 use native.Mathlib.Omega.{arith}
-use mathlib.Core.Bool.{Bool, true, false, not, ◌&&◌, beq, cond}
-use lib.IntN.{ℤ, pos, negsuc}
-use lib.Dec.{T, ltb, leb, eqb, eqb→eq, lit<, ltb→lt}
-use lib.Ieee.{Float, nan, inf, fin, Format, binary32, up, down, round, neg, sum, add, le, fits}
+use mathlib.Core.Bool.{Bool, true, false, ◌&&◌, cond}
+use lib.IntN.{ℤ, negsuc}
+use lib.Dec.{T, ltb, eqb, eqb→eq, lit<, ltb→lt}
+use lib.Ieee.{Float, nan, inf, fin, binary32, up, down, round, neg, sum, add, le, fits}
 use lib.Ieee.Fits.{down_pos, up_pos}
 use lib.Ieee.Order.{round_mono}
 use Rattle.numbers.proofs.Signs.{clear, round_clear}

@@ -1,15 +1,14 @@
 -- The cubic with its third coefficient as a difference: the same number, for samples that fit. Assumes nothing.
 use mathlib.Core.Path.{◌≡◌, refl, sym, ap, ap₂, ◌∙◌, subst}
-use Prim.Native.Nat.{ℕ, zero, suc, ◌+◌, ◌-◌, ◌*◌, ◌^◌, ◌<◌, ◌≤◌}
+use Prim.Native.Nat.{ℕ, zero, suc, ◌+◌, ◌-◌, ◌*◌, ◌<◌, ◌≤◌}
 use native.Mathlib.Nat.{zero-mul, mul-pos, zero-lt-suc}
 use native.Mathlib.Omega.{arith}
-use mathlib.Core.Bool.{Bool, true, false, not, ◌&&◌, beq, cond}
+use mathlib.Core.Bool.{Bool, true, false, ◌&&◌, cond}
 use lib.IntN.{ℤ, pos, negsuc}
 use lib.Dec.{T, ltb, eqb, eqb→eq}
 use borrow.Author.Tests.{ltb-true, ltb-false}
 use lib.Ieee.{Float, nan, inf, fin, Format, binary32, up, down, unlike, round, neg, sum, add, sub, mul, fits}
 use lib.Ieee.Fits.{up_pos, down_pos, neg-fits, add-fits, sub-fits, mul-fits}
-use Rattle.numbers.specs.Words.{positive_zero}
 use Rattle.numbers.proofs.Signs.{clear, round_clear, mul_clear}
 use Rattle.numbers.proofs.Bounds.{round_neg}
 use Rattle.numbers.proofs.Silence.{round_positive_zero, mul_positive_zero}

@@ -1,5 +1,6 @@
 // A frame of two samples, and the value between four frames.
 #![tactic(auto)]
+
 ghost use Rattle.std.specs.Prelude.{◌≡◌};
 ghost use Rattle.frame.specs.Frames.{cubic, interpolated};
 

@@ -1,5 +1,6 @@
 // Positions in a sound, in seconds or frames, as frame indices; and regions between two positions.
 #![tactic(auto)]
+
 ghost use Rattle.std.specs.Prelude.{◌≡◌};
 ghost use Rattle.playback_position.specs.Positions.{
   within,

@@ -1,5 +1,6 @@
 // The seven playback states: pause, resume, stop, and one change per block.
 #![tactic(auto)]
+
 ghost use Rattle.std.specs.Prelude.{◌≡◌};
 ghost use Rattle.playback_state_manager.specs.States.{
   number,

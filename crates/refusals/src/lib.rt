@@ -2,6 +2,7 @@
 // numbers, and the sentence for each.
 
 #![tactic(auto)]
+
 pub mod words;
 
 // The state, or the table of loops, is not well formed.

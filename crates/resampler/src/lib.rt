@@ -1,5 +1,6 @@
 // The window: the four most recent frames, each with its frame index, and how many pushes until all are silent.
 #![tactic(auto)]
+
 ghost use Rattle.std.specs.Prelude.{◌≡◌, ◌-◌};
 ghost use Rattle.resampler.specs.Windows.{fresh, push, reading, current_frame_index, is_empty};
 

@@ -1,22 +1,21 @@
 -- The rule of the table, and that a ratio is exact: an entry is below 2^49, so four octaves up it has 53 digits. Assumes nothing.
-use mathlib.Core.Path.{◌≡◌, refl, sym, ap, ◌∙◌, subst}
-use mathlib.Core.Bool.{Bool, true, false, not, cond}
+use mathlib.Core.Path.{◌≡◌, sym, ap, ◌∙◌, subst}
+use mathlib.Core.Bool.{Bool, false, not}
 use mathlib.Core.List.{List}
 use Prim.Native.Nat.{ℕ, suc, ◌+◌, ◌*◌, ◌/◌, ◌%◌, ◌^◌, ◌≤◌, ◌<◌}
-use native.Mathlib.Nat.{le_trans, lt_of_lt_of_le, lt_of_le_of_lt, le_of_lt, not-le_of_lt, pow-le-pow_left, mul-le-mul, mul_assoc}
+use native.Mathlib.Nat.{le_trans, lt_of_lt_of_le, lt_of_le_of_lt, not-le_of_lt, pow-le-pow_left, mul-le-mul, mul_assoc}
 use native.Mathlib.Omega.{arith}
-use lib.Dec.{T, leb, leb→le, le→leb, nleb→lt, not_T, lit<, lit≤}
+use lib.Dec.{T, leb→le, le→leb, nleb→lt, not_T, lit<, lit≤}
 use lib.IntN.{pos}
 use lib.ListN.{length, get_or}
 use lib.Pow.{pow_mono, shl_lt}
-use lib.Ieee.{Float, nan, binary64, round, mul, div, of_int, of_bits, in_float}
+use lib.Ieee.{binary64, round, div, of_int, of_bits, in_float}
 use lib.Ieee.Exact.{HasValue, round_exact}
-use borrow.Author.Tests.{le-leb, lt-leb}
 use Rattle.tables.specs.Largest.{largest}
 use Rattle.tables.proofs.Every.{every}
 use Rattle.tables.proofs.Largest.{Down, right, entry_fits, entry_full, entry_largest, none_above, largest_fits, largest_full, largest_low}
 use Rattle.tables.proofs.Quotients.{quotient}
-use Rattle.semitones.specs.Ratios.{fits, Entry, scaled, Table, ratio, raised_by}
+use Rattle.semitones.specs.Ratios.{fits, Entry, scaled, Table, ratio}
 
 -- e fits and e + 1 does not, for each entry: the one test
 abbrev pub tested : List ℕ → Bool

@@ -1,5 +1,5 @@
 -- The theorems about pitches (request #113).
-use Rattle.std.specs.Prelude.{ℕ, ◌*◌, ◌/◌, ◌%◌, ◌^◌, ◌≤◌, ◌<◌, ◌≡◌, false, T}
+use Rattle.std.specs.Prelude.{ℕ, ◌*◌, ◌/◌, ◌%◌, ◌^◌, ◌≤◌, ◌<◌, false, T}
 use Rattle.std.specs.Float.Ieee.Exact.{HasValue}
 use Rattle.semitones.specs.Ratios.{fits, Entry, scaled, ratio}
 

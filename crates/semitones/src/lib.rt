@@ -1,5 +1,6 @@
 // Semitones: the ratio of a pitch by a table of twelve numbers scaled by 2^48, and a rate times that ratio.
 #![tactic(auto)]
+
 ghost use Rattle.std.specs.Prelude.{◌≡◌, ◌/◌, ◌^◌, ◌≤◌, ◌<◌};
 ghost use Rattle.semitones.specs.Ratios.{Table, raised_by};
 ghost use Rattle.semitones.specs.Ratios as Ratios;

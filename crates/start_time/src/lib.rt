@@ -1,6 +1,7 @@
 // A block's signal for the sound's start: an answer, or a due tick with the current tick, on a 32-bit counter that
 // wraps.
 #![tactic(auto)]
+
 ghost use Rattle.std.specs.Prelude.{◌≡◌};
 ghost use Rattle.start_time.specs.Ticks.{reached, answering};
 

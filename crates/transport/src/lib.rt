@@ -1,6 +1,7 @@
 // The transport: position, loop, and whether it is playing. It is passed by value: each move returns the next
 // transport.
 #![tactic(auto)]
+
 ghost use Rattle.std.specs.Prelude.{◌≡◌, ◌≤◌, ◌<◌, T};
 ghost use Rattle.numbers.specs.Frames.{most};
 ghost use Rattle.playback_position.specs.Positions.{ordered};

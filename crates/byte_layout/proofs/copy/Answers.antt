@@ -1,14 +1,9 @@
 -- `byte_layout::copy`: what is still to copy, copied, is the whole part copied.
-use Prim.Native.Nat.{ℕ, ◌+◌, ◌-◌, ◌*◌, ◌≤◌, ◌<◌}
 use native.Mathlib.Omega.{arith}
-use native.Mathlib.Numerals.{unary_clauses}
-use mathlib.Core.Path.{◌≡◌, refl, sym, ap, ◌∙◌}
+use mathlib.Core.Path.{◌≡◌, refl, sym, ◌∙◌}
 use borrow.Author.Rules.{rules}
-use lib.ListN.{length, take, drop, get_or, length-set}
-use lib.Seq.{sets, length-sets}
+use lib.ListN.{length, length-set}
 use Rattle.byte_layout.proofs.Puts.{copy_next, copy_last}
-use Rattle.byte_layout.proofs.copy.Reads as reads
-use Rattle.byte_layout.proofs.copy.Lts as lts
 use Rattle.byte_layout.proofs.copy.Goals as goal
 
 pub loop-i-init : goal.loop-i-init

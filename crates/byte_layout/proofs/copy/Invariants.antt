@@ -1,14 +1,8 @@
 -- `byte_layout::copy`: what is still to copy, copied, is the whole part copied.
-use Prim.Native.Nat.{ℕ, ◌+◌, ◌-◌, ◌*◌, ◌≤◌, ◌<◌}
-use native.Mathlib.Omega.{arith}
-use native.Mathlib.Numerals.{unary_clauses}
-use mathlib.Core.Path.{◌≡◌, refl, sym, ap, ◌∙◌}
-use borrow.Author.Rules.{rules}
-use lib.ListN.{length, take, drop, get_or, length-set}
-use lib.Seq.{sets, length-sets}
-use Rattle.byte_layout.proofs.Puts.{copy_next, copy_last}
-use Rattle.byte_layout.proofs.copy.Reads as reads
-use Rattle.byte_layout.proofs.copy.Lts as lts
+use Prim.Native.Nat.{◌+◌, ◌-◌, ◌≤◌}
+use mathlib.Core.Path.{◌≡◌}
+use lib.ListN.{length, take, drop}
+use lib.Seq.{sets}
 use Rattle.byte_layout.proofs.copy.Given as goal
 
 abbrev pub invariant-loop-i : goal.invariant-loop-i

@@ -5,9 +5,6 @@ use native.Mathlib.Omega.{arith}
 use mathlib.Core.Path.{sym}
 use lib.ListN.{length, take, length-take, get_or-eq_default}
 use lib.Seq.{get_or-take}
-use borrow.Author.Rules.{rules}
-use Rattle.byte_layout.proofs.guarding.Reads as reads
-use Rattle.byte_layout.proofs.guarding.Lts as lts
 use Rattle.byte_layout.proofs.guarding.Goals as goal
 
 pub returns-then-g-i : goal.returns-then-g-i

@@ -1,15 +1,12 @@
 -- `byte_layout::number`: after the bytes from k on, x is their number.
 use mathlib.Core.Path.{◌≡◌, refl}
-use Prim.Native.Nat.{◌+◌, ◌-◌, ◌≤◌, ◌<◌}
+use Prim.Native.Nat.{◌+◌, ◌-◌, ◌<◌}
 use native.Mathlib.Nat.{sub_self}
 use native.Mathlib.Omega.{arith}
 use native.Mathlib.Numerals.{unary_clauses}
 use borrow.Author.Rules.{rules}
-use lib.ListN.{take, drop}
 use Rattle.byte_layout.specs.Numbers.{num}
 use Rattle.byte_layout.proofs.Numbers.{turn, room}
-use Rattle.byte_layout.proofs.number.Reads as reads
-use Rattle.byte_layout.proofs.number.Lts as lts
 use Rattle.byte_layout.proofs.number.Goals.{After-shared_slice_known-1}
 use Rattle.byte_layout.proofs.number.Goals as goal
 

@@ -1,16 +1,9 @@
 -- `byte_layout::put_number`: what is still to store, stored, is the whole number stored.
 use Prim.Native.Nat.{◌+◌, ◌-◌, ◌≤◌}
-use native.Mathlib.Omega.{arith}
-use native.Mathlib.Nat.{mod-lt}
-use native.Mathlib.Numerals.{unary_clauses}
-use mathlib.Core.Path.{◌≡◌, refl, sym, ◌∙◌}
-use lib.ListN.{length, length-set}
+use mathlib.Core.Path.{◌≡◌}
+use lib.ListN.{length}
 use lib.Seq.{sets}
 use Rattle.byte_layout.specs.Numbers.{bytes}
-use Rattle.byte_layout.proofs.Puts.{byte_next, byte_last}
-use borrow.Author.Rules.{rules}
-use Rattle.byte_layout.proofs.put_number.Reads as reads
-use Rattle.byte_layout.proofs.put_number.Lts as lts
 use Rattle.byte_layout.proofs.put_number.Given as goal
 
 abbrev pub invariant-loop-k : goal.invariant-loop-k

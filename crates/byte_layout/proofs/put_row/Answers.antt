@@ -8,11 +8,6 @@ use Rattle.byte_layout.specs.Rows.{stands}
 use Rattle.byte_layout.specs.Writes.{field}
 use Rattle.byte_layout.proofs.Numbers.{length_bytes}
 use Rattle.byte_layout.proofs.Puts.{fielded, unfielded}
-use borrow.Author.Rules.{rules}
-use Rattle.byte_layout.proofs.put_row.Reads as reads
-use Rattle.byte_layout.proofs.put_row.Lts as lts
-use Rattle.byte_layout.proofs.put_number.Reads as put-number-reads
-use Rattle.byte_layout.proofs.row_stands.Reads as row-stands-reads
 use Rattle.byte_layout.proofs.put_row.Goals.{Then-row_stands}
 use Rattle.byte_layout.proofs.put_row.Goals as goal
 

@@ -9,11 +9,6 @@ use lib.ListN.{length, take}
 use Rattle.byte_layout.specs.Rows.{stands}
 use Rattle.byte_layout.proofs.Ways.{closed, absent, ends, cut, short, wrong, right}
 use borrow.Author.Rules.{rules}
-use Rattle.byte_layout.proofs.read_row.Reads as reads
-use Rattle.byte_layout.proofs.read_row.Lts as lts
-use Rattle.byte_layout.proofs.number.Reads as number-reads
-use Rattle.byte_layout.proofs.row_stands.Reads as row-stands-reads
-use Rattle.byte_layout.proofs.row_within.Reads as row-within-reads
 use Rattle.byte_layout.proofs.read_row.Goals.{After-row_stands, After-values-1, Then-row_stands}
 use Rattle.byte_layout.proofs.read_row.Goals as goal
 

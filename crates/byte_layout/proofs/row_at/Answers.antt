@@ -1,9 +1,6 @@
 -- `byte_layout::row_at`: six reads of the table.
 use mathlib.Core.Path.{refl}
 use Rattle.byte_layout.specs.Rows.{row_at}
-use borrow.Author.Rules.{rules}
-use Rattle.byte_layout.proofs.row_at.Reads as reads
-use Rattle.byte_layout.proofs.row_at.Lts as lts
 use Rattle.byte_layout.proofs.row_at.Goals as goal
 
 pub returns : goal.returns

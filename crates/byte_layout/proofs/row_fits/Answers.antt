@@ -1,11 +1,6 @@
 -- `byte_layout::row_fits`: by whether the row is present.
 use mathlib.Core.Path.{refl, sym, ◌∙◌}
 use Rattle.byte_layout.specs.Writes.{fits}
-use borrow.Author.Rules.{rules}
-use Rattle.byte_layout.proofs.row_fits.Reads as reads
-use Rattle.byte_layout.proofs.row_fits.Lts as lts
-use Rattle.byte_layout.proofs.row_stands.Reads as row-stands-reads
-use Rattle.byte_layout.proofs.row_within.Reads as row-within-reads
 use Rattle.byte_layout.proofs.row_fits.Goals as goal
 
 pub returns-then-row_stands : goal.returns-then-row_stands

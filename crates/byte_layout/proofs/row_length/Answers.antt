@@ -4,9 +4,6 @@ use lib.ListN.{length}
 use Rattle.byte_layout.proofs.Numbers.{length_bytes}
 use Rattle.byte_layout.proofs.Puts.{fielded, unfielded}
 use borrow.Author.Rules.{rules}
-use Rattle.byte_layout.proofs.row_length.Reads as reads
-use Rattle.byte_layout.proofs.row_length.Lts as lts
-use Rattle.byte_layout.proofs.row_stands.Reads as row-stands-reads
 use Rattle.byte_layout.proofs.row_length.Goals as goal
 
 pub returns-then-row_stands : goal.returns-then-row_stands

@@ -1,17 +1,12 @@
 -- `byte_layout::rows_fit`: the rest of the rows decides as all of them do.
-use Prim.Native.Nat.{◌+◌, ◌-◌, ◌≤◌}
+use Prim.Native.Nat.{◌+◌}
 use mathlib.Core.Path.{◌≡◌, sym, ap, ◌∙◌}
 use mathlib.Core.Bool.{false, cond}
-use mathlib.Core.List.{[]}
 use lib.ListN.{take, get_or}
-use Rattle.byte_layout.specs.Rows.{rows, stands}
-use Rattle.byte_layout.specs.Writes.{fits, fine}
+use Rattle.byte_layout.specs.Rows.{stands}
+use Rattle.byte_layout.specs.Writes.{fits}
 use Rattle.byte_layout.proofs.Puts.{fine_of, fine_start, fine_next, fine_end}
 use borrow.Author.Rules.{rules}
-use Rattle.byte_layout.proofs.rows_fit.Reads as reads
-use Rattle.byte_layout.proofs.rows_fit.Lts as lts
-use Rattle.byte_layout.proofs.row_at.Reads as row-at-reads
-use Rattle.byte_layout.proofs.row_fits.Reads as row-fits-reads
 use Rattle.byte_layout.proofs.rows_fit.Goals.{After-row_fits}
 use Rattle.byte_layout.proofs.rows_fit.Goals as goal
 

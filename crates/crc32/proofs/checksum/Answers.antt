@@ -2,13 +2,9 @@
 use mathlib.Core.Path.{◌≡◌, ap, ◌∙◌}
 use Prim.Native.Nat.{ℕ, ◌+◌, ◌-◌}
 use native.Mathlib.Omega.{arith}
-use lib.ListN.{length, take, drop}
+use lib.ListN.{take, drop}
 use Rattle.crc32.specs.Checksums.{checksum_of}
 use Rattle.crc32.proofs.Registers.{past, all_left}
-use borrow.Author.Rules.{rules}
-use Rattle.crc32.proofs.checksum.Reads as reads
-use Rattle.crc32.proofs.checksum.Lts as lts
-use Rattle.crc32.proofs.whole.Reads as whole-reads
 use Rattle.crc32.proofs.checksum.Goals as goal
 
 pub returns-then-s-at : goal.returns-then-s-at

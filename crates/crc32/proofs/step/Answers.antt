@@ -1,10 +1,7 @@
 -- `crc32::step` meets its contract: eight bits at once by the table. Assumes nothing.
 use native.Mathlib.Omega.{arith}
 use lib.Bits.{bit_xor, mask_lt}
-use borrow.Author.Rules.{rules}
 use Rattle.crc32.proofs.Registers.{by_table}
-use Rattle.crc32.proofs.step.Reads as reads
-use Rattle.crc32.proofs.step.Lts as lts
 use Rattle.crc32.proofs.step.Goals as goal
 
 pub overflow_cast-i : goal.overflow_cast-i

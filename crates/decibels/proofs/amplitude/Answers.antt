@@ -1,9 +1,6 @@
 -- `decibels::amplitude` meets its contract: an entry is a whole f32, and its quotient by 2^24 is exact. Assumes nothing.
-use borrow.Author.Rules.{rules}
 use Rattle.decibels.proofs.Levels.{table_entry}
 use Rattle.decibels.proofs.Amplitudes.{whole_float, at_level, at_silence}
-use Rattle.decibels.proofs.amplitude.Reads as reads
-use Rattle.decibels.proofs.amplitude.Lts as lts
 use Rattle.decibels.proofs.amplitude.Goals as goal
 
 pub int_to_float-result : goal.int_to_float-result

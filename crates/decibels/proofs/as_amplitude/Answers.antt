@@ -1,6 +1,5 @@
 -- `decibels::as_amplitude` meets its contract: one test, and the level's amplitude. Assumes nothing.
 use mathlib.Core.Path.{◌∙◌}
-use borrow.Author.Rules.{rules}
 use borrow.Author.Tests.{le-leb, lt-leb}
 use Rattle.decibels.proofs.as_amplitude.Goals as goal
 

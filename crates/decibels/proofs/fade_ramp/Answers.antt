@@ -3,14 +3,8 @@ use mathlib.Core.Path.{◌≡◌, sym, ◌∙◌, subst}
 use Prim.Native.Nat.{ℕ, ◌<◌}
 use native.Mathlib.Omega.{arith}
 use lib.ListN.{length}
-use borrow.Author.Rules.{rules}
 use Rattle.decibels.specs.Ramps.{refusal}
 use Rattle.decibels.proofs.Ramps.{accepted, lane_kept, lane_filled}
-use Rattle.decibels.proofs.fade_ramp.Reads as reads
-use Rattle.decibels.proofs.fade_ramp.Lts as lts
-use Rattle.decibels.proofs.fill.Reads as fill-reads
-use Rattle.decibels.proofs.refusal_of.Reads as refusal-of-reads
-use Rattle.decibels.proofs.table.all.Reads as all-reads
 use Rattle.decibels.proofs.fade_ramp.Goals.{Else-refused-gt0}
 use Rattle.decibels.proofs.fade_ramp.Goals as goal
 

@@ -1,15 +1,8 @@
 -- `decibels::fill` meets its contract: the frames so far are at the lane's start. Assumes nothing.
-use mathlib.Core.Path.{◌≡◌, refl, sym, ◌∙◌}
-use Prim.Native.Nat.{◌-◌, ◌≤◌}
+use mathlib.Core.Path.{refl, sym, ◌∙◌}
 use native.Mathlib.Omega.{arith}
-use lib.ListN.{length, take, length-set}
-use borrow.Author.Rules.{rules}
-use Rattle.decibels.specs.Ramps.{frames}
+use lib.ListN.{length-set}
 use Rattle.decibels.proofs.Ramps.{filled_more, filled_all}
-use Rattle.decibels.proofs.fill.Reads as reads
-use Rattle.decibels.proofs.fill.Lts as lts
-use Rattle.decibels.proofs.amplitude.Reads as amplitude-reads
-use Rattle.decibels.proofs.level_at.Reads as level-at-reads
 use Rattle.decibels.proofs.fill.Goals as goal
 
 -- src/lib.rt:47:5

@@ -1,15 +1,8 @@
 -- `decibels::fill` meets its contract: the frames so far are at the lane's start. Assumes nothing.
-use mathlib.Core.Path.{◌≡◌, refl, sym, ◌∙◌}
+use mathlib.Core.Path.{◌≡◌}
 use Prim.Native.Nat.{◌-◌, ◌≤◌}
-use native.Mathlib.Omega.{arith}
-use lib.ListN.{length, take, length-set}
-use borrow.Author.Rules.{rules}
+use lib.ListN.{length, take}
 use Rattle.decibels.specs.Ramps.{frames}
-use Rattle.decibels.proofs.Ramps.{filled_more, filled_all}
-use Rattle.decibels.proofs.fill.Reads as reads
-use Rattle.decibels.proofs.fill.Lts as lts
-use Rattle.decibels.proofs.amplitude.Reads as amplitude-reads
-use Rattle.decibels.proofs.level_at.Reads as level-at-reads
 use Rattle.decibels.proofs.fill.Given as goal
 
 abbrev pub invariant-loop-i : goal.invariant-loop-i

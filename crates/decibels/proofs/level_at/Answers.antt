@@ -4,9 +4,6 @@ use Prim.Native.Nat.{ℕ, ◌+◌, ◌-◌, ◌*◌, ◌≤◌}
 use native.Mathlib.Omega.{arith}
 use borrow.Author.Rules.{rules}
 use Rattle.decibels.proofs.Ramps.{one_frame, more_frames, between, weighed}
-use Rattle.decibels.proofs.level_at.Reads as reads
-use Rattle.decibels.proofs.level_at.Lts as lts
-use Rattle.decibels.proofs.divided.Reads as divided-reads
 use Rattle.decibels.proofs.level_at.Goals.{Else-count-eq1}
 use Rattle.decibels.proofs.level_at.Goals as goal
 

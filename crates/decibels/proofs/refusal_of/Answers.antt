@@ -1,7 +1,5 @@
 -- `decibels::refusal_of` meets its contract: one test after the other. Assumes nothing.
 use borrow.Author.Tests.{le-leb, lt-leb, eq-eqb, ne_eqb}
-use Rattle.decibels.proofs.refusal_of.Reads as reads
-use Rattle.decibels.proofs.refusal_of.Lts as lts
 use Rattle.decibels.proofs.refusal_of.Goals as goal
 
 pub returns-then-start-gt601 : goal.returns-then-start-gt601

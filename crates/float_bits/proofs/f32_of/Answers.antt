@@ -1,5 +1,4 @@
 -- `float_bits::f32_of` meets its contract: the test finds the patterns of NaNs. Assumes nothing.
-use mathlib.Core.Path.{◌∙◌}
 use lib.Ieee.{binary32, of_bits, div}
 use Rattle.float_bits.proofs.Patterns.{is_nan32, no_nan32, nan_of, number_of, no_nan}
 use Rattle.float_bits.proofs.f32_of.Goals as goal

@@ -1,5 +1,4 @@
 -- `float_bits::f64_of` meets its contract: the test finds the patterns of NaNs. Assumes nothing.
-use mathlib.Core.Path.{◌∙◌}
 use lib.Ieee.{binary64, of_bits, div}
 use Rattle.float_bits.proofs.Patterns.{is_nan64, no_nan64, nan_of, number_of, no_nan}
 use Rattle.float_bits.proofs.f64_of.Goals as goal

@@ -1,5 +1,4 @@
 -- `interpolate_frame` meets its contract: each channel is one call of `interpolate`.
-use borrow.Author.Rules.{rules}
 use Rattle.frame.specs.Frames.{interpolated}
 use Rattle.frame.proofs.interpolate_frame.Goals as goal
 

@@ -2,8 +2,6 @@
 use mathlib.Core.Path.{◌≡◌, sym, ap}
 use Prim.Native.Nat.{ℕ, ◌^◌}
 use native.Mathlib.Omega.{arith}
-use Rattle.semitones.proofs.doubled.Reads as reads
-use Rattle.semitones.proofs.doubled.Lts as lts
 use Rattle.semitones.proofs.doubled.Goals as goal
 
 pub returns-then-octaves-eq0 : goal.returns-then-octaves-eq0

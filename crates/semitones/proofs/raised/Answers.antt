@@ -1,11 +1,7 @@
 -- `semitones::raised` meets its contract: one product, with the ratio of the pitch. Assumes nothing.
-use mathlib.Core.Path.{◌≡◌, refl, ap, ◌∙◌}
+use mathlib.Core.Path.{refl, ap, ◌∙◌}
 use lib.Ieee.{binary64, mul, div, of_bits}
 use borrow.Author.Tests.{le-leb, lt-leb}
-use borrow.Author.Rules.{rules}
-use Rattle.semitones.proofs.raised.Reads as reads
-use Rattle.semitones.proofs.raised.Lts as lts
-use Rattle.semitones.proofs.ratio.Reads as ratio-reads
 use Rattle.semitones.proofs.raised.Goals as goal
 
 pub returns-then-pitch-le24 : goal.returns-then-pitch-le24

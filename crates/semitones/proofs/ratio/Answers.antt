@@ -3,12 +3,6 @@ use Prim.Native.Nat.{◌*◌, ◌%◌}
 use native.Mathlib.Omega.{arith}
 use lib.ListN.{get_or}
 use Rattle.semitones.proofs.Ratios.{Product, product, table_entry, whole_float, at_steps}
-use borrow.Author.Rules.{rules}
-use Rattle.semitones.proofs.ratio.Reads as reads
-use Rattle.semitones.proofs.ratio.Lts as lts
-use Rattle.semitones.proofs.all.Reads as all-reads
-use Rattle.semitones.proofs.doubled.Reads as doubled-reads
-use Rattle.semitones.proofs.octaves.Reads as octaves-reads
 use Rattle.semitones.proofs.ratio.Goals.{After-doubled}
 use Rattle.semitones.proofs.ratio.Goals as goal
 

@@ -1,10 +1,7 @@
 -- `is_reached` tests the wrapped difference: std's difference is the only number such that due plus it wraps to now.
-use Rattle.std.proofs.Common.{ℕ, ltb, ap, rules}
+use Rattle.std.proofs.Common.{ℕ, ltb, ap}
 use Rattle.start_time.specs.Ticks.{half}
 use Rattle.start_time.proofs.Ticks.{since_only}
-use Rattle.start_time.proofs.is_reached.Reads as reads
-use Rattle.start_time.proofs.is_reached.Lts as lts
-use Rattle.std.proofs.num.wrapping_sub_u32.Reads as wrapping-sub-u32-reads
 use Rattle.start_time.proofs.is_reached.Goals as goal
 
 pub returns : goal.returns

@@ -1,6 +1,5 @@
 -- `playback_position::FrameRange::is_within` meets its contract: each test of the code is the definition's.
 -- Assumes nothing.
-use borrow.Author.Rules.{rules}
 use borrow.Author.Tests.{lt-ltb, le-ltb}
 use Rattle.playback_position.proofs.FrameRange.is_within.Goals as goal
 

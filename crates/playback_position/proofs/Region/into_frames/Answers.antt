@@ -3,7 +3,6 @@
 use mathlib.Core.Path.{ap₂}
 use Rattle.playback_position.specs.declared.FrameRange.TheVariants.{Frames}
 use Rattle.playback_position.specs.Positions.{region_in_frames}
-use borrow.Author.Rules.{rules}
 use Rattle.playback_position.proofs.Region.into_frames.Goals as goal
 
 pub returns : goal.returns

@@ -2,8 +2,6 @@
 -- Assumes nothing.
 use mathlib.Core.Path.{◌≡◌, sym, ap, ◌∙◌}
 use mathlib.Core.Bool.{Bool, true, false, ◌&&◌}
-use borrow.Author.Rules.{rules}
-use borrow.Author.Tests.{not-true, not-false}
 use Rattle.playback_position.specs.Positions.{finite_position, finite_end, within, well_formed_region}
 use Rattle.playback_position.proofs.Region.is_well_formed.Goals.{Else-not-is_finite_end, Else-not-is_finite_position, Then-not-is_finite_end, Then-not-is_finite_position}
 use Rattle.playback_position.proofs.Region.is_well_formed.Goals as goal

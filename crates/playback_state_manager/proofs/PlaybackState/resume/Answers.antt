@@ -1,5 +1,4 @@
 -- `PlaybackState::resume` meets its contract: whether the resume waits picks the state that `unless_stopped` is given.
-use borrow.Author.Rules.{rules}
 use Rattle.playback_state_manager.proofs.PlaybackState.resume.Goals as goal
 
 pub returns-then-waits : goal.returns-then-waits

@@ -1,5 +1,4 @@
 -- `Resampler::get` meets its contract: the four entries' frames go to `interpolate_frame` in order, and the count is returned with the frame.
-use borrow.Author.Rules.{rules}
 use Rattle.resampler.specs.Windows.{reading}
 use Rattle.resampler.proofs.Resampler.get.Goals as goal
 

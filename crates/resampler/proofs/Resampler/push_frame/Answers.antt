@@ -1,6 +1,5 @@
 -- `Resampler::push_frame` meets its contract: by whether there is a frame; `lowered` is the count of none.
 use lib.Ieee.{of_bits}
-use borrow.Author.Rules.{rules}
 use Rattle.resampler.specs.Windows.{push}
 use Rattle.resampler.proofs.Resampler.push_frame.Goals as goal
 

@@ -1,9 +1,6 @@
 -- `answer` returns a signal's answer, arm by arm.
-use Rattle.std.proofs.Common.{sym, ◌∙◌, rules}
+use Rattle.std.proofs.Common.{sym, ◌∙◌}
 use Rattle.start_time.proofs.Ticks.{answering_reached, answering_waiting}
-use Rattle.start_time.proofs.StartSignal.answer.Reads as reads
-use Rattle.start_time.proofs.StartSignal.answer.Lts as lts
-use Rattle.start_time.proofs.is_reached.Reads as is-reached-reads
 use Rattle.start_time.proofs.StartSignal.answer.Goals as goal
 
 pub returns-then-is_reached : goal.returns-then-is_reached
