@@ -5,7 +5,7 @@ use native.Mathlib.Nat.{add-zero}
 use native.Mathlib.Omega.{arith}
 use mathlib.Core.List.{List, [], ◌∷◌, ◌++◌}
 use lib.Dec.{T}
-use lib.ListN.{length, take, drop, replicate, replicate-append-replicate, length-replicate, length_append, length-drop}
+use lib.ListN.{length, take, drop, replicate, replicate-append-replicate, length-replicate, length-append, length-drop}
 use lib.Seq.{take_at, take-append-le, take-append-add, length-take-le}
 use lib.Ieee.{Float}
 use lib.Ieee.Fits.{and_l}
@@ -118,8 +118,8 @@ module _ (snd : List Float) (w : Way) (r : Float) (n : ℕ) (updatable : Scannab
       put_long : length put ≡ 2 * length (replicate n r)
       put_long =
           let d : length (drop width (drop (2 * i) out)) ≡ length out - 2 * i - width = length-drop width (drop (2 * i) out) ∙ ap (λ (k : ℕ). k - width) (length-drop (2 * i) out) in
-          length_append (take (2 * i) out) (new ++ drop width (drop (2 * i) out))
-          ∙ ap (λ (k : ℕ). length (take (2 * i) out) + k) (length_append new (drop width (drop (2 * i) out)))
+          length-append (take (2 * i) out) (new ++ drop width (drop (2 * i) out))
+          ∙ ap (λ (k : ℕ). length (take (2 * i) out) + k) (length-append new (drop width (drop (2 * i) out)))
           ∙ omega (arith, first_long, d, new_long, long, length-replicate n r)
 
       written : take (2 * i) out ++ take (2 * j) new ≡ take (2 * (i + j)) put

@@ -2,7 +2,7 @@
 use mathlib.Core.Path.{◌≡◌, refl, sym, ◌∙◌, subst}
 use Prim.Native.Nat.{ℕ, ◌+◌, ◌-◌, ◌*◌, ◌≤◌, ◌<◌}
 use native.Mathlib.Omega.{arith}
-use mathlib.Core.Bool.{Bool, false, not}
+use mathlib.Core.Bool.{Bool, true}
 use mathlib.Core.List.{List}
 use lib.Dec.{T}
 use lib.ListN.{length, get_or, set}
@@ -12,7 +12,7 @@ use Rattle.numbers.specs.Words.{advance}
 use Rattle.frame.specs.declared.Frame.{Frame}
 use Rattle.sound_lanes.specs.Lanes.{slow}
 use Rattle.sound_track.specs.Tracks.{nexts, roomy}
-use Rattle.sound_track.proofs.Same.{not_false, holds}
+use Rattle.sound_track.proofs.Same.{holds}
 use Rattle.sound_fast_reading.specs.declared.Way.{Way}
 use Rattle.sound_fast_reading.specs.declared.Reached.{Reached}
 use Rattle.sound_fast_reading.specs.Moves.{Move}
@@ -84,13 +84,13 @@ module _ (snd : List Float) (w : Way) (rates : List Float) (ready : Scannable sn
         pub two_more : (a b : Stepped) (q z : ℕ) (room : Bool)
             → Move r.fractional_position (advance w.sample_rate (get_or rates r.next nan) w.dt) a
             → Move a.fraction (advance w.sample_rate (get_or rates (r.next + 1) nan) w.dt) b
-            → room ≡ roomy w.track (a.steps + b.steps) r.at → not room ≡ false
+            → room ≡ roomy w.track (a.steps + b.steps) r.at → room ≡ true
             → q ≡ nexts a.steps w.track r.at → z ≡ nexts b.steps w.track q
             → x ≡ read_on snd w.track r.at r.fractional_position → y ≡ read_on snd w.track q a.fraction
             → Scanned snd w rates (place z b.fraction (r.steps + a.steps + b.steps) (r.next + 2)) p
         two_more a b q z room ma mb er nr eq ez ex ey =
             let k = w.track in
-            let all : T (roomy k (a.steps + b.steps) r.at) = holds _ (sym er ∙ not_false room nr) in
+            let all : T (roomy k (a.steps + b.steps) r.at) = holds _ (sym er ∙ nr) in
             let one =
             scanned_more snd w rates r.next r.steps r.at r.fractional_position out x a q (r.steps + a.steps) (r.next + 1) o ready h (less1 _ _ l) ex ma.is eq
             (roomy_first k r.at a.steps b.steps h.on all) refl refl (stored_at o out (2 * r.next) r.next x refl e) in

@@ -87,6 +87,5 @@ five-of false b c d e h = absurd (false≢true h)
 
 pub returns : goal.returns
 returns c = λ e.
-    (let s = c.before.before.before.before.before.before.before.before.before.before in
     let f = five-of c.is_constant_rate.result c.is_constant.result c.is_constant-2.result c.is_constant-3.result c.is_constant-4.result e in
-    constant_of (lent (goal.at.returns c).Else-not-are_sized) (is-sized (goal.at.returns c).Else-not-are_sized) (some (goal.at.returns c).Else-not-are_sized) (c.is_constant_rate.ensures f.one) (c.is_constant.ensures f.two) (c.is_constant-2.ensures f.three) (c.is_constant-3.ensures f.four) (c.is_constant-4.ensures f.five-th))
+    constant_of (lent (goal.at.returns c).Else-not-are_sized) (is-sized (goal.at.returns c).Else-not-are_sized) (some (goal.at.returns c).Else-not-are_sized) (c.is_constant_rate.ensures f.one) (c.is_constant.ensures f.two) (c.is_constant-2.ensures f.three) (c.is_constant-3.ensures f.four) (c.is_constant-4.ensures f.five-th)

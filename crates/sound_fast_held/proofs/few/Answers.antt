@@ -22,12 +22,11 @@ record Numbers (i n m o : ℕ) : Type 0 where
 
 numbers : (c : After-part_of-m) → let a = c.args in Numbers a.from.next a.frames c.part_of-m.result (length a.out.now)
 numbers c =
-    let st = c in
-    let a = st.args in
+    let a = c.args in
     record {
-      within = within a.sound.now a.way a.rate a.frames st.requires.scannable a.from a.out.now st.requires.scanned;
-      most = most a.sound.now a.way a.rate a.frames st.requires.scannable a.from a.out.now st.requires.scanned;
-      long = long a.sound.now a.way a.rate a.frames st.requires.scannable a.from a.out.now st.requires.scanned;
+      within = within a.sound.now a.way a.rate a.frames c.requires.scannable a.from a.out.now c.requires.scanned;
+      most = most a.sound.now a.way a.rate a.frames c.requires.scannable a.from a.out.now c.requires.scanned;
+      long = long a.sound.now a.way a.rate a.frames c.requires.scannable a.from a.out.now c.requires.scanned;
       few = c.part_of-m.ensures.0;
       inside = c.part_of-m.ensures.1;
     }
@@ -40,9 +39,8 @@ one-rate c = take_replicate _ 16 _ (numbers c).few
 
 pub overflow_sub-frames : goal.overflow_sub-frames
 overflow_sub-frames c =
-    let st = c.before.before.before in
-    let a = st.args in
-    within a.sound.now a.way a.rate a.frames st.requires.scannable a.from a.out.now st.requires.scanned
+    let a = c.args in
+    within a.sound.now a.way a.rate a.frames c.requires.scannable a.from a.out.now c.requires.scanned
 
 pub overflow_mul-a : goal.overflow_mul-a
 overflow_mul-a c = omega (arith, numbers (goal.at.overflow_mul-a c).After-part_of-m)
@@ -54,24 +52,22 @@ pub overflow_add-e : goal.overflow_add-e
 overflow_add-e c = omega (arith, numbers (goal.at.overflow_add-e c).After-part_of-m)
 
 pub slice_bounds-around-end : goal.slice_bounds-around-end
-slice_bounds-around-end c = let t = c.before.before.before in sym (length-take-le _ (replicate 16 t.args.rate) (numbers t).few)
+slice_bounds-around-end c = sym (length-take-le _ (replicate 16 c.args.rate) (numbers (goal.at.slice_bounds-around-end c).After-part_of-m).few)
 
 pub around-r-requires : goal.around-r-requires
 around-r-requires c =
-    let t = c.before.before.before.before in
-    let st = t in
-    let a = st.args in
-    let m = t.part_of-m.result in
-    let e = sym (one-rate (goal.at.around_r_requires c).After-part_of-m) in (
-      subst (λ (l : List Float). Scannable a.sound.now (way_on a.way a.from) l) e (updatable_on a.sound.now a.way a.rate a.frames st.requires.scannable a.from a.out.now st.requires.scanned m (fits (goal.at.around_r_requires c).After-part_of-m)),
-      subst (λ (l : List Float). Scanned a.sound.now (way_on a.way a.from) l (begun (way_on a.way a.from)) (part a.sound.now a.way a.rate a.frames st.requires.scannable a.from a.out.now st.requires.scanned m (fits (goal.at.around_r_requires c).After-part_of-m))) e (begins_on a.sound.now a.way a.rate a.frames st.requires.scannable a.from a.out.now st.requires.scanned m (fits (goal.at.around_r_requires c).After-part_of-m)),
-    )
+    let a = c.args in
+    let m = c.part_of-m.result in
+    let f = fits (goal.at.around-r-requires c).After-part_of-m in
+    let e = sym (one-rate (goal.at.around-r-requires c).After-part_of-m) in
+    record {
+      scannable = subst (λ (l : List Float). Scannable a.sound.now (way_on a.way a.from) l) e (updatable_on a.sound.now a.way a.rate a.frames c.requires.scannable a.from a.out.now c.requires.scanned m f);
+      scanned = subst (λ (l : List Float). Scanned a.sound.now (way_on a.way a.from) l (begun (way_on a.way a.from)) (part a.sound.now a.way a.rate a.frames c.requires.scannable a.from a.out.now c.requires.scanned m f)) e (begins_on a.sound.now a.way a.rate a.frames c.requires.scannable a.from a.out.now c.requires.scanned m f);
+    }
 
 pub returns : goal.returns
 returns c =
     let r = c.around-r in
-    let t = c.before.before.before.before.before.before.before.before.before.before.before in
-    let st = t in
-    let a = st.args in
-    scanned_on a.sound.now a.way a.rate a.frames st.requires.scannable a.from a.out.now st.requires.scanned t.part_of-m.result (fits (goal.at.returns c).After-part_of-m) r.result r.new.1.1.1.0
-    (subst (λ (l : List Float). Scanned a.sound.now (way_on a.way a.from) l r.result r.new.1.1.1.0) (one-rate (goal.at.returns c).After-part_of-m) r.ensures)
+    let a = c.args in
+    scanned_on a.sound.now a.way a.rate a.frames c.requires.scannable a.from a.out.now c.requires.scanned c.part_of-m.result (fits (goal.at.returns c).After-part_of-m) r.result r.new.out
+    (subst (λ (l : List Float). Scanned a.sound.now (way_on a.way a.from) l r.result r.new.out) (one-rate (goal.at.returns c).After-part_of-m) r.ensures)

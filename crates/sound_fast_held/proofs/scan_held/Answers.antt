@@ -39,20 +39,16 @@ loop-more-init c = record { scanned = c.requires.scanned; some = λ e. ltb-true 
 
 pub straight-fours-requires : goal.straight-fours-requires
 straight-fours-requires c =
-    let at = c.before.before in
-    let st = at.before.before.before in
-    (st.requires.scannable, (at.loop-more.invariant.scanned, slow_rate _ _ _ _ (at.loop-more.invariant.some c.loop-more-test.true) st.requires.scannable.slow))
+    record { scannable = c.requires.scannable; scanned = c.loop-more.invariant.scanned; t = slow_rate _ _ _ _ (c.loop-more.invariant.some c.loop-more-test.true) c.requires.scannable.slow }
 
 pub loop-more-smaller : goal.loop-more-smaller
 loop-more-smaller c = less _ _ _ _ c.loop-more-test.true
 
 pub loop-more-preserved : goal.loop-more-preserved
 loop-more-preserved c =
-    let f = c.before.before.before.before.before in
-    let at = c.before.before.before.before.before.before.before.before.before.before.before.before.before.before in
-    let n = at.args.frames in
-    let s = f.few-s.result.next in
-    record { scanned = f.few-s.ensures; some = λ e. above s n (ltb-true s n (second_of (ltb at.loop-more.r.next s) (ltb s n) e)) }
+    let n = c.args.frames in
+    let s = c.few-s.result.next in
+    record { scanned = c.few-s.ensures; some = λ e. above s n (ltb-true s n (second_of (ltb c.loop-more.r.next s) (ltb s n) e)) }
 
 pub returns : goal.returns
 returns c = c.loop-more.invariant.scanned

@@ -24,7 +24,7 @@ more c =
     let y = c.read_before-y in
     let s = c.store in
     let p = c.store-in-loop-r in
-    let q = c.before.before.before.before.before.before.before.before.before.before.before.before_steps in
+    let q = c.before_steps-half in
     two_more a.sound.now a.way a.rate.now c.requires.scannable c.loop-r.r c.loop-r.out c.loop-r.invariant c.loop-r-test.true x.result s.new.out s.ensures y.result p.new.out p.ensures
     c.moved-a.result c.moved-b.result q.result c.before_steps.result c.has_room_before.result c.moved-a.ensures c.moved-b.ensures c.has_room_before.ensures c.if-not-has_room_before.false
     q.ensures.value c.before_steps.ensures.value x.ensures y.ensures
@@ -83,7 +83,7 @@ read_before-x-requires c =
 
 pub read_before-y-requires : goal.read_before-y-requires
 read_before-y-requires c =
-    record { inside_sound = c.requires.scannable.lies; on = c.before.before_steps.ensures.on_2; t = c.moved-a.ensures.below; backwards_value = c.requires.backwards_value }
+    record { inside_sound = c.requires.scannable.lies; on = c.before_steps-half.ensures.on_2; t = c.moved-a.ensures.below; backwards_value = c.requires.backwards_value }
 
 pub overflow_mul-i : goal.overflow_mul-i
 overflow_mul-i c = omega (arith, numbers (goal.at.overflow_mul-i c).At-loop-r, c.loop-r-test.true)
@@ -102,7 +102,7 @@ store-requires-in-loop-r c = let a = c.args in second_fits a.sound.now a.way a.r
 
 pub before_steps-requires : goal.before_steps-requires
 before_steps-requires c =
-    record { on = c.before.before.before.before.before.before.before.before.before.before.before_steps.ensures.on_2; n_bound = few _ c.moved-b.ensures.few; backwards_value = c.requires.backwards_value }
+    record { on = c.before_steps-half.ensures.on_2; n_bound = few _ c.moved-b.ensures.few; backwards_value = c.requires.backwards_value }
 
 pub overflow_add-r-in-loop-r : goal.overflow_add-r-in-loop-r
 overflow_add-r-in-loop-r c = omega (arith, numbers (goal.at.overflow_add-r-in-loop-r c).At-loop-r, c.loop-r-test.true, c.moved-a.ensures.few, c.moved-b.ensures.few)
@@ -114,7 +114,7 @@ pub overflow_add-r-in-loop-r-3 : goal.overflow_add-r-in-loop-r-3
 overflow_add-r-in-loop-r-3 c = omega (arith, numbers (goal.at.overflow_add-r-in-loop-r-3 c).At-loop-r, c.loop-r-test.true, c.moved-a.ensures.few, c.moved-b.ensures.few)
 
 pub overflow_add-track : goal.overflow_add-track
-overflow_add-track c = omega (arith, numbers (goal.at.overflow_add-track c).At-loop-r, c.before.before.before.before.before-steps2.ensures.1.here)
+overflow_add-track c = omega (arith, numbers (goal.at.overflow_add-track c).At-loop-r, c.before_steps.ensures.on_2.here)
 
 pub shape_of-out-then-track-r : goal.shape_of-out-then-track-r
 shape_of-out-then-track-r c =
