@@ -1,16 +1,16 @@
 -- The frames after a scan where the five numbers are given once: fewer frames of the same numbers. Assumes nothing.
-use mathlib.Core.Path.{◌≡◌, refl, sym, ap, ap₂, ◌∙◌, subst}
-use mathlib.Core.List.{List, [], ◌∷◌, ◌++◌, append-nil}
-use Prim.Native.Nat.{ℕ, ◌+◌, ◌-◌, ◌*◌, ◌/◌, ◌≤◌, ◌<◌}
+use mathlib.Core.Path.{◌≡◌, sym, ap, ◌∙◌, subst}
+use mathlib.Core.List.{List, ◌++◌, append-nil}
+use Prim.Native.Nat.{ℕ, ◌+◌, ◌-◌, ◌*◌, ◌/◌, ◌≤◌}
 use native.Mathlib.Nat.{le_of_eq}
 use native.Mathlib.Omega.{arith}
 use lib.Dec.{T}
-use lib.ListN.{length, take, drop, replicate, length-replicate, length-drop, drop_of_length-le}
+use lib.ListN.{length, take, drop, length-replicate, length-drop, drop_of_length-le}
 use lib.Seq.{drop_at}
 use lib.Ieee.{Float}
 use Rattle.numbers.specs.Lists.{all}
 use Rattle.numbers.proofs.Lists.{all_drop}
-use Rattle.sound_lanes.specs.Lanes.{Lane, Lanes, rows, near}
+use Rattle.sound_lanes.specs.Lanes.{Lane, rows, near}
 use Rattle.sound_lanes.proofs.Rows.{sized_parts}
 use Rattle.sound_state.specs.declared.StaticSound.{StaticSound}
 use Rattle.sound_held.specs.declared.Held.{Held}

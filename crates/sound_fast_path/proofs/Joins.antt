@@ -1,10 +1,9 @@
 -- A scan and the frames after it make the block: the lanes cut, the two joined, the steps few. Assumes nothing.
-use mathlib.Core.Path.{◌≡◌, refl, sym, ap, ap₂, ◌∙◌, subst}
-use mathlib.Core.List.{List, [], ◌∷◌, ◌++◌, append-nil}
-use Prim.Native.Nat.{ℕ, zero, suc, ◌+◌, ◌-◌, ◌*◌, ◌≤◌, ◌<◌}
+use mathlib.Core.Path.{◌≡◌, sym, ap, ap₂, ◌∙◌, subst}
+use mathlib.Core.List.{List, [], ◌++◌, append-nil}
+use Prim.Native.Nat.{ℕ, ◌+◌, ◌-◌, ◌*◌, ◌≤◌, ◌<◌}
 use native.Mathlib.Nat.{le_of_eq, le_refl}
 use native.Mathlib.Omega.{arith}
-use mathlib.Core.Bool.{Bool, true, false}
 use lib.Dec.{T}
 use lib.ListN.{length, take, drop, take-append-drop, length-append, length-drop, drop_of_length-le}
 use lib.Seq.{take_all, length-take-le}
@@ -12,13 +11,11 @@ use lib.Ieee.{Float}
 use Rattle.numbers.specs.Lists.{all}
 use Rattle.numbers.proofs.Lists.{all_drop}
 use Rattle.sound_lanes.specs.Lanes.{Lane, Lanes, five, rows, near, rest_lanes}
-use Rattle.sound_lanes.proofs.Rows.{beside_drop, beside_length, rest_sized, sized_parts}
+use Rattle.sound_lanes.proofs.Rows.{beside_drop, beside_length, rest_sized}
 use Rattle.playback_position.specs.declared.FrameRange.{FrameRange}
 use Rattle.playback_position.specs.declared.FrameRange.TheVariants.{Absent, Frames}
 use Rattle.playback_position.specs.Positions.{within}
 use Rattle.playback_position.proofs.Ranges.{ranged_parts}
-use Rattle.sound_update.specs.declared.Slice.{Slice}
-use Rattle.sound_update.specs.declared.Moving.{Moving}
 use Rattle.sound_state.specs.declared.Setup.{Setup}
 use Rattle.sound_state.specs.declared.StaticSound.{StaticSound}
 use Rattle.sound_state.specs.Voices.{length_of_slice, slice_of, moved}

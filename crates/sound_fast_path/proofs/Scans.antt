@@ -1,10 +1,9 @@
 -- A scan whose readings are multiplied by their gains is the block's definition, frame by frame, as far as it goes. By the contiguous window's law
 -- of n updates, and by induction on the rates. Assumes nothing.
 use mathlib.Core.Path.{◌≡◌, refl, sym, ap, ap₂, ◌∙◌, subst}
-use mathlib.Core.List.{List, [], ◌∷◌, ◌++◌}
-use Prim.Native.Nat.{ℕ, zero, suc, ◌+◌, ◌*◌, ◌≤◌, ◌<◌}
+use mathlib.Core.List.{List, [], ◌∷◌}
+use Prim.Native.Nat.{ℕ, zero, suc, ◌+◌, ◌*◌, ◌≤◌}
 use native.Mathlib.Nat.{le_refl, add_assoc, add_comm, add-zero, zero-add}
-use native.Mathlib.Omega.{arith}
 use lib.Dec.{T}
 use lib.ListN.{length, get_or, take, drop, take-append-drop}
 use lib.Seq.{length-take-le}
@@ -34,7 +33,7 @@ use Rattle.sound_fast_reading.proofs.Moves.{roomy_first, roomy_rest}
 use Rattle.sound_fast_reading.proofs.Scans.{scanned_none}
 use Rattle.sound_gains.specs.Gained.{gained}
 use Rattle.sound_gains.proofs.Gained.{gained_take, gained_length}
-use Rattle.sound_slow_path.specs.Plays.{Played, lower, then, plays, after_frame, total, frame_with_gains, read_by}
+use Rattle.sound_slow_path.specs.Plays.{Played, then, plays, after_frame, total, frame_with_gains}
 use Rattle.sound_slow_path.specs.FrameSteps.{Playable}
 use Rattle.sound_slow_path.proofs.Lowest.{lower_four}
 use Rattle.sound_slow_path.proofs.Loops.{played}

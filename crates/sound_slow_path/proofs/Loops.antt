@@ -28,7 +28,7 @@ use Rattle.sound_state.specs.WellFormed.{WellFormed}
 use Rattle.sound_state.proofs.WellFormed.{span_most, kept_of, moved_well_formed}
 use Rattle.sound_update.proofs.Kept.{updates_kept}
 use Rattle.sound_slow_path.specs.declared.AfterFrame.{AfterFrame}
-use Rattle.sound_slow_path.specs.Plays.{Played, plays, after_frame, total, lower, read_by, frame_with_gains, Outcome, accepted_as}
+use Rattle.sound_slow_path.specs.Plays.{Played, plays, after_frame, total, lower, read_by, frame_with_gains, accepted_as}
 use Rattle.sound_slow_path.specs.FrameSteps.{frame_at, frame_steps, Steppable}
 use Rattle.sound_slow_path.proofs.Plays.{plays_next}
 

@@ -2,13 +2,13 @@
 use mathlib.Core.Path.{◌≡◌, refl, sym, ap, ◌∙◌, subst}
 use mathlib.Core.Bool.{Bool, true, false, cond}
 use mathlib.Core.List.{List, [], ◌∷◌}
-use Prim.Native.Nat.{ℕ, suc, ◌*◌, ◌/◌, ◌≤◌, ◌<◌}
+use Prim.Native.Nat.{ℕ, suc, ◌*◌, ◌/◌, ◌<◌}
 use native.Mathlib.Omega.{arith}
 use lib.Dec.{T, eqb}
-use lib.ListN.{length, get_or, replicate, get_or-replicate}
+use lib.ListN.{length, get_or, get_or-replicate}
 use lib.Ieee.{Float, nan}
 use borrow.Author.Tests.{eqb-true}
-use Rattle.sound_lanes.specs.Lanes.{Lane, Lanes, five, sized}
+use Rattle.sound_lanes.specs.Lanes.{Lanes, five, sized}
 use Rattle.sound_lanes.proofs.Rows.{sized_parts}
 use Rattle.sound_slow_path.specs.FrameSteps.{Alike, again, spread}
 use Rattle.sound_slow_path.proofs.Loops.{lane_at}

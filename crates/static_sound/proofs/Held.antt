@@ -4,7 +4,7 @@ use mathlib.Core.Bool.{Bool, true, false, ◌&&◌, cond}
 use mathlib.Core.List.{List, ◌++◌}
 use Prim.Native.Nat.{ℕ, zero, suc, ◌+◌, ◌-◌, ◌*◌, ◌/◌, ◌≤◌, ◌<◌}
 use native.Mathlib.Omega.{arith}
-use lib.Dec.{leb, eqb}
+use lib.Dec.{leb}
 use lib.ListN.{length, take, drop, replicate, length-replicate}
 use lib.Ieee.{Float}
 use borrow.Author.Tests.{le-leb, lt-leb, eq-eqb}
@@ -16,7 +16,7 @@ use Rattle.sound_held.proofs.Once.{lane, rows_once}
 use Rattle.sound_state.specs.declared.StaticSound.{StaticSound}
 use Rattle.sound_block.specs.declared.Signals.{Signals}
 use Rattle.sound_slow_path.specs.declared.Processed.{Processed}
-use Rattle.sound_slow_path.specs.Plays.{Outcome, accepted_as}
+use Rattle.sound_slow_path.specs.Plays.{accepted_as}
 use Rattle.sound_slow_path.specs.FrameSteps.{Playable}
 use Rattle.sound_block.specs.Blocks.{block}
 use Rattle.static_sound.specs.Entries.{refused_block, refused_with, room, processed_held_into}

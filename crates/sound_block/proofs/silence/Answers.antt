@@ -1,8 +1,8 @@
-use Prim.Native.Nat.{◌-◌, ◌≤◌}
-use mathlib.Core.Path.{◌≡◌, refl, sym, ap, ◌∙◌}
+use Prim.Native.Nat.{◌-◌}
+use mathlib.Core.Path.{refl}
 use native.Mathlib.Omega.{arith}
-use lib.ListN.{length, take, replicate, length-set}
-use lib.Ieee.{of_bits, binary32}
+use lib.ListN.{length-set}
+use lib.Ieee.{of_bits}
 use Rattle.numbers.specs.Words.{positive_zero}
 use Rattle.sound_block.proofs.Fills.{fill_more, fill_all}
 use Rattle.sound_block.proofs.silence.Goals as goal

@@ -1,10 +1,7 @@
 use Prim.Native.Nat.{◌-◌, ◌≤◌}
-use mathlib.Core.Path.{◌≡◌, refl, sym, ap, ◌∙◌}
-use native.Mathlib.Omega.{arith}
-use lib.ListN.{length, take, replicate, length-set}
-use lib.Ieee.{of_bits, binary32}
+use mathlib.Core.Path.{◌≡◌}
+use lib.ListN.{length, take, replicate}
 use Rattle.numbers.specs.Words.{positive_zero}
-use Rattle.sound_block.proofs.Fills.{fill_more, fill_all}
 use Rattle.sound_block.proofs.silence.Given as goal
 
 abbrev pub invariant-loop-i : goal.invariant-loop-i

@@ -1,7 +1,5 @@
 -- `goes_steadily` is false in a short loop, and `is_steady` otherwise.
-use mathlib.Core.Path.{◌≡◌}
 use mathlib.Core.Bool.{false≢true}
-use borrow.Author.Rules.{rules}
 use Rattle.sound_fast_path.proofs.goes_steadily.Goals as goal
 
 pub returns-then-is_short : goal.returns-then-is_short

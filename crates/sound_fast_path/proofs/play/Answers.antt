@@ -10,12 +10,10 @@ use Rattle.sound_state.specs.Voices.{slice_of, moved}
 use Rattle.sound_state.specs.WellFormed.{WellFormed}
 use Rattle.sound_track.specs.Tracks.{track_of}
 use Rattle.sound_track.specs.Contiguous.{InsideSound, contiguous_of, Contiguous}
-use Rattle.sound_track.proofs.Same.{not_false}
 use Rattle.sound_slow_path.specs.FrameSteps.{Playable}
 use Rattle.sound_fast_path.specs.Scans.{Tracked, scanned_to}
 use Rattle.sound_fast_path.proofs.Scans.{position_on, Heard, heard_of, scannable, scan_begins}
 use Rattle.sound_fast_path.proofs.Joins.{lies_of, from_few, from_long, reached_on, reached_whole}
-use borrow.Author.Rules.{rules}
 use Rattle.sound_fast_path.proofs.play.Goals.{After-by_frame, After-contiguous_at, After-track_of-track, Else-not-is_contiguous}
 use Rattle.sound_fast_path.proofs.play.Goals as goal
 
@@ -28,9 +26,8 @@ track-is c = let v = c.args.voice in c.track_of-track.ensures ∙ ap (track_of v
 
 tracked : (c : After-track_of-track) → Tracked c.args.sound.now c.args.voice c.track_of-track.result
 tracked c =
-    let st = c in
-    let v = st.args.voice in
-    record { is = track-is c; lies = subst (InsideSound st.args.sound.now) (sym (track-is c)) (lies_of st.args.sound.now v st.requires.well_formed st.requires.lent) }
+    let v = c.args.voice in
+    record { is = track-is c; lies = subst (InsideSound c.args.sound.now) (sym (track-is c)) (lies_of c.args.sound.now v c.requires.well_formed c.requires.lent) }
 
 sum_fits : (a b i n : ℕ) → a ≤ 257 * i → b ≤ 257 * (n - i) → i ≤ n → n ≤ 4096 → a + b < 2 ^ 64
 sum_fits a b i n h k l m = omega arith
@@ -58,10 +55,9 @@ passed_is : (c : After-contiguous_at)
     let r = c.scan-reached.result in
     moved v r.fractional_position c.contiguous_at.result ≡ moved v r.fractional_position (scanned_to t.args.sound.now t.track_of-track.result v r.steps r.at))
 passed_is c =
-    let t = c in
-    let v = t.args.voice in
+    let v = c.args.voice in
     let r = c.scan-reached.result in
-    ap (moved v r.fractional_position) (c.contiguous_at.ensures ∙ ap (λ (w : Wraps). contiguous_of t.args.sound.now t.track_of-track.result v.moving w r.at) c.wraps_after-wraps.ensures)
+    ap (moved v r.fractional_position) (c.contiguous_at.ensures ∙ ap (λ (w : Wraps). contiguous_of c.args.sound.now c.track_of-track.result v.moving w r.at) c.wraps_after-wraps.ensures)
 
 passed-plays : (c : After-contiguous_at) → (let a = c.args in
     let b = lanes_now a.fade a.volume a.left a.right a.rate in
@@ -69,14 +65,13 @@ passed-plays : (c : After-contiguous_at) → (let a = c.args in
     Heard a.sound.now a.dt b a.voice c.track_of-track.result r c.by_frame.new.out
     → Playable a.sound.now (moved a.voice r.fractional_position c.contiguous_at.result) a.dt b (length c.by_frame.new.out))
 passed-plays c h =
-    let st = c in
     record {
       well_formed = subst WellFormed (sym (passed_is c)) h.well_formed;
-      lent = st.requires.lent;
-      sized = st.requires.sized;
+      lent = c.requires.lent;
+      sized = c.requires.sized;
       long = h.as_long;
-      is_time_step = st.requires.is_time_step;
-      near = st.requires.near;
+      is_time_step = c.requires.is_time_step;
+      near = c.requires.near;
     }
 
 fits_in : (i n m : ℕ) → i ≤ n → m ≡ n → i ≤ m

@@ -3,32 +3,27 @@ use native.Mathlib.Omega.{arith}
 use Rattle.sound_lanes.specs.Lanes.{lanes_now}
 use Rattle.sound_lanes.proofs.Rows.{sized_parts}
 use Rattle.sound_fast_path.proofs.Joins.{playable_from, played_from_lem}
-use borrow.Author.Rules.{rules}
-use Rattle.sound_fast_path.proofs.play_from.Reads as reads
-use Rattle.sound_fast_path.proofs.play_from.Lts as lts
 use Rattle.sound_fast_path.proofs.play_from.Goals as goal
 
 pub slice_bounds-play-count : goal.slice_bounds-play-count
-slice_bounds-play-count c = let st = c in let a = st.args in let z = sized_parts (lanes_now a.fade a.volume a.left a.right a.rate) st.requires.playable.sized in omega (arith, z, st.requires.next_in_bounds)
+slice_bounds-play-count c = let a = c.args in let z = sized_parts (lanes_now a.fade a.volume a.left a.right a.rate) c.requires.playable.sized in omega (arith, z, c.requires.next_in_bounds)
 
 pub slice_bounds-play-count-2 : goal.slice_bounds-play-count-2
-slice_bounds-play-count-2 c = let st = c in let a = st.args in let z = sized_parts (lanes_now a.fade a.volume a.left a.right a.rate) st.requires.playable.sized in omega (arith, z, st.requires.next_in_bounds)
+slice_bounds-play-count-2 c = let a = c.args in let z = sized_parts (lanes_now a.fade a.volume a.left a.right a.rate) c.requires.playable.sized in omega (arith, z, c.requires.next_in_bounds)
 
 pub slice_bounds-play-count-3 : goal.slice_bounds-play-count-3
-slice_bounds-play-count-3 c = let st = c in let a = st.args in let z = sized_parts (lanes_now a.fade a.volume a.left a.right a.rate) st.requires.playable.sized in omega (arith, z, st.requires.next_in_bounds)
+slice_bounds-play-count-3 c = let a = c.args in let z = sized_parts (lanes_now a.fade a.volume a.left a.right a.rate) c.requires.playable.sized in omega (arith, z, c.requires.next_in_bounds)
 
 pub slice_bounds-play-count-4 : goal.slice_bounds-play-count-4
-slice_bounds-play-count-4 c = let st = c in let a = st.args in let z = sized_parts (lanes_now a.fade a.volume a.left a.right a.rate) st.requires.playable.sized in omega (arith, z, st.requires.next_in_bounds)
+slice_bounds-play-count-4 c = let a = c.args in let z = sized_parts (lanes_now a.fade a.volume a.left a.right a.rate) c.requires.playable.sized in omega (arith, z, c.requires.next_in_bounds)
 
 pub play-requires : goal.play-requires
 play-requires c =
-    let st = c in
-    let a = st.args in
-    playable_from a.sound.now a.voice a.dt (lanes_now a.fade a.volume a.left a.right a.rate) a.out.now st.requires.playable a.next st.requires.next_in_bounds
+    let a = c.args in
+    playable_from a.sound.now a.voice a.dt (lanes_now a.fade a.volume a.left a.right a.rate) a.out.now c.requires.playable a.next c.requires.next_in_bounds
 
 pub returns : goal.returns
 returns c =
-    let st = c in
-    let a = st.args in
+    let a = c.args in
     let p = c.play in
-    played_from_lem a.sound.now a.voice a.dt (lanes_now a.fade a.volume a.left a.right a.rate) a.out.now st.requires.playable a.next p.result _ p.ensures
+    played_from_lem a.sound.now a.voice a.dt (lanes_now a.fade a.volume a.left a.right a.rate) a.out.now c.requires.playable a.next p.result _ p.ensures

@@ -4,9 +4,7 @@ use mathlib.Core.Path.{◌≡◌, refl, sym, ◌∙◌, subst}
 use mathlib.Core.Bool.{Bool, true, false, ◌&&◌, cond}
 use native.Mathlib.Omega.{arith}
 use lib.Dec.{ltb}
-use lib.ListN.{length}
 use borrow.Author.Tests.{ltb-true}
-use Rattle.sound_fast_reading.specs.Scans.{Scannable, Scanned}
 use Rattle.sound_fast_path.proofs.scan_varied.Goals as goal
 
 less : (m : Bool) (r s n : ℕ) → m ≡ true → cond (ltb r s && ltb s n) (suc (n - s)) 0 < cond m (suc (n - r)) 0

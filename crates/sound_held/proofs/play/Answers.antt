@@ -1,10 +1,6 @@
 -- `play`: lanes of one frame, which apply to every frame, are the numbers given once.
 use mathlib.Core.Path.{refl}
-use borrow.Author.Rules.{rules}
 use Rattle.sound_slow_path.specs.FrameSteps.{spread}
-use Rattle.sound_held.proofs.play.Reads as reads
-use Rattle.sound_held.proofs.play.Lts as lts
-use Rattle.sound_slow_path.proofs.play_spread.Reads as play-spread-reads
 use Rattle.sound_held.proofs.play.Goals as goal
 
 pub play_spread-requires : goal.play_spread-requires

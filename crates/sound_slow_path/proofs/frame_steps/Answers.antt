@@ -1,14 +1,6 @@
 -- `frame_steps` adds the advance to the fraction and makes as many updates as the sum has steps.
-use Prim.Native.Nat.{ℕ}
-use mathlib.Core.Path.{◌≡◌, refl, sym, ap, ◌∙◌, subst}
-use borrow.Author.Rules.{rules}
 use Rattle.sound_slow_path.specs.FrameSteps.{frame_steps}
 use Rattle.sound_slow_path.proofs.FrameSteps.{asks, turned_as}
-use Rattle.sound_slow_path.proofs.frame_steps.Reads as reads
-use Rattle.sound_slow_path.proofs.frame_steps.Lts as lts
-use Rattle.numbers.proofs.advance_by.Reads as advance-by-reads
-use Rattle.numbers.proofs.magnitude.Reads as magnitude-reads
-use Rattle.sound_update.proofs.Moving.update_positions.Reads as update-positions-reads
 use Rattle.sound_slow_path.proofs.frame_steps.Goals as goal
 
 pub advance_by-sum-requires : goal.advance_by-sum-requires

@@ -1,5 +1,4 @@
 -- `frame_with_gains` returns the reading times its gains.
-use borrow.Author.Rules.{rules}
 use Rattle.resampler.specs.Windows.{reading}
 use Rattle.sound_slow_path.specs.FrameSteps.{frame_at}
 use Rattle.sound_slow_path.proofs.frame_with_gains.Goals as goal
@@ -7,5 +6,4 @@ use Rattle.sound_slow_path.proofs.frame_with_gains.Goals as goal
 pub returns : goal.returns
 unfolding frame_at reading
 returns c =
-    let g = c in
-    simp (g.get-read.ensures, g.narrow.ensures)
+    simp (c.get-read.ensures, c.narrow.ensures)

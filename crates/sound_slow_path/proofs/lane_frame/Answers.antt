@@ -1,6 +1,4 @@
 -- `lane_frame` is 0 for lanes of one frame.
-use mathlib.Core.Path.{sym, ap}
-use mathlib.Core.Bool.{Bool, cond}
 use borrow.Author.Tests.{eq-eqb, ne_eqb}
 use Rattle.sound_slow_path.proofs.lane_frame.Goals as goal
 

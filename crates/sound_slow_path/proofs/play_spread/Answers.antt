@@ -1,19 +1,14 @@
 -- `play_spread` plays every frame and stores its two samples. The invariant: what is played so far is the definition's of the lanes so far.
-use Prim.Native.Nat.{ℕ, ◌+◌, ◌-◌, ◌*◌, ◌/◌, ◌≤◌, ◌<◌}
+use Prim.Native.Nat.{ℕ, ◌-◌, ◌*◌, ◌/◌, ◌≤◌, ◌<◌}
 use mathlib.Core.Path.{◌≡◌, refl, sym, ap, ◌∙◌, subst}
-use mathlib.Core.List.{List}
 use native.Mathlib.Omega.{arith}
-use lib.ListN.{length, take, get_or, length-set}
+use lib.ListN.{length, get_or, length-set}
 use lib.Dec.{T}
-use lib.Ieee.{Float, nan}
-use borrow.Author.Rules.{rules}
-use Rattle.sound_lanes.specs.Lanes.{Lane, Lanes, five, lanes_now, rows, slow}
+use lib.Ieee.{nan}
+use Rattle.sound_lanes.specs.Lanes.{Lane, Lanes, lanes_now, slow}
 use Rattle.sound_lanes.proofs.Rows.{sized_parts}
 use Rattle.sound_update.specs.declared.Slice.{Slice}
-use Rattle.sound_update.specs.declared.Moving.{Moving}
-use Rattle.sound_state.specs.declared.StaticSound.{StaticSound}
 use Rattle.sound_state.specs.Voices.{slice_of, moved}
-use Rattle.sound_state.specs.WellFormed.{WellFormed}
 use Rattle.sound_state.proofs.WellFormed.{updatable_of}
 use Rattle.resampler.specs.declared.Reading.{Reading}
 use Rattle.resampler.specs.Windows.{reading}
@@ -21,7 +16,6 @@ use Rattle.sound_slow_path.specs.Plays.{plays, lower}
 use Rattle.sound_slow_path.specs.FrameSteps.{spread, frame_steps, Steppable}
 use Rattle.sound_slow_path.proofs.Loops.{lane_at, framed, played, played_none, played_more, played_all, slow_at, turned_few, turned_on}
 use Rattle.sound_slow_path.proofs.Spread.{spread_at, spread_below}
-use Rattle.sound_slow_path.proofs.play_spread.Invariants.{Sofar}
 use Rattle.sound_slow_path.proofs.play_spread.Goals.{After-frame_steps-next, After-lane_frame-j, In-loop-i}
 use Rattle.sound_slow_path.proofs.play_spread.Goals as goal
 
@@ -98,24 +92,22 @@ turn-here c =
 -- ---- the needs
 pub loop-i-init : goal.loop-i-init
 loop-i-init c =
-    let st = c in
-    let a = st.args in
+    let a = c.args in
     record {
       within = omega arith;
       few = omega arith;
       as_long = refl;
-      well_formed = st.requires.playable.well_formed;
+      well_formed = c.requires.playable.well_formed;
       so_far_lem =
           played_none a.sound.now a.dt (spread (length a.out.now / 2) (lanes_now a.fade a.volume a.left a.right a.rate)) a.voice a.out.now;
     }
 
 pub frame_with_gains-read-requires : goal.frame_with_gains-read-requires
 frame_with_gains-read-requires c =
-    let l = c in
-    let k = l.requires.alike in
+    let k = c.requires.alike in
     let h = lane-there (goal.at.frame_with_gains-read-requires c).After-lane_frame-j in
     record {
-      t = l.loop-i.invariant.well_formed.fraction;
+      t = c.loop-i.invariant.well_formed.fraction;
       i_in_bounds = omega (arith, h, k.fade);
       i_in_bounds_2 = omega (arith, h, k.volume);
       i_in_bounds_3 = omega (arith, h, k.left);
@@ -151,11 +143,10 @@ bounds-rate-j c = lane-there (goal.at.bounds-rate-j c).After-lane_frame-j
 
 pub frame_steps-next-requires : goal.frame_steps-next-requires
 frame_steps-next-requires c =
-    let l = c in
-    rw l.slice-slice.ensures (turning (goal.at.frame_steps-next-requires c).After-lane_frame-j)
+    rw c.slice-slice.ensures (turning (goal.at.frame_steps-next-requires c).After-lane_frame-j)
 
 pub overflow_add-steps : goal.overflow_add-steps
-overflow_add-steps c = let t = c in omega (arith, numbers (goal.at.overflow_add-steps c).In-loop-i, turned_few _ _ _ _ _ _ _ c.frame_steps-next.result (turning (goal.at.overflow_add-steps c).After-lane_frame-j) (turn-here (goal.at.overflow_add-steps c).After-frame_steps-next))
+overflow_add-steps c = omega (arith, numbers (goal.at.overflow_add-steps c).In-loop-i, turned_few _ _ _ _ _ _ _ c.frame_steps-next.result (turning (goal.at.overflow_add-steps c).After-lane_frame-j) (turn-here (goal.at.overflow_add-steps c).After-frame_steps-next))
 
 pub overflow_add-i : goal.overflow_add-i
 overflow_add-i c = omega (arith, numbers (goal.at.overflow_add-i c).In-loop-i)

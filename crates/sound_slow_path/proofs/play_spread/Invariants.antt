@@ -1,26 +1,17 @@
 -- `play_spread` plays every frame and stores its two samples. The invariant: what is played so far is the definition's of the lanes so far.
-use Prim.Native.Nat.{ℕ, ◌+◌, ◌-◌, ◌*◌, ◌/◌, ◌≤◌, ◌<◌}
-use mathlib.Core.Path.{◌≡◌, refl, sym, ap, ◌∙◌, subst}
+use Prim.Native.Nat.{ℕ, ◌-◌, ◌*◌, ◌/◌, ◌≤◌}
+use mathlib.Core.Path.{◌≡◌}
 use mathlib.Core.List.{List}
-use native.Mathlib.Omega.{arith}
-use lib.ListN.{length, take, get_or, length-set}
-use lib.Dec.{T}
-use lib.Ieee.{Float, nan}
-use borrow.Author.Rules.{rules}
-use Rattle.sound_lanes.specs.Lanes.{Lane, Lanes, five, lanes_now, rows, slow}
-use Rattle.sound_lanes.proofs.Rows.{sized_parts}
-use Rattle.sound_update.specs.declared.Slice.{Slice}
+use lib.ListN.{length, take}
+use lib.Ieee.{Float}
+use Rattle.sound_lanes.specs.Lanes.{Lanes, five, rows}
 use Rattle.sound_update.specs.declared.Moving.{Moving}
 use Rattle.sound_state.specs.declared.StaticSound.{StaticSound}
-use Rattle.sound_state.specs.Voices.{slice_of, moved}
+use Rattle.sound_state.specs.Voices.{moved}
 use Rattle.sound_state.specs.WellFormed.{WellFormed}
-use Rattle.sound_state.proofs.WellFormed.{updatable_of}
-use Rattle.resampler.specs.declared.Reading.{Reading}
-use Rattle.resampler.specs.Windows.{reading}
-use Rattle.sound_slow_path.specs.Plays.{plays, lower}
-use Rattle.sound_slow_path.specs.FrameSteps.{spread, frame_steps, Steppable}
-use Rattle.sound_slow_path.proofs.Loops.{lane_at, framed, played, played_none, played_more, played_all, slow_at, turned_few, turned_on}
-use Rattle.sound_slow_path.proofs.Spread.{spread_at, spread_below}
+use Rattle.sound_slow_path.specs.Plays.{plays}
+use Rattle.sound_slow_path.specs.FrameSteps.{spread}
+use Rattle.sound_slow_path.proofs.Loops.{played}
 use Rattle.sound_slow_path.proofs.play_spread.Given as goal
 
 pub record Sofar (snd : List Float) (dt : Float) (b : Lanes) (v : StaticSound) (i : ℕ) (out₀ out : List Float) (m : Moving) (f : Float) (steps low : ℕ) : Type 0 where

@@ -1,7 +1,5 @@
 -- `holds` is its two tests, in whole frames.
 use Rattle.static_sound.proofs.Places.{holds_even, holds_odd}
-use Rattle.static_sound.proofs.holds.Reads as reads
-use Rattle.static_sound.proofs.holds.Lts as lts
 use Rattle.static_sound.proofs.holds.Goals as goal
 
 pub returns-then-samples-eq0 : goal.returns-then-samples-eq0

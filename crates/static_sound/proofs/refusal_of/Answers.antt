@@ -5,13 +5,6 @@ use mathlib.Core.Bool.{true}
 use Rattle.sound_lanes.specs.Lanes.{lanes_now, sized, is_time_step}
 use Rattle.sound_state.specs.WellFormed.{well_formed_for}
 use Rattle.static_sound.proofs.Calls.{number_1, number_9, number_9_place, number_10, number_judged, fails, passes}
-use borrow.Author.Rules.{rules}
-use Rattle.static_sound.proofs.refusal_of.Reads as reads
-use Rattle.static_sound.proofs.refusal_of.Lts as lts
-use Rattle.sound_lanes.proofs.are_sized.Reads as are-sized-reads
-use Rattle.sound_lanes.proofs.is_time_step.Reads as is-time-step-reads
-use Rattle.sound_lanes.proofs.judge.Reads as judge-reads
-use Rattle.sound_state.proofs.StaticSound.is_well_formed.Reads as is-well-formed-reads
 use Rattle.static_sound.proofs.refusal_of.Goals.{Else-not-are_sized, Else-not-is_time_step, Else-not-is_well_formed}
 use Rattle.static_sound.proofs.refusal_of.Goals as goal
 
@@ -34,7 +27,7 @@ pub returns-then-not-placed : goal.returns-then-not-placed
 returns-then-not-placed c = number_9_place _ _ _ _ _ (well_formed (goal.at.returns-then-not-placed c).Else-not-is_well_formed) (lanes-sized (goal.at.returns-then-not-placed c).Else-not-are_sized) (c.if-not-placed.true)
 
 pub returns-then-not-is_time_step : goal.returns-then-not-is_time_step
-returns-then-not-is_time_step c = let p = c in number_10 _ _ _ _ _ (well_formed (goal.at.returns-then-not-is_time_step c).Else-not-is_well_formed) (lanes-sized (goal.at.returns-then-not-is_time_step c).Else-not-are_sized) p.if-not-placed.false (fails c.is_time_step.ensures c.if-not-is_time_step.true)
+returns-then-not-is_time_step c = number_10 _ _ _ _ _ (well_formed (goal.at.returns-then-not-is_time_step c).Else-not-is_well_formed) (lanes-sized (goal.at.returns-then-not-is_time_step c).Else-not-are_sized) c.if-not-placed.false (fails c.is_time_step.ensures c.if-not-is_time_step.true)
 
 pub judge-requires : goal.judge-requires
 judge-requires c =
@@ -42,6 +35,4 @@ judge-requires c =
 
 pub returns : goal.returns
 returns c =
-    let q = c in
-    let p = c in
-    c.judge.ensures ∙ number_judged _ _ _ _ _ (well_formed (goal.at.returns c).Else-not-is_well_formed) (lanes-sized (goal.at.returns c).Else-not-are_sized) p.if-not-placed.false (time-step-one (goal.at.returns c).Else-not-is_time_step)
+    c.judge.ensures ∙ number_judged _ _ _ _ _ (well_formed (goal.at.returns c).Else-not-is_well_formed) (lanes-sized (goal.at.returns c).Else-not-are_sized) c.if-not-placed.false (time-step-one (goal.at.returns c).Else-not-is_time_step)

@@ -3,7 +3,6 @@ use mathlib.Core.Path.{◌≡◌, ap, ◌∙◌}
 use Prim.Native.Nat.{ℕ}
 use mathlib.Core.List.{List}
 use lib.Ieee.{Float, of_bits}
-use borrow.Author.Rules.{rules}
 use borrow.Author.Tests.{eq-eqb, ne_eqb}
 use Rattle.numbers.specs.Words.{positive_zero}
 use Rattle.sound_state.specs.declared.StaticSound.{StaticSound}
@@ -33,5 +32,4 @@ returns-then-found-ne0 c = refused _ _ _ _ _ c.read-found.ensures c.if-found-ne0
 
 pub returns : goal.returns
 returns c =
-    let e = c in
-    set _ _ _ _ _ e.read-found.ensures _ _ e.if-found-ne0.false c.loop_command.ensures c.on_start_processing.ensures
+    set _ _ _ _ _ c.read-found.ensures _ _ c.if-found-ne0.false c.loop_command.ensures c.on_start_processing.ensures

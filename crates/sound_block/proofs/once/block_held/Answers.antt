@@ -1,16 +1,10 @@
 -- `block_held`, as `block`, is the sound of a voice that is live once it has taken its signals, and the silence of any other.
-use mathlib.Core.Path.{◌≡◌, sym, ◌∙◌}
+use mathlib.Core.Path.{sym, ◌∙◌}
 use lib.ListN.{length}
 use Prim.Native.Nat.{◌/◌}
 use Rattle.sound_lanes.specs.Lanes.{Lanes}
 use Rattle.sound_held.specs.Held.{held_lanes}
 use Rattle.sound_block.proofs.Sounds.{sounds, rests, playable}
-use borrow.Author.Rules.{rules}
-use Rattle.sound_block.proofs.once.block_held.Reads as reads
-use Rattle.sound_block.proofs.once.block_held.Lts as lts
-use Rattle.sound_block.proofs.begin.Reads as begin-reads
-use Rattle.sound_block.proofs.is_live.Reads as is-live-reads
-use Rattle.sound_block.proofs.silence.Reads as silence-reads
 use Rattle.sound_block.proofs.once.block_held.Goals.{After-begin-begun}
 use Rattle.sound_block.proofs.once.block_held.Goals as goal
 
@@ -19,22 +13,15 @@ lent c = let a = c.args in held_lanes a.held (length a.out.now / 2)
 
 pub play_held-requires : goal.play_held-requires
 play_held-requires c =
-    let b = c in
-    let s = c in
-    let a = s.args in
-    playable a.sound.now a.dt (lent (goal.at.play_held-requires c).After-begin-begun) a.signals a.voice b.begin-begun.result b.begin-begun.ensures (length a.out.now) s.requires
+    let a = c.args in
+    playable a.sound.now a.dt (lent (goal.at.play_held-requires c).After-begin-begun) a.signals a.voice c.begin-begun.result c.begin-begun.ensures (length a.out.now) c.requires
 
 pub returns-then-is_live : goal.returns-then-is_live
 returns-then-is_live c =
-    let l = c in
-    let b = c in
-    let a = b.args in
-    sounds a.sound.now a.dt (lent (goal.at.returns-then-is_live c).After-begin-begun) a.signals a.voice _ b.begin-begun.ensures (sym l.is_live.ensures ∙ l.if-is_live.true) _ c.play_held.ensures
+    let a = c.args in
+    sounds a.sound.now a.dt (lent (goal.at.returns-then-is_live c).After-begin-begun) a.signals a.voice _ c.begin-begun.ensures (sym c.is_live.ensures ∙ c.if-is_live.true) _ c.play_held.ensures
 
 pub returns : goal.returns
 returns c =
-    let l = c in
-    let b = c in
-    let s = c in
-    let a = s.args in
-    rests a.sound.now a.dt (lent (goal.at.returns c).After-begin-begun) a.signals a.voice _ b.begin-begun.ensures (sym l.is_live.ensures ∙ l.if-is_live.false) _ (length a.out.now) c.silence.ensures s.requires.long
+    let a = c.args in
+    rests a.sound.now a.dt (lent (goal.at.returns c).After-begin-begun) a.signals a.voice _ c.begin-begun.ensures (sym c.is_live.ensures ∙ c.if-is_live.false) _ (length a.out.now) c.silence.ensures c.requires.long

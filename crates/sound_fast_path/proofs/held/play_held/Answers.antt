@@ -2,7 +2,7 @@
 use Prim.Native.Nat.{ℕ, ◌+◌, ◌-◌, ◌*◌, ◌/◌, ◌^◌, ◌≤◌, ◌<◌}
 use mathlib.Core.Path.{◌≡◌, sym, ap, ◌∙◌, subst}
 use native.Mathlib.Omega.{arith}
-use lib.ListN.{length, replicate, length-replicate}
+use lib.ListN.{length, length-replicate}
 use Rattle.sound_lanes.specs.Lanes.{Lanes}
 use Rattle.sound_update.specs.declared.Wraps.{Wraps}
 use Rattle.sound_state.specs.declared.StaticSound.{StaticSound}
@@ -10,7 +10,6 @@ use Rattle.sound_state.specs.Voices.{slice_of, moved}
 use Rattle.sound_state.specs.WellFormed.{WellFormed}
 use Rattle.sound_track.specs.Tracks.{track_of}
 use Rattle.sound_track.specs.Contiguous.{InsideSound, contiguous_of, Contiguous}
-use Rattle.sound_track.proofs.Same.{not_false}
 use Rattle.sound_gains.proofs.Gained.{gained_fewer}
 use Rattle.sound_held.specs.Held.{held_lanes}
 use Rattle.sound_slow_path.specs.FrameSteps.{Playable}
@@ -18,7 +17,6 @@ use Rattle.sound_fast_path.specs.Scans.{Tracked, scanned_to, played_from}
 use Rattle.sound_fast_path.proofs.Scans.{position_on, Heard, heard_of, scannable, scan_begins}
 use Rattle.sound_fast_path.proofs.Joins.{lies_of, from_few, from_long, reached_on, reached_whole}
 use Rattle.sound_fast_path.proofs.After.{most}
-use borrow.Author.Rules.{rules}
 use Rattle.sound_fast_path.proofs.held.play_held.Goals.{After-contiguous_at, After-once, After-track_of-track, Else-not-is_contiguous}
 use Rattle.sound_fast_path.proofs.held.play_held.Goals as goal
 
@@ -30,15 +28,14 @@ lent c = held_lanes c.args.held (frames c)
 
 -- ---- the track
 
--- the is the voice's
+-- the track is the voice's
 track-is : (c : After-track_of-track) → (let v = c.args.voice in c.track_of-track.result ≡ track_of v.moving.transport.loop_region (slice_of v))
 track-is c = let v = c.args.voice in c.track_of-track.ensures ∙ ap (track_of v.moving.transport.loop_region) c.slice-slice.ensures
 
 tracked : (c : After-track_of-track) → Tracked c.args.sound.now c.args.voice c.track_of-track.result
 tracked c =
-    let st = c in
-    let v = st.args.voice in
-    record { is = track-is c; lies = subst (InsideSound st.args.sound.now) (sym (track-is c)) (lies_of st.args.sound.now v st.requires.well_formed st.requires.lent) }
+    let v = c.args.voice in
+    record { is = track-is c; lies = subst (InsideSound c.args.sound.now) (sym (track-is c)) (lies_of c.args.sound.now v c.requires.well_formed c.requires.lent) }
 
 -- the window is the voice's contiguous window
 contiguous : (c : Else-not-is_contiguous) → Contiguous c.args.sound.now c.track_of-track.result c.args.voice.moving
@@ -52,7 +49,7 @@ few_frames c = let a = c.args in most a.sound.now a.voice a.dt a.held (frames c)
 inside : (c : After-once) → c.scan_held-reached.result.next ≤ length c.args.out.now / 2
 inside c = subst (λ (n : ℕ). c.scan_held-reached.result.next ≤ n) (length-replicate (length c.args.out.now / 2) c.args.held.rate) c.scan_held-reached.ensures.within
 
--- the frames after the are applied
+-- the frames after the gains are applied
 heard : (c : After-once)
     → (let a = c.args in
     Tracked a.sound.now a.voice c.track_of-track.result → Contiguous a.sound.now c.track_of-track.result a.voice.moving
@@ -74,10 +71,9 @@ passed_is : (c : After-contiguous_at)
     let r = c.scan_held-reached.result in
     moved v r.fractional_position c.contiguous_at.result ≡ moved v r.fractional_position (scanned_to t.args.sound.now t.track_of-track.result v r.steps r.at))
 passed_is c =
-    let t = c in
-    let v = t.args.voice in
+    let v = c.args.voice in
     let r = c.scan_held-reached.result in
-    ap (moved v r.fractional_position) (c.contiguous_at.ensures ∙ ap (λ (w : Wraps). contiguous_of t.args.sound.now t.track_of-track.result v.moving w r.at) c.wraps_after-wraps.ensures)
+    ap (moved v r.fractional_position) (c.contiguous_at.ensures ∙ ap (λ (w : Wraps). contiguous_of c.args.sound.now c.track_of-track.result v.moving w r.at) c.wraps_after-wraps.ensures)
 
 passed-plays : (c : After-contiguous_at) → (let a = c.args in
     let b = held_lanes a.held (length a.out.now / 2) in
@@ -85,14 +81,13 @@ passed-plays : (c : After-contiguous_at) → (let a = c.args in
     Heard a.sound.now a.dt b a.voice c.track_of-track.result r c.once.new.out
     → Playable a.sound.now (moved a.voice r.fractional_position c.contiguous_at.result) a.dt b (length c.once.new.out))
 passed-plays c h =
-    let st = c in
     record {
       well_formed = subst WellFormed (sym (passed_is c)) h.well_formed;
-      lent = st.requires.lent;
-      sized = st.requires.sized;
+      lent = c.requires.lent;
+      sized = c.requires.sized;
       long = h.as_long;
-      is_time_step = st.requires.is_time_step;
-      near = st.requires.near;
+      is_time_step = c.requires.is_time_step;
+      near = c.requires.near;
     }
 
 -- ---- numbers

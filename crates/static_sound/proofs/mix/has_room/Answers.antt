@@ -1,8 +1,5 @@
 -- `has_room` is its three tests, in whole frames.
 use Rattle.static_sound.proofs.Places.{room_odd, room_beyond, room_left}
-use borrow.Author.Rules.{rules}
-use Rattle.static_sound.proofs.mix.has_room.Reads as reads
-use Rattle.static_sound.proofs.mix.has_room.Lts as lts
 use Rattle.static_sound.proofs.mix.has_room.Goals as goal
 
 pub returns-then-samples-ne0 : goal.returns-then-samples-ne0

@@ -1,15 +1,6 @@
 -- `process_into`: constant lanes are numbers given once; all others go by the body for lanes.
-use mathlib.Core.Path.{◌≡◌, sym, ap, ◌∙◌}
-use lib.ListN.{length}
 use Rattle.sound_lanes.specs.Lanes.{Lanes, lanes_now}
 use Rattle.static_sound.proofs.Whole.{constant_into}
-use borrow.Author.Rules.{rules}
-use Rattle.static_sound.proofs.mix.process_into.Reads as reads
-use Rattle.static_sound.proofs.mix.process_into.Lts as lts
-use Rattle.static_sound.proofs.mix.process_lanes.Reads as process-lanes-reads
-use Rattle.static_sound.proofs.once.process_held_into.Reads as process-held-into-reads
-use Rattle.sound_constant.proofs.are_constant.Reads as are-constant-reads
-use Rattle.sound_constant.proofs.first_of.Reads as first-of-reads
 use Rattle.static_sound.proofs.mix.process_into.Goals.{After-are_constant}
 use Rattle.static_sound.proofs.mix.process_into.Goals as goal
 
@@ -21,11 +12,8 @@ first_of-held-requires c = c.are_constant.ensures c.if-are_constant.true
 
 pub returns-then-are_constant : goal.returns-then-are_constant
 returns-then-are_constant c =
-    let p = c in
-    let f = c in
-    let e = c in
-    let a = e.args in
-    constant_into a.sound.now a.voice a.dt (lent (goal.at.returns-then-are_constant c).After-are_constant) a.signals a.mix.now a.from _ (e.are_constant.ensures e.if-are_constant.true) _ f.first_of-held.ensures p.process_held_into.ensures
+    let a = c.args in
+    constant_into a.sound.now a.voice a.dt (lent (goal.at.returns-then-are_constant c).After-are_constant) a.signals a.mix.now a.from _ (c.are_constant.ensures c.if-are_constant.true) _ c.first_of-held.ensures c.process_held_into.ensures
 
 pub returns : goal.returns
 returns c = c.process_lanes.ensures

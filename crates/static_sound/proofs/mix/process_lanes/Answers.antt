@@ -1,17 +1,11 @@
 -- `process_lanes` returns a refusal, or plays its block into its part of the mix.
-use mathlib.Core.Path.{◌≡◌, sym, ap, ◌∙◌}
+use mathlib.Core.Path.{◌≡◌, sym, ◌∙◌}
 use native.Mathlib.Omega.{arith}
-use Prim.Native.Nat.{ℕ, ◌+◌, ◌*◌, ◌≤◌}
+use Prim.Native.Nat.{◌+◌, ◌*◌, ◌≤◌}
 use lib.ListN.{length}
 use Rattle.sound_lanes.specs.Lanes.{Lanes, lanes_now}
 use Rattle.static_sound.specs.Entries.{refused_block, room}
 use Rattle.static_sound.proofs.Calls.{refused_into, processed_into_lem, playable_part, inside}
-use borrow.Author.Rules.{rules}
-use Rattle.static_sound.proofs.mix.process_lanes.Reads as reads
-use Rattle.static_sound.proofs.mix.process_lanes.Lts as lts
-use Rattle.static_sound.proofs.mix.has_room.Reads as has-room-reads
-use Rattle.sound_block.proofs.block.Reads as block_reads
-use Rattle.static_sound.proofs.refusal_of.Reads as refusal-of-reads
 use Rattle.static_sound.proofs.mix.process_lanes.Goals.{After-refusal_of-refusal, Else-refusal-ne0}
 use Rattle.static_sound.proofs.mix.process_lanes.Goals as goal
 
@@ -52,13 +46,10 @@ slice_bounds-block-end c = omega (arith, fits (goal.at.slice_bounds-block-end c)
 
 pub block-requires : goal.block-requires
 block-requires c =
-    let e = c in
-    let a = e.args in
+    let a = c.args in
     playable_part a.sound.now a.voice a.dt (lent (goal.at.block-requires c).After-refusal_of-refusal) a.signals a.mix.now a.from (none (goal.at.block-requires c).Else-refusal-ne0)
 
 pub returns : goal.returns
 returns c =
-    let p = c in
-    let e = c in
-    let a = e.args in
-    processed_into_lem a.sound.now a.voice a.dt (lent (goal.at.returns c).After-refusal_of-refusal) a.signals a.mix.now a.from p.block.result _ (none (goal.at.returns c).Else-refusal-ne0) p.block.ensures
+    let a = c.args in
+    processed_into_lem a.sound.now a.voice a.dt (lent (goal.at.returns c).After-refusal_of-refusal) a.signals a.mix.now a.from c.block.result _ (none (goal.at.returns c).Else-refusal-ne0) c.block.ensures

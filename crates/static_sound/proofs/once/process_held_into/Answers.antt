@@ -1,17 +1,11 @@
 -- `process_held_into` returns a refusal, or plays its block into its part of the mix.
-use mathlib.Core.Path.{◌≡◌, sym, ap, ◌∙◌}
+use mathlib.Core.Path.{◌≡◌, sym, ◌∙◌}
 use native.Mathlib.Omega.{arith}
 use Prim.Native.Nat.{◌+◌, ◌*◌, ◌≤◌}
 use lib.ListN.{length}
 use Rattle.sound_held.specs.Held.{held_lanes}
 use Rattle.static_sound.specs.Entries.{refused_block, room}
 use Rattle.static_sound.proofs.Held.{refused_held_into, held_inside, playable_held_part, held_into}
-use borrow.Author.Rules.{rules}
-use Rattle.static_sound.proofs.once.process_held_into.Reads as reads
-use Rattle.static_sound.proofs.once.process_held_into.Lts as lts
-use Rattle.sound_block.proofs.block_held.Reads as block-held-reads
-use Rattle.static_sound.proofs.mix.has_room.Reads as has-room-reads
-use Rattle.static_sound.proofs.once.refusal_held.Reads as refusal-held-reads
 use Rattle.static_sound.proofs.once.process_held_into.Goals.{After-refusal_held-refusal, Else-refusal-ne0}
 use Rattle.static_sound.proofs.once.process_held_into.Goals as goal
 
@@ -49,13 +43,10 @@ slice_bounds-block_held-end c = omega (arith, fits (goal.at.slice_bounds-block_h
 
 pub block_held-requires : goal.block_held-requires
 block_held-requires c =
-    let e = c in
-    let a = e.args in
+    let a = c.args in
     playable_held_part a.sound.now a.voice a.dt a.held a.signals a.mix.now a.from a.frames (none (goal.at.block_held-requires c).Else-refusal-ne0)
 
 pub returns : goal.returns
 returns c =
-    let p = c in
-    let e = c in
-    let a = e.args in
-    held_into a.sound.now a.voice a.dt a.held a.signals a.mix.now a.from a.frames (none (goal.at.returns c).Else-refusal-ne0) p.block_held.result _ p.block_held.ensures
+    let a = c.args in
+    held_into a.sound.now a.voice a.dt a.held a.signals a.mix.now a.from a.frames (none (goal.at.returns c).Else-refusal-ne0) c.block_held.result _ c.block_held.ensures

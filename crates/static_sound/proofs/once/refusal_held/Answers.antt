@@ -2,18 +2,11 @@
 use mathlib.Core.Path.{◌≡◌, sym, ◌∙◌, subst}
 use lib.Dec.{T}
 use mathlib.Core.Bool.{true}
-use Prim.Native.Nat.{ℕ}
 use Rattle.sound_lanes.specs.Lanes.{sized, is_time_step}
 use Rattle.sound_held.specs.Held.{held_lanes}
 use Rattle.sound_state.specs.WellFormed.{well_formed_for}
 use Rattle.static_sound.proofs.Calls.{number_1, number_9, number_9_place, number_10, number_judged, fails, passes}
 use Rattle.static_sound.proofs.Held.{sized_few, sized_many, judged_some, judged_none}
-use borrow.Author.Rules.{rules}
-use Rattle.static_sound.proofs.once.refusal_held.Reads as reads
-use Rattle.static_sound.proofs.once.refusal_held.Lts as lts
-use Rattle.sound_lanes.proofs.is_time_step.Reads as is-time-step-reads
-use Rattle.sound_lanes.proofs.judge.Reads as judge-reads
-use Rattle.sound_state.proofs.StaticSound.is_well_formed.Reads as is-well-formed-reads
 use Rattle.static_sound.proofs.once.refusal_held.Goals.{Else-frames-gt4096, Else-not-is_time_step, Else-not-is_well_formed}
 use Rattle.static_sound.proofs.once.refusal_held.Goals as goal
 
@@ -36,13 +29,11 @@ pub returns-then-not-placed : goal.returns-then-not-placed
 returns-then-not-placed c = number_9_place _ _ _ _ _ (well_formed (goal.at.returns-then-not-placed c).Else-not-is_well_formed) (few (goal.at.returns-then-not-placed c).Else-frames-gt4096) (c.if-not-placed.true)
 
 pub returns-then-not-is_time_step : goal.returns-then-not-is_time_step
-returns-then-not-is_time_step c = let p = c in number_10 _ _ _ _ _ (well_formed (goal.at.returns-then-not-is_time_step c).Else-not-is_well_formed) (few (goal.at.returns-then-not-is_time_step c).Else-frames-gt4096) p.if-not-placed.false (fails c.is_time_step.ensures c.if-not-is_time_step.true)
+returns-then-not-is_time_step c = number_10 _ _ _ _ _ (well_formed (goal.at.returns-then-not-is_time_step c).Else-not-is_well_formed) (few (goal.at.returns-then-not-is_time_step c).Else-frames-gt4096) c.if-not-placed.false (fails c.is_time_step.ensures c.if-not-is_time_step.true)
 
 pub returns-then-frames-eq0 : goal.returns-then-frames-eq0
 returns-then-frames-eq0 c =
-    let q = c in
-    let p = c in
-    judged_none _ _ _ _ c.if-frames-eq0.true ∙ number_judged _ _ _ _ _ (well_formed (goal.at.returns-then-frames-eq0 c).Else-not-is_well_formed) (few (goal.at.returns-then-frames-eq0 c).Else-frames-gt4096) p.if-not-placed.false (time-step-one (goal.at.returns-then-frames-eq0 c).Else-not-is_time_step)
+    judged_none _ _ _ _ c.if-frames-eq0.true ∙ number_judged _ _ _ _ _ (well_formed (goal.at.returns-then-frames-eq0 c).Else-not-is_well_formed) (few (goal.at.returns-then-frames-eq0 c).Else-frames-gt4096) c.if-not-placed.false (time-step-one (goal.at.returns-then-frames-eq0 c).Else-not-is_time_step)
 
 pub judge-requires : goal.judge-requires
 judge-requires c =
@@ -50,7 +41,4 @@ judge-requires c =
 
 pub returns : goal.returns
 returns c =
-    let e = c in
-    let q = c in
-    let p = c in
-    c.judge.ensures ∙ judged_some _ _ _ _ e.if-frames-eq0.false ∙ number_judged _ _ _ _ _ (well_formed (goal.at.returns c).Else-not-is_well_formed) (few (goal.at.returns c).Else-frames-gt4096) p.if-not-placed.false (time-step-one (goal.at.returns c).Else-not-is_time_step)
+    c.judge.ensures ∙ judged_some _ _ _ _ c.if-frames-eq0.false ∙ number_judged _ _ _ _ _ (well_formed (goal.at.returns c).Else-not-is_well_formed) (few (goal.at.returns c).Else-frames-gt4096) c.if-not-placed.false (time-step-one (goal.at.returns c).Else-not-is_time_step)

@@ -8,15 +8,11 @@ use lib.Dec.{T}
 use lib.ListN.{length}
 use Rattle.playback_position.specs.Positions.{within}
 use Rattle.playback_position.specs.declared.FrameRange.{FrameRange}
-use Rattle.playback_position.proofs.Ranges.{Ranged, ranged_parts}
+use Rattle.playback_position.proofs.Ranges.{ranged_parts}
 use Rattle.sound_state.specs.WellFormed.{well_formed_for}
-use Rattle.sound_state.proofs.WellFormed.{Fixed, setup_parts, well_formed_for_parts}
+use Rattle.sound_state.proofs.WellFormed.{setup_parts, well_formed_for_parts}
 use Rattle.static_sound.specs.Entries.{stretch_of, stretch_at}
 use Rattle.static_sound.proofs.Calls.{fails, passes}
-use borrow.Author.Rules.{rules}
-use Rattle.static_sound.proofs.stretches.stretch.Reads as reads
-use Rattle.static_sound.proofs.stretches.stretch.Lts as lts
-use Rattle.sound_state.proofs.StaticSound.is_well_formed.Reads as is-well-formed-reads
 use Rattle.static_sound.proofs.stretches.stretch.Goals.{Else-not-is_well_formed, In-Frames}
 use Rattle.static_sound.proofs.stretches.stretch.Goals as goal
 
