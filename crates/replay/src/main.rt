@@ -5,6 +5,7 @@
 ghost use Rattle.std.specs.Prelude.{◌≡◌, ◌-◌, ◌≤◌, length};
 ghost use Rattle.replay.specs.Windows.{Held};
 
+use std::io::{Print, Read, Stdin, Stdout};
 use trace_replay::Run;
 
 // The window on the input: its bytes are `at` to `end` of a buffer whose first byte has the offset `base` in the
@@ -24,8 +25,26 @@ pub struct Play {
     pub done: bool,
 }
 
+// Reads until `buf` is full, the input ends or a read fails, and returns how many bytes it put at the start of `buf`.
+fn read_full(input: Stdin, buf: &mut [u8]) -> usize
+    ensures { result ≤ length buf.new }
+{
+    let mut input = input;
+    let mut done = 0;
+    while done < buf.len() {
+        let Ok(n) = input.read(&mut buf[done..]) else {
+            return done;
+        };
+        if n == 0 {
+            return done;
+        }
+        done += n;
+    }
+    done
+}
+
 // Moves the unread bytes to the front, and reads more after them.
-fn refill(bytes: &mut [u8], spare: &mut [u8], w: Window) -> Window
+fn refill(input: Stdin, bytes: &mut [u8], spare: &mut [u8], w: Window) -> Window
     requires { (w.at ≤ w.end) × (w.end ≤ length bytes.old) × (w.end - w.at ≤ length spare.old) }
     ensures { Held result bytes.new }
 {
@@ -34,7 +53,7 @@ fn refill(bytes: &mut [u8], spare: &mut [u8], w: Window) -> Window
     let n = end - at;
     byte_layout::copy(bytes, at, end, spare, 0);
     byte_layout::copy(spare, 0, n, bytes, 0);
-    let got = io::read_full(0, &mut bytes[n..]);
+    let got = read_full(input, &mut bytes[n..]);
     let end = n + got;
     Window {
         at: 0,
@@ -45,7 +64,7 @@ fn refill(bytes: &mut [u8], spare: &mut [u8], w: Window) -> Window
 }
 
 // Plays one record and prints its line.
-fn play_one(p: Play, bytes: &[u8], sound: &mut [f32], line: &mut [u8]) -> Play
+fn play_one(output: Stdout, p: Play, bytes: &[u8], sound: &mut [f32], line: &mut [u8]) -> Play
     requires { Held p.window bytes.now × (128 ≤ length sound.old) × (p.run.samples ≤ length sound.old)
         × (139 ≤ length line.old) }
     ensures { Held result.window bytes.now × (result.run.samples ≤ length sound.new) }
@@ -57,7 +76,7 @@ fn play_one(p: Play, bytes: &[u8], sound: &mut [f32], line: &mut [u8]) -> Play
     let place = std::num::wrapping_add_u64(window.base, at as u64);
     let played = trace_replay::advance(run, &bytes[..end], at, place, sound, line);
     let n = played.written;
-    io::write_all(1, &line[..n]);
+    let _ = output.write_all(&line[..n]);
     let run = played.run;
     Play {
         run,
@@ -70,23 +89,38 @@ fn play_one(p: Play, bytes: &[u8], sound: &mut [f32], line: &mut [u8]) -> Play
 }
 
 // Reads more if the window may end inside a record (no record has more than 575 bytes), then plays one record.
-fn advance(p: Play, bytes: &mut [u8], spare: &mut [u8], sound: &mut [f32], line: &mut [u8]) -> Play
+fn advance(
+    input: Stdin,
+    output: Stdout,
+    p: Play,
+    bytes: &mut [u8],
+    spare: &mut [u8],
+    sound: &mut [f32],
+    line: &mut [u8],
+) -> Play
     requires { Held p.window bytes.old × (1024 ≤ length spare.old) × (128 ≤ length sound.old)
         × (p.run.samples ≤ length sound.old) × (139 ≤ length line.old) }
     ensures { Held result.window bytes.new × (result.run.samples ≤ length sound.new) }
 {
     let window = p.window;
     if window.ended {
-        return play_one(p, bytes, sound, line);
+        return play_one(output, p, bytes, sound, line);
     }
     if 1024 <= window.end - window.at {
-        return play_one(p, bytes, sound, line);
+        return play_one(output, p, bytes, sound, line);
     }
-    let window = refill(bytes, spare, window);
-    play_one(Play { window, ..p }, bytes, sound, line)
+    let window = refill(input, bytes, spare, window);
+    play_one(output, Play { window, ..p }, bytes, sound, line)
 }
 
-fn replay(bytes: &mut [u8], spare: &mut [u8], sound: &mut [f32], line: &mut [u8])
+fn replay(
+    input: Stdin,
+    output: Stdout,
+    bytes: &mut [u8],
+    spare: &mut [u8],
+    sound: &mut [f32],
+    line: &mut [u8],
+)
     requires { (1024 ≤ length spare.old) × (128 ≤ length sound.old) × (139 ≤ length line.old) }
 {
     let window = Window {
@@ -105,15 +139,15 @@ fn replay(bytes: &mut [u8], spare: &mut [u8], sound: &mut [f32], line: &mut [u8]
         if p.done {
             return;
         }
-        p = advance(p, bytes, spare, sound, line);
+        p = advance(input, output, p, bytes, spare, sound, line);
         left -= 1;
     }
 }
 
-fn main() {
-    let mut bytes = io::large_buffer();
+fn main(rt: HostRuntime) {
+    let mut bytes = [0u8; 65536];
     let mut spare = [0u8; 1024];
     let mut sound = [0.0f32; 128];
     let mut line = [0u8; 160];
-    replay(&mut bytes, &mut spare, &mut sound, &mut line);
+    replay(rt.stdin(), rt.stdout(), &mut bytes, &mut spare, &mut sound, &mut line);
 }

@@ -4,8 +4,7 @@ use Rattle.trace_replay.proofs.Parts.{part_long}
 use Rattle.replay.proofs.Places.{within, inside}
 use Rattle.replay.proofs.play_one.Reads as reads
 use Rattle.replay.proofs.play_one.Lts as lts
-use Rattle.io.proofs.write_all.Reads as write-all-reads
-use Rattle.std.proofs.num.wrapping_add_u64.Reads as wrapping-add-u64-reads
+
 use Rattle.trace_replay.proofs.advance.Reads as advance-reads
 use Rattle.replay.proofs.play_one.Goals as goal
 
