@@ -2,13 +2,13 @@
 use mathlib.Core.Path.{◌≡◌, refl, sym, ap, ◌∙◌, subst}
 use Prim.Native.Nat.{ℕ, ◌+◌, ◌-◌, ◌*◌, ◌/◌, ◌≤◌}
 use native.Mathlib.Omega.{arith}
-use mathlib.Core.Bool.{Bool, true, false, cond, not, ◌&&◌}
+use mathlib.Core.Bool.{Bool, true, false, cond, ◌&&◌}
 use mathlib.Core.List.{List, [], ◌∷◌, ◌++◌}
 use lib.Dec.{eqb, leb}
 use lib.ListN.{length, take, drop, get_or}
 use lib.Seq.{sets, sets-eq, take_at, length-sets, length-take-le}
 use lib.Ieee.{Float}
-use borrow.Author.Tests.{eq-eqb, ne_eqb, leb-true, not_true, not_false}
+use borrow.Author.Tests.{eq-eqb, ne_eqb, leb-true}
 use Rattle.sound_held.specs.declared.Held.{Held}
 use Rattle.sound_held.specs.Held.{held_lanes}
 use Rattle.sound_state.specs.declared.StaticSound.{StaticSound}
@@ -160,17 +160,17 @@ module _ (r : CableowlReplay) (s o : ℕ) where
   abbrev has_room : Bool
   has_room = leb 128 s && leb 2048 o
 
-  pub number_1 : not of_replay ≡ true → 1 ≡ refused_step r s o
+  pub number_1 : of_replay ≡ false → 1 ≡ refused_step r s o
   unfolding refused_step
-  number_1 h = rw (not_true of_replay h) refl
+  number_1 h = rw (h) refl
 
-  pub number_19 : not of_replay ≡ false → not has_room ≡ true → 19 ≡ refused_step r s o
+  pub number_19 : of_replay ≡ true → has_room ≡ false → 19 ≡ refused_step r s o
   unfolding refused_step
-  number_19 g h = rw (not_false of_replay g, not_true has_room h) refl
+  number_19 g h = rw (g, h) refl
 
-  pub number_none : not of_replay ≡ false → not has_room ≡ false → 0 ≡ refused_step r s o
+  pub number_none : of_replay ≡ true → has_room ≡ true → 0 ≡ refused_step r s o
   unfolding refused_step
-  number_none g h = rw (not_false of_replay g, not_false has_room h) refl
+  number_none g h = rw (g, h) refl
 
   pub accepted_room : refused_step r s o ≡ 0 → (128 ≤ s) × (r.samples ≤ s) × (2048 ≤ o)
   unfolding refused_step

@@ -2,13 +2,13 @@
 use mathlib.Core.Path.{◌≡◌, refl, sym, ap, ◌∙◌, subst}
 use Prim.Native.Nat.{ℕ, ◌+◌, ◌-◌, ◌*◌, ◌/◌, ◌%◌, ◌≤◌}
 use native.Mathlib.Omega.{arith}
-use mathlib.Core.Bool.{Bool, true, false, cond, not, ◌&&◌, ◌||◌, true≢false}
+use mathlib.Core.Bool.{Bool, true, false, cond, ◌&&◌, ◌||◌, true≢false}
 use mathlib.Core.List.{List, [], ◌∷◌, ◌++◌}
 use lib.Dec.{eqb, leb}
 use lib.ListN.{length, take, drop, get_or, replicate, length-replicate}
 use lib.Seq.{sets}
 use lib.Ieee.{Float}
-use borrow.Author.Tests.{eq-eqb, ne_eqb, eqb-true, eqb-false, leb-true, not_true, not_false}
+use borrow.Author.Tests.{eq-eqb, ne_eqb, eqb-true, eqb-false, leb-true}
 use Rattle.numbers.specs.Words.{positive_zero}
 use Rattle.sound_lanes.specs.Lanes.{five}
 use Rattle.sound_state.specs.declared.StaticSound.{StaticSound}
@@ -252,17 +252,17 @@ module _ (r : CableowlReplay) (s o : ℕ) where
   abbrev has_room : Bool
   has_room = leb 128 s && leb 2048 o
 
-  pub number_1_v2 : not of_replay ≡ true → 1 ≡ refused_step_v2 r s o
+  pub number_1_v2 : of_replay ≡ false → 1 ≡ refused_step_v2 r s o
   unfolding refused_step_v2
-  number_1_v2 h = rw (not_true of_replay h) refl
+  number_1_v2 h = rw (h) refl
 
-  pub number_19_v2 : not of_replay ≡ false → not has_room ≡ true → 19 ≡ refused_step_v2 r s o
+  pub number_19_v2 : of_replay ≡ true → has_room ≡ false → 19 ≡ refused_step_v2 r s o
   unfolding refused_step_v2
-  number_19_v2 g h = rw (not_false of_replay g, not_true has_room h) refl
+  number_19_v2 g h = rw (g, h) refl
 
-  pub number_none_v2 : not of_replay ≡ false → not has_room ≡ false → 0 ≡ refused_step_v2 r s o
+  pub number_none_v2 : of_replay ≡ true → has_room ≡ true → 0 ≡ refused_step_v2 r s o
   unfolding refused_step_v2
-  number_none_v2 g h = rw (not_false of_replay g, not_false has_room h) refl
+  number_none_v2 g h = rw (g, h) refl
 
   pub accepted_room_v2 : refused_step_v2 r s o ≡ 0 → (128 ≤ s) × (2048 ≤ o) × (r.given ≡ 0 → r.samples ≤ s)
   unfolding refused_step_v2
