@@ -5,46 +5,183 @@
 use Rattle.std.specs.Prelude.{◌≡◌, List, Float}
 use Rattle.std.specs.Borrow.{Bor}
 use Rattle.byte_layout.specs.Reads.{view}
-use Rattle.numbers.proofs as numbers
-use Rattle.frame.proofs as frame
-use Rattle.playback_position.proofs as playback_position
-use Rattle.transport.proofs as transport
-use Rattle.resampler.proofs as resampler
-use Rattle.playback_state_manager.proofs as playback_state_manager
-use Rattle.start_time.proofs as start_time
-use Rattle.sound_lanes.proofs as sound_lanes
-use Rattle.sound_update.proofs as sound_update
-use Rattle.sound_track.proofs as sound_track
-use Rattle.sound_state.proofs as sound_state
-use Rattle.sound_creation.proofs as sound_creation
-use Rattle.sound_commands.proofs as sound_commands
-use Rattle.sound_slow_path.proofs as sound_slow_path
-use Rattle.sound_fast_reading.proofs as sound_fast_reading
-use Rattle.sound_gains.proofs as sound_gains
-use Rattle.sound_fast_path.proofs as sound_fast_path
-use Rattle.sound_constant.proofs as sound_constant
-use Rattle.sound_held.proofs as sound_held
-use Rattle.sound_block.proofs as sound_block
-use Rattle.static_sound.proofs as static_sound
-use Rattle.loop_copies.proofs as loop_copies
-use Rattle.loop_table.proofs as loop_table
-use Rattle.take_loop.proofs as take_loop
-use Rattle.decibels.proofs as decibels
-use Rattle.semitones.proofs as semitones
-use Rattle.crc32.proofs as crc32
-use Rattle.byte_layout.proofs as byte_layout
-use Rattle.saved_settings.proofs as saved_settings
-use Rattle.saved_loops.proofs as saved_loops
-use Rattle.trace_records.proofs as trace_records
-use Rattle.trace_salvage.proofs as trace_salvage
-use Rattle.trace_sealed.proofs as trace_sealed
-use Rattle.c_state.proofs as c_state
-use Rattle.c_inputs.proofs as c_inputs
-use Rattle.cableowl.proofs as cableowl
+use base.Logic.{SProp, emp}
+use prog.Memory.{Memory}
+use prog.Routine.{Routine}
+use types.Logic.{Logic}
+use contract.Monad.{Fun}
+use contract.Lifetimes.{Lfts}
+use denote.Triple.Entry.{Args, Res}
+use denote.Triple.Clauses.{Ended, Clauses, AtExit}
+use borrow.Fn.Claims.{AllOf}
+use borrow.Fn.World.{w₀}
+use borrow.Fn.Read.{ReadAt, r_last, r_fact, no_know}
+use Rattle.numbers.specs.contracts.narrow as NumbersNarrow
+use Rattle.numbers.specs.contracts.advance_by as NumbersAdvanceBy
+use Rattle.numbers.specs.contracts.round_half_away as NumbersRoundHalfAway
+use Rattle.numbers.specs.contracts.cut as NumbersCut
+use Rattle.numbers.specs.contracts.magnitude as NumbersMagnitude
+use Rattle.numbers.specs.contracts.is_finite as NumbersIsFinite
+use Rattle.numbers.specs.contracts.is_negative as NumbersIsNegative
+use Rattle.numbers.specs.contracts.is_proper as NumbersIsProper
+use Rattle.numbers.specs.contracts.is_finite_clear as NumbersIsFiniteClear
+use Rattle.numbers.specs.contracts.is_positive_zero as NumbersIsPositiveZero
+use Rattle.frame.specs.contracts.interpolate_frame as FrameInterpolateFrame
+use Rattle.playback_position.specs.contracts.PlaybackPosition.into_samples as PlaybackPositionPlaybackPositionIntoSamples
+use Rattle.playback_position.specs.contracts.PlaybackPosition.is_finite_position as PlaybackPositionPlaybackPositionIsFinitePosition
+use Rattle.playback_position.specs.contracts.EndPosition.into_samples as PlaybackPositionEndPositionIntoSamples
+use Rattle.playback_position.specs.contracts.EndPosition.is_finite_end as PlaybackPositionEndPositionIsFiniteEnd
+use Rattle.playback_position.specs.contracts.FrameRange.is_within as PlaybackPositionFrameRangeIsWithin
+use Rattle.playback_position.specs.contracts.Region.into_frames as PlaybackPositionRegionIntoFrames
+use Rattle.playback_position.specs.contracts.Region.is_well_formed as PlaybackPositionRegionIsWellFormed
+use Rattle.transport.specs.contracts.Transport.new as TransportTransportNew
+use Rattle.transport.specs.contracts.Transport.set_loop_region as TransportTransportSetLoopRegion
+use Rattle.transport.specs.contracts.Transport.increment_position as TransportTransportIncrementPosition
+use Rattle.transport.specs.contracts.Transport.decrement_position as TransportTransportDecrementPosition
+use Rattle.transport.specs.contracts.Transport.wraps as TransportTransportWraps
+use Rattle.transport.specs.contracts.Transport.seek_to as TransportTransportSeekTo
+use Rattle.resampler.specs.contracts.Resampler.new as ResamplerResamplerNew
+use Rattle.resampler.specs.contracts.Resampler.push_frame as ResamplerResamplerPushFrame
+use Rattle.resampler.specs.contracts.Resampler.get as ResamplerResamplerGet
+use Rattle.resampler.specs.contracts.Resampler.current_frame_index as ResamplerResamplerCurrentFrameIndex
+use Rattle.resampler.specs.contracts.Resampler.empty as ResamplerResamplerEmpty
+use Rattle.playback_state_manager.specs.contracts.PlaybackState.number as PlaybackStateManagerPlaybackStateNumber
+use Rattle.playback_state_manager.specs.contracts.PlaybackState.is_advancing as PlaybackStateManagerPlaybackStateIsAdvancing
+use Rattle.playback_state_manager.specs.contracts.PlaybackState.pause as PlaybackStateManagerPlaybackStatePause
+use Rattle.playback_state_manager.specs.contracts.PlaybackState.resume as PlaybackStateManagerPlaybackStateResume
+use Rattle.playback_state_manager.specs.contracts.PlaybackState.stop as PlaybackStateManagerPlaybackStateStop
+use Rattle.playback_state_manager.specs.contracts.PlaybackState.mark_as_stopped as PlaybackStateManagerPlaybackStateMarkAsStopped
+use Rattle.playback_state_manager.specs.contracts.PlaybackState.update as PlaybackStateManagerPlaybackStateUpdate
+use Rattle.start_time.specs.contracts.StartSignal.answer as StartTimeStartSignalAnswer
+use Rattle.sound_lanes.specs.contracts.are_sized as SoundLanesAreSized
+use Rattle.sound_lanes.specs.contracts.is_time_step as SoundLanesIsTimeStep
+use Rattle.sound_lanes.specs.contracts.judge as SoundLanesJudge
+use Rattle.sound_state.specs.contracts.Setup.num_frames as SoundStateSetupNumFrames
+use Rattle.sound_state.specs.contracts.Setup.start as SoundStateSetupStart
+use Rattle.sound_state.specs.contracts.StaticSound.slice as SoundStateStaticSoundSlice
+use Rattle.sound_state.specs.contracts.StaticSound.is_well_formed as SoundStateStaticSoundIsWellFormed
+use Rattle.sound_update.specs.contracts.Moving.push_frame_to_resampler as SoundUpdateMovingPushFrameToResampler
+use Rattle.sound_update.specs.contracts.Moving.update_position as SoundUpdateMovingUpdatePosition
+use Rattle.sound_update.specs.contracts.Moving.update_positions as SoundUpdateMovingUpdatePositions
+use Rattle.sound_track.specs.contracts.track_of as SoundTrackTrackOf
+use Rattle.sound_track.specs.contracts.after as SoundTrackAfter
+use Rattle.sound_track.specs.contracts.after_steps as SoundTrackAfterSteps
+use Rattle.sound_track.specs.contracts.has_room_after as SoundTrackHasRoomAfter
+use Rattle.sound_track.specs.contracts.before as SoundTrackBefore
+use Rattle.sound_track.specs.contracts.before_steps as SoundTrackBeforeSteps
+use Rattle.sound_track.specs.contracts.has_room_before as SoundTrackHasRoomBefore
+use Rattle.sound_track.specs.contracts.wraps_after as SoundTrackWrapsAfter
+use Rattle.sound_track.specs.contracts.frame_in as SoundTrackFrameIn
+use Rattle.sound_track.specs.contracts.frame_at as SoundTrackFrameAt
+use Rattle.sound_track.specs.contracts.contiguous_at as SoundTrackContiguousAt
+use Rattle.sound_track.specs.contracts.is_contiguous as SoundTrackIsContiguous
+use Rattle.sound_creation.specs.contracts.blank as SoundCreationBlank
+use Rattle.sound_creation.specs.contracts.new as SoundCreationNew
+use Rattle.sound_commands.specs.contracts.on_start_processing as SoundCommandsOnStartProcessing
+use Rattle.sound_slow_path.specs.contracts.play as SoundSlowPathPlay
+use Rattle.sound_slow_path.specs.contracts.play_spread as SoundSlowPathPlaySpread
+use Rattle.sound_fast_reading.specs.contracts.advance_of as SoundFastReadingAdvanceOf
+use Rattle.sound_fast_reading.specs.contracts.stepped_by as SoundFastReadingSteppedBy
+use Rattle.sound_fast_reading.specs.contracts.moved as SoundFastReadingMoved
+use Rattle.sound_fast_reading.specs.contracts.store as SoundFastReadingStore
+use Rattle.sound_gains.specs.contracts.by_frame as SoundGainsByFrame
+use Rattle.sound_gains.specs.contracts.once as SoundGainsOnce
+use Rattle.sound_fast_path.specs.contracts.play as SoundFastPathPlay
+use Rattle.sound_fast_path.specs.contracts.play_held as SoundFastPathPlayHeld
+use Rattle.sound_held.specs.contracts.play as SoundHeldPlay
+use Rattle.sound_block.specs.contracts.block_held as SoundBlockBlockHeld
+use Rattle.sound_block.specs.contracts.block as SoundBlockBlock
+use Rattle.sound_constant.specs.contracts.first_of as SoundConstantFirstOf
+use Rattle.static_sound.specs.contracts.process as StaticSoundProcess
+use Rattle.static_sound.specs.contracts.process_into as StaticSoundProcessInto
+use Rattle.static_sound.specs.contracts.process_held as StaticSoundProcessHeld
+use Rattle.static_sound.specs.contracts.process_held_into as StaticSoundProcessHeldInto
+use Rattle.static_sound.specs.contracts.stretch as StaticSoundStretch
+use Rattle.loop_table.specs.contracts.LoopTable.new as LoopTableLoopTableNew
+use Rattle.loop_table.specs.contracts.LoopTable.write as LoopTableLoopTableWrite
+use Rattle.loop_table.specs.contracts.LoopTable.clear as LoopTableLoopTableClear
+use Rattle.loop_table.specs.contracts.LoopTable.read as LoopTableLoopTableRead
+use Rattle.loop_table.specs.contracts.LoopTable.is_well_formed as LoopTableLoopTableIsWellFormed
+use Rattle.loop_copies.specs.contracts.LoopCopy.new as LoopCopiesLoopCopyNew
+use Rattle.loop_copies.specs.contracts.LoopCopy.write as LoopCopiesLoopCopyWrite
+use Rattle.loop_copies.specs.contracts.LoopCopy.clear as LoopCopiesLoopCopyClear
+use Rattle.loop_copies.specs.contracts.LoopCopy.merge as LoopCopiesLoopCopyMerge
+use Rattle.take_loop.specs.contracts.take as TakeLoopTake
+use Rattle.decibels.specs.contracts.as_amplitude as DecibelsAsAmplitude
+use Rattle.decibels.specs.contracts.fade_ramp as DecibelsFadeRamp
+use Rattle.semitones.specs.contracts.raised as SemitonesRaised
+use Rattle.crc32.specs.contracts.checksum as Crc32Checksum
+use Rattle.byte_layout.specs.contracts.number as ByteLayoutNumber
+use Rattle.byte_layout.specs.contracts.put_number as ByteLayoutPutNumber
+use Rattle.byte_layout.specs.contracts.begin as ByteLayoutBegin
+use Rattle.byte_layout.specs.contracts.read_rows as ByteLayoutReadRows
+use Rattle.byte_layout.specs.contracts.put_rows as ByteLayoutPutRows
+use Rattle.byte_layout.specs.contracts.rows_fit as ByteLayoutRowsFit
+use Rattle.byte_layout.specs.contracts.rows_length as ByteLayoutRowsLength
+use Rattle.byte_layout.specs.contracts.copy as ByteLayoutCopy
+use Rattle.saved_settings.specs.contracts.load as SavedSettingsLoad
+use Rattle.saved_settings.specs.contracts.store as SavedSettingsStore
+use Rattle.trace_sealed.specs.contracts.read as TraceSealedRead
+use Rattle.trace_sealed.specs.contracts.write as TraceSealedWrite
+use Rattle.saved_loops.specs.contracts.load as SavedLoopsLoad
+use Rattle.saved_loops.specs.contracts.store as SavedLoopsStore
+use Rattle.trace_records.specs.contracts.read as TraceRecordsRead
+use Rattle.trace_records.specs.contracts.write as TraceRecordsWrite
+use Rattle.trace_salvage.specs.contracts.salvage as TraceSalvageSalvage
+use Rattle.trace_salvage.specs.contracts.salvage_by as TraceSalvageSalvageBy
+use Rattle.c_state.specs.contracts.decode as CStateDecode
+use Rattle.c_state.specs.contracts.encode as CStateEncode
+use Rattle.c_inputs.specs.contracts.settings_of as CInputsSettingsOf
+use Rattle.c_inputs.specs.contracts.commands_of as CInputsCommandsOf
+use Rattle.c_inputs.specs.contracts.signals_of as CInputsSignalsOf
+use Rattle.cableowl.specs.contracts.cableowl_version as CableowlCableowlVersion
+use Rattle.cableowl.specs.contracts.cableowl_new as CableowlCableowlNew
+use Rattle.cableowl.specs.contracts.cableowl_on_start_processing as CableowlCableowlOnStartProcessing
+use Rattle.cableowl.specs.contracts.cableowl_process as CableowlCableowlProcess
+use Rattle.cableowl.specs.contracts.cableowl_process_into as CableowlCableowlProcessInto
+use Rattle.cableowl.specs.contracts.cableowl_process_held as CableowlCableowlProcessHeld
+use Rattle.cableowl.specs.contracts.cableowl_process_held_into as CableowlCableowlProcessHeldInto
+use Rattle.cableowl.specs.contracts.cableowl_stretch as CableowlCableowlStretch
+use Rattle.cableowl.specs.contracts.cableowl_amplitude as CableowlCableowlAmplitude
+use Rattle.cableowl.specs.contracts.cableowl_fade_ramp as CableowlCableowlFadeRamp
+use Rattle.cableowl.specs.contracts.cableowl_loop_table as CableowlCableowlLoopTable
+use Rattle.cableowl.specs.contracts.cableowl_write_loop as CableowlCableowlWriteLoop
+use Rattle.cableowl.specs.contracts.cableowl_clear_loop as CableowlCableowlClearLoop
+use Rattle.cableowl.specs.contracts.cableowl_read_loop as CableowlCableowlReadLoop
+use Rattle.cableowl.specs.contracts.cableowl_take_loop as CableowlCableowlTakeLoop
+use Rattle.cableowl.specs.contracts.cableowl_loop_copy as CableowlCableowlLoopCopy
+use Rattle.cableowl.specs.contracts.cableowl_write_copy as CableowlCableowlWriteCopy
+use Rattle.cableowl.specs.contracts.cableowl_clear_copy as CableowlCableowlClearCopy
+use Rattle.cableowl.specs.contracts.cableowl_merge_copies as CableowlCableowlMergeCopies
+use Rattle.cableowl.specs.contracts.cableowl_store_settings as CableowlCableowlStoreSettings
+use Rattle.cableowl.specs.contracts.cableowl_load_settings as CableowlCableowlLoadSettings
+use Rattle.cableowl.specs.contracts.cableowl_settings_of as CableowlCableowlSettingsOf
+use Rattle.cableowl.specs.contracts.cableowl_store_half as CableowlCableowlStoreHalf
+use Rattle.cableowl.specs.contracts.cableowl_load_half as CableowlCableowlLoadHalf
+use Rattle.cableowl.specs.contracts.cableowl_read_record as CableowlCableowlReadRecord
+use Rattle.cableowl.specs.contracts.cableowl_write_record as CableowlCableowlWriteRecord
+use Rattle.cableowl.specs.contracts.cableowl_read_record_v2 as CableowlCableowlReadRecordV2
+use Rattle.cableowl.specs.contracts.cableowl_write_record_v2 as CableowlCableowlWriteRecordV2
+use Rattle.cableowl.specs.contracts.cableowl_salvage as CableowlCableowlSalvage
+use Rattle.cableowl.specs.contracts.cableowl_salvage_v2 as CableowlCableowlSalvageV2
+use Rattle.cableowl.specs.contracts.cableowl_replay as CableowlCableowlReplay
+use Rattle.cableowl.specs.contracts.cableowl_replay_step as CableowlCableowlReplayStep
+use Rattle.cableowl.specs.contracts.cableowl_replay_v2 as CableowlCableowlReplayV2
+use Rattle.cableowl.specs.contracts.cableowl_replay_step_v2 as CableowlCableowlReplayStepV2
 
 -- what a contract allows: for lifetimes k and every input, a result and the final contents of what was borrowed
 abbrev pub Allows : (K : Type 0) (A R S : K → Type 0) → Type 1
 Allows K A R S = (k : K) → A k → R k → S k → Type 0
+
+-- a contract c, and what its `ensures` says as plain facts: `f` reads the clauses of c itself
+module _ (T : Ended) (c : Logic w₀.𝓤 → (Memory → SProp w₀.𝓤) → (Routine → Fun w₀.𝓤) → Clauses w₀.𝓤 T) where
+  abbrev pub Reading : Type 2
+  Reading = (k : Lfts T.signature.lifetimes) (a : Args T.signature k) → (g : (c w₀.𝓛 w₀.𝓜.mem w₀.𝓡.returns k a).ghost)
+      × ((r : Res T.signature k) (s : AtExit T k) → ReadAt w₀ (λ w. emp w.𝓤) no_know
+      ((c w₀.𝓛 w₀.𝓜.mem w₀.𝓡.returns k a).ensures g r s))
+
+  abbrev pub Post : Reading → Allows (Lfts T.signature.lifetimes) (Args T.signature) (Res T.signature) (AtExit T)
+  Post f k a r s = AllOf ((f k a).1 r s).owes
 
 module _ {K : Type 0} {A R S : K → Type 0} where
   -- its results coincide
@@ -68,196 +205,196 @@ DecidesPart {K} {A} {S} P =
 
 pub record Coincide : Type 0 where
   -- numbers
-  pub numbers_narrow : Decides numbers.narrow.Reads.Post
-  pub numbers_advance_by : Decides numbers.advance_by.Reads.Post
-  pub numbers_round_half_away : Decides numbers.round_half_away.Reads.Post
-  pub numbers_cut : Decides numbers.cut.Reads.Post
-  pub numbers_magnitude : Decides numbers.magnitude.Reads.Post
-  pub numbers_is_finite : Decides numbers.is_finite.Reads.Post
-  pub numbers_is_negative : Decides numbers.is_negative.Reads.Post
-  pub numbers_is_proper : Decides numbers.is_proper.Reads.Post
-  pub numbers_is_finite_clear : Decides numbers.is_finite_clear.Reads.Post
-  pub numbers_is_positive_zero : Decides numbers.is_positive_zero.Reads.Post
+  pub numbers_narrow : Decides (Post NumbersNarrow.ended NumbersNarrow.clauses (λ k a. (tt, λ r s. r_last _)))
+  pub numbers_advance_by : Decides (Post NumbersAdvanceBy.ended NumbersAdvanceBy.clauses (λ k a. (tt, λ r s. r_last _)))
+  pub numbers_round_half_away : Decides (Post NumbersRoundHalfAway.ended NumbersRoundHalfAway.clauses (λ k a. (tt, λ r s. r_last _)))
+  pub numbers_cut : Decides (Post NumbersCut.ended NumbersCut.clauses (λ k a. (tt, λ r s. r_last _)))
+  pub numbers_magnitude : Decides (Post NumbersMagnitude.ended NumbersMagnitude.clauses (λ k a. (tt, λ r s. r_last _)))
+  pub numbers_is_finite : Decides (Post NumbersIsFinite.ended NumbersIsFinite.clauses (λ k a. (tt, λ r s. r_last _)))
+  pub numbers_is_negative : Decides (Post NumbersIsNegative.ended NumbersIsNegative.clauses (λ k a. (tt, λ r s. r_last _)))
+  pub numbers_is_proper : Decides (Post NumbersIsProper.ended NumbersIsProper.clauses (λ k a. (tt, λ r s. r_last _)))
+  pub numbers_is_finite_clear : Decides (Post NumbersIsFiniteClear.ended NumbersIsFiniteClear.clauses (λ k a. (tt, λ r s. r_last _)))
+  pub numbers_is_positive_zero : Decides (Post NumbersIsPositiveZero.ended NumbersIsPositiveZero.clauses (λ k a. (tt, λ r s. r_last _)))
   -- frame
-  pub frame_interpolate_frame : Decides frame.interpolate_frame.Reads.Post
+  pub frame_interpolate_frame : Decides (Post FrameInterpolateFrame.ended FrameInterpolateFrame.clauses (λ k a. (tt, λ r s. r_last _)))
   -- playback_position
   pub playback_position_playbackposition_into_samples :
-      Decides playback_position.PlaybackPosition.into_samples.Reads.Post
+      Decides (Post PlaybackPositionPlaybackPositionIntoSamples.ended PlaybackPositionPlaybackPositionIntoSamples.clauses (λ k a. (tt, λ r s. r_last _)))
   pub playback_position_playbackposition_is_finite_position :
-      Decides playback_position.PlaybackPosition.is_finite_position.Reads.Post
-  pub playback_position_endposition_into_samples : Decides playback_position.EndPosition.into_samples.Reads.Post
-  pub playback_position_endposition_is_finite_end : Decides playback_position.EndPosition.is_finite_end.Reads.Post
-  pub playback_position_framerange_is_within : Decides playback_position.FrameRange.is_within.Reads.Post
-  pub playback_position_region_into_frames : Decides playback_position.Region.into_frames.Reads.Post
-  pub playback_position_region_is_well_formed : Decides playback_position.Region.is_well_formed.Reads.Post
+      Decides (Post PlaybackPositionPlaybackPositionIsFinitePosition.ended PlaybackPositionPlaybackPositionIsFinitePosition.clauses (λ k a. (tt, λ r s. r_last _)))
+  pub playback_position_endposition_into_samples : Decides (Post PlaybackPositionEndPositionIntoSamples.ended PlaybackPositionEndPositionIntoSamples.clauses (λ k a. (tt, λ r s. r_last _)))
+  pub playback_position_endposition_is_finite_end : Decides (Post PlaybackPositionEndPositionIsFiniteEnd.ended PlaybackPositionEndPositionIsFiniteEnd.clauses (λ k a. (tt, λ r s. r_last _)))
+  pub playback_position_framerange_is_within : Decides (Post PlaybackPositionFrameRangeIsWithin.ended PlaybackPositionFrameRangeIsWithin.clauses (λ k a. (tt, λ r s. r_last _)))
+  pub playback_position_region_into_frames : Decides (Post PlaybackPositionRegionIntoFrames.ended PlaybackPositionRegionIntoFrames.clauses (λ k a. (tt, λ r s. r_last _)))
+  pub playback_position_region_is_well_formed : Decides (Post PlaybackPositionRegionIsWellFormed.ended PlaybackPositionRegionIsWellFormed.clauses (λ k a. (tt, λ r s. r_last _)))
   -- transport
-  pub transport_transport_new : Decides transport.Transport.new.Reads.Post
-  pub transport_transport_set_loop_region : Decides transport.Transport.set_loop_region.Reads.Post
-  pub transport_transport_increment_position : Decides transport.Transport.increment_position.Reads.Post
-  pub transport_transport_decrement_position : Decides transport.Transport.decrement_position.Reads.Post
-  pub transport_transport_wraps : Decides transport.Transport.wraps.Reads.Post
-  pub transport_transport_seek_to : Decides transport.Transport.seek_to.Reads.Post
+  pub transport_transport_new : Decides (Post TransportTransportNew.ended TransportTransportNew.clauses (λ k a. (tt, λ r s. r_last _)))
+  pub transport_transport_set_loop_region : Decides (Post TransportTransportSetLoopRegion.ended TransportTransportSetLoopRegion.clauses (λ k a. (tt, λ r s. r_last _)))
+  pub transport_transport_increment_position : Decides (Post TransportTransportIncrementPosition.ended TransportTransportIncrementPosition.clauses (λ k a. (tt, λ r s. r_last _)))
+  pub transport_transport_decrement_position : Decides (Post TransportTransportDecrementPosition.ended TransportTransportDecrementPosition.clauses (λ k a. (tt, λ r s. r_last _)))
+  pub transport_transport_wraps : Decides (Post TransportTransportWraps.ended TransportTransportWraps.clauses (λ k a. (tt, λ r s. r_last _)))
+  pub transport_transport_seek_to : Decides (Post TransportTransportSeekTo.ended TransportTransportSeekTo.clauses (λ k a. (tt, λ r s. r_last _)))
   -- resampler
-  pub resampler_resampler_new : Decides resampler.Resampler.new.Reads.Post
-  pub resampler_resampler_push_frame : Decides resampler.Resampler.push_frame.Reads.Post
-  pub resampler_resampler_get : Decides resampler.Resampler.get.Reads.Post
-  pub resampler_resampler_current_frame_index : Decides resampler.Resampler.current_frame_index.Reads.Post
-  pub resampler_resampler_empty : Decides resampler.Resampler.empty.Reads.Post
+  pub resampler_resampler_new : Decides (Post ResamplerResamplerNew.ended ResamplerResamplerNew.clauses (λ k a. (tt, λ r s. r_last _)))
+  pub resampler_resampler_push_frame : Decides (Post ResamplerResamplerPushFrame.ended ResamplerResamplerPushFrame.clauses (λ k a. (tt, λ r s. r_last _)))
+  pub resampler_resampler_get : Decides (Post ResamplerResamplerGet.ended ResamplerResamplerGet.clauses (λ k a. (tt, λ r s. r_last _)))
+  pub resampler_resampler_current_frame_index : Decides (Post ResamplerResamplerCurrentFrameIndex.ended ResamplerResamplerCurrentFrameIndex.clauses (λ k a. (tt, λ r s. r_last _)))
+  pub resampler_resampler_empty : Decides (Post ResamplerResamplerEmpty.ended ResamplerResamplerEmpty.clauses (λ k a. (tt, λ r s. r_last _)))
   -- playback_state_manager
-  pub playback_state_manager_playbackstate_number : Decides playback_state_manager.PlaybackState.number.Reads.Post
+  pub playback_state_manager_playbackstate_number : Decides (Post PlaybackStateManagerPlaybackStateNumber.ended PlaybackStateManagerPlaybackStateNumber.clauses (λ k a. (tt, λ r s. r_last _)))
   pub playback_state_manager_playbackstate_is_advancing :
-      Decides playback_state_manager.PlaybackState.is_advancing.Reads.Post
-  pub playback_state_manager_playbackstate_pause : Decides playback_state_manager.PlaybackState.pause.Reads.Post
-  pub playback_state_manager_playbackstate_resume : Decides playback_state_manager.PlaybackState.resume.Reads.Post
-  pub playback_state_manager_playbackstate_stop : Decides playback_state_manager.PlaybackState.stop.Reads.Post
+      Decides (Post PlaybackStateManagerPlaybackStateIsAdvancing.ended PlaybackStateManagerPlaybackStateIsAdvancing.clauses (λ k a. (tt, λ r s. r_last _)))
+  pub playback_state_manager_playbackstate_pause : Decides (Post PlaybackStateManagerPlaybackStatePause.ended PlaybackStateManagerPlaybackStatePause.clauses (λ k a. (tt, λ r s. r_last _)))
+  pub playback_state_manager_playbackstate_resume : Decides (Post PlaybackStateManagerPlaybackStateResume.ended PlaybackStateManagerPlaybackStateResume.clauses (λ k a. (tt, λ r s. r_last _)))
+  pub playback_state_manager_playbackstate_stop : Decides (Post PlaybackStateManagerPlaybackStateStop.ended PlaybackStateManagerPlaybackStateStop.clauses (λ k a. (tt, λ r s. r_last _)))
   pub playback_state_manager_playbackstate_mark_as_stopped :
-      Decides playback_state_manager.PlaybackState.mark_as_stopped.Reads.Post
-  pub playback_state_manager_playbackstate_update : Decides playback_state_manager.PlaybackState.update.Reads.Post
+      Decides (Post PlaybackStateManagerPlaybackStateMarkAsStopped.ended PlaybackStateManagerPlaybackStateMarkAsStopped.clauses (λ k a. (tt, λ r s. r_last _)))
+  pub playback_state_manager_playbackstate_update : Decides (Post PlaybackStateManagerPlaybackStateUpdate.ended PlaybackStateManagerPlaybackStateUpdate.clauses (λ k a. (tt, λ r s. r_last _)))
   -- start_time
-  pub start_time_startsignal_answer : Decides start_time.StartSignal.answer.Reads.Post
+  pub start_time_startsignal_answer : Decides (Post StartTimeStartSignalAnswer.ended StartTimeStartSignalAnswer.clauses (λ k a. (tt, λ r s. r_last _)))
   -- sound_lanes
-  pub sound_lanes_are_sized : Decides sound_lanes.are_sized.Reads.Post
-  pub sound_lanes_is_time_step : Decides sound_lanes.is_time_step.Reads.Post
-  pub sound_lanes_judge : Decides sound_lanes.judge.Reads.Post
+  pub sound_lanes_are_sized : Decides (Post SoundLanesAreSized.ended SoundLanesAreSized.clauses (λ k a. (tt, λ r s. r_last _)))
+  pub sound_lanes_is_time_step : Decides (Post SoundLanesIsTimeStep.ended SoundLanesIsTimeStep.clauses (λ k a. (tt, λ r s. r_last _)))
+  pub sound_lanes_judge : Decides (Post SoundLanesJudge.ended SoundLanesJudge.clauses (λ k a. (tt, λ r s. r_last _)))
   -- sound_state
-  pub sound_state_setup_num_frames : Decides sound_state.Setup.num_frames.Reads.Post
-  pub sound_state_setup_start : Decides sound_state.Setup.start.Reads.Post
-  pub sound_state_staticsound_slice : Decides sound_state.StaticSound.slice.Reads.Post
-  pub sound_state_staticsound_is_well_formed : Decides sound_state.StaticSound.is_well_formed.Reads.Post
+  pub sound_state_setup_num_frames : Decides (Post SoundStateSetupNumFrames.ended SoundStateSetupNumFrames.clauses (λ k a. (tt, λ r s. r_last _)))
+  pub sound_state_setup_start : Decides (Post SoundStateSetupStart.ended SoundStateSetupStart.clauses (λ k a. (tt, λ r s. r_last _)))
+  pub sound_state_staticsound_slice : Decides (Post SoundStateStaticSoundSlice.ended SoundStateStaticSoundSlice.clauses (λ k a. (tt, λ r s. r_last _)))
+  pub sound_state_staticsound_is_well_formed : Decides (Post SoundStateStaticSoundIsWellFormed.ended SoundStateStaticSoundIsWellFormed.clauses (λ k a. (tt, λ r s. r_last _)))
   -- sound_update
-  pub sound_update_moving_push_frame_to_resampler : Decides sound_update.Moving.push_frame_to_resampler.Reads.Post
-  pub sound_update_moving_update_position : Decides sound_update.Moving.update_position.Reads.Post
-  pub sound_update_moving_update_positions : Decides sound_update.Moving.update_positions.Reads.Post
+  pub sound_update_moving_push_frame_to_resampler : Decides (Post SoundUpdateMovingPushFrameToResampler.ended SoundUpdateMovingPushFrameToResampler.clauses (λ k a. (tt, λ r s. r_last _)))
+  pub sound_update_moving_update_position : Decides (Post SoundUpdateMovingUpdatePosition.ended SoundUpdateMovingUpdatePosition.clauses (λ k a. (tt, λ r s. r_last _)))
+  pub sound_update_moving_update_positions : Decides (Post SoundUpdateMovingUpdatePositions.ended SoundUpdateMovingUpdatePositions.clauses (λ k a. (tt, λ r s. r_last _)))
   -- sound_track
-  pub sound_track_track_of : Decides sound_track.track_of.Reads.Post
-  pub sound_track_after : Decides sound_track.after.Reads.Post
-  pub sound_track_after_steps : Decides sound_track.after_steps.Reads.Post
-  pub sound_track_has_room_after : Decides sound_track.has_room_after.Reads.Post
-  pub sound_track_before : Decides sound_track.before.Reads.Post
-  pub sound_track_before_steps : Decides sound_track.before_steps.Reads.Post
-  pub sound_track_has_room_before : Decides sound_track.has_room_before.Reads.Post
-  pub sound_track_wraps_after : Decides sound_track.wraps_after.Reads.Post
-  pub sound_track_frame_in : Decides sound_track.frame_in.Reads.Post
-  pub sound_track_frame_at : Decides sound_track.frame_at.Reads.Post
-  pub sound_track_contiguous_at : Decides sound_track.contiguous_at.Reads.Post
-  pub sound_track_is_contiguous : Decides sound_track.is_contiguous.Reads.Post
+  pub sound_track_track_of : Decides (Post SoundTrackTrackOf.ended SoundTrackTrackOf.clauses (λ k a. (tt, λ r s. r_last _)))
+  pub sound_track_after : Decides (Post SoundTrackAfter.ended SoundTrackAfter.clauses (λ k a. (tt, λ r s. r_fact _ _ (r_last _))))
+  pub sound_track_after_steps : Decides (Post SoundTrackAfterSteps.ended SoundTrackAfterSteps.clauses (λ k a. (tt, λ r s. r_fact _ _ (r_last _))))
+  pub sound_track_has_room_after : Decides (Post SoundTrackHasRoomAfter.ended SoundTrackHasRoomAfter.clauses (λ k a. (tt, λ r s. r_last _)))
+  pub sound_track_before : Decides (Post SoundTrackBefore.ended SoundTrackBefore.clauses (λ k a. (tt, λ r s. r_fact _ _ (r_last _))))
+  pub sound_track_before_steps : Decides (Post SoundTrackBeforeSteps.ended SoundTrackBeforeSteps.clauses (λ k a. (tt, λ r s. r_fact _ _ (r_last _))))
+  pub sound_track_has_room_before : Decides (Post SoundTrackHasRoomBefore.ended SoundTrackHasRoomBefore.clauses (λ k a. (tt, λ r s. r_last _)))
+  pub sound_track_wraps_after : Decides (Post SoundTrackWrapsAfter.ended SoundTrackWrapsAfter.clauses (λ k a. (tt, λ r s. r_last _)))
+  pub sound_track_frame_in : Decides (Post SoundTrackFrameIn.ended SoundTrackFrameIn.clauses (λ k a. (tt, λ r s. r_last _)))
+  pub sound_track_frame_at : Decides (Post SoundTrackFrameAt.ended SoundTrackFrameAt.clauses (λ k a. (tt, λ r s. r_last _)))
+  pub sound_track_contiguous_at : Decides (Post SoundTrackContiguousAt.ended SoundTrackContiguousAt.clauses (λ k a. (tt, λ r s. r_last _)))
+  pub sound_track_is_contiguous : Decides (Post SoundTrackIsContiguous.ended SoundTrackIsContiguous.clauses (λ k a. (tt, λ r s. r_fact _ _ (r_last _))))
   -- sound_creation
-  pub sound_creation_blank : Decides sound_creation.blank.Reads.Post
-  pub sound_creation_new : Decides sound_creation.new.Reads.Post
+  pub sound_creation_blank : Decides (Post SoundCreationBlank.ended SoundCreationBlank.clauses (λ k a. (tt, λ r s. r_last _)))
+  pub sound_creation_new : Decides (Post SoundCreationNew.ended SoundCreationNew.clauses (λ k a. (tt, λ r s. r_last _)))
   -- sound_commands
-  pub sound_commands_on_start_processing : Decides sound_commands.on_start_processing.Reads.Post
+  pub sound_commands_on_start_processing : Decides (Post SoundCommandsOnStartProcessing.ended SoundCommandsOnStartProcessing.clauses (λ k a. (tt, λ r s. r_last _)))
   -- sound_slow_path, sound_fast_path, sound_held and sound_block
-  pub sound_slow_path_play : DecidesWith (λ k r s. s.1.1.1.1.1.1.1.1.0.now) sound_slow_path.play.Reads.Post
+  pub sound_slow_path_play : DecidesWith (λ k r s. s.1.1.1.1.1.1.1.1.0.now) (Post SoundSlowPathPlay.ended SoundSlowPathPlay.clauses (λ k a. (tt, λ r s. r_last _)))
   pub sound_slow_path_play_spread : DecidesWith (λ k r s. s.1.1.1.1.1.1.1.1.0.now)
-      sound_slow_path.play_spread.Reads.Post
-  pub sound_fast_reading_advance_of : Decides sound_fast_reading.advance_of.Reads.Post
-  pub sound_fast_reading_stepped_by : Decides sound_fast_reading.stepped_by.Reads.Post
-  pub sound_fast_reading_moved : Decides sound_fast_reading.moved.Reads.Post
-  pub sound_fast_reading_store : DecidesWith (λ k r s. s.0.now) sound_fast_reading.store.Reads.Post
-  pub sound_gains_by_frame : DecidesWith (λ k r s. s.1.1.1.1.1.0.now) sound_gains.by_frame.Reads.Post
-  pub sound_gains_once : DecidesWith (λ k r s. s.1.1.0.now) sound_gains.once.Reads.Post
-  pub sound_fast_path_play : DecidesWith (λ k r s. s.1.1.1.1.1.1.1.1.0.now) sound_fast_path.play.Reads.Post
-  pub sound_fast_path_play_held : DecidesWith (λ k r s. s.1.1.1.1.0.now) sound_fast_path.play_held.Reads.Post
-  pub sound_held_play : DecidesWith (λ k r s. s.1.1.1.1.0.now) sound_held.play.Reads.Post
-  pub sound_block_block_held : DecidesWith (λ k r s. s.1.1.1.1.1.0.now) sound_block.block_held.Reads.Post
-  pub sound_block_block : DecidesWith (λ k r s. s.1.1.1.1.1.1.1.1.1.0.now) sound_block.block.Reads.Post
-  pub sound_constant_first_of : Decides sound_constant.first_of.Reads.Post
+      (Post SoundSlowPathPlaySpread.ended SoundSlowPathPlaySpread.clauses (λ k a. (tt, λ r s. r_last _)))
+  pub sound_fast_reading_advance_of : Decides (Post SoundFastReadingAdvanceOf.ended SoundFastReadingAdvanceOf.clauses (λ k a. (tt, λ r s. r_last _)))
+  pub sound_fast_reading_stepped_by : Decides (Post SoundFastReadingSteppedBy.ended SoundFastReadingSteppedBy.clauses (λ k a. (tt, λ r s. r_last _)))
+  pub sound_fast_reading_moved : Decides (Post SoundFastReadingMoved.ended SoundFastReadingMoved.clauses (λ k a. (tt, λ r s. r_last _)))
+  pub sound_fast_reading_store : DecidesWith (λ k r s. s.0.now) (Post SoundFastReadingStore.ended SoundFastReadingStore.clauses (λ k a. (tt, λ r s. r_last _)))
+  pub sound_gains_by_frame : DecidesWith (λ k r s. s.1.1.1.1.1.0.now) (Post SoundGainsByFrame.ended SoundGainsByFrame.clauses (λ k a. (tt, λ r s. r_last _)))
+  pub sound_gains_once : DecidesWith (λ k r s. s.1.1.0.now) (Post SoundGainsOnce.ended SoundGainsOnce.clauses (λ k a. (tt, λ r s. r_last _)))
+  pub sound_fast_path_play : DecidesWith (λ k r s. s.1.1.1.1.1.1.1.1.0.now) (Post SoundFastPathPlay.ended SoundFastPathPlay.clauses (λ k a. (tt, λ r s. r_last _)))
+  pub sound_fast_path_play_held : DecidesWith (λ k r s. s.1.1.1.1.0.now) (Post SoundFastPathPlayHeld.ended SoundFastPathPlayHeld.clauses (λ k a. (tt, λ r s. r_last _)))
+  pub sound_held_play : DecidesWith (λ k r s. s.1.1.1.1.0.now) (Post SoundHeldPlay.ended SoundHeldPlay.clauses (λ k a. (tt, λ r s. r_last _)))
+  pub sound_block_block_held : DecidesWith (λ k r s. s.1.1.1.1.1.0.now) (Post SoundBlockBlockHeld.ended SoundBlockBlockHeld.clauses (λ k a. (tt, λ r s. r_last _)))
+  pub sound_block_block : DecidesWith (λ k r s. s.1.1.1.1.1.1.1.1.1.0.now) (Post SoundBlockBlock.ended SoundBlockBlock.clauses (λ k a. (tt, λ r s. r_last _)))
+  pub sound_constant_first_of : Decides (Post SoundConstantFirstOf.ended SoundConstantFirstOf.clauses (λ k a. (tt, λ r s. r_last _)))
   -- static_sound
   pub static_sound_process : DecidesWith
-      (λ k r s. s.1.1.1.1.1.1.1.1.1.0.now) static_sound.process.Reads.Post
+      (λ k r s. s.1.1.1.1.1.1.1.1.1.0.now) (Post StaticSoundProcess.ended StaticSoundProcess.clauses (λ k a. (tt, λ r s. r_last _)))
   pub static_sound_process_into : DecidesWith
-      (λ k r s. s.1.1.1.1.1.1.1.1.1.0.now) static_sound.process_into.Reads.Post
-  pub static_sound_process_held : DecidesWith (λ k r s. s.1.1.1.1.1.0.now) static_sound.process_held.Reads.Post
+      (λ k r s. s.1.1.1.1.1.1.1.1.1.0.now) (Post StaticSoundProcessInto.ended StaticSoundProcessInto.clauses (λ k a. (tt, λ r s. r_last _)))
+  pub static_sound_process_held : DecidesWith (λ k r s. s.1.1.1.1.1.0.now) (Post StaticSoundProcessHeld.ended StaticSoundProcessHeld.clauses (λ k a. (tt, λ r s. r_last _)))
   pub static_sound_process_held_into : DecidesWith
-      (λ k r s. s.1.1.1.1.1.0.now) static_sound.process_held_into.Reads.Post
-  pub static_sound_stretch : DecidesPart static_sound.stretch.Reads.Post
+      (λ k r s. s.1.1.1.1.1.0.now) (Post StaticSoundProcessHeldInto.ended StaticSoundProcessHeldInto.clauses (λ k a. (tt, λ r s. r_last _)))
+  pub static_sound_stretch : DecidesPart (Post StaticSoundStretch.ended StaticSoundStretch.clauses (λ k a. (tt, λ r s. r_fact _ _ (r_last _))))
   -- loop_table, loop_copies and take_loop
-  pub loop_table_looptable_new : Decides loop_table.LoopTable.new.Reads.Post
-  pub loop_table_looptable_write : Decides loop_table.LoopTable.write.Reads.Post
-  pub loop_table_looptable_clear : Decides loop_table.LoopTable.clear.Reads.Post
-  pub loop_table_looptable_read : Decides loop_table.LoopTable.read.Reads.Post
-  pub loop_table_looptable_is_well_formed : Decides loop_table.LoopTable.is_well_formed.Reads.Post
-  pub loop_copies_loopcopy_new : Decides loop_copies.LoopCopy.new.Reads.Post
-  pub loop_copies_loopcopy_write : Decides loop_copies.LoopCopy.write.Reads.Post
-  pub loop_copies_loopcopy_clear : Decides loop_copies.LoopCopy.clear.Reads.Post
-  pub loop_copies_loopcopy_merge : Decides loop_copies.LoopCopy.merge.Reads.Post
-  pub take_loop_take : Decides take_loop.take.Reads.Post
+  pub loop_table_looptable_new : Decides (Post LoopTableLoopTableNew.ended LoopTableLoopTableNew.clauses (λ k a. (tt, λ r s. r_last _)))
+  pub loop_table_looptable_write : Decides (Post LoopTableLoopTableWrite.ended LoopTableLoopTableWrite.clauses (λ k a. (tt, λ r s. r_last _)))
+  pub loop_table_looptable_clear : Decides (Post LoopTableLoopTableClear.ended LoopTableLoopTableClear.clauses (λ k a. (tt, λ r s. r_last _)))
+  pub loop_table_looptable_read : Decides (Post LoopTableLoopTableRead.ended LoopTableLoopTableRead.clauses (λ k a. (tt, λ r s. r_last _)))
+  pub loop_table_looptable_is_well_formed : Decides (Post LoopTableLoopTableIsWellFormed.ended LoopTableLoopTableIsWellFormed.clauses (λ k a. (tt, λ r s. r_last _)))
+  pub loop_copies_loopcopy_new : Decides (Post LoopCopiesLoopCopyNew.ended LoopCopiesLoopCopyNew.clauses (λ k a. (tt, λ r s. r_last _)))
+  pub loop_copies_loopcopy_write : Decides (Post LoopCopiesLoopCopyWrite.ended LoopCopiesLoopCopyWrite.clauses (λ k a. (tt, λ r s. r_last _)))
+  pub loop_copies_loopcopy_clear : Decides (Post LoopCopiesLoopCopyClear.ended LoopCopiesLoopCopyClear.clauses (λ k a. (tt, λ r s. r_last _)))
+  pub loop_copies_loopcopy_merge : Decides (Post LoopCopiesLoopCopyMerge.ended LoopCopiesLoopCopyMerge.clauses (λ k a. (tt, λ r s. r_last _)))
+  pub take_loop_take : Decides (Post TakeLoopTake.ended TakeLoopTake.clauses (λ k a. (tt, λ r s. r_last _)))
   -- decibels and semitones
-  pub decibels_as_amplitude : DecidesWith (λ k r s. s.1.0.now) decibels.as_amplitude.Reads.Post
-  pub decibels_fade_ramp : DecidesWith (λ k r s. s.1.1.1.0.now) decibels.fade_ramp.Reads.Post
-  pub semitones_raised : Decides semitones.raised.Reads.Post
+  pub decibels_as_amplitude : DecidesWith (λ k r s. s.1.0.now) (Post DecibelsAsAmplitude.ended DecibelsAsAmplitude.clauses (λ k a. (tt, λ r s. r_last _)))
+  pub decibels_fade_ramp : DecidesWith (λ k r s. s.1.1.1.0.now) (Post DecibelsFadeRamp.ended DecibelsFadeRamp.clauses (λ k a. (tt, λ r s. r_last _)))
+  pub semitones_raised : Decides (Post SemitonesRaised.ended SemitonesRaised.clauses (λ k a. (tt, λ r s. r_last _)))
   -- crc32
-  pub crc32_checksum : Decides crc32.checksum.Reads.Post
+  pub crc32_checksum : Decides (Post Crc32Checksum.ended Crc32Checksum.clauses (λ k a. (tt, λ r s. r_last _)))
   -- byte_layout
-  pub byte_layout_number : Decides byte_layout.number.Reads.Post
-  pub byte_layout_put_number : DecidesWith (λ k r s. s.0.now) byte_layout.put_number.Reads.Post
-  pub byte_layout_begin : Decides byte_layout.begin.Reads.Post
+  pub byte_layout_number : Decides (Post ByteLayoutNumber.ended ByteLayoutNumber.clauses (λ k a. (tt, λ r s. r_last _)))
+  pub byte_layout_put_number : DecidesWith (λ k r s. s.0.now) (Post ByteLayoutPutNumber.ended ByteLayoutPutNumber.clauses (λ k a. (tt, λ r s. r_last _)))
+  pub byte_layout_begin : Decides (Post ByteLayoutBegin.ended ByteLayoutBegin.clauses (λ k a. (tt, λ r s. r_last _)))
   pub byte_layout_read_rows : DecidesAs
-      (λ k a r. view a.0.now a.1.1.1.0 r) byte_layout.read_rows.Reads.Post
-  pub byte_layout_put_rows : DecidesWith (λ k r s. s.0.now) byte_layout.put_rows.Reads.Post
-  pub byte_layout_rows_fit : Decides byte_layout.rows_fit.Reads.Post
-  pub byte_layout_rows_length : Decides byte_layout.rows_length.Reads.Post
-  pub byte_layout_copy : DecidesWith (λ k r s. s.1.1.1.0.now) byte_layout.copy.Reads.Post
+      (λ k a r. view a.0.now a.1.1.1.0 r) (Post ByteLayoutReadRows.ended ByteLayoutReadRows.clauses (λ k a. (tt, λ r s. r_last _)))
+  pub byte_layout_put_rows : DecidesWith (λ k r s. s.0.now) (Post ByteLayoutPutRows.ended ByteLayoutPutRows.clauses (λ k a. (tt, λ r s. r_last _)))
+  pub byte_layout_rows_fit : Decides (Post ByteLayoutRowsFit.ended ByteLayoutRowsFit.clauses (λ k a. (tt, λ r s. r_last _)))
+  pub byte_layout_rows_length : Decides (Post ByteLayoutRowsLength.ended ByteLayoutRowsLength.clauses (λ k a. (tt, λ r s. r_last _)))
+  pub byte_layout_copy : DecidesWith (λ k r s. s.1.1.1.0.now) (Post ByteLayoutCopy.ended ByteLayoutCopy.clauses (λ k a. (tt, λ r s. r_last _)))
   -- saved_settings
-  pub saved_settings_load : Decides saved_settings.load.Reads.Post
-  pub saved_settings_store : DecidesWith (λ k r s. s.1.1.0.now) saved_settings.store.Reads.Post
+  pub saved_settings_load : Decides (Post SavedSettingsLoad.ended SavedSettingsLoad.clauses (λ k a. (tt, λ r s. r_last _)))
+  pub saved_settings_store : DecidesWith (λ k r s. s.1.1.0.now) (Post SavedSettingsStore.ended SavedSettingsStore.clauses (λ k a. (tt, λ r s. r_last _)))
   -- trace_sealed
-  pub trace_sealed_read : Decides trace_sealed.read.Reads.Post
-  pub trace_sealed_write : DecidesWith (λ k r s. s.0.now) trace_sealed.write.Reads.Post
+  pub trace_sealed_read : Decides (Post TraceSealedRead.ended TraceSealedRead.clauses (λ k a. (tt, λ r s. r_last _)))
+  pub trace_sealed_write : DecidesWith (λ k r s. s.0.now) (Post TraceSealedWrite.ended TraceSealedWrite.clauses (λ k a. (tt, λ r s. r_last _)))
   -- saved_loops
-  pub saved_loops_load : Decides saved_loops.load.Reads.Post
-  pub saved_loops_store : DecidesWith (λ k r s. s.1.1.0.now) saved_loops.store.Reads.Post
+  pub saved_loops_load : Decides (Post SavedLoopsLoad.ended SavedLoopsLoad.clauses (λ k a. (tt, λ r s. r_last _)))
+  pub saved_loops_store : DecidesWith (λ k r s. s.1.1.0.now) (Post SavedLoopsStore.ended SavedLoopsStore.clauses (λ k a. (tt, λ r s. r_last _)))
   -- trace_records and trace_salvage
-  pub trace_records_read : Decides trace_records.read.Reads.Post
-  pub trace_records_write : DecidesWith (λ k r s. s.0.now) trace_records.write.Reads.Post
-  pub trace_salvage_salvage : DecidesWith (λ k r s. s.1.0.now) trace_salvage.salvage.Reads.Post
-  pub trace_salvage_salvage_by : DecidesWith (λ k r s. s.1.1.0.now) trace_salvage.salvage_by.Reads.Post
+  pub trace_records_read : Decides (Post TraceRecordsRead.ended TraceRecordsRead.clauses (λ k a. (tt, λ r s. r_last _)))
+  pub trace_records_write : DecidesWith (λ k r s. s.0.now) (Post TraceRecordsWrite.ended TraceRecordsWrite.clauses (λ k a. (tt, λ r s. r_last _)))
+  pub trace_salvage_salvage : DecidesWith (λ k r s. s.1.0.now) (Post TraceSalvageSalvage.ended TraceSalvageSalvage.clauses (λ k a. (tt, λ r s. r_last _)))
+  pub trace_salvage_salvage_by : DecidesWith (λ k r s. s.1.1.0.now) (Post TraceSalvageSalvageBy.ended TraceSalvageSalvageBy.clauses (λ k a. (tt, λ r s. r_last _)))
   -- c_state and c_inputs
-  pub c_state_decode : Decides c_state.decode.Reads.Post
-  pub c_state_encode : Decides c_state.encode.Reads.Post
-  pub c_inputs_settings_of : Decides c_inputs.settings_of.Reads.Post
-  pub c_inputs_commands_of : Decides c_inputs.commands_of.Reads.Post
-  pub c_inputs_signals_of : Decides c_inputs.signals_of.Reads.Post
+  pub c_state_decode : Decides (Post CStateDecode.ended CStateDecode.clauses (λ k a. (tt, λ r s. r_last _)))
+  pub c_state_encode : Decides (Post CStateEncode.ended CStateEncode.clauses (λ k a. (tt, λ r s. r_last _)))
+  pub c_inputs_settings_of : Decides (Post CInputsSettingsOf.ended CInputsSettingsOf.clauses (λ k a. (tt, λ r s. r_last _)))
+  pub c_inputs_commands_of : Decides (Post CInputsCommandsOf.ended CInputsCommandsOf.clauses (λ k a. (tt, λ r s. r_last _)))
+  pub c_inputs_signals_of : Decides (Post CInputsSignalsOf.ended CInputsSignalsOf.clauses (λ k a. (tt, λ r s. r_last _)))
   -- cableowl
-  pub cableowl_cableowl_version : Decides cableowl.cableowl_version.Reads.Post
-  pub cableowl_cableowl_new : Decides cableowl.cableowl_new.Reads.Post
-  pub cableowl_cableowl_on_start_processing : Decides cableowl.cableowl_on_start_processing.Reads.Post
+  pub cableowl_cableowl_version : Decides (Post CableowlCableowlVersion.ended CableowlCableowlVersion.clauses (λ k a. (tt, λ r s. r_last _)))
+  pub cableowl_cableowl_new : Decides (Post CableowlCableowlNew.ended CableowlCableowlNew.clauses (λ k a. (tt, λ r s. r_last _)))
+  pub cableowl_cableowl_on_start_processing : Decides (Post CableowlCableowlOnStartProcessing.ended CableowlCableowlOnStartProcessing.clauses (λ k a. (tt, λ r s. r_last _)))
   pub cableowl_cableowl_process : DecidesWith
-      (λ k r s. s.1.1.1.1.1.1.1.1.1.0.now) cableowl.cableowl_process.Reads.Post
+      (λ k r s. s.1.1.1.1.1.1.1.1.1.0.now) (Post CableowlCableowlProcess.ended CableowlCableowlProcess.clauses (λ k a. (tt, λ r s. r_last _)))
   pub cableowl_cableowl_process_into : DecidesWith
-      (λ k r s. s.1.1.1.1.1.1.1.1.1.0.now) cableowl.cableowl_process_into.Reads.Post
+      (λ k r s. s.1.1.1.1.1.1.1.1.1.0.now) (Post CableowlCableowlProcessInto.ended CableowlCableowlProcessInto.clauses (λ k a. (tt, λ r s. r_last _)))
   pub cableowl_cableowl_process_held : DecidesWith
-      (λ k r s. s.1.1.1.1.1.1.1.1.1.0.now) cableowl.cableowl_process_held.Reads.Post
+      (λ k r s. s.1.1.1.1.1.1.1.1.1.0.now) (Post CableowlCableowlProcessHeld.ended CableowlCableowlProcessHeld.clauses (λ k a. (tt, λ r s. r_last _)))
   pub cableowl_cableowl_process_held_into : DecidesWith
-      (λ k r s. s.1.1.1.1.1.1.1.1.1.0.now) cableowl.cableowl_process_held_into.Reads.Post
-  pub cableowl_cableowl_stretch : Decides cableowl.cableowl_stretch.Reads.Post
-  pub cableowl_cableowl_amplitude : DecidesWith (λ k r s. s.1.0.now) cableowl.cableowl_amplitude.Reads.Post
-  pub cableowl_cableowl_fade_ramp : DecidesWith (λ k r s. s.1.1.1.0.now) cableowl.cableowl_fade_ramp.Reads.Post
-  pub cableowl_cableowl_loop_table : Decides cableowl.cableowl_loop_table.Reads.Post
-  pub cableowl_cableowl_write_loop : Decides cableowl.cableowl_write_loop.Reads.Post
-  pub cableowl_cableowl_clear_loop : Decides cableowl.cableowl_clear_loop.Reads.Post
-  pub cableowl_cableowl_read_loop : Decides cableowl.cableowl_read_loop.Reads.Post
-  pub cableowl_cableowl_take_loop : Decides cableowl.cableowl_take_loop.Reads.Post
-  pub cableowl_cableowl_loop_copy : Decides cableowl.cableowl_loop_copy.Reads.Post
-  pub cableowl_cableowl_write_copy : Decides cableowl.cableowl_write_copy.Reads.Post
-  pub cableowl_cableowl_clear_copy : Decides cableowl.cableowl_clear_copy.Reads.Post
-  pub cableowl_cableowl_merge_copies : Decides cableowl.cableowl_merge_copies.Reads.Post
+      (λ k r s. s.1.1.1.1.1.1.1.1.1.0.now) (Post CableowlCableowlProcessHeldInto.ended CableowlCableowlProcessHeldInto.clauses (λ k a. (tt, λ r s. r_last _)))
+  pub cableowl_cableowl_stretch : Decides (Post CableowlCableowlStretch.ended CableowlCableowlStretch.clauses (λ k a. (tt, λ r s. r_last _)))
+  pub cableowl_cableowl_amplitude : DecidesWith (λ k r s. s.1.0.now) (Post CableowlCableowlAmplitude.ended CableowlCableowlAmplitude.clauses (λ k a. (tt, λ r s. r_last _)))
+  pub cableowl_cableowl_fade_ramp : DecidesWith (λ k r s. s.1.1.1.0.now) (Post CableowlCableowlFadeRamp.ended CableowlCableowlFadeRamp.clauses (λ k a. (tt, λ r s. r_last _)))
+  pub cableowl_cableowl_loop_table : Decides (Post CableowlCableowlLoopTable.ended CableowlCableowlLoopTable.clauses (λ k a. (tt, λ r s. r_last _)))
+  pub cableowl_cableowl_write_loop : Decides (Post CableowlCableowlWriteLoop.ended CableowlCableowlWriteLoop.clauses (λ k a. (tt, λ r s. r_last _)))
+  pub cableowl_cableowl_clear_loop : Decides (Post CableowlCableowlClearLoop.ended CableowlCableowlClearLoop.clauses (λ k a. (tt, λ r s. r_last _)))
+  pub cableowl_cableowl_read_loop : Decides (Post CableowlCableowlReadLoop.ended CableowlCableowlReadLoop.clauses (λ k a. (tt, λ r s. r_last _)))
+  pub cableowl_cableowl_take_loop : Decides (Post CableowlCableowlTakeLoop.ended CableowlCableowlTakeLoop.clauses (λ k a. (tt, λ r s. r_last _)))
+  pub cableowl_cableowl_loop_copy : Decides (Post CableowlCableowlLoopCopy.ended CableowlCableowlLoopCopy.clauses (λ k a. (tt, λ r s. r_last _)))
+  pub cableowl_cableowl_write_copy : Decides (Post CableowlCableowlWriteCopy.ended CableowlCableowlWriteCopy.clauses (λ k a. (tt, λ r s. r_last _)))
+  pub cableowl_cableowl_clear_copy : Decides (Post CableowlCableowlClearCopy.ended CableowlCableowlClearCopy.clauses (λ k a. (tt, λ r s. r_last _)))
+  pub cableowl_cableowl_merge_copies : Decides (Post CableowlCableowlMergeCopies.ended CableowlCableowlMergeCopies.clauses (λ k a. (tt, λ r s. r_last _)))
   pub cableowl_cableowl_store_settings : DecidesWith
-      (λ k r s. s.1.0.now) cableowl.cableowl_store_settings.Reads.Post
+      (λ k r s. s.1.0.now) (Post CableowlCableowlStoreSettings.ended CableowlCableowlStoreSettings.clauses (λ k a. (tt, λ r s. r_last _)))
   pub cableowl_cableowl_load_settings : DecidesWith
-      (λ k r s. s.1.1.0.now) cableowl.cableowl_load_settings.Reads.Post
-  pub cableowl_cableowl_settings_of : Decides cableowl.cableowl_settings_of.Reads.Post
-  pub cableowl_cableowl_store_half : DecidesWith (λ k r s. s.1.1.0.now) cableowl.cableowl_store_half.Reads.Post
-  pub cableowl_cableowl_load_half : DecidesWith (λ k r s. s.1.0.now) cableowl.cableowl_load_half.Reads.Post
-  pub cableowl_cableowl_read_record : Decides cableowl.cableowl_read_record.Reads.Post
-  pub cableowl_cableowl_write_record : DecidesWith (λ k r s. s.0.now) cableowl.cableowl_write_record.Reads.Post
-  pub cableowl_cableowl_read_record_v2 : Decides cableowl.cableowl_read_record_v2.Reads.Post
-  pub cableowl_cableowl_write_record_v2 : DecidesWith (λ k r s. s.0.now) cableowl.cableowl_write_record_v2.Reads.Post
-  pub cableowl_cableowl_salvage : DecidesWith (λ k r s. s.1.0.now) cableowl.cableowl_salvage.Reads.Post
-  pub cableowl_cableowl_salvage_v2 : DecidesWith (λ k r s. s.1.0.now) cableowl.cableowl_salvage_v2.Reads.Post
-  pub cableowl_cableowl_replay : Decides cableowl.cableowl_replay.Reads.Post
+      (λ k r s. s.1.1.0.now) (Post CableowlCableowlLoadSettings.ended CableowlCableowlLoadSettings.clauses (λ k a. (tt, λ r s. r_last _)))
+  pub cableowl_cableowl_settings_of : Decides (Post CableowlCableowlSettingsOf.ended CableowlCableowlSettingsOf.clauses (λ k a. (tt, λ r s. r_last _)))
+  pub cableowl_cableowl_store_half : DecidesWith (λ k r s. s.1.1.0.now) (Post CableowlCableowlStoreHalf.ended CableowlCableowlStoreHalf.clauses (λ k a. (tt, λ r s. r_last _)))
+  pub cableowl_cableowl_load_half : DecidesWith (λ k r s. s.1.0.now) (Post CableowlCableowlLoadHalf.ended CableowlCableowlLoadHalf.clauses (λ k a. (tt, λ r s. r_last _)))
+  pub cableowl_cableowl_read_record : Decides (Post CableowlCableowlReadRecord.ended CableowlCableowlReadRecord.clauses (λ k a. (tt, λ r s. r_last _)))
+  pub cableowl_cableowl_write_record : DecidesWith (λ k r s. s.0.now) (Post CableowlCableowlWriteRecord.ended CableowlCableowlWriteRecord.clauses (λ k a. (tt, λ r s. r_last _)))
+  pub cableowl_cableowl_read_record_v2 : Decides (Post CableowlCableowlReadRecordV2.ended CableowlCableowlReadRecordV2.clauses (λ k a. (tt, λ r s. r_last _)))
+  pub cableowl_cableowl_write_record_v2 : DecidesWith (λ k r s. s.0.now) (Post CableowlCableowlWriteRecordV2.ended CableowlCableowlWriteRecordV2.clauses (λ k a. (tt, λ r s. r_last _)))
+  pub cableowl_cableowl_salvage : DecidesWith (λ k r s. s.1.0.now) (Post CableowlCableowlSalvage.ended CableowlCableowlSalvage.clauses (λ k a. (tt, λ r s. r_last _)))
+  pub cableowl_cableowl_salvage_v2 : DecidesWith (λ k r s. s.1.0.now) (Post CableowlCableowlSalvageV2.ended CableowlCableowlSalvageV2.clauses (λ k a. (tt, λ r s. r_last _)))
+  pub cableowl_cableowl_replay : Decides (Post CableowlCableowlReplay.ended CableowlCableowlReplay.clauses (λ k a. (tt, λ r s. r_last _)))
   pub cableowl_cableowl_replay_step : DecidesWith {B = List Float
-      × List Float} (λ k r s. (s.1.1.1.0.now, s.1.1.1.1.0.now)) cableowl.cableowl_replay_step.Reads.Post
-  pub cableowl_cableowl_replay_v2 : Decides cableowl.cableowl_replay_v2.Reads.Post
+      × List Float} (λ k r s. (s.1.1.1.0.now, s.1.1.1.1.0.now)) (Post CableowlCableowlReplayStep.ended CableowlCableowlReplayStep.clauses (λ k a. (tt, λ r s. r_last _)))
+  pub cableowl_cableowl_replay_v2 : Decides (Post CableowlCableowlReplayV2.ended CableowlCableowlReplayV2.clauses (λ k a. (tt, λ r s. r_last _)))
   pub cableowl_cableowl_replay_step_v2 : DecidesWith {B = List Float × List Float}
-      (λ k r s. (s.1.1.1.0.now, s.1.1.1.1.1.1.0.now)) cableowl.cableowl_replay_step_v2.Reads.Post
+      (λ k r s. (s.1.1.1.0.now, s.1.1.1.1.1.1.0.now)) (Post CableowlCableowlReplayStepV2.ended CableowlCableowlReplayStepV2.clauses (λ k a. (tt, λ r s. r_last _)))
