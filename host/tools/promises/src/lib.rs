@@ -80,6 +80,10 @@ impl Documents {
         if !function.promises {
             return Some(format!("{path}: no `ensures`"));
         }
+        // The C interface: a test of host/tools/landing compares it with the entries.
+        if function.krate() == "cableowl_c" {
+            return None;
+        }
         let whole_crate = format!("{}::*", function.krate());
         if self.excuses(&whole_crate) && !function.is_entry() {
             return None;
@@ -282,7 +286,7 @@ impl Function {
         self.path.rsplit("::").next().expect("a function's name")
     }
 
-    /// Whether C calls it: a public function of the crate `cableowl`, from which the archive is made.
+    /// Whether C calls it: a public function of the crate `cableowl`, which `cableowl_c` exports.
     pub fn is_entry(&self) -> bool {
         self.public && self.krate() == "cableowl"
     }

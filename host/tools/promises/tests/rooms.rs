@@ -34,7 +34,7 @@ fn crates_txt_says_what_each_crate_is_for() {
     let explained = |name: &str| {
         let at = lines
             .iter()
-            .position(|line| line.starts_with(&format!("{name}:")));
+            .position(|line| line.split([':', ' ']).next() == Some(name));
         at.is_some_and(|at| at > 0 && lines[at - 1].starts_with("# "))
     };
     let crates = names("crates", |path| path.join("src").is_dir());
