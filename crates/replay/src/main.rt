@@ -2,6 +2,7 @@
 // `trace_replay::advance` plays each record; this file only reads and writes. The input can have any length: a window
 // moves over it that holds a whole record or the input's end.
 #![tactic(auto)]
+
 ghost use Rattle.std.specs.Prelude.{◌≡◌, ◌-◌, ◌≤◌, length};
 ghost use Rattle.replay.specs.Windows.{Held};
 
@@ -149,5 +150,12 @@ fn main(rt: HostRuntime) {
     let mut spare = [0u8; 1024];
     let mut sound = [0.0f32; 128];
     let mut line = [0u8; 160];
-    replay(rt.stdin(), rt.stdout(), &mut bytes, &mut spare, &mut sound, &mut line);
+    replay(
+        rt.stdin(),
+        rt.stdout(),
+        &mut bytes,
+        &mut spare,
+        &mut sound,
+        &mut line,
+    );
 }

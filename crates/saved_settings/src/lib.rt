@@ -1,5 +1,6 @@
 // Saved settings, stored and loaded: docs/formats/SETTINGS.md has their layout.
 #![tactic(auto)]
+
 ghost use Rattle.std.specs.Prelude.{◌≡◌, ◌≤◌, [], length, take};
 ghost use Rattle.std.proofs.lemmas.List.Edits.{sets};
 ghost use Rattle.byte_layout.specs.Reads.{good, steps, view};

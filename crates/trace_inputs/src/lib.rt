@@ -1,5 +1,6 @@
 // A record's numbers as settings, a sound, commands or a block. Floats are stored by their bits, also NaN.
 #![tactic(auto)]
+
 ghost use Rattle.std.specs.Prelude.{◌≡◌, ◌≤◌, length, take, drop, replicate};
 ghost use Rattle.std.proofs.lemmas.List.Edits.{sets};
 ghost use Rattle.numbers.specs.Words.{positive_zero};

@@ -1,5 +1,6 @@
 // Formats the lines that a replay prints, at the start of a buffer of at least 139 bytes.
 #![tactic(auto)]
+
 ghost use Rattle.std.specs.Prelude.{◌≡◌, ◌+◌, ◌≤◌, length};
 ghost use Rattle.std.proofs.lemmas.List.Edits.{sets};
 ghost use Rattle.trace_lines.specs.Lines.{decimal, labelled, block_line, refused_block_line, refused_line};

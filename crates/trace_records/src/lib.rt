@@ -1,5 +1,6 @@
 // A trace's records, read and written: docs/formats/TRACE.md has their layout.
 #![tactic(auto)]
+
 ghost use Rattle.std.specs.Prelude.{◌≡◌, ◌-◌, ◌≤◌, [], length, drop, replicate};
 ghost use Rattle.byte_layout.specs.Reads.{good, steps, view};
 ghost use Rattle.trace_records.specs.Tables.{head_rows, body, fields};

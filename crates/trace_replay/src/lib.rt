@@ -1,5 +1,6 @@
 // Plays one record: from a record and the run so far to the run after it and its line.
 #![tactic(auto)]
+
 ghost use Rattle.std.specs.Prelude.{◌≡◌, ◌≤◌, [], length, take, drop, replicate};
 ghost use Rattle.numbers.specs.Words.{positive_zero};
 ghost use Rattle.trace_replay.specs.Runs.{

@@ -1,5 +1,6 @@
 // Salvage of a damaged trace: copies complete records and skips every other byte, one at a time.
 #![tactic(auto)]
+
 ghost use Rattle.std.specs.Prelude.{◌≡◌, ◌-◌, ◌≤◌, ◌<◌, cond, eqb, length, drop};
 ghost use Rattle.trace_salvage.specs.Promises.{Promises};
 ghost use Rattle.trace_salvage.specs.Salvage.{size_by, saved_of, salvage_by, salvage_of, Salvages};

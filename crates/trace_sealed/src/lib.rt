@@ -1,6 +1,7 @@
 // Sealed records, kinds 4 and 5 of a trace, and the reader and the writer of all five kinds: docs/formats/TRACE.md,
 // "Version 2".
 #![tactic(auto)]
+
 ghost use Rattle.std.specs.Prelude.{◌≡◌, ◌+◌, ◌-◌, ◌*◌, ◌≤◌, ◌<◌, true, cond, [], eqb, length, take, drop, get_or, replicate};
 ghost use Rattle.byte_layout.specs.Numbers.{num};
 ghost use Rattle.byte_layout.specs.Reads.{good, steps, view};

@@ -4,7 +4,6 @@ use Rattle.trace_replay.proofs.Parts.{part_long}
 use Rattle.replay.proofs.Places.{within, inside}
 use Rattle.replay.proofs.play_one.Reads as reads
 use Rattle.replay.proofs.play_one.Lts as lts
-
 use Rattle.trace_replay.proofs.advance.Reads as advance-reads
 use Rattle.replay.proofs.play_one.Goals as goal
 
