@@ -24,7 +24,7 @@ good c =
     (narrowed_fits c.args.x (subst T (sym (proper-here c.before)) tt))
 
 pub narrow-requires : goal.narrow-requires
-narrow-requires c = subst T (sym (proper-here (goal.at.narrow_requires c).Then-is_proper)) tt
+narrow-requires c = subst T (sym (proper-here (goal.at.narrow-requires c).Then-is_proper)) tt
 
 pub float_to_bits-result : goal.float_to_bits-result
 float_to_bits-result c = and_r (fits binary32 c.narrow.result) _ (good (goal.at.float_to_bits-result c).After-narrow)

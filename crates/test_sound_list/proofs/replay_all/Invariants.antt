@@ -6,7 +6,7 @@ use lib.ListN.{length}
 use Rattle.test_sound_list.proofs.replay_all.Given as goal
 
 abbrev pub invariant-loop-left : goal.invariant-loop-left
-invariant-loop-left l = length l.sound ≡ 32
+invariant-loop-left g l = length l.sound ≡ 32
 
 abbrev pub decreases-loop-left : goal.decreases-loop-left
-decreases-loop-left l = l.left
+decreases-loop-left g l = l.left

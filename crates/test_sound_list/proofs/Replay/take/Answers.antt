@@ -6,4 +6,4 @@ use lib.Seq.{length-take-le}
 use Rattle.test_sound_list.proofs.Replay.take.Goals as goal
 
 pub slice_bounds-call-end-2 : goal.slice_bounds-call-end-2
-slice_bounds-call-end-2 c = sym (length-take-le _ _ (omega arith))
+slice_bounds-call-end-2 g c = sym (length-take-le _ _ (omega arith))

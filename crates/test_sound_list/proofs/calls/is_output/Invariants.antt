@@ -4,7 +4,7 @@ use Prim.Native.Nat.{◌-◌, ◌≤◌}
 use Rattle.test_sound_list.proofs.calls.is_output.Given as goal
 
 abbrev pub invariant-loop-i : goal.invariant-loop-i
-invariant-loop-i l = l.i ≤ 32
+invariant-loop-i g l = l.i ≤ 32
 
 abbrev pub decreases-loop-i : goal.decreases-loop-i
-decreases-loop-i l = 32 - l.i
+decreases-loop-i g l = 32 - l.i

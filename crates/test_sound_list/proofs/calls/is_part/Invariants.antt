@@ -5,7 +5,7 @@ use lib.ListN.{length}
 use Rattle.test_sound_list.proofs.calls.is_part.Given as goal
 
 abbrev pub invariant-loop-i : goal.invariant-loop-i
-invariant-loop-i l = l.i ≤ length l.part
+invariant-loop-i g l = l.i ≤ length l.part
 
 abbrev pub decreases-loop-i : goal.decreases-loop-i
-decreases-loop-i l = length l.part - l.i
+decreases-loop-i g l = length l.part - l.i

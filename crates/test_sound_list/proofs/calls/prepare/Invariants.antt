@@ -9,7 +9,7 @@ use Rattle.test_sound_list.proofs.Counting.{counts}
 use Rattle.test_sound_list.proofs.calls.prepare.Given as goal
 
 abbrev pub invariant-loop-i : goal.invariant-loop-i
-invariant-loop-i l = (l.i ≤ length l.initial.out) × (length l.out ≡ length l.initial.out)
+invariant-loop-i g l = (l.i ≤ length l.initial.out) × (length l.out ≡ length l.initial.out)
 
 abbrev pub decreases-loop-i : goal.decreases-loop-i
-decreases-loop-i l = length l.initial.out - l.i
+decreases-loop-i g l = length l.initial.out - l.i

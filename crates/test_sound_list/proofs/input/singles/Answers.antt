@@ -9,4 +9,4 @@ use Rattle.test_sound_list.proofs.Counting.{counts}
 use Rattle.test_sound_list.proofs.input.singles.Goals as goal
 
 pub returns : goal.returns
-returns c = counts _ _ (omega arith)
+returns g c = counts _ _ (omega arith)

@@ -9,7 +9,7 @@ use Rattle.test_sound_list.proofs.Counting.{counts}
 use Rattle.test_sound_list.proofs.input.singles.Given as goal
 
 abbrev pub invariant-loop-i : goal.invariant-loop-i
-invariant-loop-i l = length l.to ≡ length l.initial.to
+invariant-loop-i g l = length l.to ≡ length l.initial.to
 
 abbrev pub decreases-loop-i : goal.decreases-loop-i
-decreases-loop-i l = l.n - l.i
+decreases-loop-i g l = l.n - l.i
