@@ -96,11 +96,9 @@ impl Documents {
             Some(_) if excused => Some(format!(
                 "{path}: it has a line in `Coincide`, so docs/EXCEPTIONS.md need not excuse it"
             )),
-            Some(law) if !law.ends_with(&format!(" {}.Reads.Post", path.replace("::", "."))) => {
-                Some(format!(
-                    "{path}: its line in `Coincide` is about another contract: {law}"
-                ))
-            }
+            Some(law) if !self.is_about(&law, path) => Some(format!(
+                "{path}: its line in `Coincide` is about another contract: {law}"
+            )),
             Some(law) if function.writes() && !law.starts_with("DecidesWith ") => Some(format!(
                 "{path}: it writes through a `&mut`, and its line in `Coincide` says nothing about what it leaves"
             )),
@@ -128,6 +126,22 @@ impl Documents {
         let more = lines.take_while(|line| !ends(line));
         let law: Vec<_> = iter::once(first).chain(more).collect();
         Some(law.join(" ").trim_start().to_string())
+    }
+
+    /// Whether a line is about this function's contract: it has `Post NAME.ended NAME.clauses` once, and NAME is imported
+    /// as the contract.
+    fn is_about(&self, law: &str, path: &str) -> bool {
+        let (krate, function) = path.split_once("::").expect("a crate's name");
+        let start = format!("use Rattle.{krate}.specs.contracts.");
+        let function = function.replace("::", ".");
+        let lines = self.laws.lines();
+        let mut imports = lines.filter_map(|line| line.strip_prefix(&start)?.split_once(" as "));
+        imports.any(|(of, name)| {
+            let of_it = of == function || of.ends_with(&format!(".{function}"));
+            of_it
+                && law.contains(&format!("(Post {name}.ended {name}.clauses "))
+                && law.matches("Post ").count() == 1
+        })
     }
 
     /// Whether the last table of docs/EXCEPTIONS.md has a row with this name.

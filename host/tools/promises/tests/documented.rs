@@ -91,15 +91,26 @@ fn a_missing_document_is_found() {
         .push_str("\n| `numbers::widen` | `wide` | |\n");
     let words = documents.missing(&widen).expect("it has no line");
     assert!(words.contains("numbers_widen"), "{words}");
-    let law = "\npub numbers_widen : Decides numbers.widen.Reads.Post\n";
-    documents.laws.push_str(&law.replace(".widen", ".narrow"));
+    let import = "\nuse Rattle.numbers.specs.contracts.widen as NumbersWiden\n";
+    let law = "\npub numbers_widen : Decides (Post NumbersWiden.ended NumbersWiden.clauses (λ k a. (tt, λ r s. r_last _)))\n";
+    let other = law.replace("NumbersWiden.", "NumbersNarrow.");
+    documents.laws.push_str(import);
+    documents.laws.push_str(&other);
     let words = documents
         .missing(&widen)
         .expect("its line is about another function");
-    assert!(words.contains("numbers.narrow"), "{words}");
-    documents.laws = documents
+    assert!(words.contains("NumbersNarrow"), "{words}");
+    documents.laws = documents.laws.replace(&other, law);
+    assert!(documents.missing(&widen).is_none());
+    let aliased = documents
         .laws
-        .replace(&law.replace(".widen", ".narrow"), law);
+        .replace(import, &import.replace(".widen", ".narrow"));
+    let laws = std::mem::replace(&mut documents.laws, aliased);
+    let words = documents
+        .missing(&widen)
+        .expect("its name is imported for another function");
+    assert!(words.contains("another contract"), "{words}");
+    documents.laws = laws;
     assert!(documents.missing(&widen).is_none());
     let unpromised = public("numbers", "widen", "x: f64", "requires { x }");
     let words = documents.missing(&unpromised).expect("it promises nothing");
