@@ -1,5 +1,6 @@
 // An accepted block: applies its signals, then plays or writes silence.
 #![tactic(auto)]
+
 ghost use Rattle.std.specs.Prelude.{◌≡◌, length, replicate};
 ghost use Rattle.numbers.specs.Words.{positive_zero};
 ghost use Rattle.sound_lanes.specs.Lanes.{lanes_now, lanes_at_entry, rows};

@@ -2,6 +2,7 @@
 // the sound (crates sound_fast_straight and sound_fast_wrapping), then multiplied by their gains (crate sound_gains).
 // Otherwise, and after the track's end, the block is played by sound_slow_path.
 #![tactic(auto)]
+
 ghost use Rattle.std.specs.Prelude.{◌≡◌, ◌≤◌, true, T, length};
 ghost use Rattle.sound_fast_reading.specs.Moves.{number, Same};
 ghost use Rattle.numbers.specs.Lists.{all};

@@ -4,7 +4,7 @@ use Prim.Native.Nat.{ℕ, zero, suc, ◌+◌, ◌≤◌}
 use mathlib.Core.List.{List, ◌∷◌, ◌++◌}
 use lib.Dec.{T}
 use lib.ListN.{length, replicate-append-replicate, length-replicate, replicate}
-use Rattle.sound_lanes.specs.Lanes.{Lane, Lanes, rows, sized}
+use Rattle.sound_lanes.specs.Lanes.{Lane, rows, sized}
 use Rattle.sound_lanes.proofs.Rows.{sized_of}
 use Rattle.sound_held.specs.declared.Held.{Held}
 use Rattle.sound_held.specs.Held.{held_lanes}

@@ -1,5 +1,6 @@
 // A block of a started, advancing voice whose five numbers are given once: each applies to every frame.
 #![tactic(auto)]
+
 ghost use Rattle.std.specs.Prelude.{◌≡◌, ◌/◌, length};
 ghost use Rattle.sound_lanes.specs.Lanes.{rows};
 ghost use Rattle.sound_slow_path.specs.Plays.{plays, accepted_as};

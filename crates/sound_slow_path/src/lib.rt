@@ -1,5 +1,6 @@
 // The slow path: a block of a started, advancing voice, frame by frame (the loop of kira's StaticSound::process).
 #![tactic(auto)]
+
 ghost use Rattle.std.specs.Prelude.{◌≡◌, ◌/◌, ◌<◌, cond, T, eqb, length};
 ghost use Rattle.numbers.specs.Words.{proper};
 ghost use Rattle.sound_lanes.specs.Lanes.{lanes_now, lanes_at_entry, rows};

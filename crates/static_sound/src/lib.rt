@@ -1,5 +1,6 @@
 // A block into an output of its own: checks the whole input, then plays it (kira's StaticSound::process).
 #![tactic(auto)]
+
 ghost use Rattle.std.specs.Prelude.{◌≡◌, ◌*◌, eqb};
 ghost use Rattle.sound_lanes.specs.Lanes.{lanes_at_entry};
 ghost use Rattle.static_sound.specs.Entries.{refused_block, processed};

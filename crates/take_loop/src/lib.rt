@@ -1,5 +1,6 @@
 // A voice takes a loop from the table: reads the slot, then sets its loop by a command set.
 #![tactic(auto)]
+
 ghost use Rattle.std.specs.Prelude.{◌≡◌};
 ghost use Rattle.take_loop.specs.Taking.{loop_command_of, taken};
 

@@ -1,5 +1,4 @@
 -- `frame_steps` adds the advance to the fraction and makes as many updates as the sum has steps.
-use Rattle.sound_slow_path.specs.FrameSteps.{frame_steps}
 use Rattle.sound_slow_path.proofs.FrameSteps.{asks, turned_as}
 use Rattle.sound_slow_path.proofs.frame_steps.Goals as goal
 

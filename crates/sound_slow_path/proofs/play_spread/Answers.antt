@@ -1,5 +1,5 @@
 -- `play_spread` plays every frame and stores its two samples. The invariant: what is played so far is the definition's of the lanes so far.
-use Prim.Native.Nat.{ℕ, ◌-◌, ◌*◌, ◌/◌, ◌≤◌, ◌<◌}
+use Prim.Native.Nat.{ℕ, ◌*◌, ◌/◌, ◌≤◌, ◌<◌}
 use mathlib.Core.Path.{◌≡◌, refl, sym, ap, ◌∙◌, subst}
 use native.Mathlib.Omega.{arith}
 use lib.ListN.{length, get_or, length-set}
@@ -12,9 +12,9 @@ use Rattle.sound_state.specs.Voices.{slice_of, moved}
 use Rattle.sound_state.proofs.WellFormed.{updatable_of}
 use Rattle.resampler.specs.declared.Reading.{Reading}
 use Rattle.resampler.specs.Windows.{reading}
-use Rattle.sound_slow_path.specs.Plays.{plays, lower}
+use Rattle.sound_slow_path.specs.Plays.{lower}
 use Rattle.sound_slow_path.specs.FrameSteps.{spread, frame_steps, Steppable}
-use Rattle.sound_slow_path.proofs.Loops.{lane_at, framed, played, played_none, played_more, played_all, slow_at, turned_few, turned_on}
+use Rattle.sound_slow_path.proofs.Loops.{lane_at, framed, played_none, played_more, played_all, slow_at, turned_few, turned_on}
 use Rattle.sound_slow_path.proofs.Spread.{spread_at, spread_below}
 use Rattle.sound_slow_path.proofs.play_spread.Goals.{After-frame_steps-next, After-lane_frame-j, In-loop-i}
 use Rattle.sound_slow_path.proofs.play_spread.Goals as goal
