@@ -1,5 +1,5 @@
 -- The results of the code's parts: a block's result, a block's line.
-use mathlib.Core.Path.{◌≡◌, refl, sym, ap, ◌∙◌}
+use mathlib.Core.Path.{◌≡◌, sym, ap, ◌∙◌}
 use Prim.Native.Nat.{ℕ, ◌*◌}
 use mathlib.Core.Bool.{Bool, cond}
 use mathlib.Core.List.{List}

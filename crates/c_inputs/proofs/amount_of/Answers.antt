@@ -1,6 +1,5 @@
 -- `c_inputs::amount_of` meets its contract, tag by tag.
 use borrow.Author.Tests.{ne_eqb}
-use borrow.Author.Rules.{rules}
 use Rattle.c_inputs.proofs.amount_of.Goals as goal
 
 pub returns-then-has-eq0 : goal.returns-then-has-eq0

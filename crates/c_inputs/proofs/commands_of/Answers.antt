@@ -1,5 +1,4 @@
 -- `c_inputs::commands_of` meets its contract, field by field.
-use borrow.Author.Rules.{rules}
 use Rattle.c_inputs.proofs.commands_of.Goals as goal
 
 pub returns : goal.returns

@@ -1,6 +1,5 @@
 -- `c_inputs::end_of` meets its contract: the end of audio, or a position.
 use borrow.Author.Tests.{ne_eqb}
-use borrow.Author.Rules.{rules}
 use Rattle.c_inputs.proofs.end_of.Goals as goal
 
 pub returns-then-position-eq2 : goal.returns-then-position-eq2

@@ -1,6 +1,5 @@
 -- `c_inputs::loop_of` meets its contract, tag by tag.
 use borrow.Author.Tests.{ne_eqb}
-use borrow.Author.Rules.{rules}
 use Rattle.c_inputs.proofs.loop_of.Goals as goal
 
 pub returns-then-command-eq0 : goal.returns-then-command-eq0

@@ -1,6 +1,5 @@
 -- `c_inputs::optional_of` meets its contract: absent or given.
 use borrow.Author.Tests.{ne_eqb}
-use borrow.Author.Rules.{rules}
 use Rattle.c_inputs.proofs.optional_of.Goals as goal
 
 pub returns-then-has-eq0 : goal.returns-then-has-eq0

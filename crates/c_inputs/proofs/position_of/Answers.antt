@@ -1,6 +1,5 @@
 -- `c_inputs::position_of` meets its contract, kind by kind.
 use borrow.Author.Tests.{ne_eqb}
-use borrow.Author.Rules.{rules}
 use Rattle.c_inputs.proofs.position_of.Goals as goal
 
 pub returns-then-position-eq0 : goal.returns-then-position-eq0

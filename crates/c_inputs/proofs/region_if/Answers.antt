@@ -1,5 +1,4 @@
 -- `c_inputs::region_if` meets its contract: known or not.
-use borrow.Author.Rules.{rules}
 use Rattle.c_inputs.proofs.region_if.Goals as goal
 
 pub returns-then-known : goal.returns-then-known

@@ -1,6 +1,5 @@
 -- `c_inputs::start_of` meets its contract: a tick or an answer.
 use borrow.Author.Tests.{ne_eqb}
-use borrow.Author.Rules.{rules}
 use Rattle.c_inputs.proofs.start_of.Goals as goal
 
 pub returns-then-kind-eq3 : goal.returns-then-kind-eq3

@@ -1,7 +1,6 @@
 -- `c_state::decode` meets its contract: the blank state, or field by field.
 use Rattle.c_state.specs.Records.{decoded}
 use mathlib.Core.Path.{sym, ◌∙◌}
-use borrow.Author.Rules.{rules}
 use Rattle.c_state.proofs.decode.Goals as goal
 
 pub returns-then-not-is_well_formed : goal.returns-then-not-is_well_formed

@@ -1,6 +1,5 @@
 -- `c_state::encode` meets its contract, field by field.
 use Rattle.c_state.specs.Records.{encoded}
-use borrow.Author.Rules.{rules}
 use Rattle.c_state.proofs.encode.Goals as goal
 
 pub returns : goal.returns

@@ -4,7 +4,6 @@ use lib.ListN.{length}
 use Rattle.resampler.specs.Windows.{blank}
 use Rattle.c_state.specs.Records.{entry_of}
 use Rattle.c_state.proofs.Fours.{four}
-use borrow.Author.Rules.{rules}
 use Rattle.c_state.proofs.entries_of.Goals.{Start}
 use Rattle.c_state.proofs.entries_of.Goals as goal
 

@@ -1,6 +1,5 @@
 -- `c_state::is_well_formed` meets its contract, test by test.
 use Rattle.c_state.specs.Records.{well_formed_state}
-use borrow.Author.Rules.{rules}
 use Rattle.c_state.proofs.is_well_formed.Goals as goal
 
 pub returns : goal.returns

@@ -5,7 +5,6 @@ use lib.Ieee.{nan}
 use Rattle.c_state.specs.declared.CableowlEntry.{CableowlEntry}
 use Rattle.c_state.specs.Records.{recent_of}
 use Rattle.c_state.proofs.Fours.{four}
-use borrow.Author.Rules.{rules}
 use Rattle.c_state.proofs.window_of.Goals.{Start}
 use Rattle.c_state.proofs.window_of.Goals as goal
 

@@ -1,5 +1,4 @@
 -- `cableowl::answer` meets its contract, by the returned state.
-use borrow.Author.Rules.{rules}
 use Rattle.cableowl.proofs.answer.Goals as goal
 
 pub returns : goal.returns

@@ -1,6 +1,5 @@
 -- `cableowl_new` meets its contract: creation between records of numbers.
 use Rattle.cableowl.proofs.Answers.{new_few, new_is}
-use borrow.Author.Rules.{rules}
 use Rattle.cableowl.proofs.cableowl_new.Goals as goal
 
 pub encode-requires : goal.encode-requires

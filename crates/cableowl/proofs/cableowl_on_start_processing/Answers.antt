@@ -1,6 +1,5 @@
 -- `cableowl_on_start_processing` meets its contract: the command set between records of numbers.
 use Rattle.cableowl.proofs.Answers.{commands_few, commands_are}
-use borrow.Author.Rules.{rules}
 use Rattle.cableowl.proofs.cableowl_on_start_processing.Goals as goal
 
 pub state_after-requires : goal.state_after-requires

@@ -1,7 +1,6 @@
 -- `cableowl_process` meets its contract: the block between records of numbers.
 use Rattle.sound_lanes.specs.Lanes.{Lanes, lanes_now}
 use Rattle.cableowl.proofs.Answers.{block_few, block_is}
-use borrow.Author.Rules.{rules}
 use Rattle.cableowl.proofs.cableowl_process.Goals.{Start}
 use Rattle.cableowl.proofs.cableowl_process.Goals as goal
 

@@ -1,7 +1,6 @@
 -- `cableowl_process_into` meets its contract: the block between records of numbers.
 use Rattle.sound_lanes.specs.Lanes.{Lanes, lanes_now}
 use Rattle.cableowl.proofs.Answers.{mix_few, mix_is}
-use borrow.Author.Rules.{rules}
 use Rattle.cableowl.proofs.cableowl_process_into.Goals.{Start}
 use Rattle.cableowl.proofs.cableowl_process_into.Goals as goal
 

@@ -1,7 +1,6 @@
 -- `cableowl_stretch` meets its contract: `stretch` returns no sample exactly if the state is refused, and otherwise begins at twice the slice's start.
 use native.Mathlib.Omega.{arith}
 use Rattle.cableowl.proofs.Parts.{part_none, part_fits, part_is}
-use borrow.Author.Rules.{rules}
 use Rattle.cableowl.proofs.cableowl_stretch.Goals as goal
 
 pub returns-then-length-eq0 : goal.returns-then-length-eq0

@@ -2,7 +2,6 @@
 use mathlib.Core.Path.{◌≡◌, refl, ap, ◌∙◌}
 use Prim.Native.Nat.{ℕ, ◌-◌, ◌≤◌}
 use native.Mathlib.Omega.{arith}
-use borrow.Author.Rules.{rules}
 use Rattle.loop_copies.specs.Copies.{same_slots}
 use Rattle.loop_copies.proofs.Slots.{same_more}
 use Rattle.loop_copies.proofs.are_same_slots.Goals as goal

@@ -1,10 +1,7 @@
 -- `loop_copies::are_same_slots` meets its contract. The loop's invariant: `ok` is the test over the slots so far.
-use mathlib.Core.Path.{◌≡◌, refl, ap, ◌∙◌}
+use mathlib.Core.Path.{◌≡◌, ◌∙◌}
 use Prim.Native.Nat.{ℕ, ◌-◌, ◌≤◌}
-use native.Mathlib.Omega.{arith}
-use borrow.Author.Rules.{rules}
 use Rattle.loop_copies.specs.Copies.{same_slots}
-use Rattle.loop_copies.proofs.Slots.{same_more}
 use Rattle.loop_copies.proofs.are_same_slots.Given as goal
 
 abbrev pub invariant-loop-i : goal.invariant-loop-i

@@ -1,11 +1,8 @@
 -- `loop_copies::halves` meets its contract. The loop's invariant: `i` slots of `a`, then the rest of `b`.
-use mathlib.Core.Path.{◌≡◌, refl, ap, ◌∙◌}
+use mathlib.Core.Path.{◌≡◌, ◌∙◌}
 use mathlib.Core.List.{◌++◌}
 use Prim.Native.Nat.{ℕ, ◌-◌, ◌≤◌}
-use native.Mathlib.Omega.{arith}
-use lib.ListN.{length, take, drop, length-map}
-use borrow.Author.Rules.{rules}
-use Rattle.loop_copies.proofs.Slots.{halves_more}
+use lib.ListN.{take, drop}
 use Rattle.loop_copies.proofs.halves.Given as goal
 
 abbrev pub invariant-loop-i : goal.invariant-loop-i

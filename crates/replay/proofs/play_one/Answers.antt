@@ -1,10 +1,7 @@
 -- `replay::play_one`: the record lies in the window.
-use Rattle.std.proofs.Common.{◌≡◌, sym, refl, ap, ◌∙◌, arith, rules}
+use Rattle.std.proofs.Common.{◌≡◌, ◌∙◌, rules}
 use Rattle.trace_replay.proofs.Parts.{part_long}
 use Rattle.replay.proofs.Places.{within, inside}
-use Rattle.replay.proofs.play_one.Reads as reads
-use Rattle.replay.proofs.play_one.Lts as lts
-use Rattle.trace_replay.proofs.advance.Reads as advance-reads
 use Rattle.replay.proofs.play_one.Goals as goal
 
 pub slice_bounds-advance-end : goal.slice_bounds-advance-end

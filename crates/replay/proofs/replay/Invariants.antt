@@ -1,10 +1,6 @@
 -- `replay::replay`: the window stays in its buffer, and the remaining iterations decrease.
-use Rattle.std.proofs.Common.{◌≡◌, ℕ, ◌≤◌, length, sym, refl, ap, ◌∙◌, arith, rules}
+use Rattle.std.proofs.Common.{◌≡◌, ℕ, ◌≤◌, length, ◌∙◌}
 use Rattle.replay.specs.Windows.{Held}
-use Rattle.replay.proofs.replay.Reads as reads
-use Rattle.replay.proofs.replay.Lts as lts
-use Rattle.replay.proofs.advance.Reads as advance-reads
-use Rattle.trace_replay.proofs.begin.Reads as begin-reads
 use Rattle.replay.proofs.replay.Given as goal
 
 abbrev pub invariant-loop-left : goal.invariant-loop-left

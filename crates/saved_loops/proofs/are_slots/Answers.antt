@@ -2,13 +2,9 @@
 use mathlib.Core.Path.{◌≡◌, refl}
 use Prim.Native.Nat.{ℕ, ◌-◌, ◌≤◌}
 use native.Mathlib.Omega.{arith}
-use lib.ListN.{length}
 use Rattle.saved_loops.specs.Records.{well_formed_slots}
 use Rattle.saved_loops.proofs.Slots.{slots_more, slots_end}
 use borrow.Author.Rules.{rules}
-use Rattle.saved_loops.proofs.are_slots.Reads as reads
-use Rattle.saved_loops.proofs.are_slots.Lts as lts
-use Rattle.saved_loops.proofs.is_slot.Reads as is-slot-reads
 use Rattle.saved_loops.proofs.are_slots.Goals as goal
 
 pub loop-i-init : goal.loop-i-init

@@ -1,14 +1,8 @@
 -- `saved_loops::are_slots` meets its contract. The loop's invariant: `ok` is the test over the slots so far.
-use mathlib.Core.Path.{◌≡◌, refl}
+use mathlib.Core.Path.{◌≡◌}
 use Prim.Native.Nat.{ℕ, ◌-◌, ◌≤◌}
-use native.Mathlib.Omega.{arith}
 use lib.ListN.{length}
 use Rattle.saved_loops.specs.Records.{well_formed_slots}
-use Rattle.saved_loops.proofs.Slots.{slots_more, slots_end}
-use borrow.Author.Rules.{rules}
-use Rattle.saved_loops.proofs.are_slots.Reads as reads
-use Rattle.saved_loops.proofs.are_slots.Lts as lts
-use Rattle.saved_loops.proofs.is_slot.Reads as is-slot-reads
 use Rattle.saved_loops.proofs.are_slots.Given as goal
 
 abbrev pub invariant-loop-i : goal.invariant-loop-i

@@ -1,6 +1,5 @@
 -- `saved_loops::is_storable` meets its contract. Assumes nothing.
 use mathlib.Core.Path.{refl}
-use borrow.Author.Rules.{rules}
 use Rattle.saved_loops.proofs.is_storable.Goals as goal
 
 pub returns : goal.returns

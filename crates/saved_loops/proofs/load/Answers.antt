@@ -2,7 +2,6 @@
 use mathlib.Core.Path.{◌≡◌}
 use native.Mathlib.Omega.{arith}
 use Rattle.saved_loops.proofs.Loads.{low, head_refused, short, long}
-use borrow.Author.Rules.{rules}
 use Rattle.saved_loops.proofs.load.Goals as goal
 
 pub overflow_cast-p : goal.overflow_cast-p

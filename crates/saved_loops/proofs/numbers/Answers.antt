@@ -3,11 +3,9 @@ use mathlib.Core.Path.{◌≡◌, refl}
 use mathlib.Core.List.{◌∷◌}
 use Prim.Native.Nat.{ℕ, ◌+◌, ◌-◌, ◌≤◌}
 use native.Mathlib.Omega.{arith}
-use lib.ListN.{length, take, length-set}
+use lib.ListN.{length-set}
 use Rattle.saved_loops.proofs.Slots.{numbers_more, numbers_end}
 use borrow.Author.Rules.{rules}
-use Rattle.saved_loops.proofs.numbers.Reads as reads
-use Rattle.saved_loops.proofs.numbers.Lts as lts
 use Rattle.saved_loops.proofs.numbers.Goals as goal
 
 pub loop-i-init : goal.loop-i-init

@@ -1,13 +1,8 @@
 -- `saved_loops::numbers` meets its contract. The loop's invariant: the numbers from 4 on are the first `i` words.
-use mathlib.Core.Path.{◌≡◌, refl}
+use mathlib.Core.Path.{◌≡◌}
 use mathlib.Core.List.{◌∷◌}
 use Prim.Native.Nat.{ℕ, ◌+◌, ◌-◌, ◌≤◌}
-use native.Mathlib.Omega.{arith}
-use lib.ListN.{length, take, length-set}
-use Rattle.saved_loops.proofs.Slots.{numbers_more, numbers_end}
-use borrow.Author.Rules.{rules}
-use Rattle.saved_loops.proofs.numbers.Reads as reads
-use Rattle.saved_loops.proofs.numbers.Lts as lts
+use lib.ListN.{length, take}
 use Rattle.saved_loops.proofs.numbers.Given as goal
 
 abbrev pub invariant-loop-i : goal.invariant-loop-i

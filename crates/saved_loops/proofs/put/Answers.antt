@@ -3,12 +3,6 @@ use mathlib.Core.Path.{◌≡◌}
 use lib.ListN.{length}
 use Rattle.saved_loops.proofs.Stores.{body_put, all_put}
 use borrow.Author.Rules.{rules}
-use Rattle.saved_loops.proofs.put.Reads as reads
-use Rattle.saved_loops.proofs.put.Lts as lts
-use Rattle.byte_layout.proofs.copy.Reads as copy-reads
-use Rattle.byte_layout.proofs.put_number.Reads as put-number-reads
-use Rattle.crc32.proofs.checksum.Reads as checksum-reads
-use Rattle.saved_loops.proofs.put_numbers.Reads as put-numbers-reads
 use Rattle.saved_loops.proofs.put.Goals.{Start}
 use Rattle.saved_loops.proofs.put.Goals as goal
 

@@ -5,10 +5,6 @@ use Rattle.byte_layout.specs.declared.Parsed.{Parsed}
 use Rattle.saved_loops.specs.Tables.{half_table}
 use Rattle.saved_loops.proofs.Loads.{half_sound, half_read}
 use borrow.Author.Rules.{rules}
-use Rattle.saved_loops.proofs.read_half.Reads as reads
-use Rattle.saved_loops.proofs.read_half.Lts as lts
-use Rattle.byte_layout.proofs.begin.Reads as begin-reads
-use Rattle.byte_layout.proofs.read_rows.Reads as read-rows-reads
 use Rattle.saved_loops.proofs.read_half.Goals as goal
 
 pub read_rows-requires : goal.read_rows-requires

@@ -1,7 +1,6 @@
 -- `saved_loops::refusal_of` meets its contract. Assumes nothing.
 use mathlib.Core.Path.{sym, ◌∙◌}
 use Rattle.saved_loops.proofs.Stores.{no_room, with_room}
-use borrow.Author.Rules.{rules}
 use Rattle.saved_loops.proofs.refusal_of.Goals as goal
 
 pub returns-then-not-is_storable : goal.returns-then-not-is_storable

@@ -1,6 +1,5 @@
 -- `saved_loops::show` meets its contract. Assumes nothing.
 use mathlib.Core.Path.{◌∙◌}
-use borrow.Author.Rules.{rules}
 use Rattle.saved_loops.proofs.show.Goals as goal
 
 pub returns-then-ok : goal.returns-then-ok

@@ -5,7 +5,6 @@ use native.Mathlib.Omega.{arith}
 use lib.ListN.{length}
 use Rattle.saved_loops.specs.Records.{store_refusal}
 use Rattle.saved_loops.proofs.Stores.{kept, written, accepted}
-use borrow.Author.Rules.{rules}
 use Rattle.saved_loops.proofs.store.Goals as goal
 
 pub returns-then-refusal-gt0 : goal.returns-then-refusal-gt0

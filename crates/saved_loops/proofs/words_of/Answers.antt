@@ -2,11 +2,9 @@
 use mathlib.Core.Path.{◌≡◌, refl}
 use Prim.Native.Nat.{ℕ, ◌-◌, ◌≤◌}
 use native.Mathlib.Omega.{arith}
-use lib.ListN.{length, take, drop, length-set}
+use lib.ListN.{length-set}
 use Rattle.saved_loops.proofs.Slots.{words_more, words_end}
 use borrow.Author.Rules.{rules}
-use Rattle.saved_loops.proofs.words_of.Reads as reads
-use Rattle.saved_loops.proofs.words_of.Lts as lts
 use Rattle.saved_loops.proofs.words_of.Goals as goal
 
 pub loop-i-init : goal.loop-i-init

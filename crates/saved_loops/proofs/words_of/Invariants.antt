@@ -1,12 +1,7 @@
 -- `saved_loops::words_of` meets its contract. The loop's invariant: the first `i` words are the numbers from 4 on.
-use mathlib.Core.Path.{◌≡◌, refl}
+use mathlib.Core.Path.{◌≡◌}
 use Prim.Native.Nat.{ℕ, ◌-◌, ◌≤◌}
-use native.Mathlib.Omega.{arith}
-use lib.ListN.{length, take, drop, length-set}
-use Rattle.saved_loops.proofs.Slots.{words_more, words_end}
-use borrow.Author.Rules.{rules}
-use Rattle.saved_loops.proofs.words_of.Reads as reads
-use Rattle.saved_loops.proofs.words_of.Lts as lts
+use lib.ListN.{length, take, drop}
 use Rattle.saved_loops.proofs.words_of.Given as goal
 
 abbrev pub invariant-loop-i : goal.invariant-loop-i

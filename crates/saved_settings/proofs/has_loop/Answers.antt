@@ -1,7 +1,5 @@
 -- `saved_settings::has_loop` meets its contract. Assumes nothing.
-use Rattle.std.proofs.Common.{◌≡◌, sym, refl, ap, ◌∙◌}
-use Rattle.saved_settings.proofs.has_loop.Reads as reads
-use Rattle.saved_settings.proofs.has_loop.Lts as lts
+use Rattle.std.proofs.Common.{◌≡◌, refl, ◌∙◌}
 use Rattle.saved_settings.proofs.has_loop.Goals as goal
 
 pub returns-then-start-end : goal.returns-then-start-end

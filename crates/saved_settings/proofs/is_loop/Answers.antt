@@ -1,8 +1,5 @@
 -- `saved_settings::is_loop` meets its contract. Assumes nothing.
-use Rattle.std.proofs.Common.{le-ltb, lt-ltb, eq-eqb, ne_eqb, le-leb}
-use borrow.Author.Tests.{lt-leb}
-use Rattle.saved_settings.proofs.is_loop.Reads as reads
-use Rattle.saved_settings.proofs.is_loop.Lts as lts
+use Rattle.std.proofs.Common.{eq-eqb, ne_eqb}
 use Rattle.saved_settings.proofs.is_loop.Goals as goal
 
 pub returns-then-s-eq0 : goal.returns-then-s-eq0

@@ -1,8 +1,5 @@
 -- `saved_settings::is_second` meets its contract. Assumes nothing.
-use Rattle.saved_settings.proofs.Loads.{first_sound, second_sound, first_read, second_read, first_refused, first_shown, second_refused, second_shown, is_one, short, long}
-use Rattle.std.proofs.Common.{rules}
-use Rattle.saved_settings.proofs.is_second.Reads as reads
-use Rattle.saved_settings.proofs.is_second.Lts as lts
+use Rattle.saved_settings.proofs.Loads.{is_one, short, long}
 use Rattle.saved_settings.proofs.is_second.Goals as goal
 
 pub returns-then-reader-eq1 : goal.returns-then-reader-eq1

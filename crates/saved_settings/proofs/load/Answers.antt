@@ -1,16 +1,8 @@
 -- `saved_settings::load` meets its contract. Assumes nothing.
-use Rattle.std.proofs.Common.{◌≡◌, sym, refl, ap, ◌∙◌, arith, rules}
-use Rattle.saved_settings.proofs.Loads.{first_sound, second_sound, first_read, second_read, first_refused, first_shown, second_refused, second_shown, is_one, short, long}
+use Rattle.std.proofs.Common.{◌≡◌, sym, ap, ◌∙◌, arith}
+use Rattle.saved_settings.proofs.Loads.{first_refused, first_shown, second_refused, second_shown}
 use Rattle.saved_settings.specs.Records.{shown}
 use Rattle.saved_settings.proofs.Low.{first_low, second_low}
-use Rattle.saved_settings.proofs.load.Reads as reads
-use Rattle.saved_settings.proofs.load.Lts as lts
-use Rattle.saved_settings.proofs.is_second.Reads as is-second-reads
-use Rattle.saved_settings.proofs.read_first.Reads as read-first-reads
-use Rattle.saved_settings.proofs.read_second.Reads as read-second-reads
-use Rattle.saved_settings.proofs.refused.Reads as refused-reads
-use Rattle.saved_settings.proofs.saved_of.Reads as saved-of-reads
-use Rattle.saved_settings.proofs.show.Reads as show-reads
 use Rattle.saved_settings.proofs.load.Goals as goal
 
 pub overflow_cast-p : goal.overflow_cast-p

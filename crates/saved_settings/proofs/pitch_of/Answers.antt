@@ -1,9 +1,5 @@
 -- `saved_settings::pitch_of` meets its contract. Assumes nothing.
-use Rattle.std.proofs.Common.{◌≡◌, sym, refl, ap, ◌∙◌, rules, le-ltb, lt-ltb, eq-eqb, ne_eqb, le-leb}
-use borrow.Author.Tests.{lt-leb}
-use Rattle.saved_settings.proofs.pitch_of.Reads as reads
-use Rattle.saved_settings.proofs.pitch_of.Lts as lts
-use Rattle.saved_settings.proofs.signed.Reads as signed-Reads
+use Rattle.std.proofs.Common.{◌≡◌, ◌∙◌, eq-eqb, ne_eqb}
 use Rattle.saved_settings.proofs.pitch_of.Goals as goal
 
 pub returns-then-version-eq2 : goal.returns-then-version-eq2

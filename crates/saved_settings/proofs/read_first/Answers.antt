@@ -1,12 +1,8 @@
 -- `saved_settings::read_first` meets its contract. Assumes nothing.
-use Rattle.std.proofs.Common.{◌≡◌, sym, refl, ap, ◌∙◌, arith, rules}
-use Rattle.saved_settings.proofs.Loads.{first_sound, second_sound, first_read, second_read, first_refused, first_shown, second_refused, second_shown, is_one, short, long}
+use Rattle.std.proofs.Common.{◌≡◌, ap, ◌∙◌, arith, rules}
+use Rattle.saved_settings.proofs.Loads.{first_sound, first_read}
 use Rattle.byte_layout.specs.declared.Parsed.{Parsed}
 use Rattle.saved_settings.specs.Tables.{first_table}
-use Rattle.saved_settings.proofs.read_first.Reads as reads
-use Rattle.saved_settings.proofs.read_first.Lts as lts
-use Rattle.byte_layout.proofs.begin.Reads as begin-reads
-use Rattle.byte_layout.proofs.read_rows.Reads as read-rows-reads
 use Rattle.saved_settings.proofs.read_first.Goals as goal
 
 pub read_rows-requires : goal.read_rows-requires

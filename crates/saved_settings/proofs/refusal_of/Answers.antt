@@ -1,11 +1,6 @@
 -- `saved_settings::refusal_of` meets its contract. Assumes nothing.
-use Rattle.std.proofs.Common.{ℕ, ◌<◌, ◌≤◌, sym, ◌∙◌, subst, rules, le-ltb, lt-ltb, eq-eqb, ne_eqb, le-leb}
-use borrow.Author.Tests.{lt-leb}
+use Rattle.std.proofs.Common.{ℕ, ◌<◌, ◌≤◌, sym, ◌∙◌, subst}
 use Rattle.saved_settings.proofs.Stores.{no_room, enough}
-use Rattle.saved_settings.proofs.refusal_of.Reads as reads
-use Rattle.saved_settings.proofs.refusal_of.Lts as lts
-use Rattle.saved_settings.proofs.is_storable.Reads as is-storable-reads
-use Rattle.saved_settings.proofs.size_of.Reads as size-of-reads
 use Rattle.saved_settings.proofs.refusal_of.Goals as goal
 
 pub returns-then-not-is_storable : goal.returns-then-not-is_storable

@@ -1,9 +1,5 @@
 -- `saved_settings::show` meets its contract. Assumes nothing.
-use Rattle.std.proofs.Common.{◌≡◌, sym, refl, ap, ◌∙◌, rules}
-use Rattle.saved_settings.proofs.show.Reads as reads
-use Rattle.saved_settings.proofs.show.Lts as lts
-use Rattle.saved_settings.proofs.is_well_formed.Reads as is-well-formed-reads
-use Rattle.saved_settings.proofs.refused.Reads as refused-reads
+use Rattle.std.proofs.Common.{◌≡◌, sym, ◌∙◌}
 use Rattle.saved_settings.proofs.show.Goals as goal
 
 pub returns-then-is_well_formed : goal.returns-then-is_well_formed

@@ -1,8 +1,5 @@
 -- `saved_settings::size_of` meets its contract. Assumes nothing.
-use Rattle.std.proofs.Common.{le-ltb, lt-ltb, eq-eqb, ne_eqb, le-leb}
-use borrow.Author.Tests.{lt-leb}
-use Rattle.saved_settings.proofs.size_of.Reads as reads
-use Rattle.saved_settings.proofs.size_of.Lts as lts
+use Rattle.std.proofs.Common.{eq-eqb, ne_eqb}
 use Rattle.saved_settings.proofs.size_of.Goals as goal
 
 pub returns-then-version-eq1 : goal.returns-then-version-eq1

@@ -1,13 +1,8 @@
 -- `saved_settings::store` meets its contract. Assumes nothing.
-use Rattle.std.proofs.Common.{◌≡◌, ℕ, ◌<◌, length, sym, refl, ap, ◌∙◌, subst, arith, rules}
-use Rattle.saved_settings.proofs.Stores.{first_room, second_room, first_put, second_put, kept, written, room_first, room_second, as_first, as_second}
+use Rattle.std.proofs.Common.{◌≡◌, ℕ, ◌<◌, length, sym, ap, ◌∙◌, subst, arith}
+use Rattle.saved_settings.proofs.Stores.{kept, written, room_first, room_second, as_first, as_second}
 use lib.Seq.{sets}
 use Rattle.saved_settings.specs.Records.{store_refusal}
-use Rattle.saved_settings.proofs.store.Reads as reads
-use Rattle.saved_settings.proofs.store.Lts as lts
-use Rattle.saved_settings.proofs.put_first.Reads as put-first-reads
-use Rattle.saved_settings.proofs.put_second.Reads as put-second-reads
-use Rattle.saved_settings.proofs.refusal_of.Reads as refusal-of-reads
 use Rattle.saved_settings.proofs.store.Goals.{Else-refusal-gt0}
 use Rattle.saved_settings.proofs.store.Goals as goal
 

@@ -1,19 +1,13 @@
 -- `are_constant`: if every lane repeats its first number, the lanes are constant.
 use Prim.Native.Nat.{ℕ, ◌≤◌, ◌<◌}
 use mathlib.Core.Path.{◌≡◌, sym, ◌∙◌, subst}
-use mathlib.Core.Bool.{Bool, true, false, false≢true, not, ◌&&◌}
+use mathlib.Core.Bool.{Bool, true, false, false≢true, ◌&&◌}
 use native.Mathlib.Omega.{arith}
 use lib.Dec.{T}
 use lib.ListN.{length}
-use borrow.Author.Rules.{rules}
 use Rattle.sound_lanes.specs.Lanes.{Lanes, lanes_now, sized}
-use Rattle.sound_lanes.proofs.Rows.{Sized, sized_parts}
+use Rattle.sound_lanes.proofs.Rows.{sized_parts}
 use Rattle.sound_constant.proofs.Lanes.{constant_of}
-use Rattle.sound_constant.proofs.are_constant.Reads as reads
-use Rattle.sound_constant.proofs.are_constant.Lts as lts
-use Rattle.sound_lanes.proofs.are_sized.Reads as are-sized-reads
-use Rattle.sound_constant.proofs.has_equal_ends.Reads as has-equal-ends-reads
-use Rattle.sound_constant.proofs.is_constant.Reads as is-constant-reads
 use Rattle.sound_constant.proofs.are_constant.Goals.{Else-not-are_sized}
 use Rattle.sound_constant.proofs.are_constant.Goals as goal
 

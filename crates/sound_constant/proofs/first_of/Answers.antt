@@ -1,9 +1,6 @@
 -- `first_of`: every lane of constant lanes has a first number.
 use Rattle.sound_lanes.specs.Lanes.{Lanes, lanes_now}
 use Rattle.sound_constant.proofs.Lanes.{fade_some, volume_some, left_some, right_some}
-use borrow.Author.Rules.{rules}
-use Rattle.sound_constant.proofs.first_of.Reads as reads
-use Rattle.sound_constant.proofs.first_of.Lts as lts
 use Rattle.sound_constant.proofs.first_of.Goals.{Start}
 use Rattle.sound_constant.proofs.first_of.Goals as goal
 

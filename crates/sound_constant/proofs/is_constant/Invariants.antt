@@ -2,13 +2,8 @@
 use Prim.Native.Nat.{ℕ, ◌+◌, ◌-◌, ◌≤◌, ◌<◌}
 use mathlib.Core.Path.{◌≡◌}
 use mathlib.Core.Bool.{true, false≢true}
-use native.Mathlib.Omega.{arith}
 use lib.ListN.{length, get_or}
-use lib.Ieee.{nan, of_bits}
-use Rattle.numbers.proofs.Equal.{same_more, same_list}
-use Rattle.sound_constant.proofs.is_constant.Reads as reads
-use Rattle.sound_constant.proofs.is_constant.Lts as lts
-use Rattle.sound_constant.proofs.is_equal.Reads as is-equal-reads
+use lib.Ieee.{nan}
 use Rattle.sound_constant.proofs.is_constant.Given as goal
 
 abbrev pub invariant-loop-i : goal.invariant-loop-i

@@ -3,10 +3,9 @@ use Prim.Native.Nat.{ℕ, ◌+◌, ◌-◌, ◌*◌, ◌^◌, ◌≤◌, ◌<◌
 use mathlib.Core.Path.{◌≡◌, sym, ◌∙◌, subst}
 use mathlib.Core.List.{List}
 use native.Mathlib.Omega.{arith}
-use lib.ListN.{length, take, replicate, length-replicate}
+use lib.ListN.{length, take, replicate}
 use lib.Seq.{length-take-le}
 use lib.Ieee.{Float}
-use borrow.Author.Rules.{rules}
 use Rattle.sound_fast_reading.specs.Scans.{begun, Scannable, Scanned}
 use Rattle.sound_fast_held.proofs.Parts.{take_replicate, within, long, most, way_on, part, updatable_on, begins_on, scanned_on}
 use Rattle.sound_fast_held.proofs.few.Goals.{After-part_of-m}

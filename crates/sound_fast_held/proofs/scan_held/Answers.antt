@@ -2,19 +2,11 @@
 use Prim.Native.Nat.{ℕ, suc, ◌-◌, ◌≤◌, ◌<◌}
 use mathlib.Core.Path.{◌≡◌, refl, sym, ◌∙◌, subst}
 use mathlib.Core.Bool.{Bool, true, false, ◌&&◌, cond}
-use mathlib.Core.List.{List}
 use native.Mathlib.Omega.{arith}
 use lib.Dec.{ltb}
-use lib.ListN.{length, replicate}
-use lib.Ieee.{Float}
-use borrow.Author.Rules.{rules}
 use borrow.Author.Tests.{ltb-true}
 use Rattle.numbers.proofs.Equal.{second_of}
-use Rattle.sound_fast_reading.specs.declared.Way.{Way}
-use Rattle.sound_fast_reading.specs.declared.Reached.{Reached}
-use Rattle.sound_fast_reading.specs.Scans.{Scannable, Scanned}
 use Rattle.sound_fast_held.proofs.Parts.{slow_rate}
-use Rattle.sound_fast_held.proofs.scan_held.Invariants.{Going}
 use Rattle.sound_fast_held.proofs.scan_held.Goals as goal
 
 less : (m : Bool) (r s n : ℕ) → m ≡ true → cond (ltb r s && ltb s n) (suc (n - s)) 0 < cond m (suc (n - r)) 0

@@ -1,19 +1,13 @@
 -- `scan_held` continues while frames are read and some are left. The invariant: the scan so far, and that a block with remaining frames has frames.
 use Prim.Native.Nat.{ℕ, suc, ◌-◌, ◌≤◌, ◌<◌}
-use mathlib.Core.Path.{◌≡◌, refl, sym, ◌∙◌, subst}
-use mathlib.Core.Bool.{Bool, true, false, ◌&&◌, cond}
+use mathlib.Core.Path.{◌≡◌, ◌∙◌}
+use mathlib.Core.Bool.{Bool, true, ◌&&◌, cond}
 use mathlib.Core.List.{List}
-use native.Mathlib.Omega.{arith}
-use lib.Dec.{ltb}
-use lib.ListN.{length, replicate}
+use lib.ListN.{replicate}
 use lib.Ieee.{Float}
-use borrow.Author.Rules.{rules}
-use borrow.Author.Tests.{ltb-true}
-use Rattle.numbers.proofs.Equal.{second_of}
 use Rattle.sound_fast_reading.specs.declared.Way.{Way}
 use Rattle.sound_fast_reading.specs.declared.Reached.{Reached}
-use Rattle.sound_fast_reading.specs.Scans.{Scannable, Scanned}
-use Rattle.sound_fast_held.proofs.Parts.{slow_rate}
+use Rattle.sound_fast_reading.specs.Scans.{Scanned}
 use Rattle.sound_fast_held.proofs.scan_held.Given as goal
 
 pub record Going (snd : List Float) (way : Way) (rate : Float) (frames : ℕ) (r : Reached) (out : List Float) (more : Bool) : Type 0 where

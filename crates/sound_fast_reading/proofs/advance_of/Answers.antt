@@ -1,5 +1,4 @@
 -- `advance_of` is the product that the definition has.
-use borrow.Author.Rules.{rules}
 use Rattle.sound_fast_reading.proofs.Moves.{advance_is, slow_number}
 use Rattle.sound_fast_reading.proofs.advance_of.Goals as goal
 

@@ -3,9 +3,7 @@ use Prim.Native.Nat.{ℕ, ◌+◌, ◌-◌, ◌≤◌, ◌<◌}
 use mathlib.Core.Path.{◌≡◌}
 use mathlib.Core.Bool.{true, false≢true}
 use native.Mathlib.Omega.{arith}
-use lib.ListN.{length, get_or}
-use lib.Ieee.{nan}
-use borrow.Author.Rules.{rules}
+use lib.ListN.{length}
 use Rattle.sound_fast_reading.specs.Moves.{number}
 use Rattle.numbers.proofs.Equal.{same_more, same_list}
 use Rattle.sound_fast_reading.proofs.Scans.{all_at}

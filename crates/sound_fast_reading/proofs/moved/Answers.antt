@@ -1,7 +1,6 @@
 -- `moved` makes the steps of a rate's advance.
 use mathlib.Core.Path.{subst}
 use lib.Ieee.{Float}
-use borrow.Author.Rules.{rules}
 use Rattle.sound_fast_reading.specs.Moves.{Move}
 use Rattle.sound_fast_reading.proofs.Moves.{slow_advance}
 use Rattle.sound_fast_reading.proofs.moved.Goals as goal

@@ -1,5 +1,4 @@
 -- `stepped_by` makes few steps, and leaves a fraction.
-use borrow.Author.Rules.{rules}
 use Rattle.sound_fast_reading.proofs.Moves.{stepped_move}
 use Rattle.sound_fast_reading.proofs.stepped_by.Goals as goal
 

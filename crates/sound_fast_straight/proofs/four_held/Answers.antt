@@ -1,5 +1,4 @@
 -- `four_held` makes one advance after another.
-use borrow.Author.Rules.{rules}
 use Rattle.sound_fast_straight.proofs.four_held.Goals as goal
 
 pub stepped_by-first-requires : goal.stepped_by-first-requires

@@ -1,7 +1,6 @@
 -- `four_moves` makes one frame's steps after another.
 use Prim.Native.Nat.{ℕ, ◌+◌, ◌<◌}
 use native.Mathlib.Omega.{arith}
-use borrow.Author.Rules.{rules}
 use Rattle.sound_lanes.specs.Lanes.{slow}
 use Rattle.sound_fast_reading.proofs.Scans.{all_at}
 use Rattle.sound_fast_straight.proofs.four_moves.Goals as goal

@@ -1,12 +1,9 @@
 -- `by_frame` scales one frame per iteration. The invariant: the frames so far are scaled, and the rest is unchanged.
 use Prim.Native.Nat.{ℕ, ◌+◌, ◌-◌, ◌*◌, ◌≤◌, ◌<◌}
-use mathlib.Core.Path.{◌≡◌, refl, ap, ◌∙◌}
+use mathlib.Core.Path.{◌≡◌, ◌∙◌}
 use mathlib.Core.List.{List}
-use native.Mathlib.Omega.{arith}
-use lib.ListN.{length}
 use lib.Ieee.{Float}
 use Rattle.sound_gains.specs.Gained.{gained}
-use Rattle.sound_gains.proofs.Gained.{gained_one, gained_length, unread}
 use Rattle.sound_gains.proofs.by_frame.Given as goal
 
 pub record Sofar (fade volume left right : List Float) (n : ℕ) (out₀ out : List Float) (i : ℕ) : Type 0 where

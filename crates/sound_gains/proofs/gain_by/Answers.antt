@@ -1,9 +1,7 @@
 -- `gain_by` scales one frame and writes it.
 use mathlib.Core.Path.{◌≡◌, ap, ◌∙◌}
-use mathlib.Core.List.{List}
 use Prim.Native.Nat.{ℕ, ◌+◌, ◌*◌}
 use lib.ListN.{set}
-use borrow.Author.Rules.{rules}
 use Rattle.frame.specs.declared.Frame.{Frame}
 use Rattle.sound_gains.proofs.gain_by.Goals as goal
 

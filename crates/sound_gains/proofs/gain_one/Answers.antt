@@ -1,6 +1,5 @@
 -- `gain_one` reads a frame's gains, scales it and writes it.
 use mathlib.Core.Path.{◌≡◌, ap, ◌∙◌}
-use borrow.Author.Rules.{rules}
 use Rattle.sound_gains.specs.declared.Gains.{Gains}
 use Rattle.sound_gains.specs.Gained.{scaled_at}
 use Rattle.sound_gains.proofs.gain_one.Goals as goal

@@ -7,7 +7,6 @@ use native.Mathlib.Omega.{arith}
 use lib.Dec.{T}
 use lib.ListN.{length, get_or, replicate}
 use lib.Ieee.{Float, nan, binary32, fits}
-use borrow.Author.Rules.{rules}
 use Rattle.numbers.specs.Words.{one}
 use Rattle.numbers.proofs.Equal.{first_of, second_of}
 use Rattle.sound_gains.specs.declared.Gains.{Gains}

@@ -1,18 +1,11 @@
 -- `once`: gains of 1 change nothing. Other gains scale one frame per iteration. The invariant: the frames so far are scaled, and the rest is unchanged.
 use Prim.Native.Nat.{ℕ, ◌+◌, ◌-◌, ◌*◌, ◌≤◌, ◌<◌}
-use mathlib.Core.Path.{◌≡◌, refl, sym, ap, ◌∙◌}
-use mathlib.Core.Bool.{Bool, true, ◌&&◌}
+use mathlib.Core.Path.{◌≡◌, ◌∙◌}
+use mathlib.Core.Bool.{◌&&◌}
 use mathlib.Core.List.{List}
-use native.Mathlib.Omega.{arith}
-use lib.Dec.{T}
-use lib.ListN.{length, get_or, replicate}
-use lib.Ieee.{Float, nan, binary32, fits}
-use borrow.Author.Rules.{rules}
-use Rattle.numbers.specs.Words.{one}
-use Rattle.numbers.proofs.Equal.{first_of, second_of}
-use Rattle.sound_gains.specs.declared.Gains.{Gains}
-use Rattle.sound_gains.specs.Gained.{gained, scaled_at}
-use Rattle.sound_gains.proofs.Gained.{gained_one, gained_length, unread, gains_once, gained_ones}
+use lib.ListN.{replicate}
+use lib.Ieee.{Float}
+use Rattle.sound_gains.specs.Gained.{gained}
 use Rattle.sound_gains.proofs.once.Given as goal
 
 pub record Sofar (fade volume left right : List Float) (n : ℕ) (out₀ out : List Float) (i : ℕ) : Type 0 where

@@ -2,11 +2,8 @@
 use Prim.Native.Nat.{◌-◌, ◌≤◌}
 use mathlib.Core.Path.{◌≡◌, refl}
 use native.Mathlib.Omega.{arith}
-use lib.ListN.{length, take}
 use lib.Ieee.{nan}
-use borrow.Author.Rules.{rules}
 use Rattle.numbers.specs.Words.{finite}
-use Rattle.numbers.specs.Lists.{all}
 use Rattle.sound_lanes.proofs.Gathered.{all_turn, all_end}
 use Rattle.sound_lanes.proofs.all_finite.Goals as goal
 

@@ -1,13 +1,9 @@
 -- `sound_lanes::all_finite` meets its contract. The loop's invariant: `ok` is the test over the rates so far. Assumes nothing.
 use Prim.Native.Nat.{◌-◌, ◌≤◌}
-use mathlib.Core.Path.{◌≡◌, refl}
-use native.Mathlib.Omega.{arith}
+use mathlib.Core.Path.{◌≡◌}
 use lib.ListN.{length, take}
-use lib.Ieee.{nan}
-use borrow.Author.Rules.{rules}
 use Rattle.numbers.specs.Words.{finite}
 use Rattle.numbers.specs.Lists.{all}
-use Rattle.sound_lanes.proofs.Gathered.{all_turn, all_end}
 use Rattle.sound_lanes.proofs.all_finite.Given as goal
 
 abbrev pub invariant-loop-i : goal.invariant-loop-i

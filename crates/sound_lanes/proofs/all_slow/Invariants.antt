@@ -1,16 +1,9 @@
 -- `sound_lanes::all_slow` meets its contract. The loop's invariant: `ok` is the test over the rates so far. Assumes nothing.
 use Prim.Native.Nat.{ℕ, ◌-◌, ◌≤◌}
-use mathlib.Core.Path.{◌≡◌, refl, ap}
-use native.Mathlib.Omega.{arith}
-use mathlib.Core.Bool.{false}
-use lib.IntN.{pos}
-use lib.ListN.{length, take, get_or}
-use lib.Ieee.{Float, nan, fin, binary64, mul, le, of_int, of_bits}
-use borrow.Author.Rules.{rules}
-use Rattle.numbers.specs.Words.{magnitude, advance}
+use mathlib.Core.Path.{◌≡◌}
+use lib.ListN.{length, take}
 use Rattle.numbers.specs.Lists.{all}
 use Rattle.sound_lanes.specs.Lanes.{slow}
-use Rattle.sound_lanes.proofs.Gathered.{all_turn, all_end}
 use Rattle.sound_lanes.proofs.all_slow.Given as goal
 
 abbrev pub invariant-loop-i : goal.invariant-loop-i

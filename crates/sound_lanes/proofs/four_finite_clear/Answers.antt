@@ -3,9 +3,7 @@
 use Prim.Native.Nat.{◌-◌, ◌≤◌}
 use mathlib.Core.Path.{◌≡◌, refl}
 use native.Mathlib.Omega.{arith}
-use lib.ListN.{length, take}
-use borrow.Author.Rules.{rules}
-use Rattle.sound_lanes.specs.Lanes.{low, four_finite_clear}
+use Rattle.sound_lanes.specs.Lanes.{low}
 use Rattle.sound_lanes.proofs.Gathered.{four_turn, four_end}
 use Rattle.sound_lanes.proofs.four_finite_clear.Goals as goal
 

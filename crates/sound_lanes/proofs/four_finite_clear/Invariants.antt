@@ -1,12 +1,9 @@
 -- `sound_lanes::four_finite_clear` meets its contract. The loop's invariant: the words' top bit is clear if the four lanes pass as far as they are read.
 -- Assumes nothing.
 use Prim.Native.Nat.{◌-◌, ◌≤◌}
-use mathlib.Core.Path.{◌≡◌, refl}
-use native.Mathlib.Omega.{arith}
+use mathlib.Core.Path.{◌≡◌}
 use lib.ListN.{length, take}
-use borrow.Author.Rules.{rules}
 use Rattle.sound_lanes.specs.Lanes.{low, four_finite_clear}
-use Rattle.sound_lanes.proofs.Gathered.{four_turn, four_end}
 use Rattle.sound_lanes.proofs.four_finite_clear.Given as goal
 
 abbrev pub invariant-loop-i : goal.invariant-loop-i

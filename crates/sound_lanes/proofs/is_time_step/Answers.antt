@@ -2,7 +2,6 @@
 use mathlib.Core.Path.{ap}
 use mathlib.Core.Bool.{Bool, ◌&&◌}
 use lib.Ieee.{lt, of_bits}
-use borrow.Author.Rules.{rules}
 use Rattle.numbers.specs.Words.{positive_zero}
 use Rattle.sound_lanes.proofs.is_time_step.Goals as goal
 

@@ -1,8 +1,5 @@
 -- `after` is the next position: onto the end it wraps.
 use Rattle.sound_track.proofs.Tracks.{next_ends, after_turn, after_on}
-use borrow.Author.Rules.{rules}
-use Rattle.sound_track.proofs.after.Reads as reads
-use Rattle.sound_track.proofs.after.Lts as lts
 use Rattle.sound_track.proofs.after.Goals as goal
 
 pub returns-then-on-track : goal.returns-then-on-track

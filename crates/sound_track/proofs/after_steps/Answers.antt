@@ -3,9 +3,6 @@ use mathlib.Core.Path.{sym}
 use native.Mathlib.Omega.{arith}
 use Prim.Native.Nat.{◌+◌, ◌-◌}
 use Rattle.sound_track.proofs.Tracks.{nexts_ends, round_rest, forth_on, forth_once, forth_over}
-use borrow.Author.Rules.{rules}
-use Rattle.sound_track.proofs.after_steps.Reads as reads
-use Rattle.sound_track.proofs.after_steps.Lts as lts
 use Rattle.sound_track.proofs.after_steps.Goals as goal
 
 pub returns-then-on-track : goal.returns-then-on-track

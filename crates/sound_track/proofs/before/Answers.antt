@@ -1,9 +1,6 @@
 -- `before` is the previous position: from the start it wraps.
 use native.Mathlib.Omega.{arith}
 use Rattle.sound_track.proofs.Tracks.{next_ends, before_turn, before_on}
-use borrow.Author.Rules.{rules}
-use Rattle.sound_track.proofs.before.Reads as reads
-use Rattle.sound_track.proofs.before.Lts as lts
 use Rattle.sound_track.proofs.before.Goals as goal
 
 pub overflow_sub-result-else-at-track : goal.overflow_sub-result-else-at-track

@@ -3,9 +3,6 @@ use mathlib.Core.Path.{sym}
 use native.Mathlib.Omega.{arith}
 use Prim.Native.Nat.{◌+◌, ◌-◌}
 use Rattle.sound_track.proofs.Tracks.{nexts_ends, round_rest, back_on, back_once, back_over}
-use borrow.Author.Rules.{rules}
-use Rattle.sound_track.proofs.before_steps.Reads as reads
-use Rattle.sound_track.proofs.before_steps.Lts as lts
 use Rattle.sound_track.proofs.before_steps.Goals as goal
 
 pub returns-then-down-at : goal.returns-then-down-at

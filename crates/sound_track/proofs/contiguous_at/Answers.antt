@@ -1,10 +1,5 @@
 -- `contiguous_at` assembles the contiguous window, position by position.
 use Rattle.sound_track.proofs.Contiguous.{contiguous_made}
-use borrow.Author.Rules.{rules}
-use Rattle.sound_track.proofs.contiguous_at.Reads as reads
-use Rattle.sound_track.proofs.contiguous_at.Lts as lts
-use Rattle.sound_track.proofs.entry_at.Reads as entry-at-reads
-use Rattle.sound_track.proofs.step.Reads as step_reads
 use Rattle.sound_track.proofs.contiguous_at.Goals as goal
 
 pub returns : goal.returns

@@ -1,11 +1,8 @@
 -- `has_room_before`: a loop has no end.
 use mathlib.Core.Path.{sym, ap, ap₂, ◌∙◌}
-use mathlib.Core.Bool.{Bool, true, false, false≢true, ◌&&◌, ◌||◌, cond}
-use lib.Dec.{leb, ltb, eqb}
+use mathlib.Core.Bool.{Bool, false≢true, ◌&&◌, ◌||◌, cond}
+use lib.Dec.{leb, ltb}
 use Prim.Native.Nat.{◌+◌}
-use borrow.Author.Rules.{rules}
-use Rattle.sound_track.proofs.has_room_before.Reads as reads
-use Rattle.sound_track.proofs.has_room_before.Lts as lts
 use Rattle.sound_track.proofs.has_room_before.Goals as goal
 
 pub returns : goal.returns

@@ -9,13 +9,6 @@ use Rattle.sound_update.specs.declared.Moving.{Moving}
 use Rattle.sound_track.specs.Contiguous.{first_index, same_window}
 use Rattle.numbers.proofs.Equal.{first_of, second_of}
 use Rattle.sound_track.proofs.Same.{not_true, not_false, no_playing, no_place, no_room, the_rest, contiguous, on_of}
-use borrow.Author.Rules.{rules}
-use Rattle.sound_track.proofs.is_contiguous.Reads as reads
-use Rattle.sound_track.proofs.is_contiguous.Lts as lts
-use Rattle.sound_track.proofs.has_room.Reads as has-room-reads
-use Rattle.sound_track.proofs.is_on.Reads as is-on-reads
-use Rattle.sound_track.proofs.is_same_window.Reads as is-same-window-reads
-use Rattle.sound_track.proofs.contiguous_at.Reads as contiguous-at-reads
 use Rattle.sound_track.proofs.is_contiguous.Goals as goal
 
 pub returns-then-not-transport : goal.returns-then-not-transport

@@ -1,10 +1,8 @@
 -- `is_on` tests the side that the direction needs.
 use mathlib.Core.Path.{sym, ap, ap₂, ◌∙◌}
 use mathlib.Core.Bool.{Bool, true, false, false≢true, ◌&&◌, ◌||◌, cond}
-use lib.Dec.{leb, ltb, eqb}
+use lib.Dec.{leb, ltb}
 use Prim.Native.Nat.{◌+◌}
-use Rattle.sound_track.proofs.is_on.Reads as reads
-use Rattle.sound_track.proofs.is_on.Lts as lts
 use Rattle.sound_track.proofs.is_on.Goals as goal
 
 pub returns-then-track : goal.returns-then-track

@@ -4,8 +4,6 @@ use mathlib.Core.Bool.{Bool, false, false≢true, cond}
 use lib.Dec.{T, eqb}
 use lib.Ieee.{binary32, to_bits}
 use Rattle.sound_track.proofs.Same.{eq_number, same_bits}
-use Rattle.sound_track.proofs.is_same.Reads as reads
-use Rattle.sound_track.proofs.is_same.Lts as lts
 use Rattle.sound_track.proofs.is_same.Goals as goal
 
 pub float_to_bits-result : goal.float_to_bits-result

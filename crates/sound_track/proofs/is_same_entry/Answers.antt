@@ -5,10 +5,6 @@ use lib.Dec.{eqb}
 use borrow.Author.Tests.{eqb-true}
 use Rattle.numbers.proofs.Equal.{first_of, second_of}
 use Rattle.sound_track.proofs.Same.{same_entry_lem}
-use borrow.Author.Rules.{rules}
-use Rattle.sound_track.proofs.is_same_entry.Reads as reads
-use Rattle.sound_track.proofs.is_same_entry.Lts as lts
-use Rattle.sound_track.proofs.is_same.Reads as is-same-reads
 use Rattle.sound_track.proofs.is_same_entry.Goals as goal
 
 pub returns : goal.returns

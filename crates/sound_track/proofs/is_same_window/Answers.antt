@@ -1,9 +1,5 @@
 -- `is_same_window`: the count, and each entry.
 use Rattle.sound_track.proofs.Same.{window_as, window_is}
-use borrow.Author.Rules.{rules}
-use Rattle.sound_track.proofs.is_same_window.Reads as reads
-use Rattle.sound_track.proofs.is_same_window.Lts as lts
-use Rattle.sound_track.proofs.is_same_entry.Reads as is-same-entry-reads
 use Rattle.sound_track.proofs.is_same_window.Goals as goal
 
 pub returns : goal.returns

@@ -2,9 +2,6 @@
 use mathlib.Core.Path.{sym}
 use native.Mathlib.Omega.{arith}
 use Rattle.sound_track.proofs.Counts.{raised_sum, raised_top}
-use borrow.Author.Rules.{rules}
-use Rattle.sound_track.proofs.raise_by.Reads as reads
-use Rattle.sound_track.proofs.raise_by.Lts as lts
 use Rattle.sound_track.proofs.raise_by.Goals as goal
 
 pub returns-then-n-room : goal.returns-then-n-room

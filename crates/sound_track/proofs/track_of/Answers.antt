@@ -1,7 +1,4 @@
 -- `track_of` reads the loop, arm by arm.
-use borrow.Author.Rules.{rules}
-use Rattle.sound_track.proofs.track_of.Reads as reads
-use Rattle.sound_track.proofs.track_of.Lts as lts
 use Rattle.sound_track.proofs.track_of.Goals as goal
 
 pub returns-in-Absent : goal.returns-in-Absent

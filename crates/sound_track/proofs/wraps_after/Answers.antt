@@ -3,11 +3,6 @@ use mathlib.Core.Path.{sym, ap, ◌∙◌}
 use Prim.Native.Nat.{ℕ}
 use Rattle.sound_track.specs.Tracks.{raised_by}
 use Rattle.sound_track.proofs.Counts.{counts_forth, counts_back}
-use borrow.Author.Rules.{rules}
-use Rattle.sound_track.proofs.wraps_after.Reads as reads
-use Rattle.sound_track.proofs.wraps_after.Lts as lts
-use Rattle.sound_track.proofs.raise_by.Reads as raise-by-reads
-use Rattle.sound_track.proofs.wraps_of.Reads as wraps-of-reads
 use Rattle.sound_track.proofs.wraps_after.Goals as goal
 
 pub returns-then-track : goal.returns-then-track

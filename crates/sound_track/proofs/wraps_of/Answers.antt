@@ -4,9 +4,6 @@ use native.Mathlib.Omega.{arith}
 use native.Mathlib.Nat.{div-le_self}
 use Prim.Native.Nat.{ℕ, suc, ◌+◌, ◌-◌}
 use Rattle.sound_track.proofs.Tracks.{forth_on, forth_over, back_on, back_over}
-use borrow.Author.Rules.{rules}
-use Rattle.sound_track.proofs.wraps_of.Reads as reads
-use Rattle.sound_track.proofs.wraps_of.Lts as lts
 use Rattle.sound_track.proofs.wraps_of.Goals as goal
 
 one-and : (x : ℕ) → suc x ≡ 1 + x

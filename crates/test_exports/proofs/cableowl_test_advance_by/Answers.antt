@@ -1,12 +1,11 @@
 -- `test_exports::cableowl_test_advance_by` meets its contract: a magnitude that is at most 256 is finite and clear. Assumes nothing.
-use borrow.Author.Rules.{rules}
 use mathlib.Core.Path.{◌≡◌, sym, ap, subst, ◌∙◌}
 use mathlib.Core.Logic.{inl, inr, ⊎_elim}
 use mathlib.Core.Bool.{true}
 use lib.IntN.{pos}
 use lib.Dec.{T}
 use lib.Ieee.{Float, of_bits, le}
-use Rattle.numbers.specs.Words.{proper, magnitude}
+use Rattle.numbers.specs.Words.{proper}
 use Rattle.numbers.proofs.Signs.{clear, bounded, magnitude_clear}
 use Rattle.test_exports.specs.Answers.{moved}
 use Rattle.test_exports.proofs.Answers.{copied, still, went, stayed}

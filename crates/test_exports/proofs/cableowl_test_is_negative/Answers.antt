@@ -1,5 +1,4 @@
 -- `test_exports::cableowl_test_is_negative` meets its contract, by its callees'. Assumes nothing.
-use borrow.Author.Rules.{rules}
 use mathlib.Core.Path.{ap, ◌∙◌}
 use Rattle.test_exports.specs.Answers.{bit}
 use Rattle.test_exports.proofs.cableowl_test_is_negative.Goals as goal

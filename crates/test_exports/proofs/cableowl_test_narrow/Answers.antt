@@ -1,5 +1,4 @@
 -- `test_exports::cableowl_test_narrow` meets its contract: the test is what `narrow` requires. Assumes nothing.
-use borrow.Author.Rules.{rules}
 use mathlib.Core.Path.{◌≡◌, sym, ap, subst, ◌∙◌}
 use mathlib.Core.Bool.{Bool, true, cond}
 use lib.Dec.{T}

@@ -1,5 +1,4 @@
 -- `test_leaf_examples::backward` is safe and ends: its loop is not empty, which is what a step back requires. Assumes nothing.
-use borrow.Author.Rules.{rules}
 use lib.Dec.{lt→ltb}
 use Rattle.test_leaf_examples.proofs.backward.Goals as goal
 

@@ -3,7 +3,6 @@ use mathlib.Core.Path.{sym, subst}
 use lib.Dec.{lit<, lit≤}
 use Rattle.transport.specs.WellFormed.{WellFormedTransport}
 use Rattle.test_leaf_examples.specs.Places.{at}
-use borrow.Author.Rules.{rules}
 use Rattle.test_leaf_examples.proofs.forward_in_a_loop_of_one.Goals as goal
 
 transport_well_formed : WellFormedTransport 10 (at 4 4 5)

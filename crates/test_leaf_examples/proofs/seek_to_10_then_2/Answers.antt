@@ -1,6 +1,5 @@
 -- `test_leaf_examples::seek_to_10_then_2` is safe and ends: no loop is not an empty loop, and a seek keeps it. Assumes nothing.
 use Rattle.transport.specs.Moves.{seek}
-use borrow.Author.Rules.{rules}
 use Rattle.test_leaf_examples.proofs.seek_to_10_then_2.Goals as goal
 
 pub seek_to-requires : goal.seek_to-requires

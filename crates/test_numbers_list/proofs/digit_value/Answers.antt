@@ -1,6 +1,5 @@
 -- `test_numbers_list::digit_value` meets its contract, which has the same test. Assumes nothing.
 use borrow.Author.Tests.{lt-ltb, le-ltb}
-use borrow.Author.Rules.{rules}
 use Rattle.test_numbers_list.proofs.digit_value.Goals as goal
 
 pub returns-then-v-lt58 : goal.returns-then-v-lt58

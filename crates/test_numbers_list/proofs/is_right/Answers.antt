@@ -3,7 +3,6 @@ use mathlib.Core.Path.{ap, ◌∙◌}
 use Prim.Native.Nat.{ℕ}
 use lib.Dec.{eqb}
 use Rattle.test_numbers_list.proofs.Lines.{kind_n, kind_r, kind_c, kind_m, kind_other}
-use borrow.Author.Rules.{rules}
 use Rattle.test_numbers_list.proofs.is_right.Goals as goal
 
 pub returns-then-kind-eq110 : goal.returns-then-kind-eq110

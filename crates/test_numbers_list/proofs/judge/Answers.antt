@@ -3,7 +3,6 @@ use mathlib.Core.Path.{sym, subst, ◌∙◌}
 use mathlib.Core.Bool.{Bool, not}
 use lib.Dec.{T}
 use Rattle.test_numbers_list.proofs.Lines.{no_nan, no_case, a_case}
-use borrow.Author.Rules.{rules}
 use Rattle.test_numbers_list.proofs.judge.Goals as goal
 
 pub returns-then-bits-gt9218868437227405312 : goal.returns-then-bits-gt9218868437227405312

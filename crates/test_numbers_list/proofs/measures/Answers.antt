@@ -3,10 +3,8 @@ use mathlib.Core.Path.{sym, ap, ◌∙◌}
 use mathlib.Core.Bool.{Bool, false, cond}
 use lib.Dec.{eqb}
 use lib.Ieee.{Float, binary64, eq, to_bits}
-use Rattle.numbers.specs.Words.{magnitude}
 use Rattle.numbers.proofs.Signs.{equal_number}
 use Rattle.test_numbers_list.specs.Lines.{measures}
-use borrow.Author.Rules.{rules}
 use Rattle.test_numbers_list.proofs.measures.Goals as goal
 
 pub float_to_bits-result : goal.float_to_bits-result

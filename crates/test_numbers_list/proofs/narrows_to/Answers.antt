@@ -10,7 +10,6 @@ use lib.Ieee.Bits.{to_bits-lt}
 use Rattle.numbers.specs.Words.{proper, narrowed}
 use Rattle.numbers.proofs.Narrowing.{narrowed_fits}
 use Rattle.test_numbers_list.specs.Lines.{narrows_to}
-use borrow.Author.Rules.{rules}
 use Rattle.test_numbers_list.proofs.narrows_to.Goals.{After-narrow, Then-is_proper}
 use Rattle.test_numbers_list.proofs.narrows_to.Goals as goal
 

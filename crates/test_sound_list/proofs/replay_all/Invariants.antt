@@ -1,6 +1,5 @@
 -- `test_sound_list::replay_all` is safe and ends. The invariant: the sound keeps its length. The measure is how many records may follow.
 -- Assumes nothing.
-use borrow.Author.Rules.{rules}
 use mathlib.Core.Path.{◌≡◌}
 use lib.ListN.{length}
 use Rattle.test_sound_list.proofs.replay_all.Given as goal

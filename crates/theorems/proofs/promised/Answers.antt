@@ -1,7 +1,5 @@
 -- `promised` is empty; its contract is the record of all theorems.
 use Rattle.theorems.proofs.Promises.{promises}
-use Rattle.theorems.proofs.promised.Reads as reads
-use Rattle.theorems.proofs.promised.Lts as lts
 use Rattle.theorems.proofs.promised.Goals as goal
 
 -- src/lib.rt:4:1

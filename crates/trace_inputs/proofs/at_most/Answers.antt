@@ -1,7 +1,5 @@
 -- `trace_inputs::at_most` meets its contract, by its test.
-use borrow.Author.Tests.{eq-eqb, ne_eqb, lt-ltb, le-ltb, le-leb, lt-leb}
-use Rattle.trace_inputs.proofs.at_most.Reads as reads
-use Rattle.trace_inputs.proofs.at_most.Lts as lts
+use borrow.Author.Tests.{le-leb, lt-leb}
 use Rattle.trace_inputs.proofs.at_most.Goals as goal
 
 pub returns-then-n-most : goal.returns-then-n-most

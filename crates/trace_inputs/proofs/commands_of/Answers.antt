@@ -1,12 +1,5 @@
 -- `trace_inputs::commands_of` meets its contract, field by field.
 use Rattle.trace_inputs.specs.Inputs.{commands_of}
-use borrow.Author.Rules.{rules}
-use Rattle.trace_inputs.proofs.commands_of.Reads as reads
-use Rattle.trace_inputs.proofs.commands_of.Lts as lts
-use Rattle.trace_inputs.proofs.amount_of.Reads as amount-of-reads
-use Rattle.trace_inputs.proofs.loop_of.Reads as loop-of-reads
-use Rattle.trace_inputs.proofs.resume_of.Reads as resume-of-reads
-use Rattle.trace_inputs.proofs.yes_of.Reads as yes-of-reads
 use Rattle.trace_inputs.proofs.commands_of.Goals as goal
 
 pub returns : goal.returns

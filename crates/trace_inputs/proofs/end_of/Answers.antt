@@ -1,9 +1,5 @@
 -- `trace_inputs::end_of` meets its contract, tag by tag.
-use borrow.Author.Tests.{eq-eqb, ne_eqb, lt-ltb, le-ltb, le-leb, lt-leb}
-use borrow.Author.Rules.{rules}
-use Rattle.trace_inputs.proofs.end_of.Reads as reads
-use Rattle.trace_inputs.proofs.end_of.Lts as lts
-use Rattle.trace_inputs.proofs.position_of.Reads as position-of-reads
+use borrow.Author.Tests.{lt-ltb, le-ltb}
 use Rattle.trace_inputs.proofs.end_of.Goals as goal
 
 pub returns-then-tag-lt3 : goal.returns-then-tag-lt3

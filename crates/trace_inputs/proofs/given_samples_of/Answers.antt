@@ -1,6 +1,5 @@
 -- `trace_inputs::given_samples_of`: by its limit.
 use borrow.Author.Tests.{le-leb, lt-leb}
-use borrow.Author.Rules.{rules}
 use Rattle.trace_inputs.proofs.given_samples_of.Goals as goal
 
 pub returns-then-frames-le16777216 : goal.returns-then-frames-le16777216

@@ -1,9 +1,5 @@
 -- `trace_inputs::loop_of` meets its contract, tag by tag.
-use borrow.Author.Tests.{eq-eqb, ne_eqb, lt-ltb, le-ltb, le-leb, lt-leb}
-use borrow.Author.Rules.{rules}
-use Rattle.trace_inputs.proofs.loop_of.Reads as reads
-use Rattle.trace_inputs.proofs.loop_of.Lts as lts
-use Rattle.trace_inputs.proofs.region_of.Reads as region-of-reads
+use borrow.Author.Tests.{ne_eqb}
 use Rattle.trace_inputs.proofs.loop_of.Goals as goal
 
 pub returns-then-tag-eq0 : goal.returns-then-tag-eq0

@@ -1,6 +1,5 @@
 -- `trace_inputs::number_of`: no bytes, fewer than requested, as many.
 use mathlib.Core.Path.{◌∙◌}
-use borrow.Author.Rules.{rules}
 use Rattle.trace_inputs.proofs.LaneLoops.{past, fewer}
 use Rattle.trace_inputs.proofs.number_of.Goals as goal
 

@@ -1,9 +1,5 @@
 -- `trace_inputs::position_of` meets its contract, unit by unit.
-use borrow.Author.Tests.{eq-eqb, ne_eqb, lt-ltb, le-ltb, le-leb, lt-leb}
-use borrow.Author.Rules.{rules}
-use Rattle.trace_inputs.proofs.position_of.Reads as reads
-use Rattle.trace_inputs.proofs.position_of.Lts as lts
-use Rattle.float_bits.proofs.f64_of.Reads as f64-of-reads
+use borrow.Author.Tests.{ne_eqb}
 use Rattle.trace_inputs.proofs.position_of.Goals as goal
 
 pub returns-then-unit-eq0 : goal.returns-then-unit-eq0

@@ -5,12 +5,8 @@ use native.Mathlib.Omega.{arith}
 use borrow.Author.Rules.{rules}
 use lib.ListN.{length, get_or, take, drop, length-set}
 use lib.Seq.{sets}
-use Rattle.trace_inputs.specs.Inputs.{stereo, samples_of}
-use Rattle.trace_inputs.proofs.Samples.{left, left_start, left_next, left_end, at_most_le, all_samples}
-use Rattle.trace_inputs.proofs.put_samples.Reads as reads
-use Rattle.trace_inputs.proofs.put_samples.Lts as lts
-use Rattle.trace_inputs.proofs.at_most.Reads as at-most-reads
-use Rattle.trace_inputs.proofs.single_of.Reads as single-of-reads
+use Rattle.trace_inputs.specs.Inputs.{stereo}
+use Rattle.trace_inputs.proofs.Samples.{left_start, left_next, left_end, at_most_le, all_samples}
 use Rattle.trace_inputs.proofs.put_samples.Goals as goal
 
 pub loop-k-init : goal.loop-k-init

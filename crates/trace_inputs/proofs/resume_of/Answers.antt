@@ -1,7 +1,5 @@
 -- `trace_inputs::resume_of` meets its contract, tag by tag.
-use borrow.Author.Tests.{eq-eqb, ne_eqb, lt-ltb, le-ltb, le-leb, lt-leb}
-use Rattle.trace_inputs.proofs.resume_of.Reads as reads
-use Rattle.trace_inputs.proofs.resume_of.Lts as lts
+use borrow.Author.Tests.{ne_eqb}
 use Rattle.trace_inputs.proofs.resume_of.Goals as goal
 
 pub returns-then-n-eq0 : goal.returns-then-n-eq0

@@ -1,7 +1,6 @@
 -- `trace_inputs::singles_of`: what is still to store, stored, is the whole lane stored.
 use mathlib.Core.Path.{◌≡◌, refl, sym, ap, ◌∙◌}
 use Prim.Native.Nat.{ℕ, ◌+◌, ◌-◌, ◌*◌, ◌≤◌, ◌<◌}
-use native.Mathlib.Omega.{arith}
 use mathlib.Core.List.{List}
 use lib.Ieee.{Float, of_bits}
 use lib.ListN.{length, replicate, length-set}
@@ -9,8 +8,7 @@ use lib.Seq.{sets}
 use borrow.Author.Rules.{rules}
 use Rattle.numbers.specs.Words.{positive_zero}
 use Rattle.trace_inputs.specs.Inputs.{single}
-use Rattle.trace_inputs.proofs.LaneLoops.{to_store, store_start, store_next, store_end}
-use Rattle.trace_inputs.proofs.singles_of.Invariants.{left}
+use Rattle.trace_inputs.proofs.LaneLoops.{store_start, store_next, store_end}
 use Rattle.trace_inputs.proofs.singles_of.Goals as goal
 
 pub loop-i-init : goal.loop-i-init

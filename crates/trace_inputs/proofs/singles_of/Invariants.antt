@@ -1,15 +1,12 @@
 -- `trace_inputs::singles_of`: what is still to store, stored, is the whole lane stored.
-use mathlib.Core.Path.{◌≡◌, refl, sym, ap, ◌∙◌}
+use mathlib.Core.Path.{◌≡◌, ◌∙◌}
 use Prim.Native.Nat.{ℕ, ◌+◌, ◌-◌, ◌*◌, ◌≤◌, ◌<◌}
-use native.Mathlib.Omega.{arith}
 use mathlib.Core.List.{List}
-use lib.Ieee.{Float, of_bits}
-use lib.ListN.{length, replicate, length-set}
+use lib.Ieee.{Float}
+use lib.ListN.{length}
 use lib.Seq.{sets}
-use borrow.Author.Rules.{rules}
-use Rattle.numbers.specs.Words.{positive_zero}
 use Rattle.trace_inputs.specs.Inputs.{single}
-use Rattle.trace_inputs.proofs.LaneLoops.{to_store, store_start, store_next, store_end}
+use Rattle.trace_inputs.proofs.LaneLoops.{to_store}
 use Rattle.trace_inputs.proofs.singles_of.Given as goal
 
 abbrev pub left : List ℕ → ℕ → ℕ → ℕ → List Float

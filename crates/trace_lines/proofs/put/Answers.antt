@@ -1,15 +1,10 @@
 -- `trace_lines::put`: a copy of all of the text.
-use mathlib.Core.Path.{◌≡◌, refl, sym, ap, ◌∙◌}
+use mathlib.Core.Path.{◌≡◌, refl, ap, ◌∙◌}
 use Prim.Native.Nat.{ℕ, ◌+◌, ◌-◌, ◌*◌, ◌%◌, ◌^◌, ◌≤◌, ◌<◌}
 use native.Mathlib.Omega.{arith}
-use native.Mathlib.Nat.{mod-lt}
-use lib.ListN.{length, take, drop, length-set}
+use lib.ListN.{length, take}
 use mathlib.Core.List.{List}
 use lib.Seq.{sets, take_all}
-use borrow.Author.Rules.{rules}
-use Rattle.trace_lines.proofs.put.Reads as reads
-use Rattle.trace_lines.proofs.put.Lts as lts
-use Rattle.byte_layout.proofs.copy.Reads as copy-reads
 use Rattle.trace_lines.proofs.put.Goals as goal
 
 pub returns : goal.returns

@@ -1,17 +1,8 @@
 -- `trace_lines::put_decimal`: the remaining digits before the written ones are the whole number.
-use mathlib.Core.Path.{◌≡◌, refl, sym, ap, ◌∙◌}
+use mathlib.Core.Path.{◌≡◌, ◌∙◌}
 use Prim.Native.Nat.{ℕ, ◌+◌, ◌-◌, ◌*◌, ◌%◌, ◌^◌, ◌≤◌, ◌<◌}
-use native.Mathlib.Omega.{arith}
-use native.Mathlib.Nat.{mod-lt}
-use mathlib.Core.List.{List}
-use lib.ListN.{length, take, drop, set, length-set}
-use lib.Seq.{sets, take_all}
-use borrow.Author.Rules.{rules}
+use lib.ListN.{length, drop}
 use Rattle.trace_lines.specs.Lines.{spelt, decimal}
-use Rattle.trace_lines.proofs.Digits.{spell_next, spell_last, some_left, fewer, most, part, part_short}
-use Rattle.trace_lines.proofs.put_decimal.Reads as reads
-use Rattle.trace_lines.proofs.put_decimal.Lts as lts
-use Rattle.trace_lines.proofs.put.Reads as put_reads
 use Rattle.trace_lines.proofs.put_decimal.Given as goal
 
 abbrev pub invariant-loop-y : goal.invariant-loop-y

@@ -1,13 +1,8 @@
 -- `trace_lines::put_labelled`: a word, then its number.
 use native.Mathlib.Omega.{arith}
 use mathlib.Core.List.{[], ◌∷◌, ◌++◌}
-use Rattle.trace_lines.specs.Lines.{decimal, labelled, block·is, frames·are, steps·are, state·is, position·is, refused·by, at·is, block_line, refused_block_line, refused_line}
+use Rattle.trace_lines.specs.Lines.{decimal, block·is, frames·are, steps·are, state·is, position·is, refused·by, at·is}
 use Rattle.trace_lines.proofs.Digits.{then}
-use borrow.Author.Rules.{rules}
-use Rattle.trace_lines.proofs.put_labelled.Reads as reads
-use Rattle.trace_lines.proofs.put_labelled.Lts as lts
-use Rattle.trace_lines.proofs.put.Reads as put_reads
-use Rattle.trace_lines.proofs.put_decimal.Reads as put-decimal-reads
 use Rattle.trace_lines.proofs.put_labelled.Goals as goal
 
 pub returns : goal.returns

@@ -1,13 +1,8 @@
 -- `trace_lines::put_refused`: its parts one after the other.
 use native.Mathlib.Omega.{arith}
 use mathlib.Core.List.{[], ◌∷◌, ◌++◌}
-use Rattle.trace_lines.specs.Lines.{decimal, labelled, block·is, frames·are, steps·are, state·is, position·is, refused·by, at·is, block_line, refused_block_line, refused_line}
+use Rattle.trace_lines.specs.Lines.{labelled, block·is, frames·are, steps·are, state·is, position·is, refused·by, at·is, refused_line}
 use Rattle.trace_lines.proofs.Digits.{then}
-use borrow.Author.Rules.{rules}
-use Rattle.trace_lines.proofs.put_refused.Reads as reads
-use Rattle.trace_lines.proofs.put_refused.Lts as lts
-use Rattle.trace_lines.proofs.put.Reads as put_reads
-use Rattle.trace_lines.proofs.put_labelled.Reads as put-labelled-reads
 use Rattle.trace_lines.proofs.put_refused.Goals as goal
 
 pub returns : goal.returns

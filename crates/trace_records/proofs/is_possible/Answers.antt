@@ -1,15 +1,10 @@
 -- `trace_records::is_possible`: one test after the other.
-use mathlib.Core.Path.{◌≡◌, refl, sym, ap, ◌∙◌}
+use mathlib.Core.Path.{◌≡◌, refl, ◌∙◌}
 use mathlib.Core.Bool.{false, true}
 use Prim.Native.Nat.{ℕ, ◌-◌, ◌%◌, ◌≤◌, ◌<◌}
 use lib.Dec.{eqb}
 use borrow.Author.Tests.{lt-leb, le-leb}
 use Rattle.trace_records.specs.Records.{possible, shortest, longest}
-use borrow.Author.Rules.{rules}
-use Rattle.trace_records.proofs.is_possible.Reads as reads
-use Rattle.trace_records.proofs.is_possible.Lts as lts
-use Rattle.trace_records.proofs.longest_of.Reads as longest-of-reads
-use Rattle.trace_records.proofs.shortest_of.Reads as shortest-of-reads
 use Rattle.trace_records.proofs.is_possible.Goals as goal
 
 module _ (k n a : ℕ) (e : a ≡ shortest k) where

@@ -1,7 +1,5 @@
 -- `trace_records::longest_of`: by the kind.
-use borrow.Author.Tests.{lt-ltb, le-ltb, le-leb, lt-leb, eq-eqb, ne_eqb}
-use Rattle.trace_records.proofs.longest_of.Reads as reads
-use Rattle.trace_records.proofs.longest_of.Lts as lts
+use borrow.Author.Tests.{eq-eqb, ne_eqb}
 use Rattle.trace_records.proofs.longest_of.Goals as goal
 
 pub returns-then-kind-eq1 : goal.returns-then-kind-eq1

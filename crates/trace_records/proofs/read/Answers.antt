@@ -1,14 +1,6 @@
 -- `trace_records::read`: each return is one of the ways of proofs/Ways.antt.
-use mathlib.Core.Path.{◌≡◌, refl, sym, ap, ◌∙◌}
-use native.Mathlib.Omega.{arith}
-use Rattle.trace_records.proofs.Ways.{not_true, not_false, no_place, no_head, no_length, no_fields, goes_on, read_found}
-use borrow.Author.Rules.{rules}
-use Rattle.trace_records.proofs.read.Reads as reads
-use Rattle.trace_records.proofs.read.Lts as lts
-use Rattle.trace_records.proofs.is_possible.Reads as is-possible-reads
-use Rattle.trace_records.proofs.read_body.Reads as read-body-reads
-use Rattle.trace_records.proofs.read_head.Reads as read-head-reads
-use Rattle.trace_records.proofs.refuse.Reads as refuse-reads
+use mathlib.Core.Path.{◌≡◌, sym, ◌∙◌}
+use Rattle.trace_records.proofs.Ways.{no_place, no_head, no_length, no_fields, goes_on, read_found}
 use Rattle.trace_records.proofs.read.Goals as goal
 
 pub returns-then-s-at : goal.returns-then-s-at

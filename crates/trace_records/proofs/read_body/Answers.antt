@@ -1,14 +1,10 @@
 -- `trace_records::read_body`: the kind's rows from their start.
-use mathlib.Core.Path.{◌≡◌, refl, sym, ap, ◌∙◌}
+use mathlib.Core.Path.{◌≡◌, ap, ◌∙◌}
 use native.Mathlib.Omega.{arith}
 use Rattle.byte_layout.specs.declared.Parsed.{Parsed}
 use Rattle.trace_records.specs.Tables.{command_table, block_table}
 use Rattle.trace_records.proofs.Ways.{creation_sound, command_sound, block_sound, read_creation, read_commands, read_block}
 use borrow.Author.Rules.{rules}
-use Rattle.trace_records.proofs.read_body.Reads as reads
-use Rattle.trace_records.proofs.read_body.Lts as lts
-use Rattle.byte_layout.proofs.begin.Reads as begin-reads
-use Rattle.byte_layout.proofs.read_rows.Reads as read-rows-reads
 use Rattle.trace_records.proofs.read_body.Goals as goal
 
 pub read_rows-requires : goal.read_rows-requires

@@ -1,17 +1,11 @@
 -- `trace_replay::advance`: the end, a refused record, a record played.
-use mathlib.Core.Path.{◌≡◌, refl, sym, ap, ◌∙◌}
+use mathlib.Core.Path.{◌≡◌, ◌∙◌}
 use native.Mathlib.Nat.{le_refl}
 use native.Mathlib.Omega.{arith}
-use borrow.Author.Rules.{rules}
 use Rattle.trace_lines.specs.Lines.{refused_line}
 use Rattle.trace_replay.specs.Runs.{replay_of}
 use Rattle.trace_replay.proofs.Parts.{prefix, fits}
 use Rattle.trace_replay.proofs.Steps.{at_end_lem, turned_back, played, next_in, next_on}
-use Rattle.trace_replay.proofs.advance.Reads as reads
-use Rattle.trace_replay.proofs.advance.Lts as lts
-use Rattle.trace_lines.proofs.put_refused.Reads as put-refused-reads
-use Rattle.trace_records.proofs.read.Reads as read-reads
-use Rattle.trace_replay.proofs.play_record.Reads as play-record-reads
 use Rattle.trace_replay.proofs.advance.Goals as goal
 
 pub returns-then-at-bytes : goal.returns-then-at-bytes

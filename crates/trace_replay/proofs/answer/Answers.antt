@@ -1,18 +1,11 @@
 -- `trace_replay::answer`: each lane repeats its value.
-use mathlib.Core.Path.{◌≡◌, refl, sym, ap, ◌∙◌}
+use mathlib.Core.Path.{◌≡◌, ◌∙◌}
 use native.Mathlib.Omega.{arith}
-use lib.ListN.{length}
 use Prim.Native.Nat.{◌*◌, ◌≤◌}
 use Rattle.numbers.specs.Words.{positive_zero}
 use Rattle.trace_replay.proofs.Parts.{lane, lane_long}
 use Rattle.trace_replay.proofs.Answers.{answer_is}
 use borrow.Author.Rules.{rules}
-use Rattle.trace_replay.proofs.answer.Reads as reads
-use Rattle.trace_replay.proofs.answer.Lts as lts
-use Rattle.static_sound.proofs.process.Reads as process-reads
-use Rattle.trace_replay.proofs.doubles.Reads as doubles-reads
-use Rattle.trace_replay.proofs.silence.Reads as silence-reads
-use Rattle.trace_replay.proofs.singles.Reads as singles-reads
 use Rattle.trace_replay.proofs.answer.Goals as goal
 
 pub slice_bounds-process-end : goal.slice_bounds-process-end

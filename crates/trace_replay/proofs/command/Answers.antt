@@ -1,16 +1,9 @@
 -- `trace_replay::command`: the result of the command set.
-use mathlib.Core.Path.{◌≡◌, refl, sym, ap, ◌∙◌}
-use native.Mathlib.Omega.{arith}
-use borrow.Author.Rules.{rules}
-use lib.ListN.{length, take}
-use Rattle.trace_inputs.specs.Inputs.{samples_of, settings_of, commands_of, block_of}
-use Rattle.trace_replay.proofs.Parts.{prefix, inside, part_long}
-use Rattle.trace_replay.proofs.Replays.{replay, few_samples, few_frames, creation_replay, command_replay, block_replay, block_line_lem}
-use borrow.Author.Rules.{rules}
-use Rattle.trace_replay.proofs.command.Reads as reads
-use Rattle.trace_replay.proofs.command.Lts as lts
-use Rattle.sound_commands.proofs.on_start_processing.Reads as on-start-processing-reads
-use Rattle.trace_inputs.proofs.commands_of.Reads as commands-of-reads
+use mathlib.Core.Path.{◌≡◌, ◌∙◌}
+use lib.ListN.{take}
+use Rattle.trace_inputs.specs.Inputs.{commands_of}
+use Rattle.trace_replay.proofs.Parts.{part_long}
+use Rattle.trace_replay.proofs.Replays.{command_replay}
 use Rattle.trace_replay.proofs.command.Goals as goal
 
 pub slice_bounds-on_start_processing-end : goal.slice_bounds-on_start_processing-end

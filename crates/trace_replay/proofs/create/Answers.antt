@@ -1,18 +1,13 @@
 -- `trace_replay::create`: the written samples are the sound of the creation.
-use mathlib.Core.Path.{◌≡◌, refl, sym, ap, ◌∙◌}
+use mathlib.Core.Path.{◌≡◌, ◌∙◌}
 use Prim.Native.Nat.{◌≤◌}
 use native.Mathlib.Omega.{arith}
 use borrow.Author.Rules.{rules}
 use lib.ListN.{length, take}
-use Rattle.trace_inputs.specs.Inputs.{samples_of, settings_of, commands_of, block_of}
+use Rattle.trace_inputs.specs.Inputs.{samples_of, settings_of}
 use Rattle.trace_replay.proofs.Parts.{prefix, inside, part_long}
-use Rattle.trace_replay.proofs.Replays.{replay, few_samples, few_frames, creation_replay, command_replay, block_replay, block_line_lem}
+use Rattle.trace_replay.proofs.Replays.{few_samples, creation_replay}
 use borrow.Author.Rules.{rules}
-use Rattle.trace_replay.proofs.create.Reads as reads
-use Rattle.trace_replay.proofs.create.Lts as lts
-use Rattle.sound_creation.proofs.new.Reads as new-reads
-use Rattle.trace_inputs.proofs.put_samples.Reads as put-samples-reads
-use Rattle.trace_inputs.proofs.settings_of.Reads as settings-of-reads
 use Rattle.trace_replay.proofs.create.Goals.{After-put_samples-samples}
 use Rattle.trace_replay.proofs.create.Goals as goal
 

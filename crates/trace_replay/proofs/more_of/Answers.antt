@@ -1,8 +1,5 @@
 -- `trace_replay::more_of`: by its test.
 use borrow.Author.Tests.{lt-ltb, le-ltb}
-use borrow.Author.Rules.{rules}
-use Rattle.trace_replay.proofs.more_of.Reads as reads
-use Rattle.trace_replay.proofs.more_of.Lts as lts
 use Rattle.trace_replay.proofs.more_of.Goals as goal
 
 pub returns-then-n-lt18446744073709551615 : goal.returns-then-n-lt18446744073709551615

@@ -1,18 +1,8 @@
 -- `trace_replay::play`: the player's result, counted, and its line.
-use mathlib.Core.Path.{◌≡◌, refl, sym, ap, ◌∙◌}
-use native.Mathlib.Omega.{arith}
-use borrow.Author.Rules.{rules}
-use lib.ListN.{length, take}
-use Rattle.trace_inputs.specs.Inputs.{samples_of, settings_of, commands_of, block_of}
-use Rattle.trace_replay.proofs.Parts.{prefix, inside, part_long}
-use Rattle.trace_replay.proofs.Replays.{replay, few_samples, few_frames, creation_replay, command_replay, block_replay, block_line_lem}
-use borrow.Author.Rules.{rules}
-use Rattle.trace_replay.proofs.play.Reads as reads
-use Rattle.trace_replay.proofs.play.Lts as lts
-use Rattle.trace_inputs.proofs.block_of.Reads as block-of-reads
-use Rattle.trace_replay.proofs.answer.Reads as answer-reads
-use Rattle.trace_replay.proofs.more_of.Reads as more-of-reads
-use Rattle.trace_replay.proofs.put_line.Reads as put-line-reads
+use mathlib.Core.Path.{◌≡◌, ◌∙◌}
+use lib.ListN.{take}
+use Rattle.trace_replay.proofs.Parts.{part_long}
+use Rattle.trace_replay.proofs.Replays.{few_frames, block_replay, block_line_lem}
 use Rattle.trace_replay.proofs.play.Goals as goal
 
 pub slice_bounds-answer-end : goal.slice_bounds-answer-end

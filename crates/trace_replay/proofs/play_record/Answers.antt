@@ -1,15 +1,8 @@
 -- `trace_replay::play_record`: by the kind.
-use mathlib.Core.Path.{◌≡◌, refl, sym, ap, ◌∙◌}
+use mathlib.Core.Path.{◌≡◌, ap, ◌∙◌}
 use native.Mathlib.Omega.{arith}
-use borrow.Author.Rules.{rules}
 use Rattle.trace_replay.specs.Runs.{AfterRecord, replay_of}
 use Rattle.trace_replay.proofs.Replays.{of_creation, of_commands, of_block}
-use borrow.Author.Rules.{rules}
-use Rattle.trace_replay.proofs.play_record.Reads as reads
-use Rattle.trace_replay.proofs.play_record.Lts as lts
-use Rattle.trace_replay.proofs.command.Reads as command-reads
-use Rattle.trace_replay.proofs.create.Reads as create-reads
-use Rattle.trace_replay.proofs.play.Reads as play-reads
 use Rattle.trace_replay.proofs.play_record.Goals as goal
 
 pub returns-then-kind-eq1 : goal.returns-then-kind-eq1

@@ -1,16 +1,9 @@
 -- `trace_replay::put_line`: by the refusal.
-use mathlib.Core.Path.{◌≡◌, refl, sym, ap, ◌∙◌}
+use mathlib.Core.Path.{◌≡◌, ◌∙◌}
 use native.Mathlib.Omega.{arith}
-use lib.ListN.{length}
 use Rattle.trace_lines.specs.Lines.{block_line, refused_block_line}
 use Rattle.trace_replay.proofs.Parts.{prefix, fits}
 use Rattle.trace_replay.proofs.Answers.{line_played, line_refused}
-use borrow.Author.Rules.{rules}
-use Rattle.trace_replay.proofs.put_line.Reads as reads
-use Rattle.trace_replay.proofs.put_line.Lts as lts
-use Rattle.trace_lines.proofs.put_block.Reads as put-block-reads
-use Rattle.trace_lines.proofs.put_refused_block.Reads as put-refused-block-reads
-use Rattle.playback_state_manager.proofs.PlaybackState.number.Reads as number-reads
 use Rattle.trace_replay.proofs.put_line.Goals as goal
 
 pub returns-then-processed-eq0 : goal.returns-then-processed-eq0

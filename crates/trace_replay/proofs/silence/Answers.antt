@@ -1,8 +1,6 @@
 -- `trace_replay::silence`: zeros.
 use mathlib.Core.Path.{refl}
 use lib.Ieee.{of_bits}
-use Rattle.trace_replay.proofs.silence.Reads as reads
-use Rattle.trace_replay.proofs.silence.Lts as lts
 use Rattle.trace_replay.proofs.silence.Goals as goal
 
 pub returns : goal.returns

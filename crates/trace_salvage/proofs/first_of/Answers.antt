@@ -1,7 +1,5 @@
 -- `trace_salvage::first_of`: by its test.
 use borrow.Author.Tests.{eq-eqb, ne_eqb}
-use Rattle.trace_salvage.proofs.first_of.Reads as reads
-use Rattle.trace_salvage.proofs.first_of.Lts as lts
 use Rattle.trace_salvage.proofs.first_of.Goals as goal
 
 pub returns-then-t-eq0 : goal.returns-then-t-eq0

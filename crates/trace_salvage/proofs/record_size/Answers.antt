@@ -1,11 +1,5 @@
 -- `trace_salvage::record_size`: what the reader accepts.
 use Rattle.trace_salvage.proofs.Keeps.{size_past, size_unmarked, read_1, read_2}
-use borrow.Author.Rules.{rules}
-use Rattle.trace_salvage.proofs.record_size.Reads as reads
-use Rattle.trace_salvage.proofs.record_size.Lts as lts
-use Rattle.trace_records.proofs.read.Reads as read-reads
-use Rattle.trace_salvage.proofs.size_read.Reads as size-read-reads
-use Rattle.trace_sealed.proofs.read.Reads as read-reads'
 use Rattle.trace_salvage.proofs.record_size.Goals as goal
 
 pub returns-then-s-at : goal.returns-then-s-at

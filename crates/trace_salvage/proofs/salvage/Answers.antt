@@ -1,5 +1,4 @@
 -- `trace_salvage::salvage` meets its contract: what `salvage_by` does for reader 1. Assumes nothing.
-use borrow.Author.Rules.{rules}
 use Rattle.trace_salvage.proofs.salvage.Goals as goal
 
 pub returns : goal.returns

@@ -1,16 +1,9 @@
 -- `trace_salvage::salvage_by`: the rest, done, completes the whole salvage.
 use Prim.Native.Nat.{ℕ, ◌+◌, ◌-◌, ◌*◌, ◌≤◌, ◌<◌}
-use native.Mathlib.Omega.{arith}
-use mathlib.Core.Path.{◌≡◌, refl, sym, ap, ◌∙◌}
-use lib.ListN.{length, take, drop}
+use mathlib.Core.Path.{◌≡◌, ◌∙◌}
+use lib.ListN.{length, drop}
 use lib.Seq.{sets}
-use borrow.Author.Rules.{rules}
 use Rattle.trace_salvage.specs.Salvage.{kept, skipped, records, first, placed, size_by}
-use Rattle.trace_salvage.proofs.Keeps.{refused_short, saved}
-use Rattle.trace_salvage.proofs.salvage_by.Reads as reads
-use Rattle.trace_salvage.proofs.salvage_by.Lts as lts
-use Rattle.trace_salvage.proofs.first_of.Reads as first-of-reads
-use Rattle.trace_salvage.proofs.step.Reads as step_reads
 use Rattle.trace_salvage.proofs.salvage_by.Given as goal
 
 abbrev pub invariant-loop-t : goal.invariant-loop-t

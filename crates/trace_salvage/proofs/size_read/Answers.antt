@@ -1,11 +1,8 @@
 -- `trace_salvage::size_read`: by its tests.
 use Prim.Native.Nat.{ℕ, ◌-◌, ◌≤◌, ◌<◌}
 use native.Mathlib.Omega.{arith}
-use mathlib.Core.Path.{◌≡◌, refl, sym, ap, ◌∙◌}
+use mathlib.Core.Path.{◌≡◌, ◌∙◌}
 use borrow.Author.Tests.{eq-eqb, ne_eqb}
-use borrow.Author.Rules.{rules}
-use Rattle.trace_salvage.proofs.size_read.Reads as reads
-use Rattle.trace_salvage.proofs.size_read.Lts as lts
 use Rattle.trace_salvage.proofs.size_read.Goals as goal
 
 pub returns-then-r-ne0 : goal.returns-then-r-ne0

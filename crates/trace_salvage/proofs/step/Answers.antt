@@ -1,16 +1,9 @@
 -- `trace_salvage::step`: a record kept, or a byte skipped.
 use Prim.Native.Nat.{ℕ, ◌+◌, ◌-◌, ◌*◌, ◌≤◌, ◌<◌}
 use native.Mathlib.Omega.{arith}
-use mathlib.Core.Path.{◌≡◌, refl, sym, ap, ◌∙◌}
-use lib.ListN.{length, take, drop}
-use lib.Seq.{sets}
+use mathlib.Core.Path.{◌≡◌, ◌∙◌}
 use Rattle.trace_salvage.proofs.Keeps.{size_le, keeps, skips}
 use borrow.Author.Rules.{rules}
-use Rattle.trace_salvage.proofs.step.Reads as reads
-use Rattle.trace_salvage.proofs.step.Lts as lts
-use Rattle.byte_layout.proofs.copy.Reads as copy-reads
-use Rattle.trace_salvage.proofs.first_of.Reads as first-of-reads
-use Rattle.trace_salvage.proofs.record_size.Reads as record-size-reads
 use Rattle.trace_salvage.proofs.step.Goals as goal
 
 pub overflow_add-to : goal.overflow_add-to

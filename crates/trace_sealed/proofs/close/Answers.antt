@@ -1,15 +1,7 @@
 -- `trace_sealed::close` meets its contract: each return is one of the ways of proofs/Ways.antt. Assumes nothing.
-use mathlib.Core.Path.{◌≡◌, refl, sym, ap, ◌∙◌}
+use mathlib.Core.Path.{◌≡◌, ◌∙◌}
 use native.Mathlib.Omega.{arith}
 use Rattle.trace_sealed.proofs.Ways.{tail_wrong, room, sum_wrong, sum_right}
-use borrow.Author.Rules.{rules}
-use Rattle.trace_sealed.proofs.close.Reads as reads
-use Rattle.trace_sealed.proofs.close.Lts as lts
-use Rattle.crc32.proofs.checksum.Reads as checksum-reads
-use Rattle.trace_sealed.proofs.four_bytes.Reads as four-bytes-reads
-use Rattle.trace_sealed.proofs.lane_bytes.Reads as lane-bytes-reads
-use Rattle.trace_sealed.proofs.refuse.Reads as refuse-reads
-use Rattle.trace_sealed.proofs.tail_refusal.Reads as tail-refusal-reads
 use Rattle.trace_sealed.proofs.close.Goals as goal
 
 pub returns-then-refusal-gt0 : goal.returns-then-refusal-gt0

@@ -1,11 +1,6 @@
 -- `trace_sealed::four_bytes` meets its contract: byte by byte. Assumes nothing.
-use mathlib.Core.Path.{◌≡◌, refl, sym, ap, ◌∙◌}
-use native.Mathlib.Omega.{arith}
+use mathlib.Core.Path.{◌≡◌, ◌∙◌}
 use Rattle.trace_sealed.proofs.Ways.{four}
-use borrow.Author.Rules.{rules}
-use Rattle.trace_sealed.proofs.four_bytes.Reads as reads
-use Rattle.trace_sealed.proofs.four_bytes.Lts as lts
-use Rattle.trace_sealed.proofs.wide.Reads as wide-reads
 use Rattle.trace_sealed.proofs.four_bytes.Goals as goal
 
 pub returns : goal.returns

@@ -1,8 +1,5 @@
 -- `trace_sealed::is_in_steps` meets its contract: the tests one after the other. Assumes nothing.
 use Rattle.trace_sealed.proofs.Ways.{too_short, too_long, in_steps_lem}
-use borrow.Author.Rules.{rules}
-use Rattle.trace_sealed.proofs.is_in_steps.Reads as reads
-use Rattle.trace_sealed.proofs.is_in_steps.Lts as lts
 use Rattle.trace_sealed.proofs.is_in_steps.Goals as goal
 
 pub returns-then-n-low : goal.returns-then-n-low

@@ -1,9 +1,5 @@
 -- `trace_sealed::is_possible` meets its contract: by the kind. Assumes nothing.
 use Rattle.trace_sealed.proofs.Ways.{of_given, of_laned}
-use borrow.Author.Rules.{rules}
-use Rattle.trace_sealed.proofs.is_possible.Reads as reads
-use Rattle.trace_sealed.proofs.is_possible.Lts as lts
-use Rattle.trace_sealed.proofs.is_in_steps.Reads as is-in-steps-reads
 use Rattle.trace_sealed.proofs.is_possible.Goals as goal
 
 pub returns-then-kind-eq4 : goal.returns-then-kind-eq4

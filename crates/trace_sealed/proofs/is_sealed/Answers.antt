@@ -2,9 +2,6 @@
 use native.Mathlib.Omega.{arith}
 use Rattle.byte_layout.proofs.Codec.{never}
 use Rattle.trace_sealed.proofs.Ways.{too_few, third}
-use borrow.Author.Rules.{rules}
-use Rattle.trace_sealed.proofs.is_sealed.Reads as reads
-use Rattle.trace_sealed.proofs.is_sealed.Lts as lts
 use Rattle.trace_sealed.proofs.is_sealed.Goals as goal
 
 pub returns-then-s-at : goal.returns-then-s-at

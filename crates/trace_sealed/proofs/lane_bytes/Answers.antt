@@ -1,9 +1,6 @@
 -- `trace_sealed::lane_bytes` meets its contract: by the kind. Assumes nothing.
 use mathlib.Core.Path.{refl}
 use borrow.Author.Tests.{eq-eqb, ne_eqb}
-use borrow.Author.Rules.{rules}
-use Rattle.trace_sealed.proofs.lane_bytes.Reads as reads
-use Rattle.trace_sealed.proofs.lane_bytes.Lts as lts
 use Rattle.trace_sealed.proofs.lane_bytes.Goals as goal
 
 pub returns-then-kind-eq4 : goal.returns-then-kind-eq4

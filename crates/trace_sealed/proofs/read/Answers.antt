@@ -1,13 +1,6 @@
 -- `trace_sealed::read` meets its contract: by the kind. Assumes nothing.
-use mathlib.Core.Path.{◌≡◌, refl, sym, ap, ◌∙◌}
-use native.Mathlib.Omega.{arith}
+use mathlib.Core.Path.{◌≡◌, sym, ◌∙◌}
 use Rattle.trace_sealed.proofs.Ways.{is_sealed_lem, is_open}
-use borrow.Author.Rules.{rules}
-use Rattle.trace_sealed.proofs.read.Reads as reads
-use Rattle.trace_sealed.proofs.read.Lts as lts
-use Rattle.trace_records.proofs.read.Reads as read-reads
-use Rattle.trace_sealed.proofs.is_sealed.Reads as is-sealed-reads
-use Rattle.trace_sealed.proofs.read_sealed.Reads as read-sealed-reads
 use Rattle.trace_sealed.proofs.read.Goals as goal
 
 pub read_sealed-requires : goal.read_sealed-requires

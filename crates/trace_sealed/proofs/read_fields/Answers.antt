@@ -1,14 +1,10 @@
 -- `trace_sealed::read_fields` meets its contract: the kind's rows from their start. Assumes nothing.
-use mathlib.Core.Path.{◌≡◌, refl, sym, ap, ◌∙◌}
+use mathlib.Core.Path.{◌≡◌, ap, ◌∙◌}
 use native.Mathlib.Omega.{arith}
 use Rattle.byte_layout.specs.declared.Parsed.{Parsed}
 use Rattle.trace_sealed.specs.Tables.{given_table, laned_table}
 use Rattle.trace_sealed.proofs.Ways.{given_sound, laned_sound, read_given, read_laned}
 use borrow.Author.Rules.{rules}
-use Rattle.trace_sealed.proofs.read_fields.Reads as reads
-use Rattle.trace_sealed.proofs.read_fields.Lts as lts
-use Rattle.byte_layout.proofs.begin.Reads as begin-reads
-use Rattle.byte_layout.proofs.read_rows.Reads as read-rows-reads
 use Rattle.trace_sealed.proofs.read_fields.Goals as goal
 
 pub read_rows-requires : goal.read_rows-requires

@@ -1,14 +1,10 @@
 -- `trace_sealed::read_head` meets its contract: the head's rows from their start. Assumes nothing.
-use mathlib.Core.Path.{◌≡◌, refl, sym, ap, ◌∙◌}
+use mathlib.Core.Path.{◌≡◌, ap, ◌∙◌}
 use native.Mathlib.Omega.{arith}
 use Rattle.byte_layout.specs.declared.Parsed.{Parsed}
 use Rattle.trace_sealed.specs.Tables.{head_table}
 use Rattle.trace_sealed.proofs.Ways.{head_sound, read_head_rows}
 use borrow.Author.Rules.{rules}
-use Rattle.trace_sealed.proofs.read_head.Reads as reads
-use Rattle.trace_sealed.proofs.read_head.Lts as lts
-use Rattle.byte_layout.proofs.begin.Reads as begin-reads
-use Rattle.byte_layout.proofs.read_rows.Reads as read-rows-reads
 use Rattle.trace_sealed.proofs.read_head.Goals as goal
 
 pub read_rows-requires : goal.read_rows-requires

@@ -1,15 +1,7 @@
 -- `trace_sealed::read_sealed` meets its contract: each return is one of the ways of proofs/Ways.antt. Assumes nothing.
-use mathlib.Core.Path.{◌≡◌, refl, sym, ap, ◌∙◌}
+use mathlib.Core.Path.{◌≡◌, refl, sym, ◌∙◌}
 use native.Mathlib.Omega.{arith}
 use Rattle.trace_sealed.proofs.Ways.{some, no_head, no_length, no_fields, fields_read, closes}
-use borrow.Author.Rules.{rules}
-use Rattle.trace_sealed.proofs.read_sealed.Reads as reads
-use Rattle.trace_sealed.proofs.read_sealed.Lts as lts
-use Rattle.trace_sealed.proofs.close.Reads as close-reads
-use Rattle.trace_sealed.proofs.is_possible.Reads as is-possible-reads
-use Rattle.trace_sealed.proofs.read_fields.Reads as read-fields-reads
-use Rattle.trace_sealed.proofs.read_head.Reads as read-head-reads
-use Rattle.trace_sealed.proofs.refuse.Reads as refuse-reads
 use Rattle.trace_sealed.proofs.read_sealed.Goals as goal
 
 pub returns-then-head-gt0 : goal.returns-then-head-gt0

@@ -1,8 +1,5 @@
 -- `trace_sealed::tail_refusal` meets its contract: the tests one after the other. Assumes nothing.
 use Rattle.trace_sealed.proofs.Ways.{lanes_missing, not_at_the_checksum, checksum_missing, tail_there, in_the_checksum, payload_missing}
-use borrow.Author.Rules.{rules}
-use Rattle.trace_sealed.proofs.tail_refusal.Reads as reads
-use Rattle.trace_sealed.proofs.tail_refusal.Lts as lts
 use Rattle.trace_sealed.proofs.tail_refusal.Goals as goal
 
 pub returns-then-input-w : goal.returns-then-input-w

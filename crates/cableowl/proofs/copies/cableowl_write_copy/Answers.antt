@@ -1,6 +1,5 @@
 -- `cableowl_write_copy` meets its contract: the copy's write, by the hall with that number.
 use mathlib.Core.Path.{ap, ◌∙◌}
-use borrow.Author.Rules.{rules}
 use borrow.Author.Tests.{le-leb, lt-leb}
 use Rattle.loop_table.specs.declared.Hall.{Hall}
 use Rattle.loop_copies.specs.Copies.{copy_written}

@@ -1,6 +1,5 @@
 -- `cableowl::cableowl_load_half` meets its contract: what is loaded. Assumes nothing.
 use mathlib.Core.Path.{ap}
-use borrow.Author.Rules.{rules}
 use Rattle.saved_loops.specs.declared.LoadedHalf.{LoadedHalf}
 use Rattle.cableowl.proofs.halves.cableowl_load_half.Goals as goal
 

@@ -1,6 +1,5 @@
 -- `cableowl_clear_loop` meets its contract: the table's clear, by the hall with that number. Assumes nothing.
 use mathlib.Core.Path.{ap, ◌∙◌}
-use borrow.Author.Rules.{rules}
 use borrow.Author.Tests.{le-leb, lt-leb}
 use Rattle.loop_table.specs.declared.Hall.{Hall}
 use Rattle.loop_table.specs.Tables.{cleared}

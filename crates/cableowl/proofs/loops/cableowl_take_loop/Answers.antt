@@ -1,5 +1,4 @@
 -- `cableowl_take_loop` meets its contract: the slot's loop taken between records of numbers. Assumes nothing.
-use borrow.Author.Rules.{rules}
 use Rattle.cableowl.proofs.Takes.{take_few, take_is}
 use Rattle.cableowl.proofs.loops.cableowl_take_loop.Goals as goal
 

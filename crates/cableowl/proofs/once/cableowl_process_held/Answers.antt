@@ -4,7 +4,6 @@ use lib.ListN.{length}
 use Rattle.sound_lanes.specs.Lanes.{Lanes}
 use Rattle.sound_held.specs.Held.{held_lanes}
 use Rattle.cableowl.proofs.Answers.{block_few, block_is}
-use borrow.Author.Rules.{rules}
 use Rattle.cableowl.proofs.once.cableowl_process_held.Goals.{Start}
 use Rattle.cableowl.proofs.once.cableowl_process_held.Goals as goal
 

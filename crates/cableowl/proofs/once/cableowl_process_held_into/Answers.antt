@@ -2,7 +2,6 @@
 use Rattle.sound_lanes.specs.Lanes.{Lanes}
 use Rattle.sound_held.specs.Held.{held_lanes}
 use Rattle.cableowl.proofs.Answers.{mix_few, mix_is}
-use borrow.Author.Rules.{rules}
 use Rattle.cableowl.proofs.once.cableowl_process_held_into.Goals.{Start}
 use Rattle.cableowl.proofs.once.cableowl_process_held_into.Goals as goal
 

@@ -1,5 +1,4 @@
 -- `behind_record`: the offset after the record.
-use borrow.Author.Rules.{rules}
 use Rattle.cableowl.proofs.replays.behind_record.Goals as goal
 
 pub returns : goal.returns

@@ -1,8 +1,5 @@
 -- `cableowl_replay`: the blank voice.
-use mathlib.Core.Path.{◌≡◌, ap, ◌∙◌}
-use native.Mathlib.Omega.{arith}
-use borrow.Author.Rules.{rules}
-use Rattle.sound_state.specs.declared.StaticSound.{StaticSound}
+use mathlib.Core.Path.{◌≡◌, ◌∙◌}
 use Rattle.cableowl.proofs.ReplaySteps.{blank_few, blank_is}
 use Rattle.cableowl.proofs.replays.cableowl_replay.Goals as goal
 

@@ -2,7 +2,6 @@
 use mathlib.Core.Path.{sym, ◌∙◌}
 use lib.ListN.{length}
 use Rattle.cableowl.proofs.ReplaySteps.{accepted_room, step_refused, step_more, step_end, step_played, step_unfinished, step_broken}
-use borrow.Author.Rules.{rules}
 use Rattle.cableowl.proofs.replays.cableowl_replay_step.Goals as goal
 
 pub returns-then-refused-ne0 : goal.returns-then-refused-ne0

@@ -1,6 +1,5 @@
 -- `command`: the result of the command set.
 use Rattle.cableowl.proofs.ReplaySteps.{obeyed_count, commands_is}
-use borrow.Author.Rules.{rules}
 use Rattle.cableowl.proofs.replays.command.Goals as goal
 
 pub state_after-state-requires : goal.state_after-state-requires

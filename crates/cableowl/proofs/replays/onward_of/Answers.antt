@@ -1,6 +1,5 @@
 -- `onward_of`: by its test.
 use borrow.Author.Tests.{le-leb, lt-leb}
-use borrow.Author.Rules.{rules}
 use Rattle.cableowl.proofs.replays.onward_of.Goals as goal
 
 pub returns-then-n-at : goal.returns-then-n-at

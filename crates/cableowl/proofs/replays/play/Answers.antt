@@ -3,7 +3,6 @@ use Prim.Native.Nat.{◌*◌, ◌≤◌}
 use native.Mathlib.Omega.{arith}
 use lib.ListN.{length, take}
 use Rattle.cableowl.proofs.ReplaySteps.{part_long, few_frames, held_outcome, held_count, block_answer, block_is}
-use borrow.Author.Rules.{rules}
 use Rattle.cableowl.proofs.replays.play.Goals.{After-block_of-block}
 use Rattle.cableowl.proofs.replays.play.Goals as goal
 

@@ -1,6 +1,5 @@
 -- `play_record`: by the kind.
 use Rattle.cableowl.proofs.ReplaySteps.{part_long, turned_creation, turned_commands, turned_block}
-use borrow.Author.Rules.{rules}
 use Rattle.cableowl.proofs.replays.play_record.Goals as goal
 
 pub returns-then-read-eq1 : goal.returns-then-read-eq1

@@ -1,6 +1,5 @@
 -- `refusal_of`: test by test.
 use Rattle.cableowl.proofs.ReplaySteps.{number_1, number_19, number_none}
-use borrow.Author.Rules.{rules}
 use Rattle.cableowl.proofs.replays.refusal_of.Goals as goal
 
 pub returns-then-not-replay-sound : goal.returns-then-not-replay-sound

@@ -2,7 +2,6 @@
 use mathlib.Core.Path.{sym, ◌∙◌}
 use lib.ListN.{length}
 use Rattle.cableowl.proofs.ReplayStepsV2.{accepted_room_v2, step_refused_v2, step_more_v2, step_end_v2, step_lacking, step_played_v2, step_unfinished_v2, step_broken_v2}
-use borrow.Author.Rules.{rules}
 use Rattle.cableowl.proofs.replays_v2.cableowl_replay_step_v2.Goals as goal
 
 pub returns-then-refused-ne0 : goal.returns-then-refused-ne0

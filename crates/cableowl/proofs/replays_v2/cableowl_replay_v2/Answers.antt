@@ -1,7 +1,6 @@
 -- `cableowl_replay_v2`: the blank voice.
 use Rattle.cableowl.proofs.ReplaySteps.{blank_few}
 use Rattle.cableowl.proofs.ReplayStepsV2.{blank_is_v2}
-use borrow.Author.Rules.{rules}
 use Rattle.cableowl.proofs.replays_v2.cableowl_replay_v2.Goals as goal
 
 pub encode-requires : goal.encode-requires

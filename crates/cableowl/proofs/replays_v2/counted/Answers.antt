@@ -1,6 +1,5 @@
 -- `counted`: the block's answer.
 use Rattle.cableowl.proofs.ReplayStepsV2.{counted_is}
-use borrow.Author.Rules.{rules}
 use Rattle.cableowl.proofs.replays_v2.counted.Goals as goal
 
 pub returns : goal.returns

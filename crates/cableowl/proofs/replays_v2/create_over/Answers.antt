@@ -5,7 +5,6 @@ use mathlib.Core.Path.{sym, ◌∙◌}
 use Prim.Native.Nat.{◌≤◌}
 use native.Mathlib.Omega.{arith}
 use lib.ListN.{length}
-use borrow.Author.Rules.{rules}
 use Rattle.cableowl.proofs.replays_v2.create_over.Goals.{After-given_samples_of-samples}
 use Rattle.cableowl.proofs.replays_v2.create_over.Goals as goal
 

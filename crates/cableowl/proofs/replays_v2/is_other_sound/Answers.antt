@@ -1,6 +1,5 @@
 -- `is_other_sound`: none, one, others.
 use Rattle.cableowl.proofs.ReplayStepsV2.{other_none, other_one, other_more}
-use borrow.Author.Rules.{rules}
 use Rattle.cableowl.proofs.replays_v2.is_other_sound.Goals as goal
 
 pub returns-then-sounds-eq0 : goal.returns-then-sounds-eq0

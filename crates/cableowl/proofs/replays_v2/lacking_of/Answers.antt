@@ -1,6 +1,5 @@
 -- `lacking_of`: by the kind, then by its test.
 use Rattle.cableowl.proofs.ReplayStepsV2.{lacks_nothing_4, lacks_19, lacks_nothing, lacks_1}
-use borrow.Author.Rules.{rules}
 use Rattle.cableowl.proofs.replays_v2.lacking_of.Goals as goal
 
 pub returns-then-sounds-samples : goal.returns-then-sounds-samples

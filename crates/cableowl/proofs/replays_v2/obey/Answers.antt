@@ -1,7 +1,6 @@
 -- `obey`: by the kind.
 use Rattle.cableowl.proofs.ReplaySteps.{part_long}
 use Rattle.cableowl.proofs.ReplayStepsV2.{obeyed_commands, obeyed_lanes, obeyed_block}
-use borrow.Author.Rules.{rules}
 use Rattle.cableowl.proofs.replays_v2.obey.Goals as goal
 
 pub slice_bounds-command-end : goal.slice_bounds-command-end

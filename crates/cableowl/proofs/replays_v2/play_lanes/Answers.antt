@@ -4,7 +4,6 @@ use native.Mathlib.Omega.{arith}
 use lib.ListN.{length, take}
 use Rattle.cableowl.proofs.ReplaySteps.{part_long}
 use Rattle.cableowl.proofs.ReplayStepsV2.{few_laned, laned_count, laned_is}
-use borrow.Author.Rules.{rules}
 use Rattle.cableowl.proofs.replays_v2.play_lanes.Goals.{After-laned_block_of-block}
 use Rattle.cableowl.proofs.replays_v2.play_lanes.Goals as goal
 

@@ -1,7 +1,6 @@
 -- `play_record_v2`: by the kind, then by the voice's sound.
 use lib.ListN.{length}
 use Rattle.cableowl.proofs.ReplayStepsV2.{turned_creation_v2, turned_given, turned_sound, turned_over, enough_given, enough_played}
-use borrow.Author.Rules.{rules}
 use Rattle.cableowl.proofs.replays_v2.play_record_v2.Goals as goal
 
 pub returns-then-read-eq1 : goal.returns-then-read-eq1

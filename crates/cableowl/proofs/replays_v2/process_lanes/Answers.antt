@@ -2,7 +2,6 @@
 use lib.ListN.{drop}
 use Rattle.trace_inputs.specs.Inputs.{single, double}
 use Rattle.cableowl.proofs.ReplayStepsV2.{lane_is, lane_long, lanes_outcome}
-use borrow.Author.Rules.{rules}
 use Rattle.cableowl.proofs.replays_v2.process_lanes.Goals as goal
 
 pub slice_bounds-process-end : goal.slice_bounds-process-end

@@ -1,7 +1,6 @@
 -- `refuse_sound`: the blank voice.
 use Rattle.cableowl.proofs.ReplaySteps.{blank_few}
 use Rattle.cableowl.proofs.ReplayStepsV2.{refused_given_is}
-use borrow.Author.Rules.{rules}
 use Rattle.cableowl.proofs.replays_v2.refuse_sound.Goals as goal
 
 pub encode-voice-requires : goal.encode-voice-requires

@@ -1,6 +1,5 @@
 -- `cableowl::cableowl_load_settings` meets its contract: what is loaded, as words. Assumes nothing.
 use mathlib.Core.Path.{ap, ◌∙◌}
-use borrow.Author.Rules.{rules}
 use Rattle.saved_settings.specs.declared.Loaded.{Loaded}
 use Rattle.cableowl.specs.Saved.{words_of}
 use Rattle.cableowl.proofs.saved.cableowl_load_settings.Goals as goal

@@ -1,11 +1,5 @@
 -- `cableowl::cableowl_settings_of` meets its contract. Assumes nothing.
-use mathlib.Core.Path.{◌≡◌, refl, sym, ap, ◌∙◌}
-use borrow.Author.Rules.{rules}
-use Rattle.cableowl.proofs.saved.cableowl_settings_of.Reads as reads
-use Rattle.cableowl.proofs.saved.cableowl_settings_of.Lts as lts
-use Rattle.cableowl.proofs.saved.frame.Reads as frame-reads
-use Rattle.cableowl.proofs.saved.rate_of.Reads as rate-of-reads
-use Rattle.cableowl.proofs.saved.tag_of.Reads as tag-of-reads
+use mathlib.Core.Path.{◌≡◌, refl, ◌∙◌}
 use Rattle.cableowl.proofs.saved.cableowl_settings_of.Goals as goal
 
 pub returns : goal.returns

@@ -1,8 +1,6 @@
 -- `cableowl::frame` meets its contract. Assumes nothing.
 use mathlib.Core.Path.{refl}
 use lib.Ieee.{of_bits}
-use Rattle.cableowl.proofs.saved.frame.Reads as reads
-use Rattle.cableowl.proofs.saved.frame.Lts as lts
 use Rattle.cableowl.proofs.saved.frame.Goals as goal
 
 pub returns : goal.returns

@@ -1,12 +1,8 @@
 -- `cableowl::rate_of` meets its contract: finite bits are a number. Assumes nothing.
-use mathlib.Core.Path.{◌≡◌, refl, sym, ap, ◌∙◌}
-use borrow.Author.Tests.{eq-eqb, ne_eqb, le-ltb, lt-ltb}
+use mathlib.Core.Path.{◌≡◌, refl, ◌∙◌}
+use borrow.Author.Tests.{le-ltb, lt-ltb}
 use lib.Ieee.{div, of_bits}
 use Rattle.cableowl.proofs.Numbers.{number}
-use borrow.Author.Rules.{rules}
-use Rattle.cableowl.proofs.saved.rate_of.Reads as reads
-use Rattle.cableowl.proofs.saved.rate_of.Lts as lts
-use Rattle.semitones.proofs.raised.Reads as raised-reads
 use Rattle.cableowl.proofs.saved.rate_of.Goals as goal
 
 pub float_from_bits-bits : goal.float_from_bits-bits

@@ -1,7 +1,5 @@
 -- `cableowl::tag_of` meets its contract. Assumes nothing.
-use borrow.Author.Tests.{eq-eqb, ne_eqb, le-ltb, lt-ltb}
-use Rattle.cableowl.proofs.saved.tag_of.Reads as reads
-use Rattle.cableowl.proofs.saved.tag_of.Lts as lts
+use borrow.Author.Tests.{eq-eqb, ne_eqb}
 use Rattle.cableowl.proofs.saved.tag_of.Goals as goal
 
 pub returns-then-word-eq0 : goal.returns-then-word-eq0

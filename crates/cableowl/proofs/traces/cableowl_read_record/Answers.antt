@@ -1,5 +1,4 @@
 -- `cableowl_read_record` meets its contract: the record that `trace_records::read` returns. Assumes nothing.
-use borrow.Author.Rules.{rules}
 use Rattle.cableowl.proofs.traces.cableowl_read_record.Goals as goal
 
 pub returns : goal.returns

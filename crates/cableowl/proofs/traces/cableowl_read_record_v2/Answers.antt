@@ -1,5 +1,4 @@
 -- `cableowl_read_record_v2` meets its contract: the record that `trace_sealed::read` returns. Assumes nothing.
-use borrow.Author.Rules.{rules}
 use Rattle.cableowl.proofs.traces.cableowl_read_record_v2.Goals as goal
 
 pub returns : goal.returns

@@ -1,5 +1,4 @@
 -- `cableowl_write_record` meets its contract: the result of `trace_records::write`, and the buffer after it. Assumes nothing.
-use borrow.Author.Rules.{rules}
 use Rattle.cableowl.proofs.traces.cableowl_write_record.Goals as goal
 
 pub returns : goal.returns

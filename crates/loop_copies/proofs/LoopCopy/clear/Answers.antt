@@ -1,6 +1,5 @@
 -- `loop_copies::LoopCopy::clear` meets its contract: the table's own clear, counted.
 use mathlib.Core.Path.{ap, ◌∙◌}
-use borrow.Author.Rules.{rules}
 use Rattle.loop_copies.specs.Copies.{counted, copy_cleared}
 use Rattle.loop_copies.proofs.LoopCopy.clear.Goals as goal
 

@@ -1,6 +1,5 @@
 -- `loop_copies::LoopCopy::new` meets its contract: an empty table, and no change by either hall.
 use mathlib.Core.Path.{ap}
-use borrow.Author.Rules.{rules}
 use Rattle.loop_table.specs.declared.LoopTable.{LoopTable}
 use Rattle.loop_copies.specs.declared.LoopCopy.{LoopCopy}
 use Rattle.loop_copies.proofs.LoopCopy.new.Goals as goal

@@ -1,8 +1,7 @@
 -- `loop_copies::LoopCopy::newer` meets its contract: the two numbers are compared.
-use mathlib.Core.Path.{◌≡◌, sym, ap, ap₂, ◌∙◌}
+use mathlib.Core.Path.{◌≡◌, sym, ap₂, ◌∙◌}
 use mathlib.Core.Bool.{true, false}
 use lib.Dec.{ltb}
-use borrow.Author.Rules.{rules}
 use borrow.Author.Tests.{lt-ltb, le-ltb}
 use Rattle.loop_copies.specs.Copies.{changes_of}
 use Rattle.loop_copies.proofs.LoopCopy.newer.Goals.{Else-changes, Then-changes}

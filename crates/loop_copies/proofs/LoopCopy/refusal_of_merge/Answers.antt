@@ -1,7 +1,6 @@
 -- `loop_copies::LoopCopy::refusal_of_merge` meets its contract: it makes the tests of `refused_merge` in the same order.
 use mathlib.Core.Path.{◌≡◌, sym, ◌∙◌}
 use mathlib.Core.Bool.{true, false}
-use borrow.Author.Rules.{rules}
 use borrow.Author.Tests.{eq-eqb, ne_eqb}
 use Rattle.loop_table.specs.Tables.{well_formed_table}
 use Rattle.loop_table.specs.declared.Hall.TheVariants as hall

@@ -1,6 +1,5 @@
 -- `loop_copies::LoopCopy::write` meets its contract: the table's own write, counted.
 use mathlib.Core.Path.{ap, ◌∙◌}
-use borrow.Author.Rules.{rules}
 use Rattle.loop_copies.specs.Copies.{counted, copy_written}
 use Rattle.loop_copies.proofs.LoopCopy.write.Goals as goal
 

@@ -1,5 +1,4 @@
 -- `loop_table::Hall::owns` meets its contract: each arm is a case of `owns`. Assumes nothing.
-use borrow.Author.Rules.{rules}
 use Rattle.loop_table.proofs.Hall.owns.Goals as goal
 
 pub returns-in-A : goal.returns-in-A

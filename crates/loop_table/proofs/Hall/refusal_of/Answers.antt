@@ -1,7 +1,6 @@
 -- `loop_table::Hall::refusal_of` meets its contract: it makes the tests of `refused_slot` in the same order. Assumes nothing.
 use mathlib.Core.Path.{◌≡◌, sym, ◌∙◌}
 use mathlib.Core.Bool.{true, false}
-use borrow.Author.Rules.{rules}
 use borrow.Author.Tests.{le-leb, lt-leb}
 use Rattle.loop_table.specs.Tables.{owns}
 use Rattle.loop_table.proofs.Hall.refusal_of.Goals.{Else-not-owns, Then-not-owns}

@@ -3,9 +3,7 @@
 use Prim.Native.Nat.{◌-◌, ◌≤◌}
 use mathlib.Core.Path.{◌≡◌, refl}
 use native.Mathlib.Omega.{arith}
-use lib.ListN.{length, take, length-map}
-use borrow.Author.Rules.{rules}
-use Rattle.numbers.specs.Lists.{all}
+use lib.ListN.{length}
 use Rattle.sound_lanes.proofs.Gathered.{all_turn, all_end}
 use Rattle.loop_table.specs.Tables.{empty, well_formed_slot, well_formed_table}
 use Rattle.loop_table.proofs.LoopTable.is_well_formed.Goals.{Start}

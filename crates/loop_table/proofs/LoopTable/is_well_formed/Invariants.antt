@@ -1,13 +1,10 @@
 -- `loop_table::LoopTable::is_well_formed` meets its contract. The loop's invariant: `ok` is the test over the slots so far, and an array of sixteen has sixteen.
 -- Assumes nothing.
 use Prim.Native.Nat.{◌-◌, ◌≤◌}
-use mathlib.Core.Path.{◌≡◌, refl}
-use native.Mathlib.Omega.{arith}
-use lib.ListN.{length, take, length-map}
-use borrow.Author.Rules.{rules}
+use mathlib.Core.Path.{◌≡◌}
+use lib.ListN.{take}
 use Rattle.numbers.specs.Lists.{all}
-use Rattle.sound_lanes.proofs.Gathered.{all_turn, all_end}
-use Rattle.loop_table.specs.Tables.{empty, well_formed_slot, well_formed_table}
+use Rattle.loop_table.specs.Tables.{well_formed_slot}
 use Rattle.loop_table.proofs.LoopTable.is_well_formed.Given as goal
 
 abbrev pub invariant-loop-i : goal.invariant-loop-i

@@ -1,7 +1,6 @@
 -- `loop_table::LoopTable::read` meets its contract: it makes the tests of `refused_read` in the same order. Assumes nothing.
 use mathlib.Core.Path.{◌≡◌, sym, ◌∙◌}
 use mathlib.Core.Bool.{true, false}
-use borrow.Author.Rules.{rules}
 use borrow.Author.Tests.{le-leb, lt-leb}
 use Rattle.loop_table.specs.Tables.{well_formed_table, is_empty, held_in, refused_read, found}
 use Rattle.loop_table.proofs.LoopTable.read.Goals.{After-is_empty, Else-not-is_well_formed, Then-not-is_well_formed}

@@ -1,7 +1,6 @@
 -- `loop_table::LoopTable::refusal_of_clear` meets its contract: it makes the tests of `refused_clear` in the same order. Assumes nothing.
 use mathlib.Core.Path.{◌≡◌, sym, ◌∙◌}
 use mathlib.Core.Bool.{true, false}
-use borrow.Author.Rules.{rules}
 use Rattle.loop_table.specs.Tables.{well_formed_table, refused_clear}
 use Rattle.loop_table.proofs.LoopTable.refusal_of_clear.Goals.{Else-not-is_well_formed, Then-not-is_well_formed}
 use Rattle.loop_table.proofs.LoopTable.refusal_of_clear.Goals as goal

@@ -1,7 +1,6 @@
 -- `loop_table::LoopTable::refusal_of_write` meets its contract: it makes the tests of `refused_write` in the same order. Assumes nothing.
 use mathlib.Core.Path.{◌≡◌, sym, ◌∙◌}
 use mathlib.Core.Bool.{true, false}
-use borrow.Author.Rules.{rules}
 use Rattle.loop_table.specs.Tables.{looping, well_formed_table, refused_write}
 use Rattle.loop_table.proofs.LoopTable.refusal_of_write.Goals.{Else-not-is_loop, Else-not-is_well_formed, Then-not-is_loop, Then-not-is_well_formed}
 use Rattle.loop_table.proofs.LoopTable.refusal_of_write.Goals as goal

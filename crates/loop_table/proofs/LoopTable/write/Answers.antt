@@ -1,7 +1,6 @@
 -- `loop_table::LoopTable::write` meets its contract: its refusal, and the change. Assumes nothing.
 use mathlib.Core.Path.{sym, ap, ◌∙◌}
 use Prim.Native.Nat.{ℕ}
-use borrow.Author.Rules.{rules}
 use Rattle.loop_table.specs.Tables.{changed, slot_of, written}
 use Rattle.loop_table.proofs.Accepted.{write_accepted}
 use Rattle.loop_table.proofs.LoopTable.write.Goals as goal

@@ -3,11 +3,10 @@ use Prim.Native.Nat.{ℕ, ◌-◌, ◌*◌}
 use mathlib.Core.Path.{◌≡◌, sym, ap, ◌∙◌}
 use native.Mathlib.Omega.{arith}
 use lib.ListN.{length, replicate, length-replicate}
-use borrow.Author.Rules.{rules}
 use Rattle.numbers.specs.Words.{advance}
 use Rattle.sound_fast_reading.proofs.Moves.{slow_advance}
 use Rattle.sound_fast_straight.proofs.FourFrames.{counted, held_moves, deep, below, less, fits1, fits2, fits3, fits4}
-use Rattle.sound_fast_straight.proofs.StraightBack.{Going, Numbers, begun, numbers_of, going_back, lowly, deep3, high3, reads0, reads1, lower1, lower2, lower3, lower4}
+use Rattle.sound_fast_straight.proofs.StraightBack.{Numbers, begun, numbers_of, going_back, lowly, deep3, high3, reads0, reads1, lower1, lower2, lower3, lower4}
 use Rattle.sound_fast_straight.proofs.backward.held_back.Goals.{At-loop-i}
 use Rattle.sound_fast_straight.proofs.backward.held_back.Goals as goal
 

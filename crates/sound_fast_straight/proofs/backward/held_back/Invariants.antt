@@ -1,13 +1,8 @@
 -- `held_back` reads four frames per iteration at consecutive positions, all of one advance. The invariant: the scan so far, and room for the window.
 use Prim.Native.Nat.{ℕ, ◌-◌, ◌*◌}
-use mathlib.Core.Path.{◌≡◌, sym, ap, ◌∙◌}
-use native.Mathlib.Omega.{arith}
-use lib.ListN.{length, replicate, length-replicate}
-use borrow.Author.Rules.{rules}
-use Rattle.numbers.specs.Words.{advance}
-use Rattle.sound_fast_reading.proofs.Moves.{slow_advance}
-use Rattle.sound_fast_straight.proofs.FourFrames.{counted, held_moves, deep, below, less, fits1, fits2, fits3, fits4}
-use Rattle.sound_fast_straight.proofs.StraightBack.{Going, Numbers, begun, numbers_of, going_back, lowly, deep3, high3, reads0, reads1, lower1, lower2, lower3, lower4}
+use mathlib.Core.Path.{◌≡◌, ◌∙◌}
+use lib.ListN.{replicate}
+use Rattle.sound_fast_straight.proofs.StraightBack.{Going}
 use Rattle.sound_fast_straight.proofs.backward.held_back.Given as goal
 
 abbrev pub invariant-loop-i : goal.invariant-loop-i

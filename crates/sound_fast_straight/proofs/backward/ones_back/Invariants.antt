@@ -1,12 +1,8 @@
 -- `ones_back` reads one frame per iteration at consecutive positions. The invariant: the scan so far.
 use Prim.Native.Nat.{ℕ, ◌+◌, ◌-◌, ◌*◌, ◌≤◌, ◌<◌}
-use mathlib.Core.Path.{◌≡◌, refl, sym, ◌∙◌, subst}
-use native.Mathlib.Omega.{arith}
+use mathlib.Core.Path.{◌≡◌, ◌∙◌}
 use lib.ListN.{length}
 use Rattle.sound_fast_reading.specs.Scans.{Scanned}
-use Rattle.sound_fast_reading.proofs.Scans.{place, stored_at}
-use Rattle.sound_fast_straight.proofs.OneFrame.{Numbers, numbers_of, slow_at, stores, less}
-use Rattle.sound_fast_straight.proofs.StraightBack.{back_more}
 use Rattle.sound_fast_straight.proofs.backward.ones_back.Given as goal
 
 abbrev pub invariant-loop-r : goal.invariant-loop-r

@@ -1,5 +1,4 @@
 -- `read_back` reads four frames side by side.
-use borrow.Author.Rules.{rules}
 use Rattle.sound_fast_straight.specs.Readings.{read_from}
 use Rattle.sound_fast_straight.proofs.backward.read_back.Goals as goal
 

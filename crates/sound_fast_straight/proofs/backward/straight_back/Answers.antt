@@ -4,7 +4,7 @@ use mathlib.Core.Path.{refl, sym, ◌∙◌}
 use native.Mathlib.Omega.{arith}
 use lib.ListN.{length}
 use Rattle.sound_fast_straight.proofs.FourFrames.{small, deep, below, less, fits1, fits2, fits3, fits4}
-use Rattle.sound_fast_straight.proofs.StraightBack.{Going, Numbers, begun, numbers_of, going_back, lowly, deep3, high3, reads0, reads1, lower1, lower2, lower3, lower4}
+use Rattle.sound_fast_straight.proofs.StraightBack.{Numbers, begun, numbers_of, going_back, lowly, deep3, high3, reads0, reads1, lower1, lower2, lower3, lower4}
 use Rattle.sound_fast_straight.proofs.backward.straight_back.Goals.{At-loop-i}
 use Rattle.sound_fast_straight.proofs.backward.straight_back.Goals as goal
 

@@ -1,10 +1,8 @@
 -- `straight_back` reads four frames per iteration at consecutive positions. The invariant: the scan so far, and room for the window.
 use Prim.Native.Nat.{◌-◌}
-use mathlib.Core.Path.{refl, sym, ◌∙◌}
-use native.Mathlib.Omega.{arith}
+use mathlib.Core.Path.{◌∙◌}
 use lib.ListN.{length}
-use Rattle.sound_fast_straight.proofs.FourFrames.{small, deep, below, less, fits1, fits2, fits3, fits4}
-use Rattle.sound_fast_straight.proofs.StraightBack.{Going, Numbers, begun, numbers_of, going_back, lowly, deep3, high3, reads0, reads1, lower1, lower2, lower3, lower4}
+use Rattle.sound_fast_straight.proofs.StraightBack.{Going}
 use Rattle.sound_fast_straight.proofs.backward.straight_back.Given as goal
 
 abbrev pub invariant-loop-i : goal.invariant-loop-i

@@ -3,11 +3,10 @@ use Prim.Native.Nat.{ℕ, ◌-◌, ◌*◌}
 use mathlib.Core.Path.{◌≡◌, sym, ap, ◌∙◌}
 use native.Mathlib.Omega.{arith}
 use lib.ListN.{length, replicate, length-replicate}
-use borrow.Author.Rules.{rules}
 use Rattle.numbers.specs.Words.{advance}
 use Rattle.sound_fast_reading.proofs.Moves.{slow_advance}
 use Rattle.sound_fast_straight.proofs.FourFrames.{counted, held_moves, deep, below, less, fits1, fits2, fits3, fits4}
-use Rattle.sound_fast_straight.proofs.StraightOn.{Going, Numbers, begun, numbers_of, going_on, tall, high4, reads0, reads1, reads2, reads3}
+use Rattle.sound_fast_straight.proofs.StraightOn.{Numbers, begun, numbers_of, going_on, tall, high4, reads0, reads1, reads2, reads3}
 use Rattle.sound_fast_straight.proofs.forward.held_on.Goals.{At-loop-i}
 use Rattle.sound_fast_straight.proofs.forward.held_on.Goals as goal
 

@@ -1,5 +1,4 @@
 -- `read_on` reads four frames side by side.
-use borrow.Author.Rules.{rules}
 use Rattle.sound_fast_straight.specs.Readings.{read_from}
 use Rattle.sound_fast_straight.proofs.forward.read_on.Goals as goal
 

@@ -4,7 +4,7 @@ use mathlib.Core.Path.{refl, sym, ◌∙◌}
 use native.Mathlib.Omega.{arith}
 use lib.ListN.{length}
 use Rattle.sound_fast_straight.proofs.FourFrames.{small, deep, below, less, fits1, fits2, fits3, fits4}
-use Rattle.sound_fast_straight.proofs.StraightOn.{Going, Numbers, begun, numbers_of, going_on, tall, high4, reads0, reads1, reads2, reads3}
+use Rattle.sound_fast_straight.proofs.StraightOn.{Numbers, begun, numbers_of, going_on, tall, high4, reads0, reads1, reads2, reads3}
 use Rattle.sound_fast_straight.proofs.forward.straight_on.Goals.{At-loop-i}
 use Rattle.sound_fast_straight.proofs.forward.straight_on.Goals as goal
 

@@ -1,10 +1,8 @@
 -- `straight_on` reads four frames per iteration at consecutive positions. The invariant: the scan so far, and room for the window.
 use Prim.Native.Nat.{◌-◌}
-use mathlib.Core.Path.{refl, sym, ◌∙◌}
-use native.Mathlib.Omega.{arith}
+use mathlib.Core.Path.{◌∙◌}
 use lib.ListN.{length}
-use Rattle.sound_fast_straight.proofs.FourFrames.{small, deep, below, less, fits1, fits2, fits3, fits4}
-use Rattle.sound_fast_straight.proofs.StraightOn.{Going, Numbers, begun, numbers_of, going_on, tall, high4, reads0, reads1, reads2, reads3}
+use Rattle.sound_fast_straight.proofs.StraightOn.{Going}
 use Rattle.sound_fast_straight.proofs.forward.straight_on.Given as goal
 
 abbrev pub invariant-loop-i : goal.invariant-loop-i

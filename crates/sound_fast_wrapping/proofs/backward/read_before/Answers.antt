@@ -1,5 +1,4 @@
 -- `read_before` reads the four frames from a place on.
-use borrow.Author.Rules.{rules}
 use Rattle.sound_fast_wrapping.proofs.Readings.{read_as}
 use Rattle.sound_fast_wrapping.proofs.backward.read_before.Goals as goal
 

@@ -1,5 +1,4 @@
 -- `read_after` reads the four frames from a place on.
-use borrow.Author.Rules.{rules}
 use Rattle.sound_fast_wrapping.proofs.Readings.{read_as}
 use Rattle.sound_fast_wrapping.proofs.forward.read_after.Goals as goal
 

@@ -1,11 +1,8 @@
 -- `wrapping_on` reads two frames per iteration and chooses each position, so that it wraps at the loop's edge. The invariant: the scan so far.
 use Prim.Native.Nat.{◌+◌, ◌-◌}
-use mathlib.Core.Path.{sym, ◌∙◌}
-use native.Mathlib.Omega.{arith}
+use mathlib.Core.Path.{◌∙◌}
 use lib.ListN.{length}
 use Rattle.sound_fast_reading.specs.Scans.{Scanned}
-use Rattle.sound_fast_reading.proofs.Scans.{place}
-use Rattle.sound_fast_wrapping.proofs.TwoFrames.{Numbers, both, few, less, less1, numbers_of, slow_at, first_fits, second_fits, long2, two_more}
 use Rattle.sound_fast_wrapping.proofs.forward.wrapping_on.Given as goal
 
 abbrev pub invariant-loop-r : goal.invariant-loop-r

@@ -6,7 +6,6 @@ use Rattle.playback_position.specs.Positions.{ordered}
 use Rattle.transport.specs.Moves.{backward}
 use Rattle.test_exports.specs.Moves.{plain_transport}
 use Rattle.test_exports.proofs.Tested.{passed, refused}
-use borrow.Author.Rules.{rules}
 use Rattle.test_exports.proofs.moves.cableowl_test_decrement_position.Goals as goal
 
 pub decrement_position-requires : goal.decrement_position-requires

@@ -6,7 +6,6 @@ use Rattle.transport.specs.Moves.{forward}
 use Rattle.transport.proofs.WellFormed.{well_formed_transport_parts}
 use Rattle.test_exports.specs.Moves.{plain_transport}
 use Rattle.test_exports.proofs.Tested.{passed, refused}
-use borrow.Author.Rules.{rules}
 use Rattle.test_exports.proofs.moves.cableowl_test_increment_position.Goals as goal
 
 pub increment_position-requires : goal.increment_position-requires

@@ -5,7 +5,6 @@ use borrow.Author.Tests.{lt-ltb, le-ltb}
 use Rattle.playback_position.specs.declared.FrameRange.{FrameRange}
 use Rattle.transport.specs.Moves.{begun}
 use Rattle.test_exports.specs.Moves.{plain_transport}
-use borrow.Author.Rules.{rules}
 use Rattle.test_exports.proofs.moves.cableowl_test_new_transport.Goals as goal
 
 pub returns-then-start_position-num_frames : goal.returns-then-start_position-num_frames

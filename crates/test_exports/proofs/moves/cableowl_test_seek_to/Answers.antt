@@ -6,7 +6,6 @@ use Rattle.playback_position.specs.Positions.{ordered}
 use Rattle.transport.specs.Moves.{seek}
 use Rattle.test_exports.specs.Moves.{plain_transport}
 use Rattle.test_exports.proofs.Tested.{passed, refused}
-use borrow.Author.Rules.{rules}
 use Rattle.test_exports.proofs.moves.cableowl_test_seek_to.Goals as goal
 
 pub seek_to-requires : goal.seek_to-requires

@@ -2,7 +2,6 @@
 use mathlib.Core.Path.{ap, ap₂, ◌∙◌}
 use Rattle.transport.specs.Moves.{reloop}
 use Rattle.test_exports.specs.Moves.{plain_transport}
-use borrow.Author.Rules.{rules}
 use Rattle.test_exports.proofs.moves.cableowl_test_set_loop_region.Goals as goal
 
 pub returns : goal.returns

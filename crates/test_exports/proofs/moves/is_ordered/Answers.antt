@@ -1,5 +1,4 @@
 -- `test_exports::moves::is_ordered` meets its contract: each arm is a case of `ordered`. Assumes nothing.
-use borrow.Author.Rules.{rules}
 use Rattle.test_exports.proofs.moves.is_ordered.Goals as goal
 
 pub returns-in-Frames : goal.returns-in-Frames

@@ -1,5 +1,4 @@
 -- `test_exports::moves::plain_transport` meets its contract, by its callees'. Assumes nothing.
-use borrow.Author.Rules.{rules}
 use Rattle.test_exports.proofs.moves.plain_transport.Goals as goal
 
 pub returns : goal.returns

@@ -1,5 +1,4 @@
 -- `test_exports::moves::transport_of` meets its contract, by its callees'. Assumes nothing.
-use borrow.Author.Rules.{rules}
 use Rattle.test_exports.proofs.moves.transport_of.Goals as goal
 
 pub returns : goal.returns

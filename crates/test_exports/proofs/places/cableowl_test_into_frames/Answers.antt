@@ -2,7 +2,6 @@
 use mathlib.Core.Path.{ap, ◌∙◌}
 use Rattle.playback_position.specs.Positions.{region_in_frames}
 use Rattle.test_exports.specs.Places.{plain_range}
-use borrow.Author.Rules.{rules}
 use Rattle.test_exports.proofs.places.cableowl_test_into_frames.Goals as goal
 
 pub returns : goal.returns

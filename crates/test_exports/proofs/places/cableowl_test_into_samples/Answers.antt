@@ -1,7 +1,6 @@
 -- `test_exports::places::cableowl_test_into_samples` meets its contract, by its callees'. Assumes nothing.
 use mathlib.Core.Path.{ap, ◌∙◌}
 use Rattle.playback_position.specs.Positions.{position_in_frames}
-use borrow.Author.Rules.{rules}
 use Rattle.test_exports.proofs.places.cableowl_test_into_samples.Goals as goal
 
 pub returns : goal.returns

@@ -2,7 +2,6 @@
 use mathlib.Core.Path.{ap, ◌∙◌}
 use Rattle.playback_position.specs.Positions.{well_formed_region}
 use Rattle.test_exports.specs.Answers.{bit}
-use borrow.Author.Rules.{rules}
 use Rattle.test_exports.proofs.places.cableowl_test_is_lawful.Goals as goal
 
 pub returns : goal.returns

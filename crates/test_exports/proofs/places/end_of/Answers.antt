@@ -2,7 +2,6 @@
 use mathlib.Core.Path.{ap}
 use borrow.Author.Tests.{eq-eqb, ne_eqb}
 use Rattle.playback_position.specs.declared.EndPosition.TheVariants.{Custom}
-use borrow.Author.Rules.{rules}
 use Rattle.test_exports.proofs.places.end_of.Goals as goal
 
 pub returns-then-given-eq0 : goal.returns-then-given-eq0

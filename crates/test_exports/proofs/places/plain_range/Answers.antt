@@ -1,5 +1,4 @@
 -- `test_exports::places::plain_range` meets its contract: each arm is a case of `plain_range`. Assumes nothing.
-use borrow.Author.Rules.{rules}
 use Rattle.test_exports.proofs.places.plain_range.Goals as goal
 
 pub returns-in-Absent : goal.returns-in-Absent

@@ -1,5 +1,4 @@
 -- `test_exports::places::region_of` meets its contract, by those of its start and its end. Assumes nothing.
-use borrow.Author.Rules.{rules}
 use Rattle.test_exports.proofs.places.region_of.Goals as goal
 
 pub returns : goal.returns

@@ -2,7 +2,6 @@
 use mathlib.Core.Path.{ap, ◌∙◌}
 use Rattle.playback_state_manager.specs.States.{advancing}
 use Rattle.test_exports.specs.Answers.{bit}
-use borrow.Author.Rules.{rules}
 use Rattle.test_exports.proofs.states.cableowl_test_is_advancing.Goals as goal
 
 pub returns : goal.returns

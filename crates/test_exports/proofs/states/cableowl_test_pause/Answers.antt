@@ -1,7 +1,6 @@
 -- `test_exports::states::cableowl_test_pause` meets its contract, by its callees'. Assumes nothing.
 use mathlib.Core.Path.{ap, ◌∙◌}
 use Rattle.playback_state_manager.specs.States.{number, pausing}
-use borrow.Author.Rules.{rules}
 use Rattle.test_exports.proofs.states.cableowl_test_pause.Goals as goal
 
 pub returns : goal.returns

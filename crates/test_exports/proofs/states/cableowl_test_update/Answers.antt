@@ -4,7 +4,6 @@ use mathlib.Core.Bool.{Bool}
 use Rattle.playback_state_manager.specs.declared.PlaybackState.{PlaybackState}
 use Rattle.playback_state_manager.specs.declared.StartAnswer.{StartAnswer}
 use Rattle.playback_state_manager.specs.States.{number, settled}
-use borrow.Author.Rules.{rules}
 use Rattle.test_exports.proofs.states.cableowl_test_update.Goals as goal
 
 same : {f g : Bool} {a b : StartAnswer} {s t : PlaybackState} → f ≡ g → a ≡ b → s ≡ t → settled f a s ≡ settled g b t

@@ -1,7 +1,6 @@
 -- `test_exports::window::cableowl_test_current_frame_index` meets its contract, by its callees'. Assumes nothing.
 use mathlib.Core.Path.{ap, ◌∙◌}
 use Rattle.resampler.specs.Windows.{current_frame_index}
-use borrow.Author.Rules.{rules}
 use Rattle.test_exports.proofs.window.cableowl_test_current_frame_index.Goals as goal
 
 pub returns : goal.returns

@@ -2,7 +2,6 @@
 use mathlib.Core.Path.{ap, ◌∙◌}
 use Rattle.resampler.specs.Windows.{is_empty}
 use Rattle.test_exports.specs.Answers.{bit}
-use borrow.Author.Rules.{rules}
 use Rattle.test_exports.proofs.window.cableowl_test_empty.Goals as goal
 
 pub returns : goal.returns

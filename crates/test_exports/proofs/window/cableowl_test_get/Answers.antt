@@ -3,7 +3,6 @@ use mathlib.Core.Path.{ap, ◌∙◌}
 use Rattle.resampler.specs.declared.Resampler.{Resampler}
 use Rattle.resampler.specs.Windows.{reading}
 use Rattle.test_exports.specs.Windows.{plain_reading}
-use borrow.Author.Rules.{rules}
 use Rattle.test_exports.proofs.window.cableowl_test_get.Goals as goal
 
 pub returns : goal.returns

@@ -5,7 +5,6 @@ use Rattle.frame.specs.declared.Frame.{Frame}
 use Rattle.frame.specs.Frames.{interpolated}
 use Rattle.test_exports.specs.declared.window.PlainFrame.{PlainFrame}
 use Rattle.test_exports.specs.Windows.{plain_frame}
-use borrow.Author.Rules.{rules}
 use Rattle.test_exports.proofs.window.cableowl_test_interpolate_frame.Goals as goal
 
 -- the result, once the frames are known

@@ -1,7 +1,6 @@
 -- `test_exports::window::cableowl_test_new_window` meets its contract, by its callees'. Assumes nothing.
 use mathlib.Core.Path.{ap, ◌∙◌}
 use Rattle.test_exports.specs.Windows.{plain_window}
-use borrow.Author.Rules.{rules}
 use Rattle.test_exports.proofs.window.cableowl_test_new_window.Goals as goal
 
 pub returns : goal.returns

@@ -4,7 +4,6 @@ use Rattle.resampler.specs.declared.Resampler.{Resampler}
 use Rattle.resampler.specs.declared.MaybeFrame.{MaybeFrame}
 use Rattle.resampler.specs.Windows.{push}
 use Rattle.test_exports.specs.Windows.{plain_window}
-use borrow.Author.Rules.{rules}
 use Rattle.test_exports.proofs.window.cableowl_test_push_frame.Goals as goal
 
 pub returns : goal.returns

@@ -1,5 +1,4 @@
 -- `test_exports::window::entry_of` meets its contract, by its frame's. Assumes nothing.
-use borrow.Author.Rules.{rules}
 use Rattle.test_exports.proofs.window.entry_of.Goals as goal
 
 pub returns : goal.returns

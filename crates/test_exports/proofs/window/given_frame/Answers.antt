@@ -2,7 +2,6 @@
 use mathlib.Core.Path.{ap}
 use borrow.Author.Tests.{eq-eqb, ne_eqb}
 use Rattle.resampler.specs.declared.MaybeFrame.TheVariants.{Present}
-use borrow.Author.Rules.{rules}
 use Rattle.test_exports.proofs.window.given_frame.Goals as goal
 
 pub returns-then-given-eq0 : goal.returns-then-given-eq0

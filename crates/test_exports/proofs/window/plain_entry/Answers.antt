@@ -1,5 +1,4 @@
 -- `test_exports::window::plain_entry` meets its contract, by its frame's. Assumes nothing.
-use borrow.Author.Rules.{rules}
 use Rattle.test_exports.proofs.window.plain_entry.Goals as goal
 
 pub returns : goal.returns

@@ -1,5 +1,4 @@
 -- `test_exports::window::plain_window` meets its contract, entry by entry. Assumes nothing.
-use borrow.Author.Rules.{rules}
 use Rattle.test_exports.proofs.window.plain_window.Goals as goal
 
 pub returns : goal.returns

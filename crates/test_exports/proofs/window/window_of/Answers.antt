@@ -1,5 +1,4 @@
 -- `test_exports::window::window_of` meets its contract, entry by entry. Assumes nothing.
-use borrow.Author.Rules.{rules}
 use Rattle.test_exports.proofs.window.window_of.Goals as goal
 
 pub returns : goal.returns

@@ -1,5 +1,4 @@
 -- `test_sound_list::Replay::take` is safe: no more samples are passed than there are. Assumes nothing.
-use borrow.Author.Rules.{rules}
 use native.Mathlib.Omega.{arith}
 use mathlib.Core.Path.{sym}
 use lib.Seq.{length-take-le}

@@ -1,5 +1,4 @@
 -- `test_sound_list::calls::is_output` is safe and ends. The measure is how many samples are left. Assumes nothing.
-use borrow.Author.Rules.{rules}
 use Prim.Native.Nat.{◌-◌, ◌≤◌}
 use Rattle.test_sound_list.proofs.calls.is_output.Given as goal
 

@@ -1,5 +1,4 @@
 -- `test_sound_list::calls::is_part` is safe and ends. The measure is how many samples are left. Assumes nothing.
-use borrow.Author.Rules.{rules}
 use Prim.Native.Nat.{◌-◌, ◌≤◌}
 use lib.ListN.{length}
 use Rattle.test_sound_list.proofs.calls.is_part.Given as goal

@@ -1,9 +1,7 @@
 -- `test_sound_list::calls::prepare` meets its contract. The invariant: the output keeps its length. The measure is how many samples are left.
 -- Assumes nothing.
-use borrow.Author.Rules.{rules}
 use Prim.Native.Nat.{◌-◌, ◌≤◌}
 use mathlib.Core.Path.{◌≡◌}
-use lib.ListN.{length}
 use native.Mathlib.Omega.{arith}
 use Rattle.test_sound_list.proofs.Counting.{counts}
 use Rattle.test_sound_list.proofs.calls.prepare.Goals as goal

@@ -1,11 +1,8 @@
 -- `test_sound_list::input::doubles` meets its contract. The invariant: the slice keeps its length. The measure is how many numbers are left.
 -- Assumes nothing.
-use borrow.Author.Rules.{rules}
 use Prim.Native.Nat.{◌-◌}
 use mathlib.Core.Path.{◌≡◌}
 use lib.ListN.{length}
-use native.Mathlib.Omega.{arith}
-use Rattle.test_sound_list.proofs.Counting.{counts}
 use Rattle.test_sound_list.proofs.input.doubles.Given as goal
 
 abbrev pub invariant-loop-i : goal.invariant-loop-i

@@ -1,6 +1,5 @@
 -- `test_sound_list::input::next` is safe and ends. The loop needs no invariant; the measure is how many digits may follow.
 -- Assumes nothing.
-use borrow.Author.Rules.{rules}
 use Rattle.test_sound_list.proofs.input.next.Given as goal
 
 abbrev pub invariant-loop-left : goal.invariant-loop-left

@@ -3,12 +3,9 @@ use mathlib.Core.Path.{◌≡◌, refl}
 use Prim.Native.Nat.{◌+◌, ◌-◌, ◌*◌, ◌≤◌}
 use native.Mathlib.Omega.{arith}
 use mathlib.Core.List.{◌++◌}
-use lib.ListN.{length, drop, length-set}
+use lib.ListN.{length-set}
 use Rattle.trace_records.specs.Tables.{creation_table, frame_table}
-use Rattle.trace_records.proofs.CreationTable.{Fills, setting, settings_end, frame_row, frames_end}
-use borrow.Author.Rules.{rules}
-use Rattle.trace_records.proofs.tables.fill_creation.Reads as reads
-use Rattle.trace_records.proofs.tables.fill_creation.Lts as lts
+use Rattle.trace_records.proofs.CreationTable.{setting, settings_end, frame_row, frames_end}
 use Rattle.trace_records.proofs.tables.fill_creation.Goals as goal
 
 pub loop-i-init : goal.loop-i-init

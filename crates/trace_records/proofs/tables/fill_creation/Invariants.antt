@@ -1,14 +1,10 @@
 -- `trace_records::tables::fill_creation`: the settings by the first loop, the frames by the second.
-use mathlib.Core.Path.{◌≡◌, refl}
+use mathlib.Core.Path.{◌≡◌}
 use Prim.Native.Nat.{◌+◌, ◌-◌, ◌*◌, ◌≤◌}
-use native.Mathlib.Omega.{arith}
 use mathlib.Core.List.{◌++◌}
-use lib.ListN.{length, drop, length-set}
-use Rattle.trace_records.specs.Tables.{creation_table, frame_table}
-use Rattle.trace_records.proofs.CreationTable.{Fills, setting, settings_end, frame_row, frames_end}
-use borrow.Author.Rules.{rules}
-use Rattle.trace_records.proofs.tables.fill_creation.Reads as reads
-use Rattle.trace_records.proofs.tables.fill_creation.Lts as lts
+use lib.ListN.{length, drop}
+use Rattle.trace_records.specs.Tables.{frame_table}
+use Rattle.trace_records.proofs.CreationTable.{Fills}
 use Rattle.trace_records.proofs.tables.fill_creation.Given as goal
 
 abbrev pub invariant-loop-i : goal.invariant-loop-i

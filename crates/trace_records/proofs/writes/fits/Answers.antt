@@ -1,23 +1,12 @@
 -- `trace_records::writes::fits`: by the kind.
-use mathlib.Core.Path.{◌≡◌, refl, sym, ap, ◌∙◌}
+use mathlib.Core.Path.{◌≡◌, ◌∙◌}
 use Prim.Native.Nat.{ℕ, ◌+◌, ◌-◌, ◌*◌, ◌≤◌, ◌<◌}
-use native.Mathlib.Omega.{arith}
 use mathlib.Core.List.{List, []}
-use borrow.Author.Rules.{rules}
-use lib.ListN.{length, take}
-use lib.Seq.{sets}
+use lib.ListN.{take}
 use Rattle.byte_layout.specs.declared.Row.{Row}
-use Rattle.byte_layout.specs.Numbers.{bytes}
-use Rattle.byte_layout.specs.Rows.{row_at, rows, stands}
-use Rattle.byte_layout.specs.Writes.{field, payload, fine}
+use Rattle.byte_layout.specs.Writes.{fine}
 use Rattle.trace_records.specs.Tables.{command_table, block_table}
-use Rattle.trace_records.proofs.Ways.{not_true, not_false, creation_sound, command_sound, block_sound}
-use Rattle.trace_records.proofs.Rounds.{head_length}
-use Rattle.trace_records.proofs.Sends.{of_creation, of_commands, of_block, no_kind, unfit, few, no_room, written}
-use borrow.Author.Rules.{rules}
-use Rattle.trace_records.proofs.writes.fits.Reads as reads
-use Rattle.trace_records.proofs.writes.fits.Lts as lts
-use Rattle.byte_layout.proofs.rows_fit.Reads as rows-fit-reads
+use Rattle.trace_records.proofs.Sends.{of_creation, of_commands, of_block}
 use Rattle.trace_records.proofs.writes.fits.Goals as goal
 
 pub returns-then-kind-eq1 : goal.returns-then-kind-eq1

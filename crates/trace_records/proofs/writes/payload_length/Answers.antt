@@ -1,23 +1,15 @@
 -- `trace_records::writes::payload_length`: by the kind.
-use mathlib.Core.Path.{◌≡◌, refl, sym, ap, ◌∙◌}
+use mathlib.Core.Path.{◌≡◌, ◌∙◌}
 use Prim.Native.Nat.{ℕ, ◌+◌, ◌-◌, ◌*◌, ◌≤◌, ◌<◌}
-use native.Mathlib.Omega.{arith}
 use mathlib.Core.List.{List, []}
 use borrow.Author.Rules.{rules}
 use lib.ListN.{length, take}
-use lib.Seq.{sets}
 use Rattle.byte_layout.specs.declared.Row.{Row}
-use Rattle.byte_layout.specs.Numbers.{bytes}
-use Rattle.byte_layout.specs.Rows.{row_at, rows, stands}
-use Rattle.byte_layout.specs.Writes.{field, payload, fine}
+use Rattle.byte_layout.specs.Writes.{payload}
 use Rattle.trace_records.specs.Tables.{command_table, block_table}
-use Rattle.trace_records.proofs.Ways.{not_true, not_false, creation_sound, command_sound, block_sound}
-use Rattle.trace_records.proofs.Rounds.{head_length}
-use Rattle.trace_records.proofs.Sends.{of_creation, of_commands, of_block, no_kind, unfit, few, no_room, written}
+use Rattle.trace_records.proofs.Ways.{creation_sound, command_sound, block_sound}
+use Rattle.trace_records.proofs.Sends.{of_creation, of_commands, of_block}
 use borrow.Author.Rules.{rules}
-use Rattle.trace_records.proofs.writes.payload_length.Reads as reads
-use Rattle.trace_records.proofs.writes.payload_length.Lts as lts
-use Rattle.byte_layout.proofs.rows_length.Reads as rows-length-reads
 use Rattle.trace_records.proofs.writes.payload_length.Goals as goal
 
 pub rows_length-requires : goal.rows_length-requires

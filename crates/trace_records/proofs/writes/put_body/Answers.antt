@@ -1,5 +1,5 @@
 -- `trace_records::writes::put_body`: by the kind.
-use mathlib.Core.Path.{◌≡◌, refl, sym, ap, ◌∙◌}
+use mathlib.Core.Path.{◌≡◌, ap, ◌∙◌}
 use Prim.Native.Nat.{ℕ, ◌+◌, ◌-◌, ◌*◌, ◌≤◌, ◌<◌}
 use native.Mathlib.Omega.{arith}
 use mathlib.Core.List.{List, []}
@@ -7,17 +7,10 @@ use borrow.Author.Rules.{rules}
 use lib.ListN.{length, take}
 use lib.Seq.{sets}
 use Rattle.byte_layout.specs.declared.Row.{Row}
-use Rattle.byte_layout.specs.Numbers.{bytes}
-use Rattle.byte_layout.specs.Rows.{row_at, rows, stands}
-use Rattle.byte_layout.specs.Writes.{field, payload, fine}
+use Rattle.byte_layout.specs.Writes.{payload}
 use Rattle.trace_records.specs.Tables.{command_table, block_table}
-use Rattle.trace_records.proofs.Ways.{not_true, not_false, creation_sound, command_sound, block_sound}
-use Rattle.trace_records.proofs.Rounds.{head_length}
-use Rattle.trace_records.proofs.Sends.{of_creation, of_commands, of_block, no_kind, unfit, few, no_room, written}
+use Rattle.trace_records.proofs.Sends.{of_creation, of_commands, of_block}
 use borrow.Author.Rules.{rules}
-use Rattle.trace_records.proofs.writes.put_body.Reads as reads
-use Rattle.trace_records.proofs.writes.put_body.Lts as lts
-use Rattle.byte_layout.proofs.put_rows.Reads as put-rows-reads
 use Rattle.trace_records.proofs.writes.put_body.Goals as goal
 
 pub put_rows-requires : goal.put_rows-requires

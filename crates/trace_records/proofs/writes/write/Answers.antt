@@ -1,27 +1,11 @@
 -- `trace_records::writes::write`: each return is one of the ways of proofs/Sends.antt.
-use mathlib.Core.Path.{◌≡◌, refl, sym, ap, ◌∙◌}
+use mathlib.Core.Path.{◌≡◌, sym, ◌∙◌}
 use Prim.Native.Nat.{ℕ, ◌+◌, ◌-◌, ◌*◌, ◌≤◌, ◌<◌}
 use native.Mathlib.Omega.{arith}
-use mathlib.Core.List.{List, []}
-use borrow.Author.Rules.{rules}
-use lib.ListN.{length, take}
-use lib.Seq.{sets}
-use Rattle.byte_layout.specs.declared.Row.{Row}
-use Rattle.byte_layout.specs.Numbers.{bytes}
-use Rattle.byte_layout.specs.Rows.{row_at, rows, stands}
-use Rattle.byte_layout.specs.Writes.{field, payload, fine}
-use Rattle.trace_records.specs.Tables.{head_table, creation_table, frame_table, command_table, block_table, head_rows, body, fields}
-use Rattle.trace_records.proofs.Ways.{not_true, not_false, creation_sound, command_sound, block_sound}
-use Rattle.trace_records.proofs.Rounds.{head_length}
-use Rattle.trace_records.proofs.Sends.{of_creation, of_commands, of_block, no_kind, unfit, few, no_room, written}
-use borrow.Author.Rules.{rules}
-use Rattle.trace_records.proofs.writes.write.Reads as reads
-use Rattle.trace_records.proofs.writes.write.Lts as lts
-use Rattle.trace_records.proofs.writes.fits.Reads as fits-reads
-use Rattle.trace_records.proofs.writes.is_kind.Reads as is-kind-reads
-use Rattle.trace_records.proofs.writes.payload_length.Reads as payload-length-reads
-use Rattle.trace_records.proofs.writes.put_body.Reads as put-body-reads
-use Rattle.trace_records.proofs.writes.put_head.Reads as put-head-reads
+use mathlib.Core.List.{[]}
+use lib.ListN.{take}
+use Rattle.trace_records.specs.Tables.{fields}
+use Rattle.trace_records.proofs.Sends.{no_kind, unfit, few, no_room, written}
 use Rattle.trace_records.proofs.writes.write.Goals as goal
 
 pub returns-then-not-is_kind : goal.returns-then-not-is_kind

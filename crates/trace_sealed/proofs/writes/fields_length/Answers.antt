@@ -1,19 +1,14 @@
 -- `trace_sealed::writes::fields_length` meets its contract: by the kind. Assumes nothing.
-use mathlib.Core.Path.{◌≡◌, refl, sym, ap, ◌∙◌}
+use mathlib.Core.Path.{◌≡◌, ◌∙◌}
 use Prim.Native.Nat.{ℕ, ◌+◌}
-use native.Mathlib.Omega.{arith}
 use mathlib.Core.List.{List, []}
 use lib.ListN.{length, take}
-use lib.Seq.{sets}
 use Rattle.byte_layout.specs.declared.Row.{Row}
-use Rattle.byte_layout.specs.Writes.{payload, fine}
+use Rattle.byte_layout.specs.Writes.{payload}
 use Rattle.trace_sealed.specs.Tables.{given_table, laned_table}
 use Rattle.trace_sealed.proofs.Ways.{given_sound, laned_sound}
 use Rattle.trace_sealed.proofs.Sends.{of_given_rows, of_laned_rows}
 use borrow.Author.Rules.{rules}
-use Rattle.trace_sealed.proofs.writes.fields_length.Reads as reads
-use Rattle.trace_sealed.proofs.writes.fields_length.Lts as lts
-use Rattle.byte_layout.proofs.rows_length.Reads as rows-length-reads
 use Rattle.trace_sealed.proofs.writes.fields_length.Goals as goal
 
 pub rows_length-requires : goal.rows_length-requires

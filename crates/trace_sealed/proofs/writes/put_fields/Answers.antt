@@ -1,18 +1,15 @@
 -- `trace_sealed::writes::put_fields` meets its contract: by the kind. Assumes nothing.
-use mathlib.Core.Path.{◌≡◌, refl, sym, ap, ◌∙◌}
+use mathlib.Core.Path.{◌≡◌, ap, ◌∙◌}
 use Prim.Native.Nat.{ℕ, ◌+◌}
 use native.Mathlib.Omega.{arith}
 use mathlib.Core.List.{List, []}
 use lib.ListN.{length, take}
 use lib.Seq.{sets}
 use Rattle.byte_layout.specs.declared.Row.{Row}
-use Rattle.byte_layout.specs.Writes.{payload, fine}
+use Rattle.byte_layout.specs.Writes.{payload}
 use Rattle.trace_sealed.specs.Tables.{given_table, laned_table}
 use Rattle.trace_sealed.proofs.Sends.{of_given_rows, of_laned_rows}
 use borrow.Author.Rules.{rules}
-use Rattle.trace_sealed.proofs.writes.put_fields.Reads as reads
-use Rattle.trace_sealed.proofs.writes.put_fields.Lts as lts
-use Rattle.byte_layout.proofs.put_rows.Reads as put-rows-reads
 use Rattle.trace_sealed.proofs.writes.put_fields.Goals as goal
 
 pub put_rows-requires : goal.put_rows-requires

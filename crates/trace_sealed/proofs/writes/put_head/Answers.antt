@@ -7,9 +7,6 @@ use Rattle.byte_layout.specs.Writes.{field, payload}
 use Rattle.trace_sealed.specs.Tables.{head_table, head_rows}
 use Rattle.trace_sealed.proofs.Rounds.{head_length}
 use borrow.Author.Rules.{rules}
-use Rattle.trace_sealed.proofs.writes.put_head.Reads as reads
-use Rattle.trace_sealed.proofs.writes.put_head.Lts as lts
-use Rattle.byte_layout.proofs.put_rows.Reads as put-rows-reads
 use Rattle.trace_sealed.proofs.writes.put_head.Goals as goal
 
 pub put_rows-requires : goal.put_rows-requires

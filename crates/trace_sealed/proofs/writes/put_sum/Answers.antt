@@ -3,9 +3,6 @@ use Rattle.byte_layout.specs.Numbers.{bytes}
 use Rattle.byte_layout.specs.Rows.{row_at, rows, stands}
 use Rattle.byte_layout.specs.Writes.{field, payload}
 use borrow.Author.Rules.{rules}
-use Rattle.trace_sealed.proofs.writes.put_sum.Reads as reads
-use Rattle.trace_sealed.proofs.writes.put_sum.Lts as lts
-use Rattle.byte_layout.proofs.put_rows.Reads as put-rows-reads
 use Rattle.trace_sealed.proofs.writes.put_sum.Goals as goal
 
 pub put_rows-requires : goal.put_rows-requires

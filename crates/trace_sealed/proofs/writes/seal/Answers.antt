@@ -1,18 +1,10 @@
 -- `trace_sealed::writes::seal` meets its contract: head, fields, lanes, then the checksum of what was written. Assumes nothing.
-use mathlib.Core.Path.{◌≡◌, refl, sym, ap, ◌∙◌}
+use mathlib.Core.Path.{◌≡◌, ◌∙◌}
 use Prim.Native.Nat.{ℕ, ◌+◌}
 use native.Mathlib.Omega.{arith}
 use lib.ListN.{take}
 use Rattle.trace_sealed.specs.Tables.{field_count}
 use Rattle.trace_sealed.proofs.Sends.{sealing}
-use borrow.Author.Rules.{rules}
-use Rattle.trace_sealed.proofs.writes.seal.Reads as reads
-use Rattle.trace_sealed.proofs.writes.seal.Lts as lts
-use Rattle.byte_layout.proofs.copy.Reads as copy-reads
-use Rattle.crc32.proofs.checksum.Reads as checksum-reads
-use Rattle.trace_sealed.proofs.writes.put_fields.Reads as put-fields-reads
-use Rattle.trace_sealed.proofs.writes.put_head.Reads as put-head-reads
-use Rattle.trace_sealed.proofs.writes.put_sum.Reads as put-sum-reads
 use Rattle.trace_sealed.proofs.writes.seal.Goals as goal
 
 pub returns : goal.returns

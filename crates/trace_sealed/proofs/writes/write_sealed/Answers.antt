@@ -1,16 +1,8 @@
 -- `trace_sealed::writes::write_sealed` meets its contract: each return is one of the ways of proofs/Sends.antt. Assumes nothing.
-use mathlib.Core.Path.{◌≡◌, refl, sym, ap, ◌∙◌}
+use mathlib.Core.Path.{◌≡◌, sym, ◌∙◌}
 use Prim.Native.Nat.{ℕ, ◌+◌}
 use native.Mathlib.Omega.{arith}
-use lib.ListN.{take}
 use Rattle.trace_sealed.proofs.Sends.{first_fits, unfit, not_whole, few, no_room, written}
-use borrow.Author.Rules.{rules}
-use Rattle.trace_sealed.proofs.writes.write_sealed.Reads as reads
-use Rattle.trace_sealed.proofs.writes.write_sealed.Lts as lts
-use Rattle.trace_sealed.proofs.lane_bytes.Reads as lane-bytes-reads
-use Rattle.trace_sealed.proofs.writes.fields_length.Reads as fields-length-reads
-use Rattle.trace_sealed.proofs.writes.fits.Reads as fits-reads
-use Rattle.trace_sealed.proofs.writes.seal.Reads as seal-reads
 use Rattle.trace_sealed.proofs.writes.write_sealed.Goals as goal
 
 pub returns-then-not-fits : goal.returns-then-not-fits
