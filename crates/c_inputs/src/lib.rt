@@ -1,5 +1,6 @@
 // Settings, commands and signals from C records. An unknown tag becomes a value that its field's check refuses.
 #![tactic(auto)]
+
 ghost use Rattle.std.specs.Prelude.{◌≡◌};
 ghost use Rattle.std.specs.Float.{nan};
 ghost use Rattle.c_inputs.specs.Inputs.{

@@ -1,6 +1,7 @@
 // A voice as a C record. Any bytes are accepted: a record that represents no voice becomes the blank state, which
 // every entry refuses.
 #![tactic(auto)]
+
 ghost use Rattle.std.specs.Prelude.{◌≡◌, map, ◌≤◌};
 ghost use Rattle.c_state.specs.Records.{
   yes,

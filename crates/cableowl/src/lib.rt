@@ -1,6 +1,7 @@
 // The C entries, over records of numbers by value and slices. They accept any bytes; an unknown value is refused with
 // its field's number.
 #![tactic(auto)]
+
 ghost use Rattle.std.specs.Prelude.{◌≡◌, ◌≤◌};
 ghost use Rattle.sound_lanes.specs.Lanes.{lanes_at_entry};
 ghost use Rattle.cableowl.specs.Entries.{

@@ -60,7 +60,9 @@ pub extern "C" fn cableowl_process(
         ≡ processed_c sound.now state dt (lanes_at_entry fade volume left right rate) signals
         out.old }
 {
-    cableowl::cableowl_process(state, sound, fade, volume, left, right, rate, dt, signals, out)
+    cableowl::cableowl_process(
+        state, sound, fade, volume, left, right, rate, dt, signals, out,
+    )
 }
 
 // Into the middle of a longer mix, from the given frame on.
@@ -82,7 +84,9 @@ pub extern "C" fn cableowl_process_into(
         ≡ processed_into_c sound.now state dt (lanes_at_entry fade volume left right rate) signals
         mix.old from }
 {
-    cableowl::cableowl_process_into(state, sound, fade, volume, left, right, rate, dt, signals, mix, from)
+    cableowl::cableowl_process_into(
+        state, sound, fade, volume, left, right, rate, dt, signals, mix, from,
+    )
 }
 
 // The offset and length of the part that `static_sound::stretch` returns.

@@ -25,7 +25,9 @@ pub extern "C" fn cableowl_process_held(
         (record { fade = fade; volume = volume; left = left; right = right; rate = rate }) signals
         out.old }
 {
-    cableowl::cableowl_process_held(state, sound, fade, volume, left, right, rate, dt, signals, out)
+    cableowl::cableowl_process_held(
+        state, sound, fade, volume, left, right, rate, dt, signals, out,
+    )
 }
 
 // This many frames into the middle of a longer mix, from the given frame on.
@@ -49,5 +51,7 @@ pub extern "C" fn cableowl_process_held_into(
         (record { fade = fade; volume = volume; left = left; right = right; rate = rate }) signals
         mix.old from frames }
 {
-    cableowl::cableowl_process_held_into(state, sound, fade, volume, left, right, rate, dt, signals, mix, from, frames)
+    cableowl::cableowl_process_held_into(
+        state, sound, fade, volume, left, right, rate, dt, signals, mix, from, frames,
+    )
 }

@@ -1,6 +1,7 @@
 // A copy of the loop table for one of two boxes that share no memory. It counts each hall's writes and clears; a
 // merge of two copies keeps each hall's newer half. Refusals 1, 27 and 28.
 #![tactic(auto)]
+
 ghost use Rattle.std.specs.Prelude.{◌≡◌, ◌≤◌, take, drop, ◌++◌};
 ghost use Rattle.loop_copies.specs.Copies.{
   empty_copy,

@@ -1,6 +1,7 @@
 // A table of sixteen loops over one sound, written by two halls: A's slots are 0 to 7, B's 8 to 15, and both read
 // all.
 #![tactic(auto)]
+
 ghost use Rattle.std.specs.Prelude.{◌≡◌, ◌<◌};
 ghost use Rattle.loop_table.specs.Tables.{
   looping,

@@ -1,6 +1,7 @@
 // A hall's half of a loop table as bytes, stored and loaded: docs/formats/LOOPS.md has their layout. The names are
 // bytes here; the host checks whether they are text.
 #![tactic(auto)]
+
 ghost use Rattle.std.specs.Prelude.{◌≡◌, [], ◌≤◌, ◌<◌, length, take, drop};
 ghost use Rattle.std.proofs.lemmas.List.Edits.{sets};
 ghost use Rattle.byte_layout.specs.Reads.{good, steps, view};

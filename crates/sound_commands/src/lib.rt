@@ -1,6 +1,7 @@
 // A command set: checks all commands, then applies them in a fixed order (kira's on_start_processing and
 // read_commands).
 #![tactic(auto)]
+
 ghost use Rattle.std.specs.Prelude.{◌≡◌, ◌≤◌, false, ◌&&◌, cond, T, pos, length};
 ghost use Rattle.std.specs.Float.{fin};
 ghost use Rattle.std.specs.Float.Ieee.{lt};

@@ -1,5 +1,6 @@
 // Whether the lanes of a block repeat one frame's numbers. No pass returns early, so that clang vectorises its loop.
 #![tactic(auto)]
+
 ghost use Rattle.std.specs.Prelude.{◌≡◌, true, false, ◌-◌, ◌<◌, length, get_or, replicate};
 ghost use Rattle.std.specs.Float.{nan};
 ghost use Rattle.std.specs.Float.Ieee.{eq};

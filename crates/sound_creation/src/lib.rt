@@ -1,6 +1,7 @@
 // Creation: checks all settings, then makes the voice (kira's StaticSound::new, StaticSoundData::slice and
 // num_frames).
 #![tactic(auto)]
+
 ghost use Rattle.std.specs.Prelude.{◌≡◌, ◌/◌, ◌%◌, ◌&&◌, leb, ltb, eqb, length};
 ghost use Rattle.sound_creation.specs.Creation.{
   ranged,

@@ -1,6 +1,7 @@
 // The fast path if every frame has the same rate: four frames per iteration where no step wraps; near the loop's edge
 // and at the block's end at most 16 frames at a time, with a small array for the rates.
 #![tactic(auto)]
+
 ghost use Rattle.std.specs.Prelude.{◌≡◌, Bool, ◌-◌, ◌≤◌, ◌<◌, T, replicate};
 ghost use Rattle.sound_lanes.specs.Lanes.{slow};
 ghost use Rattle.sound_fast_reading.specs.Scans.{begun, Scannable, Scanned};

@@ -1,5 +1,6 @@
 // Readings along a track: what the loops of the fast path (straight and wrapping) share.
 #![tactic(auto)]
+
 ghost use Rattle.std.specs.Prelude.{◌≡◌, true, not, ◌+◌, ◌<◌, T, length, set};
 ghost use Rattle.std.specs.Float.Ieee.{is_nan, lt};
 ghost use Rattle.numbers.specs.Words.{positive_zero, proper, magnitude, advance};

@@ -1,6 +1,7 @@
 // The fast path where no step wraps: the positions are consecutive. Plays four frames per iteration, then one by one,
 // as long as the window's four frames and the steps stay before the track's end.
 #![tactic(auto)]
+
 ghost use Rattle.std.specs.Prelude.{◌≡◌, ◌+◌, ◌<◌, T, length, get_or};
 ghost use Rattle.std.specs.Float.{nan};
 ghost use Rattle.std.specs.Float.Ieee.{lt};

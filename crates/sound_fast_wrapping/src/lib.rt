@@ -2,6 +2,7 @@
 // the loop. It stops at the track's end, when fewer than two frames are left, or when many positions are ahead
 // without a wrap (sound_fast_straight is faster there).
 #![tactic(auto)]
+
 mod backward;
 mod forward;
 

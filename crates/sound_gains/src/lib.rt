@@ -1,5 +1,6 @@
 // Multiplies the readings in the output by their gains, in place: fade, then volume, then the channel's gain.
 #![tactic(auto)]
+
 ghost use Rattle.std.specs.Prelude.{◌≡◌, true, ◌+◌, ◌*◌, ◌≤◌, ◌<◌, length, replicate};
 ghost use Rattle.numbers.specs.Words.{one};
 ghost use Rattle.sound_gains.specs.Gained.{gains_at, scaled, scaled_at, gained_at, gained};

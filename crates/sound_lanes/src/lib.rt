@@ -1,5 +1,6 @@
 // Checks the five lanes of a block. No pass returns early, so that clang vectorises its loop.
 #![tactic(auto)]
+
 ghost use Rattle.std.specs.Prelude.{◌≡◌, T, length};
 ghost use Rattle.numbers.specs.Words.{finite, finite_clear};
 ghost use Rattle.numbers.specs.Lists.{all};

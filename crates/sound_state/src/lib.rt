@@ -1,5 +1,6 @@
 // The state of a voice, by value, and when it is well formed (kira's StaticSound).
 #![tactic(auto)]
+
 ghost use Rattle.std.specs.Prelude.{◌≡◌};
 ghost use Rattle.transport.specs.WellFormed.{well_formed_transport};
 ghost use Rattle.resampler.specs.Windows.{zero_frame, numbered, windowed};

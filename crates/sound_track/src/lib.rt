@@ -1,6 +1,7 @@
 // The track. During uninterrupted playback the window is contiguous: it equals four neighbouring frames of the track.
 // So the fast path reads them in the sound and keeps only the position of the first.
 #![tactic(auto)]
+
 ghost use Rattle.std.specs.Prelude.{◌≡◌, true, false, ◌+◌, ◌*◌, ◌<◌, length};
 ghost use Rattle.frame.specs.Frames.{frame_of};
 ghost use Rattle.sound_track.specs.Tracks.{track_of, next, nexts, counts, wraps_of, raised_by, On, on_track, roomy};

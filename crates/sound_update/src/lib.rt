@@ -1,6 +1,7 @@
 // The moving part of a voice, and one update: push the frame at the position, then step the transport (kira's
 // StaticSound::update_position).
 #![tactic(auto)]
+
 ghost use Rattle.std.specs.Prelude.{◌≡◌, true, ◌+◌, ◌*◌, ◌<◌, length};
 ghost use Rattle.frame.specs.Frames.{frame_of};
 ghost use Rattle.transport.specs.WellFormed.{WellFormedTransport};

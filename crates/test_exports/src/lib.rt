@@ -1,6 +1,7 @@
 // The leaves as C functions, for the host's tests, which compare them with kira's code and with Rust's own. Each
 // accepts any input; if a leaf requires more, the contract states the result outside.
 #![tactic(auto)]
+
 ghost use Rattle.std.specs.Prelude.{◌≡◌, cond};
 ghost use Rattle.numbers.specs.Words.{positive_zero, finite, finite_clear, is_positive_zero, negative, proper, narrowed};
 ghost use Rattle.numbers.specs.Words as Words;

@@ -42,6 +42,6 @@ returns-else-is_proper c =
     let f = c.args.fraction in
     subst (λ (z : Float). still ≡ moved f z) m.ensures
     (stayed f m.result (elim c.else-is_proper.branch [
-      else-is_proper-via-then-is_proper+else-a w ↦ inr w.if-a.false
+      | else-is_proper-via-then-is_proper+else-a w ↦ inr w.if-a.false
       | else-is_proper-via-else-is_proper w ↦ inl (sym c.is_proper.ensures ∙ w.if-is_proper.false)
     ]))
