@@ -1,4 +1,6 @@
 // The C interface: each export calls cableowl's function of its name and states its clauses.
+#![tactic(auto)]
+
 ghost use Rattle.std.specs.Prelude.{◌≡◌};
 ghost use Rattle.sound_lanes.specs.Lanes.{lanes_at_entry};
 ghost use Rattle.cableowl.specs.Entries.{created_c, commanded_c, processed_c, processed_into_c, part_c};
