@@ -1,6 +1,7 @@
 // The marked examples of docs/assurance/RULES.md about the leaves that no theorem states: each is run, printed and
 // compared. N = 10 and loop (3, 6) unless stated otherwise. 1 means yes.
 #![tactic(auto)]
+
 ghost use Rattle.std.specs.Prelude.{◌≡◌, ◌<◌};
 ghost use Rattle.test_leaf_examples.specs.Places.{at, plain};
 
@@ -90,12 +91,30 @@ fn show_moves(rt: &impl Print, given: Tally) -> io::Result<Tally> {
     let moved = seek_9_to_8();
     t = show(rt, t, "seek 9 to 8", moved.position as u64, 8)?;
     let moved = seek_to_10_then_2();
-    t = show(rt, t, "no loop, seek to 10 then 2", moved.position as u64, 2)?;
+    t = show(
+        rt,
+        t,
+        "no loop, seek to 10 then 2",
+        moved.position as u64,
+        2,
+    )?;
     t = show(rt, t, "and is playing", number(moved.playing), 0)?;
     let moved = forward_in_a_loop_of_one();
-    t = show(rt, t, "loop (4, 5), forward from 4", moved.position as u64, 4)?;
+    t = show(
+        rt,
+        t,
+        "loop (4, 5), forward from 4",
+        moved.position as u64,
+        4,
+    )?;
     let moved = backward(4, 4, 5);
-    show(rt, t, "loop (4, 5), backward from 4", moved.position as u64, 4)
+    show(
+        rt,
+        t,
+        "loop (4, 5), backward from 4",
+        moved.position as u64,
+        4,
+    )
 }
 
 fn is_well_formed_loop(start: usize, end: usize) -> u64 {
@@ -109,19 +128,22 @@ fn is_well_formed_loop(start: usize, end: usize) -> u64 {
 fn show_places(rt: &impl Print, given: Tally) -> io::Result<Tally> {
     let mut t = given;
     t = show(
-        rt, t,
+        rt,
+        t,
         "loop (4, 4) is well formed",
         is_well_formed_loop(4, 4),
         0,
     )?;
     t = show(
-        rt, t,
+        rt,
+        t,
         "loop (4, 11) is well formed",
         is_well_formed_loop(4, 11),
         0,
     )?;
     t = show(
-        rt, t,
+        rt,
+        t,
         "loop (0, 10) is well formed",
         is_well_formed_loop(0, 10),
         1,
@@ -137,13 +159,26 @@ fn show_states(rt: &impl Print, given: Tally) -> io::Result<Tally> {
     t = show(rt, t, "Pausing", PlaybackState::Pausing.number() as u64, 1)?;
     t = show(rt, t, "Paused", PlaybackState::Paused.number() as u64, 2)?;
     t = show(
-        rt, t,
+        rt,
+        t,
         "WaitingToResume",
         PlaybackState::WaitingToResume.number() as u64,
         3,
     )?;
-    t = show(rt, t, "Resuming", PlaybackState::Resuming.number() as u64, 4)?;
-    t = show(rt, t, "Stopping", PlaybackState::Stopping.number() as u64, 5)?;
+    t = show(
+        rt,
+        t,
+        "Resuming",
+        PlaybackState::Resuming.number() as u64,
+        4,
+    )?;
+    t = show(
+        rt,
+        t,
+        "Stopping",
+        PlaybackState::Stopping.number() as u64,
+        5,
+    )?;
     show(rt, t, "Stopped", PlaybackState::Stopped.number() as u64, 6)
 }
 
@@ -160,7 +195,13 @@ fn main(rt: HostRuntime) -> io::Result<()> {
     t = show_moves(&rt, t)?;
     t = show_places(&rt, t)?;
     t = show_states(&rt, t)?;
-    t = show(&rt, t, "1 - 2^-25 narrows to 1", number(narrows_to_one()), 1)?;
+    t = show(
+        &rt,
+        t,
+        "1 - 2^-25 narrows to 1",
+        number(narrows_to_one()),
+        1,
+    )?;
     let examples = t.examples;
     let differ = t.differ;
     println!(rt; "{examples} examples, {differ} differ")

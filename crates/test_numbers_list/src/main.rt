@@ -2,6 +2,7 @@
 // differences. A line is a kind, the bits of x, a sample rate and the expected answer, in hexadecimal: `r
 // 4004000000000000 0000ac44 000000000001aea4`.
 #![tactic(auto)]
+
 ghost use Rattle.std.specs.Prelude.{◌+◌, ◌≤◌, ◌<◌, ◌^◌, ◌≡◌};
 ghost use Rattle.test_numbers_list.specs.Lines.{digit, number, narrows_to, right, agrees};
 ghost use Rattle.test_numbers_list.specs.Lines as Lines;

@@ -2,6 +2,7 @@
 // each is run, printed and compared. 1 Hz, rate 1, a time step of 1 and unit lanes unless stated otherwise. 1 means
 // yes.
 #![tactic(auto)]
+
 use playback_position::{EndPosition, PlaybackPosition, Region};
 use playback_state_manager::StartAnswer;
 use sound_block::Signals;
@@ -145,7 +146,8 @@ fn state_after_four() -> u64 {
 fn show_three_frames(rt: &impl Print, given: Tally) -> io::Result<Tally> {
     let mut t = given;
     t = show(
-        rt, t,
+        rt,
+        t,
         "three frames, six played: 1, 2, 3, 0, 0, 0",
         number(six_frames()),
         1,
@@ -189,15 +191,23 @@ fn loop_command(start: usize, end: usize) -> u64 {
 
 fn show_loops(rt: &impl Print, given: Tally) -> io::Result<Tally> {
     let mut t = given;
-    t = show(rt, t, "created with loop (4, 4)", creation_with_loop(4, 4), 6)?;
     t = show(
-        rt, t,
+        rt,
+        t,
+        "created with loop (4, 4)",
+        creation_with_loop(4, 4),
+        6,
+    )?;
+    t = show(
+        rt,
+        t,
         "created with loop (4, 11)",
         creation_with_loop(4, 11),
         6,
     )?;
     t = show(
-        rt, t,
+        rt,
+        t,
         "created with loop (0, 10)",
         creation_with_loop(0, 10),
         0,
@@ -317,31 +327,63 @@ fn amplitude_of_minus_zero() -> u64 {
 
 fn show_zeros_at_creation(rt: &impl Print, given: Tally) -> io::Result<Tally> {
     let mut t = given;
-    t = show(rt, t, "created at 0, position", created_at_rate(0.0, false), 3)?;
+    t = show(
+        rt,
+        t,
+        "created at 0, position",
+        created_at_rate(0.0, false),
+        3,
+    )?;
     t = show(rt, t, "created at -0", created_at_rate(-0.0, false), 0)?;
-    t = show(rt, t, "created at 0, reverse", created_at_rate(0.0, true), 0)?;
-    show(rt, t, "created at -0, reverse", created_at_rate(-0.0, true), 3)
+    t = show(
+        rt,
+        t,
+        "created at 0, reverse",
+        created_at_rate(0.0, true),
+        0,
+    )?;
+    show(
+        rt,
+        t,
+        "created at -0, reverse",
+        created_at_rate(-0.0, true),
+        3,
+    )
 }
 
 fn show_zeros_commanded(rt: &impl Print, given: Tally) -> io::Result<Tally> {
     let mut t = given;
     t = show(
-        rt, t,
+        rt,
+        t,
         "at 7, rate 0, a frame later",
         commanded_before(0.0, false),
         8,
     )?;
     t = show(rt, t, "rate -0", commanded_before(-0.0, false), 6)?;
-    t = show(rt, t, "at 2, rate 0, reverse", commanded_before(0.0, true), 1)?;
+    t = show(
+        rt,
+        t,
+        "at 2, rate 0, reverse",
+        commanded_before(0.0, true),
+        1,
+    )?;
     t = show(rt, t, "rate -0, reverse", commanded_before(-0.0, true), 3)?;
     t = show(
-        rt, t,
+        rt,
+        t,
         "at 8, rate 0 at the cut",
         commanded_between(0.0, false),
         9,
     )?;
     t = show(rt, t, "rate -0", commanded_between(-0.0, false), 7)?;
-    t = show(rt, t, "at 1, rate 0, reverse", commanded_between(0.0, true), 0)?;
+    t = show(
+        rt,
+        t,
+        "at 1, rate 0, reverse",
+        commanded_between(0.0, true),
+        0,
+    )?;
     show(rt, t, "rate -0, reverse", commanded_between(-0.0, true), 2)
 }
 
@@ -386,13 +428,15 @@ fn refused_command_set() -> bool {
 
 fn show_refusals(rt: &impl Print, given: Tally) -> io::Result<Tally> {
     let t = show(
-        rt, given,
+        rt,
+        given,
         "a refused block writes nothing and moves nothing",
         number(refused_block()),
         1,
     )?;
     show(
-        rt, t,
+        rt,
+        t,
         "a refused command set moves nothing",
         number(refused_command_set()),
         1,

@@ -224,7 +224,9 @@ pub(crate) fn command(from: &mut impl Read, voice: StaticSound, sound: &[f32]) -
     let voice = made.voice;
     Answer {
         voice,
-        same: input::is(from, made.refusal as u64) & input::is_double(from, made.position) & states::are(from, voice),
+        same: input::is(from, made.refusal as u64)
+            & input::is_double(from, made.position)
+            & states::are(from, voice),
     }
 }
 
@@ -237,7 +239,12 @@ fn played(from: &mut impl Read, made: Processed, out: &[f32; 32], samples: usize
 }
 
 // A block, or a block into a mix, whose first frame comes last.
-pub(crate) fn block(from: &mut impl Read, voice: StaticSound, sound: &[f32], mixes: bool) -> Answer {
+pub(crate) fn block(
+    from: &mut impl Read,
+    voice: StaticSound,
+    sound: &[f32],
+    mixes: bool,
+) -> Answer {
     let mut fade = [0.0f32; 32];
     let mut volume = [0.0f32; 32];
     let mut left = [0.0f32; 32];

@@ -1,6 +1,7 @@
 // Reads a fixed list of scenarios from standard input, compares each call with what kira's own code returned, and
 // counts the differences. The list has one number per line; docs/formats/LISTS.md has its layout.
 #![tactic(auto)]
+
 mod calls;
 mod input;
 mod states;

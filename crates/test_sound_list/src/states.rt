@@ -80,7 +80,9 @@ fn next_transport(from: &mut impl Read) -> Transport {
 
 fn is_transport(from: &mut impl Read, transport: Transport) -> bool {
     let loop_region = transport.loop_region;
-    input::is(from, transport.position as u64) & is_range(from, loop_region) & input::is_yes(from, transport.playing)
+    input::is(from, transport.position as u64)
+        & is_range(from, loop_region)
+        & input::is_yes(from, transport.playing)
 }
 
 fn next_entry(from: &mut impl Read) -> RecentFrame {
