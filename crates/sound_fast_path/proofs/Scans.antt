@@ -11,17 +11,16 @@ use lib.Ieee.{Float, nan, binary64, add}
 use Rattle.numbers.specs.Words.{whole, part, advance}
 use Rattle.numbers.specs.Lists.{all}
 use Rattle.numbers.proofs.Lists.{all_front}
-use Rattle.sound_lanes.specs.Lanes.{Lane, Lanes, beside, rows, near, slow}
+use Rattle.sound_lanes.specs.Lanes.{Lane, Lanes, beside, rows, near}
 use Rattle.sound_lanes.proofs.Rows.{near_all, sized_parts}
 use Rattle.resampler.specs.Windows.{reading}
 use Rattle.sound_update.specs.declared.Moving.{Moving}
 use Rattle.sound_update.specs.declared.Wraps.{Wraps}
-use Rattle.sound_update.specs.Updates.{updates}
 use Rattle.sound_state.specs.declared.StaticSound.{StaticSound}
 use Rattle.sound_state.specs.Voices.{slice_of, moved}
 use Rattle.sound_state.specs.WellFormed.{WellFormed}
 use Rattle.sound_track.specs.declared.Track.{Track}
-use Rattle.sound_track.specs.Tracks.{next, nexts, counts, On, roomy}
+use Rattle.sound_track.specs.Tracks.{nexts, counts, On, roomy}
 use Rattle.sound_track.specs.Contiguous.{ahead, contiguous_of, first_index, Contiguous}
 use Rattle.sound_track.proofs.Tracks.{on_nexts, nexts_add}
 use Rattle.sound_track.proofs.Counts.{counts_add}
