@@ -23,10 +23,10 @@ ghost use Rattle.saved_loops.specs.Records.{
 };
 ghost use Rattle.saved_loops.specs.Promises.{Promises};
 
-mod tables;
+mod layouts;
 
 use byte_layout::Parsed;
-use tables::{HALF, HALF_ROWS};
+use layouts::{HALF, HALF_ROWS};
 
 // The words of a half, or a refusal's number and every word 0.
 #[derive(Clone, Copy)]

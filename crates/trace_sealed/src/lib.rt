@@ -10,12 +10,12 @@ ghost use Rattle.trace_sealed.specs.Tables.{head_rows, field_rows, field_count, 
 ghost use Rattle.trace_sealed.specs.Records.{Fields, in_steps, possible, tail};
 ghost use Rattle.trace_sealed.specs.Records.{closed, is_sealed, valued, sealed_at, any_at};
 
-mod tables;
+mod layouts;
 mod writes;
 
 use byte_layout::Parsed;
+use layouts::{GIVEN, GIVEN_ROWS, HEAD, HEAD_ROWS, LANED, LANED_ROWS};
 use refusals::words;
-use tables::{GIVEN, GIVEN_ROWS, HEAD, HEAD_ROWS, LANED, LANED_ROWS};
 use trace_records::Record;
 pub use writes::write;
 

@@ -8,7 +8,7 @@ ghost use Rattle.trace_sealed.specs.Tables.{head_rows, field_rows, field_count};
 ghost use Rattle.trace_sealed.specs.Writes.{sealed_kind, sealed_of, write_sealed, write_any};
 
 use crate::lane_bytes;
-use crate::tables::{GIVEN, GIVEN_ROWS, HEAD, HEAD_ROWS, LANED, LANED_ROWS, SUM, SUM_ROWS};
+use crate::layouts::{GIVEN, GIVEN_ROWS, HEAD, HEAD_ROWS, LANED, LANED_ROWS, SUM, SUM_ROWS};
 use refusals::words;
 use trace_records::Sent;
 
