@@ -14,7 +14,7 @@ use Rattle.transport.specs.declared.Transport.{Transport}
 use Rattle.transport.specs.Moves.{cycled, landed, forward, backward}
 use Rattle.transport.specs.WellFormed.{Inside}
 use Rattle.transport.proofs.Wraps.{cycled_above, cycled_below, cycled_lt}
-use Rattle.theorems.specs.AnyOrder.{Step, Forward, Backward, forwards, backwards, step, walked, AnyOrder, ThereAndBack, Permuted, none, kept, swapped, then, Permutations}
+use Rattle.theorems.specs.AnyOrder.{Step, Forward, Backward, forwards, backwards, walked, AnyOrder, ThereAndBack, Permuted, none, kept, swapped, then, Permutations}
 
 -- ---- remainders
 

@@ -2,7 +2,6 @@
 use mathlib.Core.Path.{◌≡◌, refl, sym, ap, ◌∙◌, subst}
 use Prim.Native.Nat.{ℕ, ◌+◌, ◌*◌}
 use mathlib.Core.Bool.{Bool, true, false, cond}
-use mathlib.Core.List.{List}
 use lib.Dec.{T, eqb}
 use lib.ListN.{take, drop}
 use Rattle.playback_state_manager.specs.declared.StartAnswer.TheVariants.{Waiting}

@@ -20,7 +20,7 @@ use Rattle.c_inputs.specs.Inputs.{commands_of, signals_of}
 use Rattle.cableowl.specs.Entries.{after, commanded_c, processed_c, processed_into_c}
 use Rattle.cableowl.specs.Loops.{taken_c}
 use Rattle.theorems.specs.InTheLoop as below
-use Rattle.theorems.specs.ArchiveInTheLoop.{CallC, Block, Mix, Command, Take, Stretch, after_c, accepted_c, after_all_c, some_accepted_c, reloops_c, stops_c, StaysC, InTheLoopC}
+use Rattle.theorems.specs.ArchiveInTheLoop.{CallC, Block, Mix, Command, Take, Stretch, after_c, accepted_c, after_all_c, some_accepted_c, reloops_c, stops_c, InTheLoopC}
 use Rattle.theorems.proofs.Archive.{after_means}
 use Rattle.theorems.proofs.InTheLoop.{in_the_loop, taken_refused}
 

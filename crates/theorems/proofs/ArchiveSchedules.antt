@@ -21,9 +21,9 @@ use Rattle.c_inputs.specs.Inputs.{signals_of}
 use Rattle.cableowl.specs.Entries.{after, processed_c, processed_into_c}
 use Rattle.c_state.proofs.Inverse.{decoded_encoded}
 use Rattle.theorems.specs.Alike.{bare, awake}
-use Rattle.theorems.specs.Schedules.{Run, alone, followed, onto, played_by, mixed_by, Agree}
+use Rattle.theorems.specs.Schedules.{Run, alone, played_by, mixed_by, Agree}
 use Rattle.theorems.specs.Archive.{quiet_c}
-use Rattle.theorems.specs.ArchiveSchedules.{RunC, alone_c, then_c, played_by_c, mixed_by_c, awake_c, AgreeC, AnySizesC, AnySizesMixC, AllAcceptedC, AllAcceptedMixC}
+use Rattle.theorems.specs.ArchiveSchedules.{RunC, alone_c, played_by_c, mixed_by_c, awake_c, AgreeC, AnySizesC, AnySizesMixC, AllAcceptedC, AllAcceptedMixC}
 use Rattle.theorems.proofs.Archive.{raw, after_is, after_means, quiet_means}
 use Rattle.theorems.proofs.Schedules.{any_sizes}
 use Rattle.theorems.proofs.Streams.{all_accepted}

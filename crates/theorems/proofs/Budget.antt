@@ -8,9 +8,9 @@ use mathlib.Core.List.{List, [], ◌∷◌}
 use lib.Dec.{T, leb, eqb, le→leb, eqb→eq}
 use lib.ListN.{length, take, drop, length-drop}
 use lib.Seq.{length-take-le}
-use lib.Ieee.{Float, binary64, lt, add, le}
+use lib.Ieee.{Float, binary64, lt, add}
 use lib.Ieee.Fits.{and_i, and_l, and_r}
-use Rattle.numbers.specs.Words.{positive_zero, one, whole, advance}
+use Rattle.numbers.specs.Words.{positive_zero, whole, advance}
 use Rattle.numbers.specs.Lists.{all}
 use Rattle.numbers.proofs.Fractions.{advance_finite_clear, sum_steps}
 use Rattle.sound_lanes.specs.Lanes.{Lane, Lanes, rows, near, first_lanes, rest_lanes}

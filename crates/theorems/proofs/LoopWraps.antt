@@ -20,7 +20,6 @@ use Rattle.transport.specs.WellFormed.{Inside}
 use Rattle.transport.proofs.Wraps.{under_inside, under_end, back_inside, back_start}
 use Rattle.transport.proofs.Steps.{forward_going, backward_looped, wraps_on, wraps_back}
 use Rattle.transport.proofs.WellFormed.{forward_inside, backward_inside}
-use Rattle.sound_lanes.specs.Lanes.{Lanes}
 use Rattle.sound_update.specs.declared.Moving.{Moving}
 use Rattle.sound_update.specs.declared.Slice.{Slice}
 use Rattle.sound_update.specs.Updates.{raised, stepped, counted, updated, updates}

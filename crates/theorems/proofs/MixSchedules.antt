@@ -21,9 +21,9 @@ use Rattle.static_sound.proofs.Refusals.{accepted_parts, accepted_of}
 use Rattle.static_sound.proofs.Entries.{processed_passed, into_done}
 use Rattle.theorems.specs.Sums.{sum}
 use Rattle.theorems.specs.Alike.{bare, awake}
-use Rattle.theorems.specs.Schedules.{Run, alone, followed, onto, played_by, mixed_by, AnySizesMix, AllAcceptedMix}
+use Rattle.theorems.specs.Schedules.{Run, played_by, mixed_by, AnySizesMix, AllAcceptedMix}
 use Rattle.theorems.proofs.Mix.{mixed_length, mixed_cut, Room, room_parts, room_of}
-use Rattle.theorems.proofs.Plain.{put_into, held, plain_accepted, plain_is, plain_length}
+use Rattle.theorems.proofs.Plain.{held, plain_accepted, plain_is, plain_length}
 use Rattle.theorems.proofs.Schedules.{any_sizes}
 use Rattle.theorems.proofs.Streams.{all_accepted}
 

@@ -1,9 +1,8 @@
 -- A block into a mix is the plain block, written at its position: the same result, and the plain samples in the mix. So Steps and AllowedEnd hold for it too. Assumes nothing.
-use mathlib.Core.Path.{◌≡◌, refl, sym, ap, ◌∙◌, subst}
+use mathlib.Core.Path.{◌≡◌, sym, ap, ◌∙◌, subst}
 use mathlib.Core.Logic.{◌⊎◌, inl, inr}
 use Prim.Native.Nat.{ℕ, ◌+◌, ◌-◌, ◌*◌, ◌≤◌}
 use native.Mathlib.Omega.{arith}
-use mathlib.Core.Bool.{true}
 use mathlib.Core.List.{List, ◌++◌, append_assoc}
 use lib.Dec.{T}
 use lib.ListN.{length, take, drop, length-drop, length-append, take-append-drop}
@@ -14,8 +13,8 @@ use Rattle.sound_lanes.specs.Lanes.{Lanes, rows}
 use Rattle.sound_lanes.proofs.Rows.{beside_length}
 use Rattle.sound_state.specs.declared.StaticSound.{StaticSound}
 use Rattle.sound_block.specs.declared.Signals.{Signals}
-use Rattle.sound_slow_path.specs.Plays.{Played, plays, Outcome, accepted_with}
-use Rattle.sound_block.specs.Blocks.{block, begun, live, zeros}
+use Rattle.sound_slow_path.specs.Plays.{plays, Outcome}
+use Rattle.sound_block.specs.Blocks.{block, begun, zeros}
 use Rattle.static_sound.specs.Entries.{refused_block, holds, room, mixed, processed, processed_into}
 use Rattle.sound_block.proofs.Blocks.{block_length}
 use Rattle.static_sound.proofs.Refusals.{Accepted, accepted_parts, accepted_of}

@@ -6,7 +6,7 @@ use native.Mathlib.Nat.{not-suc-le-zero, le_of_suc-le-suc}
 use native.Mathlib.Omega.{arith}
 use mathlib.Core.Bool.{Bool, true, false, ◌&&◌, cond}
 use mathlib.Core.List.{List, [], ◌∷◌}
-use lib.Dec.{leb, ltb, eqb}
+use lib.Dec.{leb, eqb}
 use lib.ListN.{length, get_or, take}
 use lib.Ieee.{Float}
 use borrow.Author.Tests.{leb-true, leb-false}
@@ -16,15 +16,15 @@ use Rattle.transport.specs.declared.Transport.{Transport}
 use Rattle.transport.specs.Moves.{seek}
 use Rattle.resampler.specs.declared.RecentFrame.{RecentFrame}
 use Rattle.resampler.specs.declared.Resampler.{Resampler}
-use Rattle.resampler.specs.declared.MaybeFrame.TheVariants.{Absent, Present}
+use Rattle.resampler.specs.declared.MaybeFrame.TheVariants.{Present}
 use Rattle.resampler.specs.Windows.{blank, push, reading}
 use Rattle.playback_state_manager.specs.States.{advancing}
-use Rattle.sound_lanes.specs.Lanes.{Lane, Lanes, rows}
+use Rattle.sound_lanes.specs.Lanes.{Lane, rows}
 use Rattle.sound_update.specs.declared.Moving.{Moving}
 use Rattle.sound_update.specs.declared.Slice.{Slice}
-use Rattle.sound_update.specs.Updates.{sounding, pushed, stepped, updated, updates}
+use Rattle.sound_update.specs.Updates.{sounding, pushed, updated, updates}
 use Rattle.sound_state.specs.declared.StaticSound.{StaticSound}
-use Rattle.sound_state.specs.Voices.{start_of_slice, slice_of, moved}
+use Rattle.sound_state.specs.Voices.{start_of_slice, slice_of}
 use Rattle.sound_creation.specs.Creation.{setup_of, opened, transport_of, made}
 use Rattle.sound_creation.proofs.Answers.{created_passed, created_done}
 use Rattle.sound_commands.specs.declared.Amount.{Amount}
@@ -35,11 +35,11 @@ use Rattle.sound_commands.specs.Commands.{refused_set, before_seeks, jumped, ref
 use Rattle.sound_block.specs.declared.Signals.{Signals}
 use Rattle.sound_block.specs.Blocks.{begun, live, silent, block}
 use Rattle.sound_block.proofs.Blocks.{block_live, block_silent}
-use Rattle.sound_slow_path.specs.Plays.{Played, lower, total, after_frame, plays, accepted_with}
+use Rattle.sound_slow_path.specs.Plays.{Played, total, after_frame, plays, accepted_with}
 use Rattle.sound_slow_path.proofs.Lowest.{lower_first, lower_second, lowest}
 use Rattle.static_sound.specs.Entries.{refused_block, refused_with, holds, room, mixed, processed, processed_into}
 use Rattle.static_sound.proofs.Entries.{processed_passed, processed_done, into_passed, into_done}
-use Rattle.theorems.specs.Reports.{nones, Fed, FedVoice, CreationFeeds, CommandsFeed, BlocksFeed, MixesFeed, at_read, newest, Sounding, Tail, Tells, BlocksTell, MixesTell, SilenceTells}
+use Rattle.theorems.specs.Reports.{nones, Fed, FedVoice, CreationFeeds, CommandsFeed, BlocksFeed, MixesFeed, at_read, Sounding, Tells, BlocksTell, MixesTell, SilenceTells}
 use Rattle.theorems.proofs.Ends.{stepped_still}
 
 -- ---- a push, and what moves the transport

@@ -8,7 +8,7 @@ use mathlib.Core.List.{List, [], ◌∷◌}
 use lib.ListN.{length}
 use lib.Ieee.{Float}
 use Rattle.numbers.specs.Words.{whole}
-use Rattle.sound_lanes.specs.Lanes.{Lane, rows, near}
+use Rattle.sound_lanes.specs.Lanes.{Lane, rows}
 use Rattle.sound_lanes.proofs.Rows.{beside_length}
 use Rattle.sound_update.specs.declared.Moving.{Moving}
 use Rattle.sound_update.specs.declared.Slice.{Slice}

@@ -1,12 +1,12 @@
 -- Each hypothesis at its input, by computing. Assumes nothing.
 use mathlib.Core.Path.{◌≡◌, refl, sym, ap, ◌∙◌, subst}
-use Prim.Native.Nat.{ℕ, ◌≤◌, ◌<◌}
+use Prim.Native.Nat.{ℕ, ◌<◌}
 use native.Mathlib.Omega.{arith}
 use mathlib.Core.Bool.{Bool, true, false, not}
-use mathlib.Core.List.{List, [], ◌∷◌}
+use mathlib.Core.List.{[], ◌∷◌}
 use lib.Dec.{T, leb, leb→le}
 use lib.ListN.{take}
-use lib.Ieee.{Float, add, sub, mul, div, lt, le, of_int, fits}
+use lib.Ieee.{add, sub, mul, div, lt, le, of_int, fits}
 use Rattle.numbers.specs.Frames.{rounded, cut_off}
 use Rattle.numbers.specs.Words.{one, magnitude, narrowed, whole, taken, part, advance}
 use Rattle.playback_position.specs.Positions.{position_in_frames, end_in_frames, region_in_frames, well_formed_region}

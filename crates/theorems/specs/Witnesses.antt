@@ -2,7 +2,7 @@
 -- field has its theorem's name in Promises. Its type is the theorem's hypothesis at that input, and each condition of
 -- its conclusion at one. The input is the examples' creation: ten frames at 1 Hz in the loop (3, 6), at rate 1. Its
 -- blocks have two frames, one step each.
-use Rattle.std.specs.Prelude.{ℕ, true, false, List, [], ◌∷◌, take, replicate, Float}
+use Rattle.std.specs.Prelude.{true, false, List, [], ◌∷◌, take, replicate, Float}
 use Rattle.numbers.specs.Words.{positive_zero, one}
 use Rattle.frame.specs.declared.Frame.{Frame}
 use Rattle.playback_state_manager.specs.declared.StartAnswer.TheVariants.{Waiting}
