@@ -19,6 +19,8 @@ struct Tools {
     rt: Option<&'static str>,
     /// What `rt check` of the only crate with its control prints.
     control: &'static str,
+    /// The text that the first control replaces; the crate has `one`.
+    old: &'static str,
     arm: &'static str,
     documents: &'static str,
     cargo_test: &'static str,
@@ -38,6 +40,7 @@ impl Default for Tools {
             machine: "x86_64",
             rt: Some(PROVED),
             control: ACCEPTED,
+            old: "one",
             arm: "true",
             documents: "true",
             cargo_test: TESTED,
@@ -49,7 +52,7 @@ impl Default for Tools {
 /// The gate's last line, whether it reports success, and everything that it wrote.
 fn gate(name: &str, tools: &Tools) -> (String, bool, String) {
     let _turn = TURN.lock().unwrap_or_else(PoisonError::into_inner);
-    let room = Room::new(name);
+    let room = Room::new(name, tools.old);
     let bin = room.0.join("bin");
     let script = |name: &str, text: &str| {
         let path = bin.join(name);
@@ -101,7 +104,7 @@ fn gate(name: &str, tools: &Tools) -> (String, bool, String) {
 struct Room(PathBuf);
 
 impl Room {
-    fn new(name: &str) -> Self {
+    fn new(name: &str, old: &str) -> Self {
         let path =
             std::env::temp_dir().join(format!("cableowl-gate-{name}-{}", std::process::id()));
         for folder in [
@@ -120,7 +123,9 @@ impl Room {
             ("crates/leaf/src/lib.rt", "one\n"),
             (
                 "tools/controls/leaf.edit",
-                "# slip: said otherwise\nfile: src/lib.rt\nold: one\nnew: 1\n# other: as well\nfile: src/lib.rt\nold: gone\nnew: 2\n",
+                &format!(
+                    "# slip: said otherwise\nfile: src/lib.rt\nold: {old}\nnew: 1\n# other: as well\nfile: src/lib.rt\nold: gone\nnew: 2\n"
+                ),
             ),
         ] {
             fs::write(path.join(file), text).unwrap();
@@ -294,6 +299,17 @@ fn a_control_that_is_not_accepted_is_a_failure() {
         // The second control of the crate is not tried.
         assert!(!all.contains("gone"), "{all}");
     }
+}
+
+#[test]
+fn a_control_that_cannot_be_applied_is_a_failure() {
+    let tools = Tools {
+        old: "two",
+        ..Tools::default()
+    };
+    let all = ends("unread", &tools, "213 passed, 1 failed");
+    let words = "leaf: NOT accepted: not found in src/lib.rt: two";
+    assert!(all.contains(words), "{all}");
 }
 
 #[test]
