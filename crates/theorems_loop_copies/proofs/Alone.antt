@@ -8,7 +8,6 @@ use lib.ListN.{get_or}
 use lib.Ieee.{Float}
 use lib.Ieee.Fits.{and_l, and_r}
 use Rattle.numbers.specs.Lists.{all}
-use Rattle.sound_state.specs.declared.StaticSound.{StaticSound}
 use Rattle.loop_table.specs.declared.Hall.{Hall}
 use Rattle.loop_table.specs.declared.LoopSlot.{LoopSlot}
 use Rattle.loop_table.specs.declared.LoopTable.{LoopTable}
@@ -17,11 +16,11 @@ use Rattle.theorems_loop_table.specs.Calls.{Call, Write, Clear, Read, Event, Wor
 use Rattle.theorems_loop_table.specs.Apart.{concerns, takes_from}
 use Rattle.theorems_loop_table.proofs.Apart.{Alike, AlikeFor, same_is, skipped, moved}
 use Rattle.loop_copies.specs.declared.LoopCopy.{LoopCopy}
-use Rattle.loop_copies.specs.Copies.{counted, counted_by, copy_written, copy_cleared, merged}
+use Rattle.loop_copies.specs.Copies.{counted, copy_written, copy_cleared}
 use Rattle.theorems_loop_copies.specs.Boxes.{Asked, OfTable, OfVoice, Step, At, Sends, Merges, Box, Boxes, event_of, world_of, copy_after, put, asked, merging, stepped, after_steps, begun, answers_at, alone_row, one_table}
 use Rattle.theorems_loop_copies.specs.AsAlone.{AsAlone}
-use Rattle.theorems_loop_copies.proofs.Views.{View, view}
-use Rattle.theorems_loop_copies.proofs.Reach.{Good, Reached, counted_table, sent_good, merge_is, good_merged, own_merged}
+use Rattle.theorems_loop_copies.proofs.Views.{View}
+use Rattle.theorems_loop_copies.proofs.Reach.{Reached, counted_table, sent_good, merge_is, good_merged, own_merged}
 use Rattle.theorems_loop_copies.proofs.Steps.{copies, Going, going_on, going_begun, put_own, put_other}
 
 -- ---- the table of a copy after a call is the table after that call

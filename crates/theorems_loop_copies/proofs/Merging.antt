@@ -1,12 +1,11 @@
 -- A merge: it never goes back, and the order, number and grouping of merges do not matter. By the views of each copy. Assumes nothing.
-use mathlib.Core.Path.{◌≡◌, refl, sym, ap, ap₂, ◌∙◌, subst}
-use Prim.Native.Nat.{◌≤◌, ◌<◌}
+use mathlib.Core.Path.{◌≡◌, refl, sym, ap, ◌∙◌, subst}
+use Prim.Native.Nat.{◌≤◌}
 use native.Mathlib.Omega.{arith}
 use Rattle.loop_table.specs.declared.Hall.{Hall}
-use Rattle.loop_table.specs.Tables.{half}
 use Rattle.loop_copies.specs.declared.LoopCopy.{LoopCopy}
 use Rattle.loop_copies.specs.declared.CopyChanged.{CopyChanged}
-use Rattle.loop_copies.specs.Copies.{changes_of, merged, merged_copy}
+use Rattle.loop_copies.specs.Copies.{merged, merged_copy}
 use Rattle.theorems_loop_copies.specs.Merging.{Sixteen, NeverBack, AnyOrder, AnyTimes, AnyGrouping}
 use Rattle.theorems_loop_copies.proofs.Views.{View, view, pick, picked, pick_order, pick_older, pick_grouping, OneView, copy_ext, view_merged, sixteen_merged, well_formed_merged, Fit, fit_of, accepted_of, merged_of, merged_either}
 

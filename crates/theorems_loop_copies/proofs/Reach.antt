@@ -4,24 +4,20 @@ use mathlib.Core.Path.{◌≡◌, refl, sym, ap, ◌∙◌, subst}
 use Prim.Native.Nat.{ℕ, zero, suc, ◌+◌, ◌≤◌, ◌<◌}
 use native.Mathlib.Omega.{arith}
 use mathlib.Core.Bool.{Bool, true, false, ◌&&◌, cond}
-use mathlib.Core.List.{List, [], ◌∷◌}
-use lib.Dec.{T, eqb, ltb}
+use mathlib.Core.List.{List, ◌∷◌}
+use lib.Dec.{eqb, ltb}
 use lib.ListN.{length, get_or, length-set, get_or-eq_default}
-use lib.Ieee.{Float}
 use borrow.Author.Tests.{eqb-true, eq-eqb, ne_eqb, lt-ltb, ltb-true, ltb-false}
 use Rattle.loop_table.specs.declared.Hall.{Hall}
 use Rattle.loop_table.specs.declared.Hall.TheVariants as hall
 use Rattle.loop_table.specs.declared.LoopSlot.{LoopSlot}
 use Rattle.loop_table.specs.declared.LoopTable.{LoopTable}
-use Rattle.loop_table.specs.declared.LoopChanged.{LoopChanged}
-use Rattle.loop_table.specs.Tables.{slot_of, empty, well_formed_table, half, same, changed, refused_write, refused_clear, written, cleared}
-use Rattle.theorems_loop_table.specs.Calls.{Call, Write, Clear, Read, table_after}
-use Rattle.theorems_loop_table.proofs.Stores.{Passed, write_passed, clear_passed, changed_number, changed_either, changed_frames, changed_well_formed, changed_other}
+use Rattle.loop_table.specs.Tables.{well_formed_table, half, same, changed}
+use Rattle.theorems_loop_table.proofs.Stores.{Passed, changed_number, changed_either, changed_frames, changed_well_formed, changed_other}
 use Rattle.loop_copies.specs.declared.LoopCopy.{LoopCopy}
-use Rattle.loop_copies.specs.Copies.{changes_of, raised, counted_by, counted, copy_written, copy_cleared, refused_merge, merged, merged_copy}
-use Rattle.theorems_loop_copies.specs.Boxes.{Asked, OfTable, OfVoice, copy_after}
+use Rattle.loop_copies.specs.Copies.{changes_of, raised, counted_by, counted, refused_merge, merged, merged_copy}
 use Rattle.theorems_loop_copies.specs.Merging.{Sixteen}
-use Rattle.theorems_loop_copies.proofs.Views.{View, view, pick, picked, pick_older, view_merged, sixteen_merged, well_formed_merged, Fit, accepted_of, merged_of, merged_either}
+use Rattle.theorems_loop_copies.proofs.Views.{View, view, picked, pick_older, view_merged, sixteen_merged, well_formed_merged, Fit, accepted_of, merged_of}
 
 -- a copy over n frames whose halves come from each hall's history, with numbers that the halls have reached
 pub record Good (n : ℕ) (bound : Hall → ℕ) (hist : Hall → ℕ → List LoopSlot) (c : LoopCopy) : Type 0 where

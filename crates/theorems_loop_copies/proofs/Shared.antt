@@ -2,11 +2,10 @@
 use mathlib.Core.Path.{◌≡◌, refl, sym, ap, ap₂, ◌∙◌, subst}
 use Prim.Native.Nat.{ℕ, ◌≤◌}
 use native.Mathlib.Omega.{arith}
-use mathlib.Core.Bool.{Bool, true, false}
+use mathlib.Core.Bool.{false}
 use mathlib.Core.List.{List, [], ◌∷◌, ◌++◌}
-use lib.ListN.{get_or, take, drop, take-append-drop}
+use lib.ListN.{get_or, take-append-drop}
 use lib.Ieee.{Float}
-use Rattle.sound_state.specs.declared.StaticSound.{StaticSound}
 use Rattle.loop_table.specs.declared.Hall.{Hall}
 use Rattle.loop_table.specs.declared.Hall.TheVariants as hall
 use Rattle.loop_table.specs.declared.LoopSlot.{LoopSlot}
@@ -16,11 +15,11 @@ use Rattle.theorems_loop_table.specs.Calls.{Call, Write, Clear, Read, ByHall, Wo
 use Rattle.theorems_loop_table.proofs.Stores.{write_passed, clear_passed}
 use Rattle.theorems_loop_table.proofs.Apart.{Alike, write_alike, clear_alike, changed_both, changed_one}
 use Rattle.loop_copies.specs.declared.LoopCopy.{LoopCopy}
-use Rattle.loop_copies.specs.Copies.{changes_of, merged}
-use Rattle.theorems_loop_copies.specs.Boxes.{Asked, OfTable, OfVoice, Step, At, Sends, Merges, Box, Boxes, copy_after, put, asked, merging, stepped, after_steps, begun, shared_row, one_table, shared_table}
+use Rattle.loop_copies.specs.Copies.{changes_of}
+use Rattle.theorems_loop_copies.specs.Boxes.{OfTable, OfVoice, Step, At, Sends, Merges, Box, Boxes, put, asked, merging, stepped, after_steps, begun, shared_row, one_table, shared_table}
 use Rattle.theorems_loop_copies.specs.Together.{Together, LastCopyCatches, NoneRefused}
 use Rattle.theorems_loop_copies.proofs.Views.{View, view, picked, view_merged}
-use Rattle.theorems_loop_copies.proofs.Reach.{Good, Reached, by_hall, sent_good, merge_accepted, merge_is, merge_own}
+use Rattle.theorems_loop_copies.proofs.Reach.{Reached, by_hall, sent_good, merge_accepted, merge_is, merge_own}
 use Rattle.theorems_loop_copies.proofs.Steps.{copies, Going, going_on, going_begun, going_all, put_own, put_other, put_copies}
 use Rattle.theorems_loop_copies.proofs.Alone.{table_after_lem, merged_alike}
 

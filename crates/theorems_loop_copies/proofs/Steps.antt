@@ -1,25 +1,22 @@
 -- Two boxes over a sequence of steps: what holds of all their copies goes on holding, as long as no number of changes is at its limit.
 -- By cases on the step. Assumes nothing.
-use mathlib.Core.Path.{◌≡◌, refl, sym, ap, ◌∙◌, subst}
+use mathlib.Core.Path.{◌≡◌, refl, subst}
 use Prim.Native.Nat.{ℕ, ◌+◌, ◌≤◌, ◌<◌}
 use native.Mathlib.Omega.{arith}
-use mathlib.Core.Bool.{Bool, true, false, cond}
+use mathlib.Core.Bool.{false}
 use mathlib.Core.List.{List, [], ◌∷◌}
 use lib.ListN.{length, get_or}
 use lib.Ieee.{Float}
-use borrow.Author.Tests.{lt-ltb}
 use Rattle.sound_state.specs.declared.StaticSound.{StaticSound}
 use Rattle.loop_table.specs.declared.Hall.{Hall}
 use Rattle.loop_table.specs.declared.Hall.TheVariants as hall
 use Rattle.loop_table.specs.declared.LoopSlot.{LoopSlot}
-use Rattle.loop_table.specs.declared.LoopTable.{LoopTable}
-use Rattle.loop_table.specs.declared.LoopChanged.{LoopChanged}
 use Rattle.loop_table.specs.Tables.{slot_of, empty, empty_table, well_formed_table, half, same, changed, refused_write, refused_clear, written, cleared}
-use Rattle.theorems_loop_table.specs.Calls.{Call, Write, Clear, Read, Play, World, next, table_after}
+use Rattle.theorems_loop_table.specs.Calls.{Write, Clear, Read}
 use Rattle.theorems_loop_table.proofs.Stores.{write_passed, clear_passed}
 use Rattle.loop_copies.specs.declared.LoopCopy.{LoopCopy}
 use Rattle.loop_copies.specs.Copies.{empty_copy, changes_of, counted, copy_written, copy_cleared}
-use Rattle.theorems_loop_copies.specs.Boxes.{Asked, OfTable, OfVoice, Step, At, Sends, Merges, Box, Boxes, event_of, world_of, copy_after, put, asked, merging, stepped, after_steps, begun}
+use Rattle.theorems_loop_copies.specs.Boxes.{Asked, OfTable, OfVoice, Step, At, Sends, Merges, Box, Boxes, copy_after, put, asked, merging, stepped, after_steps, begun}
 use Rattle.theorems_loop_copies.proofs.Reach.{Good, Reached, with, by_hall, with_each, reached_like, counted_either, counted_own, raised_more, after_send, after_merge, merge_own, after_change}
 
 -- ---- one call at a box

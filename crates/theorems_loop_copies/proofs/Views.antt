@@ -18,7 +18,6 @@ use Rattle.loop_table.specs.Tables.{slot_of, empty, well_formed_slot, well_forme
 use Rattle.loop_table.proofs.Accepted.{passed}
 use Rattle.theorems_loop_table.proofs.Stores.{so, held_half}
 use Rattle.loop_copies.specs.declared.LoopCopy.{LoopCopy}
-use Rattle.loop_copies.specs.declared.CopyChanged.{CopyChanged}
 use Rattle.loop_copies.specs.Copies.{changes_of, same_slot, same_slots, first, agrees, refused_merge, newer, merged, merged_copy}
 use Rattle.theorems_loop_copies.specs.Merging.{Sixteen}
 

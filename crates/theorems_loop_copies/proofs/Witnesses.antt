@@ -1,5 +1,5 @@
 -- The inputs that meet the hypotheses, by computing. Assumes nothing.
-use mathlib.Core.Path.{◌≡◌, refl}
+use mathlib.Core.Path.{refl}
 use native.Mathlib.Omega.{arith}
 use Rattle.loop_table.specs.Tables.{well_formed_table}
 use Rattle.loop_copies.specs.Copies.{same_slots, refused_merge, merged_copy}

@@ -3,7 +3,6 @@ use Rattle.std.specs.Prelude.{◌≡◌, true, ◌≤◌, length}
 use Rattle.loop_table.specs.declared.Hall.{Hall}
 use Rattle.loop_table.specs.Tables.{well_formed_table, half}
 use Rattle.loop_copies.specs.declared.LoopCopy.{LoopCopy}
-use Rattle.loop_copies.specs.declared.CopyChanged.{CopyChanged}
 use Rattle.loop_copies.specs.Copies.{changes_of, refused_merge, merged_copy}
 
 -- an array of sixteen slots has sixteen

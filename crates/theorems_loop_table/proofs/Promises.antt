@@ -1,5 +1,5 @@
 -- All theorems about two halls at one table, in one record. Assumes nothing.
-use mathlib.Core.Path.{◌≡◌, refl}
+use mathlib.Core.Path.{refl}
 use Rattle.loop_table.specs.Tables.{well_formed_table, refused_write, refused_clear, written, cleared}
 use Rattle.loop_table.specs.declared.Hall.TheVariants.{A}
 use Rattle.theorems_loop_table.specs.Apart.{AcceptedWrite, AcceptedClear}

@@ -7,8 +7,6 @@
 use Rattle.std.specs.Prelude.{ℕ, ◌≡◌, Bool, true, false, not, ◌&&◌, List, ◌∷◌, T, eqb, length, Float}
 use Rattle.numbers.specs.Lists.{all}
 use Rattle.loop_table.specs.declared.Hall.{Hall}
-use Rattle.loop_table.specs.declared.Hall.TheVariants as hall
-use Rattle.loop_table.specs.declared.LoopSlot.{LoopSlot}
 use Rattle.loop_table.specs.declared.LoopTable.{LoopTable}
 use Rattle.loop_table.specs.Tables.{same, half, owns, slot_of, empty, found, written, cleared}
 use Rattle.theorems_loop_table.specs.Calls.{

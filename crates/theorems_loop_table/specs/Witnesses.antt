@@ -1,5 +1,5 @@
 -- Sequences of calls that meet each hypothesis: two halls at an empty table over ten frames.
-use Rattle.std.specs.Prelude.{ℕ, true, false, List, [], ◌∷◌}
+use Rattle.std.specs.Prelude.{true, false, List, [], ◌∷◌}
 use Rattle.sound_creation.specs.Creation.{blank_sound}
 use Rattle.sound_commands.specs.declared.Amount.TheVariants.{Absent}
 use Rattle.sound_commands.specs.declared.LoopCommand.TheVariants as loop

@@ -1,10 +1,10 @@
 -- Two given sounds of equal length: each step of version 2 returns the same except for samples, and so does a whole trace. Assumes nothing.
 use mathlib.Core.Path.{◌≡◌, refl, sym, ap, ap₂, ◌∙◌}
-use Prim.Native.Nat.{ℕ, zero, suc, ◌+◌, ◌-◌, ◌*◌, ◌≤◌, min}
+use Prim.Native.Nat.{ℕ, zero, suc, ◌+◌, ◌-◌, ◌*◌, min}
 use native.Mathlib.Omega.{arith}
-use mathlib.Core.Bool.{Bool, true, false, cond, not, ◌&&◌, ◌||◌}
+use mathlib.Core.Bool.{Bool, true, false, cond, ◌&&◌}
 use mathlib.Core.List.{List, [], ◌∷◌, ◌++◌}
-use lib.Dec.{eqb, leb}
+use lib.Dec.{eqb}
 use lib.ListN.{length, take, drop, length-take, length-append, take-append-drop}
 use lib.Seq.{sets, length-sets}
 use lib.Ieee.{Float}
@@ -23,10 +23,8 @@ use Rattle.sound_block.specs.declared.Signals.{Signals}
 use Rattle.sound_block.specs.Blocks.{block}
 use Rattle.sound_block.proofs.Blocks.{block_length}
 use Rattle.sound_slow_path.specs.declared.Processed.{Processed}
-use Rattle.sound_slow_path.specs.Plays.{Played, Outcome, accepted_with}
+use Rattle.sound_slow_path.specs.Plays.{Played, accepted_with}
 use Rattle.static_sound.specs.Entries.{refused_block, refused_with, holds, processed}
-use Rattle.trace_inputs.specs.declared.Block.{Block}
-use Rattle.trace_inputs.specs.declared.LanedBlock.{LanedBlock}
 use Rattle.trace_inputs.specs.Inputs.{settings_of, samples_of, commands_of, block_of, given_samples, laned_block_of}
 use Rattle.trace_records.specs.declared.Record.{Record}
 use Rattle.trace_sealed.specs.Records.{any_at}
@@ -70,7 +68,7 @@ use Rattle.cableowl.specs.ReplaysV2.{
   refused_step_v2,
   stepped_v2,
 }
-use Rattle.theorems_sound_length.specs.Muted.{muted, muted_created, muted_commanded, muted_processed}
+use Rattle.theorems_sound_length.specs.Muted.{muted_processed}
 use Rattle.theorems_sound_length.specs.Lengths.{SameLength, OtherSound}
 use Rattle.theorems_sound_length.specs.Archive.{muted_state}
 use Rattle.theorems_sound_length.proofs.Calls.{creation_alike, commands_alike, blocks_alike}

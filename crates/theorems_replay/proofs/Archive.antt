@@ -43,7 +43,6 @@ use Rattle.c_state.specs.declared.CableowlState.{CableowlState}
 use Rattle.c_state.specs.Records.{decoded, encoded}
 use Rattle.c_state.proofs.Inverse.{decoded_encoded}
 use Rattle.cableowl.specs.declared.replays.CableowlReplay.{CableowlReplay}
-use Rattle.cableowl.specs.declared.replays.CableowlReplayed.{CableowlReplayed}
 use Rattle.cableowl.specs.Entries.{after}
 use Rattle.cableowl.specs.Replays.{
   StepC,

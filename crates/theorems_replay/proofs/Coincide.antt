@@ -1,5 +1,5 @@
 -- Any two outcomes that a contract allows coincide: each contract names its outcome, and a length that is not named follows from the part it measures. Assumes nothing.
-use mathlib.Core.Path.{◌≡◌, refl, sym, ap, ◌∙◌}
+use mathlib.Core.Path.{◌≡◌, sym, ap, ◌∙◌}
 use Prim.Native.Nat.{ℕ, ◌-◌, ◌≤◌}
 use native.Mathlib.Omega.{arith}
 use mathlib.Core.Bool.{Bool}
@@ -11,7 +11,7 @@ use Rattle.sound_state.specs.declared.StaticSound.{StaticSound}
 use Rattle.trace_replay.specs.declared.Run.{Run}
 use Rattle.trace_replay.specs.declared.PlayedRecord.{PlayedRecord}
 use Rattle.trace_replay.specs.declared.Advanced.{Advanced}
-use Rattle.trace_replay.specs.Runs.{Replay, AfterRecord, Step, blank, replay_of, advanced_of}
+use Rattle.trace_replay.specs.Runs.{Replay, Step, blank, replay_of, advanced_of}
 use Rattle.theorems_replay.specs.Coincide.{InUse, Coincide}
 
 same : {A : Type 0} {x y z : A} → x ≡ z → y ≡ z → x ≡ y

@@ -2,8 +2,8 @@
 use mathlib.Core.Path.{◌≡◌, refl, sym, ap, ap₂, ◌∙◌}
 use Prim.Native.Nat.{ℕ, zero, suc, ◌+◌, ◌-◌, ◌*◌, ◌≤◌}
 use native.Mathlib.Omega.{arith}
-use mathlib.Core.List.{List, [], ◌∷◌}
-use lib.ListN.{length, take, drop}
+use mathlib.Core.List.{List, ◌∷◌}
+use lib.ListN.{take, drop}
 use lib.Seq.{drop-drop}
 use lib.Ieee.{Float}
 use Rattle.byte_layout.specs.Numbers.{num}

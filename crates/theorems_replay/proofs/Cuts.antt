@@ -2,10 +2,8 @@
 use mathlib.Core.Path.{◌≡◌, refl, sym, ap, ◌∙◌}
 use Prim.Native.Nat.{ℕ, zero, suc, ◌+◌, ◌-◌, ◌*◌, ◌≤◌}
 use native.Mathlib.Omega.{arith}
-use mathlib.Core.Bool.{Bool, true, false, not, cond}
-use mathlib.Core.List.{List, [], ◌∷◌}
-use lib.Dec.{T, eqb}
-use lib.ListN.{length, take, drop, replicate, length-replicate}
+use mathlib.Core.List.{List}
+use lib.ListN.{take, drop, replicate, length-replicate}
 use lib.Ieee.{Float}
 use borrow.Author.Tests.{le-leb}
 use Rattle.numbers.specs.Words.{positive_zero}
@@ -19,13 +17,12 @@ use Rattle.static_sound.specs.Entries.{processed}
 use Rattle.trace_inputs.specs.declared.Block.{Block}
 use Rattle.trace_inputs.specs.Inputs.{single, double, signals_of, block_of}
 use Rattle.trace_lines.specs.Lines.{block_line}
-use Rattle.trace_replay.specs.Runs.{Replay, AfterRecord, more, answered, line_of, after}
+use Rattle.trace_replay.specs.Runs.{Replay, more, answered, line_of, after}
 use Rattle.trace_replay.proofs.Parts.{lane}
 use Rattle.trace_replay.proofs.Answers.{line_played}
-use Rattle.theorems.specs.Alike.{Parts, bare}
-use Rattle.theorems.specs.Cut.{CutInTwo}
+use Rattle.theorems.specs.Alike.{Parts}
 use Rattle.theorems.proofs.Cut.{cut_blocks}
-use Rattle.theorems_replay.specs.Cuts.{block_numbers, Lines, CutRecords}
+use Rattle.theorems_replay.specs.Cuts.{block_numbers, CutRecords}
 
 none : {A : Type 0} → ⊥ → A
 none e = elim e [ ]

@@ -1,9 +1,9 @@
 -- The player's part of the rules' three-frame example, by computing it. Assumes nothing.
 use mathlib.Core.Path.{◌≡◌, refl}
 use Prim.Native.Nat.{ℕ}
-use mathlib.Core.List.{List, [], ◌∷◌}
+use mathlib.Core.List.{List, ◌∷◌}
 use lib.ListN.{replicate}
-use lib.Ieee.{Float, add, sub, mul, lt, le, eq, of_int, of_bits, nan_bits}
+use lib.Ieee.{add, sub, mul, lt, le, eq, of_int, of_bits, nan_bits}
 use Rattle.float_bits.specs.Patterns.{float_of}
 use Rattle.trace_inputs.specs.Inputs.{settings_of, stereo, samples_of, block_of}
 use Rattle.numbers.specs.Frames.{rounded, cut_off}

@@ -1,22 +1,20 @@
 -- What is printed of a trace, one record at a time from a window.
 use mathlib.Core.Path.{◌≡◌, refl, sym, ap, ◌∙◌}
-use Prim.Native.Nat.{ℕ, zero, suc, ◌+◌, ◌-◌, ◌≤◌, ◌<◌}
+use Prim.Native.Nat.{ℕ, zero, suc, ◌+◌, ◌-◌, ◌≤◌}
 use native.Mathlib.Omega.{arith}
 use mathlib.Core.Bool.{Bool, true, false, cond}
 use mathlib.Core.List.{List, [], ◌∷◌, ◌++◌}
-use lib.Dec.{eqb}
-use lib.ListN.{length, take, drop, length-append}
+use lib.ListN.{length, drop, length-append}
 use borrow.Author.Tests.{ne_eqb}
 use Rattle.byte_layout.proofs.Numbers.{Small}
 use Rattle.byte_layout.proofs.Codec.{never}
 use Rattle.trace_records.specs.declared.Record.{Record}
 use Rattle.trace_records.specs.Records.{Found, refused, found, read_record, valued, record_at}
 use Rattle.trace_records.specs.Writes.{record_of}
-use Rattle.trace_records.specs.Promises.{Kept}
 use Rattle.trace_records.proofs.Rounds.{written_record}
 use Rattle.trace_records.proofs.Traces.{record_some}
 use Rattle.trace_records.proofs.Windows.{window, refusal_numbered}
-use Rattle.trace_replay.specs.Runs.{Replay, AfterRecord, after, Step, judged, step_of, printed}
+use Rattle.trace_replay.specs.Runs.{Replay, Step, judged, step_of, printed}
 use Rattle.theorems_replay.specs.Streams.{Streams}
 
 none : {A : Type 0} → ⊥ → A

@@ -1,5 +1,5 @@
 -- A step of version 2 reads no more bytes than the longest record has. Assumes nothing.
-use mathlib.Core.Path.{◌≡◌, refl, sym, ap, ap₂, ◌∙◌}
+use mathlib.Core.Path.{◌≡◌, refl, ap, ap₂, ◌∙◌}
 use Prim.Native.Nat.{ℕ, zero, suc, ◌+◌, ◌-◌, ◌*◌, ◌≤◌}
 use native.Mathlib.Omega.{arith}
 use mathlib.Core.Bool.{cond}
@@ -18,7 +18,7 @@ use Rattle.trace_sealed.proofs.Windows.{window}
 use Rattle.c_state.specs.Records.{decoded}
 use Rattle.cableowl.specs.declared.replays.CableowlReplay.{CableowlReplay}
 use Rattle.cableowl.specs.declared.replays.CableowlReplayed.{CableowlReplayed}
-use Rattle.cableowl.specs.Replays.{StepC, unplayed, creation_c, commands_c, block_c, block_step, judged, begun}
+use Rattle.cableowl.specs.Replays.{StepC, unplayed, creation_c, commands_c, block_c, block_step, judged}
 use Rattle.cableowl.specs.ReplaysV2.{playing, buffer_of, given_c, lanes_in, of_kind, laned_step, obeyed, played_record_v2, lacking, judged_v2, begun_v2, refused_step_v2, stepped_v2}
 use Rattle.cableowl.proofs.ReplayStepsV2.{few_laned}
 use Rattle.theorems_replay.specs.ArchiveV2.{StreamsV2}

@@ -29,7 +29,7 @@ use Rattle.theorems.specs.Examples.{ten}
 use Rattle.theorems.specs.Witnesses.{voice}
 use Rattle.c_state.proofs.Inverse.{decoded_encoded}
 use Rattle.cableowl.specs.Replays.{StepC, blank_replay, creation_c, played_record, judged, stepped_c}
-use Rattle.theorems_replay.specs.Cuts.{MayCutRecord, block_numbers}
+use Rattle.theorems_replay.specs.Cuts.{block_numbers}
 use Rattle.theorems_replay.specs.Example.{bytes_of_three_frames}
 use Rattle.theorems_replay.specs.Witnesses.{three_nans, evening, lent_sound, lent_output, going, plain_block, given, falling, falling_bytes, Witnesses}
 use Rattle.theorems_replay.specs.Archive.{Lent, Fit, BlockAt}

@@ -4,7 +4,6 @@
 use Rattle.std.specs.Prelude.{ℕ, zero, suc, ◌+◌, ◌-◌, ◌≤◌, ◌≡◌, cond, not, ◌||◌, List, [], ◌∷◌, ◌++◌, T, eqb, leb, length, take, drop, Float}
 use Rattle.byte_layout.specs.Numbers.{Bytes}
 use Rattle.trace_lines.specs.Lines.{block_line, refused_block_line, refused_line}
-use Rattle.trace_records.specs.declared.Record.{Record}
 use Rattle.trace_records.specs.Records.{record_at}
 use Rattle.trace_replay.specs.Runs.{replayed}
 use Rattle.cableowl.specs.declared.replays.CableowlReplay.{CableowlReplay}

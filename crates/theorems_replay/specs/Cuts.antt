@@ -4,7 +4,7 @@
 use Rattle.std.specs.Prelude.{ℕ, ◌+◌, ◌≤◌, ◌≡◌, not, List, ◌∷◌, T, eqb, replicate}
 use Rattle.trace_inputs.specs.Inputs.{block_of}
 use Rattle.trace_lines.specs.Lines.{block_line}
-use Rattle.trace_replay.specs.Runs.{Replay, AfterRecord, more, answered, after}
+use Rattle.trace_replay.specs.Runs.{Replay, more, answered, after}
 
 -- the numbers of a block: frames; fade, volume, left, right; rate; time step; finished, start, resume
 abbrev pub block_numbers : ℕ → ℕ → ℕ → ℕ → ℕ → ℕ → ℕ → ℕ → ℕ → ℕ → List ℕ

@@ -2,7 +2,7 @@
 -- then what the rest prints from the state after it. So the size of the reader's buffer does not change the output.
 use Rattle.std.specs.Prelude.{ℕ, ◌+◌, ◌≤◌, ◌≡◌, cond, List, [], ◌++◌, take, drop}
 use Rattle.byte_layout.specs.Numbers.{Bytes}
-use Rattle.trace_replay.specs.Runs.{Replay, Step, step_of, printed}
+use Rattle.trace_replay.specs.Runs.{Replay, step_of, printed}
 
 -- hypothesis: bytes, and a window as wide as the longest record
 pub record Window (w : ℕ) (bs : List ℕ) : Type 0 where
