@@ -1,6 +1,7 @@
 -- The step of a replay (request #104; docs/formats/TRACE.md, "What is printed"): the next record of a trace, read and
 -- played.
-use Rattle.std.specs.Prelude.{ℕ, zero, suc, ◌+◌, ◌-◌, ◌*◌, Bool, true, false, cond, ◌&&◌, List, [], ◌∷◌, ◌++◌, eqb, ltb, leb, length, take, drop, replicate, Float}
+use Rattle.std.specs.Prelude.{ℕ, zero, suc, ◌+◌, ◌-◌, ◌*◌, Bool, true, false, cond, ◌&&◌, List, [], ◌∷◌, ◌++◌, eqb}
+use Rattle.std.specs.Prelude.{ltb, leb, length, take, drop, replicate, Float}
 use Rattle.std.proofs.lemmas.List.Edits.{sets}
 use Rattle.sound_lanes.specs.Lanes.{Lanes, five}
 use Rattle.sound_state.specs.Refusals.{unless}

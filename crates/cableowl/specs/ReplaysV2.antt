@@ -1,6 +1,7 @@
 -- The step of a replay for trace version 2 (docs/formats/TRACE.md, "Version 2"): the next record of any of the five
 -- kinds, read and played. Kinds 1 to 3 are played as specs/Replays.antt says.
-use Rattle.std.specs.Prelude.{ℕ, ◌*◌, Bool, cond, not, ◌&&◌, ◌||◌, List, [], ◌∷◌, ◌++◌, eqb, leb, length, take, drop, Float}
+use Rattle.std.specs.Prelude.{ℕ, ◌*◌, Bool, cond, not, ◌&&◌, ◌||◌, List, [], ◌∷◌, ◌++◌, eqb, leb, length, take, drop}
+use Rattle.std.specs.Prelude.{Float}
 use Rattle.std.proofs.lemmas.List.Edits.{sets}
 use Rattle.sound_lanes.specs.Lanes.{Lanes, five}
 use Rattle.sound_state.specs.declared.StaticSound.{StaticSound}
@@ -11,7 +12,8 @@ use Rattle.static_sound.specs.Entries.{processed}
 use Rattle.trace_records.specs.declared.Record.{Record}
 use Rattle.trace_sealed.specs.Records.{any_at}
 use Rattle.trace_inputs.specs.declared.LanedBlock.{LanedBlock}
-use Rattle.trace_inputs.specs.Inputs.{settings_of, samples_of, given_frames, given_samples, laned_block_of, singles, doubles}
+use Rattle.trace_inputs.specs.Inputs.{settings_of, samples_of, given_frames, given_samples, laned_block_of, singles}
+use Rattle.trace_inputs.specs.Inputs.{doubles}
 use Rattle.c_state.specs.Records.{decoded, encoded}
 use Rattle.cableowl.specs.declared.replays.CableowlReplay.{CableowlReplay}
 use Rattle.cableowl.specs.declared.replays.CableowlReplayed.{CableowlReplayed}

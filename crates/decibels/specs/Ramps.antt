@@ -1,6 +1,7 @@
 -- The fade ramp: a lane of amplitudes whose levels go in a straight line from one level to another, rounded down
 -- (request #101).
-use Rattle.std.specs.Prelude.{ℕ, zero, suc, ◌+◌, ◌-◌, ◌*◌, ◌/◌, cond, ◌&&◌, List, [], ◌∷◌, ◌++◌, leb, eqb, length, Float}
+use Rattle.std.specs.Prelude.{ℕ, zero, suc, ◌+◌, ◌-◌, ◌*◌, ◌/◌, cond, ◌&&◌, List, [], ◌∷◌, ◌++◌, leb, eqb, length}
+use Rattle.std.specs.Prelude.{Float}
 use Rattle.decibels.specs.Levels.{amplitude}
 
 -- the level of frame i of n; a single frame has the end level

@@ -1,7 +1,8 @@
 -- The table of loops (request #109), refusals 1, 6 and 20 to 22: sixteen slots over one sound, slots 0 to 7 written
 -- by hall A, 8 to 15 by hall B. Every loop is in frames and must lie inside the sound, whose frame count the table
 -- records.
-use Rattle.std.specs.Prelude.{ℕ, Bool, true, false, ◌&&◌, ◌||◌, cond, List, eqb, leb, ltb, get_or, set, take, drop, replicate}
+use Rattle.std.specs.Prelude.{ℕ, Bool, true, false, ◌&&◌, ◌||◌, cond, List, eqb, leb, ltb, get_or, set, take, drop}
+use Rattle.std.specs.Prelude.{replicate}
 use Rattle.numbers.specs.Lists.{all}
 use Rattle.playback_position.specs.declared.FrameRange.TheVariants.{Frames}
 use Rattle.playback_position.specs.Positions.{within}

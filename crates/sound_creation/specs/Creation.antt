@@ -1,5 +1,6 @@
 -- Creation (docs/assurance/RULES.md, "Creation, commands, block"), refusals 2 to 7.
-use Rattle.std.specs.Prelude.{ℕ, ◌-◌, ◌*◌, ◌/◌, ◌%◌, Bool, true, false, not, ◌&&◌, cond, List, leb, ltb, eqb, length, Float}
+use Rattle.std.specs.Prelude.{ℕ, ◌-◌, ◌*◌, ◌/◌, ◌%◌, Bool, true, false, not, ◌&&◌, cond, List, leb, ltb, eqb, length}
+use Rattle.std.specs.Prelude.{Float}
 use Rattle.numbers.specs.Words.{positive_zero, finite}
 use Rattle.playback_position.specs.declared.FrameRange.{FrameRange}
 use Rattle.playback_position.specs.declared.FrameRange.TheVariants as range

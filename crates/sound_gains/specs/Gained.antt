@@ -9,7 +9,12 @@ use Rattle.sound_gains.specs.declared.Gains.{Gains}
 -- frame i's gains in the lanes
 abbrev pub gains_at : List Float → List Float → List Float → List Float → ℕ → Gains
 gains_at fade volume left right i =
-    record { fade = get_or fade i nan; volume = get_or volume i nan; left = get_or left i nan; right = get_or right i nan }
+    record {
+      fade = get_or fade i nan;
+      volume = get_or volume i nan;
+      left = get_or left i nan;
+      right = get_or right i nan;
+    }
 
 -- a reading times its gains
 abbrev pub scaled : Float → Float → Gains → Frame

@@ -1,6 +1,7 @@
 -- The five lanes of a block, and refusals 9 to 12 (docs/assurance/RULES.md, "What the host supplies", "Numbers and
 -- their refusals").
-use Rattle.std.specs.Prelude.{ℕ, Bool, false, ◌&&◌, cond, List, [], ◌∷◌, leb, ltb, eqb, pos, length, get_or, take, drop, Float}
+use Rattle.std.specs.Prelude.{ℕ, Bool, false, ◌&&◌, cond, List, [], ◌∷◌, leb, ltb, eqb, pos, length, get_or, take}
+use Rattle.std.specs.Prelude.{drop, Float}
 use Rattle.std.specs.Float.{nan, fin}
 use Rattle.std.specs.Float.Ieee.{lt, le}
 use Rattle.std.specs.Borrow.{Bor}
@@ -40,7 +41,13 @@ lanes_at_entry fade volume left right rate =
 abbrev pub beside : List Float → List Float → List Float → List Float → List Float → List Lane
 beside fs vs ls rs [] = []
 beside fs vs ls rs (q ∷ qs) =
-    record { fade = get_or fs 0 nan; volume = get_or vs 0 nan; left = get_or ls 0 nan; right = get_or rs 0 nan; rate = q }
+    record {
+      fade = get_or fs 0 nan;
+      volume = get_or vs 0 nan;
+      left = get_or ls 0 nan;
+      right = get_or rs 0 nan;
+      rate = q;
+    }
     ∷ beside (drop 1 fs) (drop 1 vs) (drop 1 ls) (drop 1 rs) qs
 
 abbrev pub rows : Lanes → List Lane

@@ -119,8 +119,8 @@ pub fn play_spread(
     out: &mut [f32],
 ) -> Processed
     requires alike { Alike (lanes_now fade volume left right rate) }
-    requires playable { Playable sound.now voice dt (spread (length out.old / 2) (lanes_now fade volume left right rate))
-        (length out.old) }
+    requires playable { Playable sound.now voice dt
+        (spread (length out.old / 2) (lanes_now fade volume left right rate)) (length out.old) }
     ensures { record { answer = result; samples = out.new }
         ≡ accepted_as (plays sound.now dt
         (rows (spread (length out.old / 2) (lanes_at_entry fade volume left right rate))) voice) }

@@ -1,6 +1,7 @@
 -- The entries for accepted and refused calls: block, block into a mix, stretch (docs/assurance/RULES.md, refusals 1
 -- and 9 to 12).
-use Rattle.std.specs.Prelude.{ℕ, ◌+◌, ◌-◌, ◌*◌, ◌/◌, ◌%◌, Bool, ◌&&◌, cond, List, [], ◌++◌, leb, eqb, length, take, drop, Float}
+use Rattle.std.specs.Prelude.{ℕ, ◌+◌, ◌-◌, ◌*◌, ◌/◌, ◌%◌, Bool, ◌&&◌, cond, List, [], ◌++◌, leb, eqb, length, take}
+use Rattle.std.specs.Prelude.{drop, Float}
 use Rattle.playback_position.specs.declared.FrameRange.{FrameRange}
 use Rattle.playback_position.specs.declared.FrameRange.TheVariants as range
 use Rattle.sound_lanes.specs.Lanes.{Lanes, rows, sized, is_time_step, laned, near}

@@ -3,7 +3,8 @@
 #![tactic(auto)]
 
 ghost use Rattle.std.specs.Prelude.{◌≡◌, cond};
-ghost use Rattle.numbers.specs.Words.{positive_zero, finite, finite_clear, is_positive_zero, negative, proper, narrowed};
+ghost use Rattle.numbers.specs.Words.{positive_zero, finite, finite_clear, is_positive_zero, negative, proper};
+ghost use Rattle.numbers.specs.Words.{narrowed};
 ghost use Rattle.numbers.specs.Words as Words;
 ghost use Rattle.numbers.specs.Frames.{rounded, cut_off};
 ghost use Rattle.test_exports.specs.Answers.{bit, yes, moved};

@@ -27,31 +27,31 @@ use Rattle.numbers.specs.contracts.is_proper as NumbersIsProper
 use Rattle.numbers.specs.contracts.is_finite_clear as NumbersIsFiniteClear
 use Rattle.numbers.specs.contracts.is_positive_zero as NumbersIsPositiveZero
 use Rattle.frame.specs.contracts.interpolate_frame as FrameInterpolateFrame
-use Rattle.playback_position.specs.contracts.PlaybackPosition.into_samples as PlaybackPositionPlaybackPositionIntoSamples
-use Rattle.playback_position.specs.contracts.PlaybackPosition.is_finite_position as PlaybackPositionPlaybackPositionIsFinitePosition
-use Rattle.playback_position.specs.contracts.EndPosition.into_samples as PlaybackPositionEndPositionIntoSamples
-use Rattle.playback_position.specs.contracts.EndPosition.is_finite_end as PlaybackPositionEndPositionIsFiniteEnd
+use Rattle.playback_position.specs.contracts.PlaybackPosition.into_samples as PlaybackPositionIntoSamples
+use Rattle.playback_position.specs.contracts.PlaybackPosition.is_finite_position as PlaybackPositionIsFinitePosition
+use Rattle.playback_position.specs.contracts.EndPosition.into_samples as EndPositionIntoSamples
+use Rattle.playback_position.specs.contracts.EndPosition.is_finite_end as EndPositionIsFiniteEnd
 use Rattle.playback_position.specs.contracts.FrameRange.is_within as PlaybackPositionFrameRangeIsWithin
 use Rattle.playback_position.specs.contracts.Region.into_frames as PlaybackPositionRegionIntoFrames
 use Rattle.playback_position.specs.contracts.Region.is_well_formed as PlaybackPositionRegionIsWellFormed
-use Rattle.transport.specs.contracts.Transport.new as TransportTransportNew
-use Rattle.transport.specs.contracts.Transport.set_loop_region as TransportTransportSetLoopRegion
-use Rattle.transport.specs.contracts.Transport.increment_position as TransportTransportIncrementPosition
-use Rattle.transport.specs.contracts.Transport.decrement_position as TransportTransportDecrementPosition
-use Rattle.transport.specs.contracts.Transport.wraps as TransportTransportWraps
-use Rattle.transport.specs.contracts.Transport.seek_to as TransportTransportSeekTo
-use Rattle.resampler.specs.contracts.Resampler.new as ResamplerResamplerNew
-use Rattle.resampler.specs.contracts.Resampler.push_frame as ResamplerResamplerPushFrame
-use Rattle.resampler.specs.contracts.Resampler.get as ResamplerResamplerGet
-use Rattle.resampler.specs.contracts.Resampler.current_frame_index as ResamplerResamplerCurrentFrameIndex
-use Rattle.resampler.specs.contracts.Resampler.empty as ResamplerResamplerEmpty
-use Rattle.playback_state_manager.specs.contracts.PlaybackState.number as PlaybackStateManagerPlaybackStateNumber
-use Rattle.playback_state_manager.specs.contracts.PlaybackState.is_advancing as PlaybackStateManagerPlaybackStateIsAdvancing
-use Rattle.playback_state_manager.specs.contracts.PlaybackState.pause as PlaybackStateManagerPlaybackStatePause
-use Rattle.playback_state_manager.specs.contracts.PlaybackState.resume as PlaybackStateManagerPlaybackStateResume
-use Rattle.playback_state_manager.specs.contracts.PlaybackState.stop as PlaybackStateManagerPlaybackStateStop
-use Rattle.playback_state_manager.specs.contracts.PlaybackState.mark_as_stopped as PlaybackStateManagerPlaybackStateMarkAsStopped
-use Rattle.playback_state_manager.specs.contracts.PlaybackState.update as PlaybackStateManagerPlaybackStateUpdate
+use Rattle.transport.specs.contracts.Transport.new as TransportNew
+use Rattle.transport.specs.contracts.Transport.set_loop_region as TransportSetLoopRegion
+use Rattle.transport.specs.contracts.Transport.increment_position as TransportIncrementPosition
+use Rattle.transport.specs.contracts.Transport.decrement_position as TransportDecrementPosition
+use Rattle.transport.specs.contracts.Transport.wraps as TransportWraps
+use Rattle.transport.specs.contracts.Transport.seek_to as TransportSeekTo
+use Rattle.resampler.specs.contracts.Resampler.new as ResamplerNew
+use Rattle.resampler.specs.contracts.Resampler.push_frame as ResamplerPushFrame
+use Rattle.resampler.specs.contracts.Resampler.get as ResamplerGet
+use Rattle.resampler.specs.contracts.Resampler.current_frame_index as ResamplerCurrentFrameIndex
+use Rattle.resampler.specs.contracts.Resampler.empty as ResamplerEmpty
+use Rattle.playback_state_manager.specs.contracts.PlaybackState.number as PlaybackStateNumber
+use Rattle.playback_state_manager.specs.contracts.PlaybackState.is_advancing as PlaybackStateIsAdvancing
+use Rattle.playback_state_manager.specs.contracts.PlaybackState.pause as PlaybackStatePause
+use Rattle.playback_state_manager.specs.contracts.PlaybackState.resume as PlaybackStateResume
+use Rattle.playback_state_manager.specs.contracts.PlaybackState.stop as PlaybackStateStop
+use Rattle.playback_state_manager.specs.contracts.PlaybackState.mark_as_stopped as PlaybackStateMarkAsStopped
+use Rattle.playback_state_manager.specs.contracts.PlaybackState.update as PlaybackStateUpdate
 use Rattle.start_time.specs.contracts.StartSignal.answer as StartTimeStartSignalAnswer
 use Rattle.sound_lanes.specs.contracts.are_sized as SoundLanesAreSized
 use Rattle.sound_lanes.specs.contracts.is_time_step as SoundLanesIsTimeStep
@@ -134,40 +134,40 @@ use Rattle.c_state.specs.contracts.encode as CStateEncode
 use Rattle.c_inputs.specs.contracts.settings_of as CInputsSettingsOf
 use Rattle.c_inputs.specs.contracts.commands_of as CInputsCommandsOf
 use Rattle.c_inputs.specs.contracts.signals_of as CInputsSignalsOf
-use Rattle.cableowl.specs.contracts.cableowl_version as CableowlCableowlVersion
-use Rattle.cableowl.specs.contracts.cableowl_new as CableowlCableowlNew
-use Rattle.cableowl.specs.contracts.cableowl_on_start_processing as CableowlCableowlOnStartProcessing
-use Rattle.cableowl.specs.contracts.cableowl_process as CableowlCableowlProcess
-use Rattle.cableowl.specs.contracts.cableowl_process_into as CableowlCableowlProcessInto
-use Rattle.cableowl.specs.contracts.cableowl_process_held as CableowlCableowlProcessHeld
-use Rattle.cableowl.specs.contracts.cableowl_process_held_into as CableowlCableowlProcessHeldInto
-use Rattle.cableowl.specs.contracts.cableowl_stretch as CableowlCableowlStretch
-use Rattle.cableowl.specs.contracts.cableowl_amplitude as CableowlCableowlAmplitude
-use Rattle.cableowl.specs.contracts.cableowl_fade_ramp as CableowlCableowlFadeRamp
-use Rattle.cableowl.specs.contracts.cableowl_loop_table as CableowlCableowlLoopTable
-use Rattle.cableowl.specs.contracts.cableowl_write_loop as CableowlCableowlWriteLoop
-use Rattle.cableowl.specs.contracts.cableowl_clear_loop as CableowlCableowlClearLoop
-use Rattle.cableowl.specs.contracts.cableowl_read_loop as CableowlCableowlReadLoop
-use Rattle.cableowl.specs.contracts.cableowl_take_loop as CableowlCableowlTakeLoop
-use Rattle.cableowl.specs.contracts.cableowl_loop_copy as CableowlCableowlLoopCopy
-use Rattle.cableowl.specs.contracts.cableowl_write_copy as CableowlCableowlWriteCopy
-use Rattle.cableowl.specs.contracts.cableowl_clear_copy as CableowlCableowlClearCopy
-use Rattle.cableowl.specs.contracts.cableowl_merge_copies as CableowlCableowlMergeCopies
-use Rattle.cableowl.specs.contracts.cableowl_store_settings as CableowlCableowlStoreSettings
-use Rattle.cableowl.specs.contracts.cableowl_load_settings as CableowlCableowlLoadSettings
-use Rattle.cableowl.specs.contracts.cableowl_settings_of as CableowlCableowlSettingsOf
-use Rattle.cableowl.specs.contracts.cableowl_store_half as CableowlCableowlStoreHalf
-use Rattle.cableowl.specs.contracts.cableowl_load_half as CableowlCableowlLoadHalf
-use Rattle.cableowl.specs.contracts.cableowl_read_record as CableowlCableowlReadRecord
-use Rattle.cableowl.specs.contracts.cableowl_write_record as CableowlCableowlWriteRecord
-use Rattle.cableowl.specs.contracts.cableowl_read_record_v2 as CableowlCableowlReadRecordV2
-use Rattle.cableowl.specs.contracts.cableowl_write_record_v2 as CableowlCableowlWriteRecordV2
-use Rattle.cableowl.specs.contracts.cableowl_salvage as CableowlCableowlSalvage
-use Rattle.cableowl.specs.contracts.cableowl_salvage_v2 as CableowlCableowlSalvageV2
-use Rattle.cableowl.specs.contracts.cableowl_replay as CableowlCableowlReplay
-use Rattle.cableowl.specs.contracts.cableowl_replay_step as CableowlCableowlReplayStep
-use Rattle.cableowl.specs.contracts.cableowl_replay_v2 as CableowlCableowlReplayV2
-use Rattle.cableowl.specs.contracts.cableowl_replay_step_v2 as CableowlCableowlReplayStepV2
+use Rattle.cableowl.specs.contracts.cableowl_version as CableowlVersion
+use Rattle.cableowl.specs.contracts.cableowl_new as CableowlNew
+use Rattle.cableowl.specs.contracts.cableowl_on_start_processing as CableowlOnStartProcessing
+use Rattle.cableowl.specs.contracts.cableowl_process as CableowlProcess
+use Rattle.cableowl.specs.contracts.cableowl_process_into as CableowlProcessInto
+use Rattle.cableowl.specs.contracts.cableowl_process_held as CableowlProcessHeld
+use Rattle.cableowl.specs.contracts.cableowl_process_held_into as CableowlProcessHeldInto
+use Rattle.cableowl.specs.contracts.cableowl_stretch as CableowlStretch
+use Rattle.cableowl.specs.contracts.cableowl_amplitude as CableowlAmplitude
+use Rattle.cableowl.specs.contracts.cableowl_fade_ramp as CableowlFadeRamp
+use Rattle.cableowl.specs.contracts.cableowl_loop_table as CableowlLoopTable
+use Rattle.cableowl.specs.contracts.cableowl_write_loop as CableowlWriteLoop
+use Rattle.cableowl.specs.contracts.cableowl_clear_loop as CableowlClearLoop
+use Rattle.cableowl.specs.contracts.cableowl_read_loop as CableowlReadLoop
+use Rattle.cableowl.specs.contracts.cableowl_take_loop as CableowlTakeLoop
+use Rattle.cableowl.specs.contracts.cableowl_loop_copy as CableowlLoopCopy
+use Rattle.cableowl.specs.contracts.cableowl_write_copy as CableowlWriteCopy
+use Rattle.cableowl.specs.contracts.cableowl_clear_copy as CableowlClearCopy
+use Rattle.cableowl.specs.contracts.cableowl_merge_copies as CableowlMergeCopies
+use Rattle.cableowl.specs.contracts.cableowl_store_settings as CableowlStoreSettings
+use Rattle.cableowl.specs.contracts.cableowl_load_settings as CableowlLoadSettings
+use Rattle.cableowl.specs.contracts.cableowl_settings_of as CableowlSettingsOf
+use Rattle.cableowl.specs.contracts.cableowl_store_half as CableowlStoreHalf
+use Rattle.cableowl.specs.contracts.cableowl_load_half as CableowlLoadHalf
+use Rattle.cableowl.specs.contracts.cableowl_read_record as CableowlReadRecord
+use Rattle.cableowl.specs.contracts.cableowl_write_record as CableowlWriteRecord
+use Rattle.cableowl.specs.contracts.cableowl_read_record_v2 as CableowlReadRecordV2
+use Rattle.cableowl.specs.contracts.cableowl_write_record_v2 as CableowlWriteRecordV2
+use Rattle.cableowl.specs.contracts.cableowl_salvage as CableowlSalvage
+use Rattle.cableowl.specs.contracts.cableowl_salvage_v2 as CableowlSalvageV2
+use Rattle.cableowl.specs.contracts.cableowl_replay as CableowlReplay
+use Rattle.cableowl.specs.contracts.cableowl_replay_step as CableowlReplayStep
+use Rattle.cableowl.specs.contracts.cableowl_replay_v2 as CableowlReplayV2
+use Rattle.cableowl.specs.contracts.cableowl_replay_step_v2 as CableowlReplayStepV2
 
 -- what a contract allows: for lifetimes k and every input, a result and the final contents of what was borrowed
 abbrev pub Allows : (K : Type 0) (A R S : K → Type 0) → Type 1
@@ -207,194 +207,383 @@ pub record Coincide : Type 0 where
   -- numbers
   pub numbers_narrow : Decides (Post NumbersNarrow.ended NumbersNarrow.clauses (λ k a. (tt, λ r s. r_last _)))
   pub numbers_advance_by : Decides (Post NumbersAdvanceBy.ended NumbersAdvanceBy.clauses (λ k a. (tt, λ r s. r_last _)))
-  pub numbers_round_half_away : Decides (Post NumbersRoundHalfAway.ended NumbersRoundHalfAway.clauses (λ k a. (tt, λ r s. r_last _)))
+  pub numbers_round_half_away :
+      Decides (Post NumbersRoundHalfAway.ended NumbersRoundHalfAway.clauses (λ k a. (tt, λ r s. r_last _)))
   pub numbers_cut : Decides (Post NumbersCut.ended NumbersCut.clauses (λ k a. (tt, λ r s. r_last _)))
   pub numbers_magnitude : Decides (Post NumbersMagnitude.ended NumbersMagnitude.clauses (λ k a. (tt, λ r s. r_last _)))
   pub numbers_is_finite : Decides (Post NumbersIsFinite.ended NumbersIsFinite.clauses (λ k a. (tt, λ r s. r_last _)))
-  pub numbers_is_negative : Decides (Post NumbersIsNegative.ended NumbersIsNegative.clauses (λ k a. (tt, λ r s. r_last _)))
+  pub numbers_is_negative :
+      Decides (Post NumbersIsNegative.ended NumbersIsNegative.clauses (λ k a. (tt, λ r s. r_last _)))
   pub numbers_is_proper : Decides (Post NumbersIsProper.ended NumbersIsProper.clauses (λ k a. (tt, λ r s. r_last _)))
-  pub numbers_is_finite_clear : Decides (Post NumbersIsFiniteClear.ended NumbersIsFiniteClear.clauses (λ k a. (tt, λ r s. r_last _)))
-  pub numbers_is_positive_zero : Decides (Post NumbersIsPositiveZero.ended NumbersIsPositiveZero.clauses (λ k a. (tt, λ r s. r_last _)))
+  pub numbers_is_finite_clear :
+      Decides (Post NumbersIsFiniteClear.ended NumbersIsFiniteClear.clauses (λ k a. (tt, λ r s. r_last _)))
+  pub numbers_is_positive_zero :
+      Decides (Post NumbersIsPositiveZero.ended NumbersIsPositiveZero.clauses (λ k a. (tt, λ r s. r_last _)))
   -- frame
-  pub frame_interpolate_frame : Decides (Post FrameInterpolateFrame.ended FrameInterpolateFrame.clauses (λ k a. (tt, λ r s. r_last _)))
+  pub frame_interpolate_frame :
+      Decides (Post FrameInterpolateFrame.ended FrameInterpolateFrame.clauses (λ k a. (tt, λ r s. r_last _)))
   -- playback_position
   pub playback_position_playbackposition_into_samples :
-      Decides (Post PlaybackPositionPlaybackPositionIntoSamples.ended PlaybackPositionPlaybackPositionIntoSamples.clauses (λ k a. (tt, λ r s. r_last _)))
+      Decides (Post PlaybackPositionIntoSamples.ended PlaybackPositionIntoSamples.clauses
+      (λ k a. (tt, λ r s. r_last _)))
   pub playback_position_playbackposition_is_finite_position :
-      Decides (Post PlaybackPositionPlaybackPositionIsFinitePosition.ended PlaybackPositionPlaybackPositionIsFinitePosition.clauses (λ k a. (tt, λ r s. r_last _)))
-  pub playback_position_endposition_into_samples : Decides (Post PlaybackPositionEndPositionIntoSamples.ended PlaybackPositionEndPositionIntoSamples.clauses (λ k a. (tt, λ r s. r_last _)))
-  pub playback_position_endposition_is_finite_end : Decides (Post PlaybackPositionEndPositionIsFiniteEnd.ended PlaybackPositionEndPositionIsFiniteEnd.clauses (λ k a. (tt, λ r s. r_last _)))
-  pub playback_position_framerange_is_within : Decides (Post PlaybackPositionFrameRangeIsWithin.ended PlaybackPositionFrameRangeIsWithin.clauses (λ k a. (tt, λ r s. r_last _)))
-  pub playback_position_region_into_frames : Decides (Post PlaybackPositionRegionIntoFrames.ended PlaybackPositionRegionIntoFrames.clauses (λ k a. (tt, λ r s. r_last _)))
-  pub playback_position_region_is_well_formed : Decides (Post PlaybackPositionRegionIsWellFormed.ended PlaybackPositionRegionIsWellFormed.clauses (λ k a. (tt, λ r s. r_last _)))
+      Decides (Post PlaybackPositionIsFinitePosition.ended PlaybackPositionIsFinitePosition.clauses
+      (λ k a. (tt, λ r s. r_last _)))
+  pub playback_position_endposition_into_samples :
+      Decides (Post EndPositionIntoSamples.ended EndPositionIntoSamples.clauses
+      (λ k a. (tt, λ r s. r_last _)))
+  pub playback_position_endposition_is_finite_end :
+      Decides (Post EndPositionIsFiniteEnd.ended EndPositionIsFiniteEnd.clauses
+      (λ k a. (tt, λ r s. r_last _)))
+  pub playback_position_framerange_is_within :
+      Decides (Post PlaybackPositionFrameRangeIsWithin.ended PlaybackPositionFrameRangeIsWithin.clauses
+      (λ k a. (tt, λ r s. r_last _)))
+  pub playback_position_region_into_frames :
+      Decides (Post PlaybackPositionRegionIntoFrames.ended PlaybackPositionRegionIntoFrames.clauses
+      (λ k a. (tt, λ r s. r_last _)))
+  pub playback_position_region_is_well_formed :
+      Decides (Post PlaybackPositionRegionIsWellFormed.ended PlaybackPositionRegionIsWellFormed.clauses
+      (λ k a. (tt, λ r s. r_last _)))
   -- transport
-  pub transport_transport_new : Decides (Post TransportTransportNew.ended TransportTransportNew.clauses (λ k a. (tt, λ r s. r_last _)))
-  pub transport_transport_set_loop_region : Decides (Post TransportTransportSetLoopRegion.ended TransportTransportSetLoopRegion.clauses (λ k a. (tt, λ r s. r_last _)))
-  pub transport_transport_increment_position : Decides (Post TransportTransportIncrementPosition.ended TransportTransportIncrementPosition.clauses (λ k a. (tt, λ r s. r_last _)))
-  pub transport_transport_decrement_position : Decides (Post TransportTransportDecrementPosition.ended TransportTransportDecrementPosition.clauses (λ k a. (tt, λ r s. r_last _)))
-  pub transport_transport_wraps : Decides (Post TransportTransportWraps.ended TransportTransportWraps.clauses (λ k a. (tt, λ r s. r_last _)))
-  pub transport_transport_seek_to : Decides (Post TransportTransportSeekTo.ended TransportTransportSeekTo.clauses (λ k a. (tt, λ r s. r_last _)))
+  pub transport_transport_new :
+      Decides (Post TransportNew.ended TransportNew.clauses (λ k a. (tt, λ r s. r_last _)))
+  pub transport_transport_set_loop_region :
+      Decides (Post TransportSetLoopRegion.ended TransportSetLoopRegion.clauses
+      (λ k a. (tt, λ r s. r_last _)))
+  pub transport_transport_increment_position :
+      Decides (Post TransportIncrementPosition.ended TransportIncrementPosition.clauses
+      (λ k a. (tt, λ r s. r_last _)))
+  pub transport_transport_decrement_position :
+      Decides (Post TransportDecrementPosition.ended TransportDecrementPosition.clauses
+      (λ k a. (tt, λ r s. r_last _)))
+  pub transport_transport_wraps :
+      Decides (Post TransportWraps.ended TransportWraps.clauses (λ k a. (tt, λ r s. r_last _)))
+  pub transport_transport_seek_to :
+      Decides (Post TransportSeekTo.ended TransportSeekTo.clauses (λ k a. (tt, λ r s. r_last _)))
   -- resampler
-  pub resampler_resampler_new : Decides (Post ResamplerResamplerNew.ended ResamplerResamplerNew.clauses (λ k a. (tt, λ r s. r_last _)))
-  pub resampler_resampler_push_frame : Decides (Post ResamplerResamplerPushFrame.ended ResamplerResamplerPushFrame.clauses (λ k a. (tt, λ r s. r_last _)))
-  pub resampler_resampler_get : Decides (Post ResamplerResamplerGet.ended ResamplerResamplerGet.clauses (λ k a. (tt, λ r s. r_last _)))
-  pub resampler_resampler_current_frame_index : Decides (Post ResamplerResamplerCurrentFrameIndex.ended ResamplerResamplerCurrentFrameIndex.clauses (λ k a. (tt, λ r s. r_last _)))
-  pub resampler_resampler_empty : Decides (Post ResamplerResamplerEmpty.ended ResamplerResamplerEmpty.clauses (λ k a. (tt, λ r s. r_last _)))
+  pub resampler_resampler_new :
+      Decides (Post ResamplerNew.ended ResamplerNew.clauses (λ k a. (tt, λ r s. r_last _)))
+  pub resampler_resampler_push_frame :
+      Decides (Post ResamplerPushFrame.ended ResamplerPushFrame.clauses
+      (λ k a. (tt, λ r s. r_last _)))
+  pub resampler_resampler_get :
+      Decides (Post ResamplerGet.ended ResamplerGet.clauses (λ k a. (tt, λ r s. r_last _)))
+  pub resampler_resampler_current_frame_index :
+      Decides (Post ResamplerCurrentFrameIndex.ended ResamplerCurrentFrameIndex.clauses
+      (λ k a. (tt, λ r s. r_last _)))
+  pub resampler_resampler_empty :
+      Decides (Post ResamplerEmpty.ended ResamplerEmpty.clauses (λ k a. (tt, λ r s. r_last _)))
   -- playback_state_manager
-  pub playback_state_manager_playbackstate_number : Decides (Post PlaybackStateManagerPlaybackStateNumber.ended PlaybackStateManagerPlaybackStateNumber.clauses (λ k a. (tt, λ r s. r_last _)))
+  pub playback_state_manager_playbackstate_number :
+      Decides (Post PlaybackStateNumber.ended PlaybackStateNumber.clauses
+      (λ k a. (tt, λ r s. r_last _)))
   pub playback_state_manager_playbackstate_is_advancing :
-      Decides (Post PlaybackStateManagerPlaybackStateIsAdvancing.ended PlaybackStateManagerPlaybackStateIsAdvancing.clauses (λ k a. (tt, λ r s. r_last _)))
-  pub playback_state_manager_playbackstate_pause : Decides (Post PlaybackStateManagerPlaybackStatePause.ended PlaybackStateManagerPlaybackStatePause.clauses (λ k a. (tt, λ r s. r_last _)))
-  pub playback_state_manager_playbackstate_resume : Decides (Post PlaybackStateManagerPlaybackStateResume.ended PlaybackStateManagerPlaybackStateResume.clauses (λ k a. (tt, λ r s. r_last _)))
-  pub playback_state_manager_playbackstate_stop : Decides (Post PlaybackStateManagerPlaybackStateStop.ended PlaybackStateManagerPlaybackStateStop.clauses (λ k a. (tt, λ r s. r_last _)))
+      Decides (Post PlaybackStateIsAdvancing.ended PlaybackStateIsAdvancing.clauses
+      (λ k a. (tt, λ r s. r_last _)))
+  pub playback_state_manager_playbackstate_pause :
+      Decides (Post PlaybackStatePause.ended PlaybackStatePause.clauses
+      (λ k a. (tt, λ r s. r_last _)))
+  pub playback_state_manager_playbackstate_resume :
+      Decides (Post PlaybackStateResume.ended PlaybackStateResume.clauses
+      (λ k a. (tt, λ r s. r_last _)))
+  pub playback_state_manager_playbackstate_stop :
+      Decides (Post PlaybackStateStop.ended PlaybackStateStop.clauses
+      (λ k a. (tt, λ r s. r_last _)))
   pub playback_state_manager_playbackstate_mark_as_stopped :
-      Decides (Post PlaybackStateManagerPlaybackStateMarkAsStopped.ended PlaybackStateManagerPlaybackStateMarkAsStopped.clauses (λ k a. (tt, λ r s. r_last _)))
-  pub playback_state_manager_playbackstate_update : Decides (Post PlaybackStateManagerPlaybackStateUpdate.ended PlaybackStateManagerPlaybackStateUpdate.clauses (λ k a. (tt, λ r s. r_last _)))
+      Decides (Post PlaybackStateMarkAsStopped.ended PlaybackStateMarkAsStopped.clauses
+      (λ k a. (tt, λ r s. r_last _)))
+  pub playback_state_manager_playbackstate_update :
+      Decides (Post PlaybackStateUpdate.ended PlaybackStateUpdate.clauses
+      (λ k a. (tt, λ r s. r_last _)))
   -- start_time
-  pub start_time_startsignal_answer : Decides (Post StartTimeStartSignalAnswer.ended StartTimeStartSignalAnswer.clauses (λ k a. (tt, λ r s. r_last _)))
+  pub start_time_startsignal_answer :
+      Decides (Post StartTimeStartSignalAnswer.ended StartTimeStartSignalAnswer.clauses (λ k a. (tt, λ r s. r_last _)))
   -- sound_lanes
-  pub sound_lanes_are_sized : Decides (Post SoundLanesAreSized.ended SoundLanesAreSized.clauses (λ k a. (tt, λ r s. r_last _)))
-  pub sound_lanes_is_time_step : Decides (Post SoundLanesIsTimeStep.ended SoundLanesIsTimeStep.clauses (λ k a. (tt, λ r s. r_last _)))
+  pub sound_lanes_are_sized :
+      Decides (Post SoundLanesAreSized.ended SoundLanesAreSized.clauses (λ k a. (tt, λ r s. r_last _)))
+  pub sound_lanes_is_time_step :
+      Decides (Post SoundLanesIsTimeStep.ended SoundLanesIsTimeStep.clauses (λ k a. (tt, λ r s. r_last _)))
   pub sound_lanes_judge : Decides (Post SoundLanesJudge.ended SoundLanesJudge.clauses (λ k a. (tt, λ r s. r_last _)))
   -- sound_state
-  pub sound_state_setup_num_frames : Decides (Post SoundStateSetupNumFrames.ended SoundStateSetupNumFrames.clauses (λ k a. (tt, λ r s. r_last _)))
-  pub sound_state_setup_start : Decides (Post SoundStateSetupStart.ended SoundStateSetupStart.clauses (λ k a. (tt, λ r s. r_last _)))
-  pub sound_state_staticsound_slice : Decides (Post SoundStateStaticSoundSlice.ended SoundStateStaticSoundSlice.clauses (λ k a. (tt, λ r s. r_last _)))
-  pub sound_state_staticsound_is_well_formed : Decides (Post SoundStateStaticSoundIsWellFormed.ended SoundStateStaticSoundIsWellFormed.clauses (λ k a. (tt, λ r s. r_last _)))
+  pub sound_state_setup_num_frames :
+      Decides (Post SoundStateSetupNumFrames.ended SoundStateSetupNumFrames.clauses (λ k a. (tt, λ r s. r_last _)))
+  pub sound_state_setup_start :
+      Decides (Post SoundStateSetupStart.ended SoundStateSetupStart.clauses (λ k a. (tt, λ r s. r_last _)))
+  pub sound_state_staticsound_slice :
+      Decides (Post SoundStateStaticSoundSlice.ended SoundStateStaticSoundSlice.clauses (λ k a. (tt, λ r s. r_last _)))
+  pub sound_state_staticsound_is_well_formed :
+      Decides (Post SoundStateStaticSoundIsWellFormed.ended SoundStateStaticSoundIsWellFormed.clauses
+      (λ k a. (tt, λ r s. r_last _)))
   -- sound_update
-  pub sound_update_moving_push_frame_to_resampler : Decides (Post SoundUpdateMovingPushFrameToResampler.ended SoundUpdateMovingPushFrameToResampler.clauses (λ k a. (tt, λ r s. r_last _)))
-  pub sound_update_moving_update_position : Decides (Post SoundUpdateMovingUpdatePosition.ended SoundUpdateMovingUpdatePosition.clauses (λ k a. (tt, λ r s. r_last _)))
-  pub sound_update_moving_update_positions : Decides (Post SoundUpdateMovingUpdatePositions.ended SoundUpdateMovingUpdatePositions.clauses (λ k a. (tt, λ r s. r_last _)))
+  pub sound_update_moving_push_frame_to_resampler :
+      Decides (Post SoundUpdateMovingPushFrameToResampler.ended SoundUpdateMovingPushFrameToResampler.clauses
+      (λ k a. (tt, λ r s. r_last _)))
+  pub sound_update_moving_update_position :
+      Decides (Post SoundUpdateMovingUpdatePosition.ended SoundUpdateMovingUpdatePosition.clauses
+      (λ k a. (tt, λ r s. r_last _)))
+  pub sound_update_moving_update_positions :
+      Decides (Post SoundUpdateMovingUpdatePositions.ended SoundUpdateMovingUpdatePositions.clauses
+      (λ k a. (tt, λ r s. r_last _)))
   -- sound_track
-  pub sound_track_track_of : Decides (Post SoundTrackTrackOf.ended SoundTrackTrackOf.clauses (λ k a. (tt, λ r s. r_last _)))
-  pub sound_track_after : Decides (Post SoundTrackAfter.ended SoundTrackAfter.clauses (λ k a. (tt, λ r s. r_fact _ _ (r_last _))))
-  pub sound_track_after_steps : Decides (Post SoundTrackAfterSteps.ended SoundTrackAfterSteps.clauses (λ k a. (tt, λ r s. r_fact _ _ (r_last _))))
-  pub sound_track_has_room_after : Decides (Post SoundTrackHasRoomAfter.ended SoundTrackHasRoomAfter.clauses (λ k a. (tt, λ r s. r_last _)))
-  pub sound_track_before : Decides (Post SoundTrackBefore.ended SoundTrackBefore.clauses (λ k a. (tt, λ r s. r_fact _ _ (r_last _))))
-  pub sound_track_before_steps : Decides (Post SoundTrackBeforeSteps.ended SoundTrackBeforeSteps.clauses (λ k a. (tt, λ r s. r_fact _ _ (r_last _))))
-  pub sound_track_has_room_before : Decides (Post SoundTrackHasRoomBefore.ended SoundTrackHasRoomBefore.clauses (λ k a. (tt, λ r s. r_last _)))
-  pub sound_track_wraps_after : Decides (Post SoundTrackWrapsAfter.ended SoundTrackWrapsAfter.clauses (λ k a. (tt, λ r s. r_last _)))
-  pub sound_track_frame_in : Decides (Post SoundTrackFrameIn.ended SoundTrackFrameIn.clauses (λ k a. (tt, λ r s. r_last _)))
-  pub sound_track_frame_at : Decides (Post SoundTrackFrameAt.ended SoundTrackFrameAt.clauses (λ k a. (tt, λ r s. r_last _)))
-  pub sound_track_contiguous_at : Decides (Post SoundTrackContiguousAt.ended SoundTrackContiguousAt.clauses (λ k a. (tt, λ r s. r_last _)))
-  pub sound_track_is_contiguous : Decides (Post SoundTrackIsContiguous.ended SoundTrackIsContiguous.clauses (λ k a. (tt, λ r s. r_fact _ _ (r_last _))))
+  pub sound_track_track_of :
+      Decides (Post SoundTrackTrackOf.ended SoundTrackTrackOf.clauses (λ k a. (tt, λ r s. r_last _)))
+  pub sound_track_after :
+      Decides (Post SoundTrackAfter.ended SoundTrackAfter.clauses (λ k a. (tt, λ r s. r_fact _ _ (r_last _))))
+  pub sound_track_after_steps :
+      Decides (Post SoundTrackAfterSteps.ended SoundTrackAfterSteps.clauses (λ k a. (tt, λ r s. r_fact _ _ (r_last _))))
+  pub sound_track_has_room_after :
+      Decides (Post SoundTrackHasRoomAfter.ended SoundTrackHasRoomAfter.clauses (λ k a. (tt, λ r s. r_last _)))
+  pub sound_track_before :
+      Decides (Post SoundTrackBefore.ended SoundTrackBefore.clauses (λ k a. (tt, λ r s. r_fact _ _ (r_last _))))
+  pub sound_track_before_steps :
+      Decides (Post SoundTrackBeforeSteps.ended SoundTrackBeforeSteps.clauses
+      (λ k a. (tt, λ r s. r_fact _ _ (r_last _))))
+  pub sound_track_has_room_before :
+      Decides (Post SoundTrackHasRoomBefore.ended SoundTrackHasRoomBefore.clauses (λ k a. (tt, λ r s. r_last _)))
+  pub sound_track_wraps_after :
+      Decides (Post SoundTrackWrapsAfter.ended SoundTrackWrapsAfter.clauses (λ k a. (tt, λ r s. r_last _)))
+  pub sound_track_frame_in :
+      Decides (Post SoundTrackFrameIn.ended SoundTrackFrameIn.clauses (λ k a. (tt, λ r s. r_last _)))
+  pub sound_track_frame_at :
+      Decides (Post SoundTrackFrameAt.ended SoundTrackFrameAt.clauses (λ k a. (tt, λ r s. r_last _)))
+  pub sound_track_contiguous_at :
+      Decides (Post SoundTrackContiguousAt.ended SoundTrackContiguousAt.clauses (λ k a. (tt, λ r s. r_last _)))
+  pub sound_track_is_contiguous :
+      Decides (Post SoundTrackIsContiguous.ended SoundTrackIsContiguous.clauses
+      (λ k a. (tt, λ r s. r_fact _ _ (r_last _))))
   -- sound_creation
-  pub sound_creation_blank : Decides (Post SoundCreationBlank.ended SoundCreationBlank.clauses (λ k a. (tt, λ r s. r_last _)))
+  pub sound_creation_blank :
+      Decides (Post SoundCreationBlank.ended SoundCreationBlank.clauses (λ k a. (tt, λ r s. r_last _)))
   pub sound_creation_new : Decides (Post SoundCreationNew.ended SoundCreationNew.clauses (λ k a. (tt, λ r s. r_last _)))
   -- sound_commands
-  pub sound_commands_on_start_processing : Decides (Post SoundCommandsOnStartProcessing.ended SoundCommandsOnStartProcessing.clauses (λ k a. (tt, λ r s. r_last _)))
+  pub sound_commands_on_start_processing :
+      Decides (Post SoundCommandsOnStartProcessing.ended SoundCommandsOnStartProcessing.clauses
+      (λ k a. (tt, λ r s. r_last _)))
   -- sound_slow_path, sound_fast_path, sound_held and sound_block
-  pub sound_slow_path_play : DecidesWith (λ k r s. s.1.1.1.1.1.1.1.1.0.now) (Post SoundSlowPathPlay.ended SoundSlowPathPlay.clauses (λ k a. (tt, λ r s. r_last _)))
+  pub sound_slow_path_play :
+      DecidesWith (λ k r s. s.1.1.1.1.1.1.1.1.0.now) (Post SoundSlowPathPlay.ended SoundSlowPathPlay.clauses
+      (λ k a. (tt, λ r s. r_last _)))
   pub sound_slow_path_play_spread : DecidesWith (λ k r s. s.1.1.1.1.1.1.1.1.0.now)
       (Post SoundSlowPathPlaySpread.ended SoundSlowPathPlaySpread.clauses (λ k a. (tt, λ r s. r_last _)))
-  pub sound_fast_reading_advance_of : Decides (Post SoundFastReadingAdvanceOf.ended SoundFastReadingAdvanceOf.clauses (λ k a. (tt, λ r s. r_last _)))
-  pub sound_fast_reading_stepped_by : Decides (Post SoundFastReadingSteppedBy.ended SoundFastReadingSteppedBy.clauses (λ k a. (tt, λ r s. r_last _)))
-  pub sound_fast_reading_moved : Decides (Post SoundFastReadingMoved.ended SoundFastReadingMoved.clauses (λ k a. (tt, λ r s. r_last _)))
-  pub sound_fast_reading_store : DecidesWith (λ k r s. s.0.now) (Post SoundFastReadingStore.ended SoundFastReadingStore.clauses (λ k a. (tt, λ r s. r_last _)))
-  pub sound_gains_by_frame : DecidesWith (λ k r s. s.1.1.1.1.1.0.now) (Post SoundGainsByFrame.ended SoundGainsByFrame.clauses (λ k a. (tt, λ r s. r_last _)))
-  pub sound_gains_once : DecidesWith (λ k r s. s.1.1.0.now) (Post SoundGainsOnce.ended SoundGainsOnce.clauses (λ k a. (tt, λ r s. r_last _)))
-  pub sound_fast_path_play : DecidesWith (λ k r s. s.1.1.1.1.1.1.1.1.0.now) (Post SoundFastPathPlay.ended SoundFastPathPlay.clauses (λ k a. (tt, λ r s. r_last _)))
-  pub sound_fast_path_play_held : DecidesWith (λ k r s. s.1.1.1.1.0.now) (Post SoundFastPathPlayHeld.ended SoundFastPathPlayHeld.clauses (λ k a. (tt, λ r s. r_last _)))
-  pub sound_held_play : DecidesWith (λ k r s. s.1.1.1.1.0.now) (Post SoundHeldPlay.ended SoundHeldPlay.clauses (λ k a. (tt, λ r s. r_last _)))
-  pub sound_block_block_held : DecidesWith (λ k r s. s.1.1.1.1.1.0.now) (Post SoundBlockBlockHeld.ended SoundBlockBlockHeld.clauses (λ k a. (tt, λ r s. r_last _)))
-  pub sound_block_block : DecidesWith (λ k r s. s.1.1.1.1.1.1.1.1.1.0.now) (Post SoundBlockBlock.ended SoundBlockBlock.clauses (λ k a. (tt, λ r s. r_last _)))
-  pub sound_constant_first_of : Decides (Post SoundConstantFirstOf.ended SoundConstantFirstOf.clauses (λ k a. (tt, λ r s. r_last _)))
+  pub sound_fast_reading_advance_of :
+      Decides (Post SoundFastReadingAdvanceOf.ended SoundFastReadingAdvanceOf.clauses (λ k a. (tt, λ r s. r_last _)))
+  pub sound_fast_reading_stepped_by :
+      Decides (Post SoundFastReadingSteppedBy.ended SoundFastReadingSteppedBy.clauses (λ k a. (tt, λ r s. r_last _)))
+  pub sound_fast_reading_moved :
+      Decides (Post SoundFastReadingMoved.ended SoundFastReadingMoved.clauses (λ k a. (tt, λ r s. r_last _)))
+  pub sound_fast_reading_store :
+      DecidesWith (λ k r s. s.0.now) (Post SoundFastReadingStore.ended SoundFastReadingStore.clauses
+      (λ k a. (tt, λ r s. r_last _)))
+  pub sound_gains_by_frame :
+      DecidesWith (λ k r s. s.1.1.1.1.1.0.now) (Post SoundGainsByFrame.ended SoundGainsByFrame.clauses
+      (λ k a. (tt, λ r s. r_last _)))
+  pub sound_gains_once :
+      DecidesWith (λ k r s. s.1.1.0.now) (Post SoundGainsOnce.ended SoundGainsOnce.clauses
+      (λ k a. (tt, λ r s. r_last _)))
+  pub sound_fast_path_play :
+      DecidesWith (λ k r s. s.1.1.1.1.1.1.1.1.0.now) (Post SoundFastPathPlay.ended SoundFastPathPlay.clauses
+      (λ k a. (tt, λ r s. r_last _)))
+  pub sound_fast_path_play_held :
+      DecidesWith (λ k r s. s.1.1.1.1.0.now) (Post SoundFastPathPlayHeld.ended SoundFastPathPlayHeld.clauses
+      (λ k a. (tt, λ r s. r_last _)))
+  pub sound_held_play :
+      DecidesWith (λ k r s. s.1.1.1.1.0.now) (Post SoundHeldPlay.ended SoundHeldPlay.clauses
+      (λ k a. (tt, λ r s. r_last _)))
+  pub sound_block_block_held :
+      DecidesWith (λ k r s. s.1.1.1.1.1.0.now) (Post SoundBlockBlockHeld.ended SoundBlockBlockHeld.clauses
+      (λ k a. (tt, λ r s. r_last _)))
+  pub sound_block_block :
+      DecidesWith (λ k r s. s.1.1.1.1.1.1.1.1.1.0.now) (Post SoundBlockBlock.ended SoundBlockBlock.clauses
+      (λ k a. (tt, λ r s. r_last _)))
+  pub sound_constant_first_of :
+      Decides (Post SoundConstantFirstOf.ended SoundConstantFirstOf.clauses (λ k a. (tt, λ r s. r_last _)))
   -- static_sound
   pub static_sound_process : DecidesWith
-      (λ k r s. s.1.1.1.1.1.1.1.1.1.0.now) (Post StaticSoundProcess.ended StaticSoundProcess.clauses (λ k a. (tt, λ r s. r_last _)))
+      (λ k r s. s.1.1.1.1.1.1.1.1.1.0.now) (Post StaticSoundProcess.ended StaticSoundProcess.clauses
+      (λ k a. (tt, λ r s. r_last _)))
   pub static_sound_process_into : DecidesWith
-      (λ k r s. s.1.1.1.1.1.1.1.1.1.0.now) (Post StaticSoundProcessInto.ended StaticSoundProcessInto.clauses (λ k a. (tt, λ r s. r_last _)))
-  pub static_sound_process_held : DecidesWith (λ k r s. s.1.1.1.1.1.0.now) (Post StaticSoundProcessHeld.ended StaticSoundProcessHeld.clauses (λ k a. (tt, λ r s. r_last _)))
+      (λ k r s. s.1.1.1.1.1.1.1.1.1.0.now) (Post StaticSoundProcessInto.ended StaticSoundProcessInto.clauses
+      (λ k a. (tt, λ r s. r_last _)))
+  pub static_sound_process_held :
+      DecidesWith (λ k r s. s.1.1.1.1.1.0.now) (Post StaticSoundProcessHeld.ended StaticSoundProcessHeld.clauses
+      (λ k a. (tt, λ r s. r_last _)))
   pub static_sound_process_held_into : DecidesWith
-      (λ k r s. s.1.1.1.1.1.0.now) (Post StaticSoundProcessHeldInto.ended StaticSoundProcessHeldInto.clauses (λ k a. (tt, λ r s. r_last _)))
-  pub static_sound_stretch : DecidesPart (Post StaticSoundStretch.ended StaticSoundStretch.clauses (λ k a. (tt, λ r s. r_fact _ _ (r_last _))))
+      (λ k r s. s.1.1.1.1.1.0.now) (Post StaticSoundProcessHeldInto.ended StaticSoundProcessHeldInto.clauses
+      (λ k a. (tt, λ r s. r_last _)))
+  pub static_sound_stretch :
+      DecidesPart (Post StaticSoundStretch.ended StaticSoundStretch.clauses (λ k a. (tt, λ r s. r_fact _ _ (r_last _))))
   -- loop_table, loop_copies and take_loop
-  pub loop_table_looptable_new : Decides (Post LoopTableLoopTableNew.ended LoopTableLoopTableNew.clauses (λ k a. (tt, λ r s. r_last _)))
-  pub loop_table_looptable_write : Decides (Post LoopTableLoopTableWrite.ended LoopTableLoopTableWrite.clauses (λ k a. (tt, λ r s. r_last _)))
-  pub loop_table_looptable_clear : Decides (Post LoopTableLoopTableClear.ended LoopTableLoopTableClear.clauses (λ k a. (tt, λ r s. r_last _)))
-  pub loop_table_looptable_read : Decides (Post LoopTableLoopTableRead.ended LoopTableLoopTableRead.clauses (λ k a. (tt, λ r s. r_last _)))
-  pub loop_table_looptable_is_well_formed : Decides (Post LoopTableLoopTableIsWellFormed.ended LoopTableLoopTableIsWellFormed.clauses (λ k a. (tt, λ r s. r_last _)))
-  pub loop_copies_loopcopy_new : Decides (Post LoopCopiesLoopCopyNew.ended LoopCopiesLoopCopyNew.clauses (λ k a. (tt, λ r s. r_last _)))
-  pub loop_copies_loopcopy_write : Decides (Post LoopCopiesLoopCopyWrite.ended LoopCopiesLoopCopyWrite.clauses (λ k a. (tt, λ r s. r_last _)))
-  pub loop_copies_loopcopy_clear : Decides (Post LoopCopiesLoopCopyClear.ended LoopCopiesLoopCopyClear.clauses (λ k a. (tt, λ r s. r_last _)))
-  pub loop_copies_loopcopy_merge : Decides (Post LoopCopiesLoopCopyMerge.ended LoopCopiesLoopCopyMerge.clauses (λ k a. (tt, λ r s. r_last _)))
+  pub loop_table_looptable_new :
+      Decides (Post LoopTableLoopTableNew.ended LoopTableLoopTableNew.clauses (λ k a. (tt, λ r s. r_last _)))
+  pub loop_table_looptable_write :
+      Decides (Post LoopTableLoopTableWrite.ended LoopTableLoopTableWrite.clauses (λ k a. (tt, λ r s. r_last _)))
+  pub loop_table_looptable_clear :
+      Decides (Post LoopTableLoopTableClear.ended LoopTableLoopTableClear.clauses (λ k a. (tt, λ r s. r_last _)))
+  pub loop_table_looptable_read :
+      Decides (Post LoopTableLoopTableRead.ended LoopTableLoopTableRead.clauses (λ k a. (tt, λ r s. r_last _)))
+  pub loop_table_looptable_is_well_formed :
+      Decides (Post LoopTableLoopTableIsWellFormed.ended LoopTableLoopTableIsWellFormed.clauses
+      (λ k a. (tt, λ r s. r_last _)))
+  pub loop_copies_loopcopy_new :
+      Decides (Post LoopCopiesLoopCopyNew.ended LoopCopiesLoopCopyNew.clauses (λ k a. (tt, λ r s. r_last _)))
+  pub loop_copies_loopcopy_write :
+      Decides (Post LoopCopiesLoopCopyWrite.ended LoopCopiesLoopCopyWrite.clauses (λ k a. (tt, λ r s. r_last _)))
+  pub loop_copies_loopcopy_clear :
+      Decides (Post LoopCopiesLoopCopyClear.ended LoopCopiesLoopCopyClear.clauses (λ k a. (tt, λ r s. r_last _)))
+  pub loop_copies_loopcopy_merge :
+      Decides (Post LoopCopiesLoopCopyMerge.ended LoopCopiesLoopCopyMerge.clauses (λ k a. (tt, λ r s. r_last _)))
   pub take_loop_take : Decides (Post TakeLoopTake.ended TakeLoopTake.clauses (λ k a. (tt, λ r s. r_last _)))
   -- decibels and semitones
-  pub decibels_as_amplitude : DecidesWith (λ k r s. s.1.0.now) (Post DecibelsAsAmplitude.ended DecibelsAsAmplitude.clauses (λ k a. (tt, λ r s. r_last _)))
-  pub decibels_fade_ramp : DecidesWith (λ k r s. s.1.1.1.0.now) (Post DecibelsFadeRamp.ended DecibelsFadeRamp.clauses (λ k a. (tt, λ r s. r_last _)))
+  pub decibels_as_amplitude :
+      DecidesWith (λ k r s. s.1.0.now) (Post DecibelsAsAmplitude.ended DecibelsAsAmplitude.clauses
+      (λ k a. (tt, λ r s. r_last _)))
+  pub decibels_fade_ramp :
+      DecidesWith (λ k r s. s.1.1.1.0.now) (Post DecibelsFadeRamp.ended DecibelsFadeRamp.clauses
+      (λ k a. (tt, λ r s. r_last _)))
   pub semitones_raised : Decides (Post SemitonesRaised.ended SemitonesRaised.clauses (λ k a. (tt, λ r s. r_last _)))
   -- crc32
   pub crc32_checksum : Decides (Post Crc32Checksum.ended Crc32Checksum.clauses (λ k a. (tt, λ r s. r_last _)))
   -- byte_layout
   pub byte_layout_number : Decides (Post ByteLayoutNumber.ended ByteLayoutNumber.clauses (λ k a. (tt, λ r s. r_last _)))
-  pub byte_layout_put_number : DecidesWith (λ k r s. s.0.now) (Post ByteLayoutPutNumber.ended ByteLayoutPutNumber.clauses (λ k a. (tt, λ r s. r_last _)))
+  pub byte_layout_put_number :
+      DecidesWith (λ k r s. s.0.now) (Post ByteLayoutPutNumber.ended ByteLayoutPutNumber.clauses
+      (λ k a. (tt, λ r s. r_last _)))
   pub byte_layout_begin : Decides (Post ByteLayoutBegin.ended ByteLayoutBegin.clauses (λ k a. (tt, λ r s. r_last _)))
   pub byte_layout_read_rows : DecidesAs
-      (λ k a r. view a.0.now a.1.1.1.0 r) (Post ByteLayoutReadRows.ended ByteLayoutReadRows.clauses (λ k a. (tt, λ r s. r_last _)))
-  pub byte_layout_put_rows : DecidesWith (λ k r s. s.0.now) (Post ByteLayoutPutRows.ended ByteLayoutPutRows.clauses (λ k a. (tt, λ r s. r_last _)))
-  pub byte_layout_rows_fit : Decides (Post ByteLayoutRowsFit.ended ByteLayoutRowsFit.clauses (λ k a. (tt, λ r s. r_last _)))
-  pub byte_layout_rows_length : Decides (Post ByteLayoutRowsLength.ended ByteLayoutRowsLength.clauses (λ k a. (tt, λ r s. r_last _)))
-  pub byte_layout_copy : DecidesWith (λ k r s. s.1.1.1.0.now) (Post ByteLayoutCopy.ended ByteLayoutCopy.clauses (λ k a. (tt, λ r s. r_last _)))
+      (λ k a r. view a.0.now a.1.1.1.0 r) (Post ByteLayoutReadRows.ended ByteLayoutReadRows.clauses
+      (λ k a. (tt, λ r s. r_last _)))
+  pub byte_layout_put_rows :
+      DecidesWith (λ k r s. s.0.now) (Post ByteLayoutPutRows.ended ByteLayoutPutRows.clauses
+      (λ k a. (tt, λ r s. r_last _)))
+  pub byte_layout_rows_fit :
+      Decides (Post ByteLayoutRowsFit.ended ByteLayoutRowsFit.clauses (λ k a. (tt, λ r s. r_last _)))
+  pub byte_layout_rows_length :
+      Decides (Post ByteLayoutRowsLength.ended ByteLayoutRowsLength.clauses (λ k a. (tt, λ r s. r_last _)))
+  pub byte_layout_copy :
+      DecidesWith (λ k r s. s.1.1.1.0.now) (Post ByteLayoutCopy.ended ByteLayoutCopy.clauses
+      (λ k a. (tt, λ r s. r_last _)))
   -- saved_settings
-  pub saved_settings_load : Decides (Post SavedSettingsLoad.ended SavedSettingsLoad.clauses (λ k a. (tt, λ r s. r_last _)))
-  pub saved_settings_store : DecidesWith (λ k r s. s.1.1.0.now) (Post SavedSettingsStore.ended SavedSettingsStore.clauses (λ k a. (tt, λ r s. r_last _)))
+  pub saved_settings_load :
+      Decides (Post SavedSettingsLoad.ended SavedSettingsLoad.clauses (λ k a. (tt, λ r s. r_last _)))
+  pub saved_settings_store :
+      DecidesWith (λ k r s. s.1.1.0.now) (Post SavedSettingsStore.ended SavedSettingsStore.clauses
+      (λ k a. (tt, λ r s. r_last _)))
   -- trace_sealed
   pub trace_sealed_read : Decides (Post TraceSealedRead.ended TraceSealedRead.clauses (λ k a. (tt, λ r s. r_last _)))
-  pub trace_sealed_write : DecidesWith (λ k r s. s.0.now) (Post TraceSealedWrite.ended TraceSealedWrite.clauses (λ k a. (tt, λ r s. r_last _)))
+  pub trace_sealed_write :
+      DecidesWith (λ k r s. s.0.now) (Post TraceSealedWrite.ended TraceSealedWrite.clauses
+      (λ k a. (tt, λ r s. r_last _)))
   -- saved_loops
   pub saved_loops_load : Decides (Post SavedLoopsLoad.ended SavedLoopsLoad.clauses (λ k a. (tt, λ r s. r_last _)))
-  pub saved_loops_store : DecidesWith (λ k r s. s.1.1.0.now) (Post SavedLoopsStore.ended SavedLoopsStore.clauses (λ k a. (tt, λ r s. r_last _)))
+  pub saved_loops_store :
+      DecidesWith (λ k r s. s.1.1.0.now) (Post SavedLoopsStore.ended SavedLoopsStore.clauses
+      (λ k a. (tt, λ r s. r_last _)))
   -- trace_records and trace_salvage
   pub trace_records_read : Decides (Post TraceRecordsRead.ended TraceRecordsRead.clauses (λ k a. (tt, λ r s. r_last _)))
-  pub trace_records_write : DecidesWith (λ k r s. s.0.now) (Post TraceRecordsWrite.ended TraceRecordsWrite.clauses (λ k a. (tt, λ r s. r_last _)))
-  pub trace_salvage_salvage : DecidesWith (λ k r s. s.1.0.now) (Post TraceSalvageSalvage.ended TraceSalvageSalvage.clauses (λ k a. (tt, λ r s. r_last _)))
-  pub trace_salvage_salvage_by : DecidesWith (λ k r s. s.1.1.0.now) (Post TraceSalvageSalvageBy.ended TraceSalvageSalvageBy.clauses (λ k a. (tt, λ r s. r_last _)))
+  pub trace_records_write :
+      DecidesWith (λ k r s. s.0.now) (Post TraceRecordsWrite.ended TraceRecordsWrite.clauses
+      (λ k a. (tt, λ r s. r_last _)))
+  pub trace_salvage_salvage :
+      DecidesWith (λ k r s. s.1.0.now) (Post TraceSalvageSalvage.ended TraceSalvageSalvage.clauses
+      (λ k a. (tt, λ r s. r_last _)))
+  pub trace_salvage_salvage_by :
+      DecidesWith (λ k r s. s.1.1.0.now) (Post TraceSalvageSalvageBy.ended TraceSalvageSalvageBy.clauses
+      (λ k a. (tt, λ r s. r_last _)))
   -- c_state and c_inputs
   pub c_state_decode : Decides (Post CStateDecode.ended CStateDecode.clauses (λ k a. (tt, λ r s. r_last _)))
   pub c_state_encode : Decides (Post CStateEncode.ended CStateEncode.clauses (λ k a. (tt, λ r s. r_last _)))
-  pub c_inputs_settings_of : Decides (Post CInputsSettingsOf.ended CInputsSettingsOf.clauses (λ k a. (tt, λ r s. r_last _)))
-  pub c_inputs_commands_of : Decides (Post CInputsCommandsOf.ended CInputsCommandsOf.clauses (λ k a. (tt, λ r s. r_last _)))
-  pub c_inputs_signals_of : Decides (Post CInputsSignalsOf.ended CInputsSignalsOf.clauses (λ k a. (tt, λ r s. r_last _)))
+  pub c_inputs_settings_of :
+      Decides (Post CInputsSettingsOf.ended CInputsSettingsOf.clauses (λ k a. (tt, λ r s. r_last _)))
+  pub c_inputs_commands_of :
+      Decides (Post CInputsCommandsOf.ended CInputsCommandsOf.clauses (λ k a. (tt, λ r s. r_last _)))
+  pub c_inputs_signals_of :
+      Decides (Post CInputsSignalsOf.ended CInputsSignalsOf.clauses (λ k a. (tt, λ r s. r_last _)))
   -- cableowl
-  pub cableowl_cableowl_version : Decides (Post CableowlCableowlVersion.ended CableowlCableowlVersion.clauses (λ k a. (tt, λ r s. r_last _)))
-  pub cableowl_cableowl_new : Decides (Post CableowlCableowlNew.ended CableowlCableowlNew.clauses (λ k a. (tt, λ r s. r_last _)))
-  pub cableowl_cableowl_on_start_processing : Decides (Post CableowlCableowlOnStartProcessing.ended CableowlCableowlOnStartProcessing.clauses (λ k a. (tt, λ r s. r_last _)))
+  pub cableowl_cableowl_version :
+      Decides (Post CableowlVersion.ended CableowlVersion.clauses (λ k a. (tt, λ r s. r_last _)))
+  pub cableowl_cableowl_new :
+      Decides (Post CableowlNew.ended CableowlNew.clauses (λ k a. (tt, λ r s. r_last _)))
+  pub cableowl_cableowl_on_start_processing :
+      Decides (Post CableowlOnStartProcessing.ended CableowlOnStartProcessing.clauses
+      (λ k a. (tt, λ r s. r_last _)))
   pub cableowl_cableowl_process : DecidesWith
-      (λ k r s. s.1.1.1.1.1.1.1.1.1.0.now) (Post CableowlCableowlProcess.ended CableowlCableowlProcess.clauses (λ k a. (tt, λ r s. r_last _)))
+      (λ k r s. s.1.1.1.1.1.1.1.1.1.0.now) (Post CableowlProcess.ended CableowlProcess.clauses
+      (λ k a. (tt, λ r s. r_last _)))
   pub cableowl_cableowl_process_into : DecidesWith
-      (λ k r s. s.1.1.1.1.1.1.1.1.1.0.now) (Post CableowlCableowlProcessInto.ended CableowlCableowlProcessInto.clauses (λ k a. (tt, λ r s. r_last _)))
+      (λ k r s. s.1.1.1.1.1.1.1.1.1.0.now) (Post CableowlProcessInto.ended CableowlProcessInto.clauses
+      (λ k a. (tt, λ r s. r_last _)))
   pub cableowl_cableowl_process_held : DecidesWith
-      (λ k r s. s.1.1.1.1.1.1.1.1.1.0.now) (Post CableowlCableowlProcessHeld.ended CableowlCableowlProcessHeld.clauses (λ k a. (tt, λ r s. r_last _)))
+      (λ k r s. s.1.1.1.1.1.1.1.1.1.0.now) (Post CableowlProcessHeld.ended CableowlProcessHeld.clauses
+      (λ k a. (tt, λ r s. r_last _)))
   pub cableowl_cableowl_process_held_into : DecidesWith
-      (λ k r s. s.1.1.1.1.1.1.1.1.1.0.now) (Post CableowlCableowlProcessHeldInto.ended CableowlCableowlProcessHeldInto.clauses (λ k a. (tt, λ r s. r_last _)))
-  pub cableowl_cableowl_stretch : Decides (Post CableowlCableowlStretch.ended CableowlCableowlStretch.clauses (λ k a. (tt, λ r s. r_last _)))
-  pub cableowl_cableowl_amplitude : DecidesWith (λ k r s. s.1.0.now) (Post CableowlCableowlAmplitude.ended CableowlCableowlAmplitude.clauses (λ k a. (tt, λ r s. r_last _)))
-  pub cableowl_cableowl_fade_ramp : DecidesWith (λ k r s. s.1.1.1.0.now) (Post CableowlCableowlFadeRamp.ended CableowlCableowlFadeRamp.clauses (λ k a. (tt, λ r s. r_last _)))
-  pub cableowl_cableowl_loop_table : Decides (Post CableowlCableowlLoopTable.ended CableowlCableowlLoopTable.clauses (λ k a. (tt, λ r s. r_last _)))
-  pub cableowl_cableowl_write_loop : Decides (Post CableowlCableowlWriteLoop.ended CableowlCableowlWriteLoop.clauses (λ k a. (tt, λ r s. r_last _)))
-  pub cableowl_cableowl_clear_loop : Decides (Post CableowlCableowlClearLoop.ended CableowlCableowlClearLoop.clauses (λ k a. (tt, λ r s. r_last _)))
-  pub cableowl_cableowl_read_loop : Decides (Post CableowlCableowlReadLoop.ended CableowlCableowlReadLoop.clauses (λ k a. (tt, λ r s. r_last _)))
-  pub cableowl_cableowl_take_loop : Decides (Post CableowlCableowlTakeLoop.ended CableowlCableowlTakeLoop.clauses (λ k a. (tt, λ r s. r_last _)))
-  pub cableowl_cableowl_loop_copy : Decides (Post CableowlCableowlLoopCopy.ended CableowlCableowlLoopCopy.clauses (λ k a. (tt, λ r s. r_last _)))
-  pub cableowl_cableowl_write_copy : Decides (Post CableowlCableowlWriteCopy.ended CableowlCableowlWriteCopy.clauses (λ k a. (tt, λ r s. r_last _)))
-  pub cableowl_cableowl_clear_copy : Decides (Post CableowlCableowlClearCopy.ended CableowlCableowlClearCopy.clauses (λ k a. (tt, λ r s. r_last _)))
-  pub cableowl_cableowl_merge_copies : Decides (Post CableowlCableowlMergeCopies.ended CableowlCableowlMergeCopies.clauses (λ k a. (tt, λ r s. r_last _)))
+      (λ k r s. s.1.1.1.1.1.1.1.1.1.0.now) (Post CableowlProcessHeldInto.ended CableowlProcessHeldInto.clauses
+      (λ k a. (tt, λ r s. r_last _)))
+  pub cableowl_cableowl_stretch :
+      Decides (Post CableowlStretch.ended CableowlStretch.clauses (λ k a. (tt, λ r s. r_last _)))
+  pub cableowl_cableowl_amplitude :
+      DecidesWith (λ k r s. s.1.0.now) (Post CableowlAmplitude.ended CableowlAmplitude.clauses
+      (λ k a. (tt, λ r s. r_last _)))
+  pub cableowl_cableowl_fade_ramp :
+      DecidesWith (λ k r s. s.1.1.1.0.now) (Post CableowlFadeRamp.ended CableowlFadeRamp.clauses
+      (λ k a. (tt, λ r s. r_last _)))
+  pub cableowl_cableowl_loop_table :
+      Decides (Post CableowlLoopTable.ended CableowlLoopTable.clauses (λ k a. (tt, λ r s. r_last _)))
+  pub cableowl_cableowl_write_loop :
+      Decides (Post CableowlWriteLoop.ended CableowlWriteLoop.clauses (λ k a. (tt, λ r s. r_last _)))
+  pub cableowl_cableowl_clear_loop :
+      Decides (Post CableowlClearLoop.ended CableowlClearLoop.clauses (λ k a. (tt, λ r s. r_last _)))
+  pub cableowl_cableowl_read_loop :
+      Decides (Post CableowlReadLoop.ended CableowlReadLoop.clauses (λ k a. (tt, λ r s. r_last _)))
+  pub cableowl_cableowl_take_loop :
+      Decides (Post CableowlTakeLoop.ended CableowlTakeLoop.clauses (λ k a. (tt, λ r s. r_last _)))
+  pub cableowl_cableowl_loop_copy :
+      Decides (Post CableowlLoopCopy.ended CableowlLoopCopy.clauses (λ k a. (tt, λ r s. r_last _)))
+  pub cableowl_cableowl_write_copy :
+      Decides (Post CableowlWriteCopy.ended CableowlWriteCopy.clauses (λ k a. (tt, λ r s. r_last _)))
+  pub cableowl_cableowl_clear_copy :
+      Decides (Post CableowlClearCopy.ended CableowlClearCopy.clauses (λ k a. (tt, λ r s. r_last _)))
+  pub cableowl_cableowl_merge_copies :
+      Decides (Post CableowlMergeCopies.ended CableowlMergeCopies.clauses
+      (λ k a. (tt, λ r s. r_last _)))
   pub cableowl_cableowl_store_settings : DecidesWith
-      (λ k r s. s.1.0.now) (Post CableowlCableowlStoreSettings.ended CableowlCableowlStoreSettings.clauses (λ k a. (tt, λ r s. r_last _)))
+      (λ k r s. s.1.0.now) (Post CableowlStoreSettings.ended CableowlStoreSettings.clauses
+      (λ k a. (tt, λ r s. r_last _)))
   pub cableowl_cableowl_load_settings : DecidesWith
-      (λ k r s. s.1.1.0.now) (Post CableowlCableowlLoadSettings.ended CableowlCableowlLoadSettings.clauses (λ k a. (tt, λ r s. r_last _)))
-  pub cableowl_cableowl_settings_of : Decides (Post CableowlCableowlSettingsOf.ended CableowlCableowlSettingsOf.clauses (λ k a. (tt, λ r s. r_last _)))
-  pub cableowl_cableowl_store_half : DecidesWith (λ k r s. s.1.1.0.now) (Post CableowlCableowlStoreHalf.ended CableowlCableowlStoreHalf.clauses (λ k a. (tt, λ r s. r_last _)))
-  pub cableowl_cableowl_load_half : DecidesWith (λ k r s. s.1.0.now) (Post CableowlCableowlLoadHalf.ended CableowlCableowlLoadHalf.clauses (λ k a. (tt, λ r s. r_last _)))
-  pub cableowl_cableowl_read_record : Decides (Post CableowlCableowlReadRecord.ended CableowlCableowlReadRecord.clauses (λ k a. (tt, λ r s. r_last _)))
-  pub cableowl_cableowl_write_record : DecidesWith (λ k r s. s.0.now) (Post CableowlCableowlWriteRecord.ended CableowlCableowlWriteRecord.clauses (λ k a. (tt, λ r s. r_last _)))
-  pub cableowl_cableowl_read_record_v2 : Decides (Post CableowlCableowlReadRecordV2.ended CableowlCableowlReadRecordV2.clauses (λ k a. (tt, λ r s. r_last _)))
-  pub cableowl_cableowl_write_record_v2 : DecidesWith (λ k r s. s.0.now) (Post CableowlCableowlWriteRecordV2.ended CableowlCableowlWriteRecordV2.clauses (λ k a. (tt, λ r s. r_last _)))
-  pub cableowl_cableowl_salvage : DecidesWith (λ k r s. s.1.0.now) (Post CableowlCableowlSalvage.ended CableowlCableowlSalvage.clauses (λ k a. (tt, λ r s. r_last _)))
-  pub cableowl_cableowl_salvage_v2 : DecidesWith (λ k r s. s.1.0.now) (Post CableowlCableowlSalvageV2.ended CableowlCableowlSalvageV2.clauses (λ k a. (tt, λ r s. r_last _)))
-  pub cableowl_cableowl_replay : Decides (Post CableowlCableowlReplay.ended CableowlCableowlReplay.clauses (λ k a. (tt, λ r s. r_last _)))
+      (λ k r s. s.1.1.0.now) (Post CableowlLoadSettings.ended CableowlLoadSettings.clauses
+      (λ k a. (tt, λ r s. r_last _)))
+  pub cableowl_cableowl_settings_of :
+      Decides (Post CableowlSettingsOf.ended CableowlSettingsOf.clauses (λ k a. (tt, λ r s. r_last _)))
+  pub cableowl_cableowl_store_half :
+      DecidesWith (λ k r s. s.1.1.0.now) (Post CableowlStoreHalf.ended CableowlStoreHalf.clauses
+      (λ k a. (tt, λ r s. r_last _)))
+  pub cableowl_cableowl_load_half :
+      DecidesWith (λ k r s. s.1.0.now) (Post CableowlLoadHalf.ended CableowlLoadHalf.clauses
+      (λ k a. (tt, λ r s. r_last _)))
+  pub cableowl_cableowl_read_record :
+      Decides (Post CableowlReadRecord.ended CableowlReadRecord.clauses (λ k a. (tt, λ r s. r_last _)))
+  pub cableowl_cableowl_write_record :
+      DecidesWith (λ k r s. s.0.now) (Post CableowlWriteRecord.ended CableowlWriteRecord.clauses
+      (λ k a. (tt, λ r s. r_last _)))
+  pub cableowl_cableowl_read_record_v2 :
+      Decides (Post CableowlReadRecordV2.ended CableowlReadRecordV2.clauses
+      (λ k a. (tt, λ r s. r_last _)))
+  pub cableowl_cableowl_write_record_v2 :
+      DecidesWith (λ k r s. s.0.now) (Post CableowlWriteRecordV2.ended CableowlWriteRecordV2.clauses
+      (λ k a. (tt, λ r s. r_last _)))
+  pub cableowl_cableowl_salvage :
+      DecidesWith (λ k r s. s.1.0.now) (Post CableowlSalvage.ended CableowlSalvage.clauses
+      (λ k a. (tt, λ r s. r_last _)))
+  pub cableowl_cableowl_salvage_v2 :
+      DecidesWith (λ k r s. s.1.0.now) (Post CableowlSalvageV2.ended CableowlSalvageV2.clauses
+      (λ k a. (tt, λ r s. r_last _)))
+  pub cableowl_cableowl_replay :
+      Decides (Post CableowlReplay.ended CableowlReplay.clauses (λ k a. (tt, λ r s. r_last _)))
   pub cableowl_cableowl_replay_step : DecidesWith {B = List Float
-      × List Float} (λ k r s. (s.1.1.1.0.now, s.1.1.1.1.0.now)) (Post CableowlCableowlReplayStep.ended CableowlCableowlReplayStep.clauses (λ k a. (tt, λ r s. r_last _)))
-  pub cableowl_cableowl_replay_v2 : Decides (Post CableowlCableowlReplayV2.ended CableowlCableowlReplayV2.clauses (λ k a. (tt, λ r s. r_last _)))
+      × List Float} (λ k r s. (s.1.1.1.0.now, s.1.1.1.1.0.now))
+      (Post CableowlReplayStep.ended CableowlReplayStep.clauses
+      (λ k a. (tt, λ r s. r_last _)))
+  pub cableowl_cableowl_replay_v2 :
+      Decides (Post CableowlReplayV2.ended CableowlReplayV2.clauses (λ k a. (tt, λ r s. r_last _)))
   pub cableowl_cableowl_replay_step_v2 : DecidesWith {B = List Float × List Float}
-      (λ k r s. (s.1.1.1.0.now, s.1.1.1.1.1.1.0.now)) (Post CableowlCableowlReplayStepV2.ended CableowlCableowlReplayStepV2.clauses (λ k a. (tt, λ r s. r_last _)))
+      (λ k r s. (s.1.1.1.0.now, s.1.1.1.1.1.1.0.now)) (Post CableowlReplayStepV2.ended CableowlReplayStepV2.clauses
+      (λ k a. (tt, λ r s. r_last _)))

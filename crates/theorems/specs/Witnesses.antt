@@ -210,7 +210,8 @@ pub record Witnesses : Type 0 where
       × BothAwakeC (played_by_c ten one 1 (1 ∷ []) lanes due_c state output)
       (played_by_c ten one 2 [] lanes due_c state output)
   pub archive_any_sizes_mix : TwoWaysMixC ten one lanes due_c state 1 (1 ∷ []) 2 [] mix 1
-      × BothAwakeC (mixed_by_c ten one 1 (1 ∷ []) lanes due_c state mix 1) (mixed_by_c ten one 2 [] lanes due_c state mix 1)
+      × BothAwakeC (mixed_by_c ten one 1 (1 ∷ []) lanes due_c state mix 1)
+      (mixed_by_c ten one 2 [] lanes due_c state mix 1)
   pub archive_all_accepted : AllowedCut ten one lanes (decoded state) 1 (1 ∷ []) output
   pub archive_all_accepted_mix : AllowedCutMix ten one lanes (decoded state) 1 (1 ∷ []) mix 1
   pub archive_read_back : WellFormedState state
@@ -222,7 +223,8 @@ pub record Witnesses : Type 0 where
       × Awake (processed ten voice one (first_lanes 1 (held_lanes ones 2)) due (take 2 output)).answer.voice
       × MayCutMix ten voice one (held_lanes ones 2) due mix 1 1 × AcceptedBlock ten voice one
       (held_lanes ones 2) due output
-      × AcceptedMix ten voice one (held_lanes ones 2) due mix 1 × SlowBlock 1 ten voice one (held_lanes ones 2) due output
+      × AcceptedMix ten voice one (held_lanes ones 2) due mix 1
+      × SlowBlock 1 ten voice one (held_lanes ones 2) due output
       × SlowMix 1 ten voice one (held_lanes ones 2) due mix 1 × Silent waiting unstarted
   pub steps_made : AcceptedBlock ten voice one lanes due output
   pub mix_steps_made : AcceptedMix ten voice one lanes due mix 1

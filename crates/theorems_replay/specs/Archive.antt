@@ -1,7 +1,8 @@
 -- The archive's own replay. A caller that passes the bytes of a trace to `cableowl_replay_step`, step by step, and
 -- prints the line of each result prints what the program `replay` prints. So each theorem on whole traces holds of
 -- that entry.
-use Rattle.std.specs.Prelude.{ℕ, zero, suc, ◌+◌, ◌-◌, ◌≤◌, ◌≡◌, cond, not, ◌||◌, List, [], ◌∷◌, ◌++◌, T, eqb, leb, length, take, drop, Float}
+use Rattle.std.specs.Prelude.{ℕ, zero, suc, ◌+◌, ◌-◌, ◌≤◌, ◌≡◌, cond, not, ◌||◌, List, [], ◌∷◌, ◌++◌, T, eqb, leb}
+use Rattle.std.specs.Prelude.{length, take, drop, Float}
 use Rattle.byte_layout.specs.Numbers.{Bytes}
 use Rattle.trace_lines.specs.Lines.{block_line, refused_block_line, refused_line}
 use Rattle.trace_records.specs.Records.{record_at}

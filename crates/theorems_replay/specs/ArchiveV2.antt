@@ -1,7 +1,8 @@
 -- The archive's replay of version 2. For kinds 1 to 3 its steps are those of version 1, so a trace of these kinds
 -- prints the same. With two given sounds of equal length the results differ only in samples, so the lines of a trace
 -- depend on a given sound only through its frame count.
-use Rattle.std.specs.Prelude.{ℕ, zero, suc, ◌+◌, ◌-◌, ◌*◌, ◌≤◌, ◌≡◌, Bool, true, false, cond, not, ◌&&◌, ◌||◌, List, [], ◌∷◌, ◌++◌, eqb, take, drop, Float}
+use Rattle.std.specs.Prelude.{ℕ, zero, suc, ◌+◌, ◌-◌, ◌*◌, ◌≤◌, ◌≡◌, Bool, true, false, cond, not, ◌&&◌, ◌||◌, List}
+use Rattle.std.specs.Prelude.{[], ◌∷◌, ◌++◌, eqb, take, drop, Float}
 use Rattle.byte_layout.specs.Numbers.{Bytes}
 use Rattle.trace_lines.specs.Lines.{labelled, at·is, refused_line}
 use Rattle.trace_records.specs.Records.{record_at}

@@ -30,24 +30,42 @@ InUse = List Float × List ℕ
 
 pub record Coincide : Type 0 where
   -- float_bits
-  pub float_bits_digit_value : Decides (Post FloatBitsDigitValue.ended FloatBitsDigitValue.clauses (λ k a. (tt, λ r s. r_last _)))
+  pub float_bits_digit_value :
+      Decides (Post FloatBitsDigitValue.ended FloatBitsDigitValue.clauses (λ k a. (tt, λ r s. r_last _)))
   pub float_bits_f64_of : Decides (Post FloatBitsF64Of.ended FloatBitsF64Of.clauses (λ k a. (tt, λ r s. r_last _)))
   pub float_bits_f32_of : Decides (Post FloatBitsF32Of.ended FloatBitsF32Of.clauses (λ k a. (tt, λ r s. r_last _)))
-  pub float_bits_bits_of_f64 : Decides (Post FloatBitsBitsOfF64.ended FloatBitsBitsOfF64.clauses (λ k a. (tt, λ r s. r_last _)))
-  pub float_bits_bits_of_f32 : Decides (Post FloatBitsBitsOfF32.ended FloatBitsBitsOfF32.clauses (λ k a. (tt, λ r s. r_last _)))
+  pub float_bits_bits_of_f64 :
+      Decides (Post FloatBitsBitsOfF64.ended FloatBitsBitsOfF64.clauses (λ k a. (tt, λ r s. r_last _)))
+  pub float_bits_bits_of_f32 :
+      Decides (Post FloatBitsBitsOfF32.ended FloatBitsBitsOfF32.clauses (λ k a. (tt, λ r s. r_last _)))
   -- trace_inputs
-  pub trace_inputs_settings_of : Decides (Post TraceInputsSettingsOf.ended TraceInputsSettingsOf.clauses (λ k a. (tt, λ r s. r_last _)))
-  pub trace_inputs_put_samples : DecidesWith (λ k r s. s.1.0.now) (Post TraceInputsPutSamples.ended TraceInputsPutSamples.clauses (λ k a. (tt, λ r s. r_last _)))
-  pub trace_inputs_commands_of : Decides (Post TraceInputsCommandsOf.ended TraceInputsCommandsOf.clauses (λ k a. (tt, λ r s. r_last _)))
-  pub trace_inputs_block_of : Decides (Post TraceInputsBlockOf.ended TraceInputsBlockOf.clauses (λ k a. (tt, λ r s. r_last _)))
-  pub trace_inputs_given_samples_of : Decides (Post TraceInputsGivenSamplesOf.ended TraceInputsGivenSamplesOf.clauses (λ k a. (tt, λ r s. r_last _)))
-  pub trace_inputs_laned_block_of : Decides (Post TraceInputsLanedBlockOf.ended TraceInputsLanedBlockOf.clauses (λ k a. (tt, λ r s. r_last _)))
-  pub trace_inputs_singles_of : Decides (Post TraceInputsSinglesOf.ended TraceInputsSinglesOf.clauses (λ k a. (tt, λ r s. r_last _)))
-  pub trace_inputs_doubles_of : Decides (Post TraceInputsDoublesOf.ended TraceInputsDoublesOf.clauses (λ k a. (tt, λ r s. r_last _)))
+  pub trace_inputs_settings_of :
+      Decides (Post TraceInputsSettingsOf.ended TraceInputsSettingsOf.clauses (λ k a. (tt, λ r s. r_last _)))
+  pub trace_inputs_put_samples :
+      DecidesWith (λ k r s. s.1.0.now) (Post TraceInputsPutSamples.ended TraceInputsPutSamples.clauses
+      (λ k a. (tt, λ r s. r_last _)))
+  pub trace_inputs_commands_of :
+      Decides (Post TraceInputsCommandsOf.ended TraceInputsCommandsOf.clauses (λ k a. (tt, λ r s. r_last _)))
+  pub trace_inputs_block_of :
+      Decides (Post TraceInputsBlockOf.ended TraceInputsBlockOf.clauses (λ k a. (tt, λ r s. r_last _)))
+  pub trace_inputs_given_samples_of :
+      Decides (Post TraceInputsGivenSamplesOf.ended TraceInputsGivenSamplesOf.clauses (λ k a. (tt, λ r s. r_last _)))
+  pub trace_inputs_laned_block_of :
+      Decides (Post TraceInputsLanedBlockOf.ended TraceInputsLanedBlockOf.clauses (λ k a. (tt, λ r s. r_last _)))
+  pub trace_inputs_singles_of :
+      Decides (Post TraceInputsSinglesOf.ended TraceInputsSinglesOf.clauses (λ k a. (tt, λ r s. r_last _)))
+  pub trace_inputs_doubles_of :
+      Decides (Post TraceInputsDoublesOf.ended TraceInputsDoublesOf.clauses (λ k a. (tt, λ r s. r_last _)))
   -- trace_lines
-  pub trace_lines_put_block : DecidesWith (λ k r s. s.0.now) (Post TraceLinesPutBlock.ended TraceLinesPutBlock.clauses (λ k a. (tt, λ r s. r_last _)))
-  pub trace_lines_put_refused_block : DecidesWith (λ k r s. s.0.now) (Post TraceLinesPutRefusedBlock.ended TraceLinesPutRefusedBlock.clauses (λ k a. (tt, λ r s. r_last _)))
-  pub trace_lines_put_refused : DecidesWith (λ k r s. s.0.now) (Post TraceLinesPutRefused.ended TraceLinesPutRefused.clauses (λ k a. (tt, λ r s. r_last _)))
+  pub trace_lines_put_block :
+      DecidesWith (λ k r s. s.0.now) (Post TraceLinesPutBlock.ended TraceLinesPutBlock.clauses
+      (λ k a. (tt, λ r s. r_last _)))
+  pub trace_lines_put_refused_block :
+      DecidesWith (λ k r s. s.0.now) (Post TraceLinesPutRefusedBlock.ended TraceLinesPutRefusedBlock.clauses
+      (λ k a. (tt, λ r s. r_last _)))
+  pub trace_lines_put_refused :
+      DecidesWith (λ k r s. s.0.now) (Post TraceLinesPutRefused.ended TraceLinesPutRefused.clauses
+      (λ k a. (tt, λ r s. r_last _)))
   -- trace_replay
   pub trace_replay_begin : Decides (Post TraceReplayBegin.ended TraceReplayBegin.clauses (λ k a. (tt, λ r s. r_last _)))
   pub trace_replay_play_record : DecidesWith {B = InUse}

@@ -1,5 +1,6 @@
 -- Settings, a sound, commands or a block from a record's numbers, in the order of docs/formats/TRACE.md.
-use Rattle.std.specs.Prelude.{ℕ, zero, suc, ◌+◌, ◌-◌, ◌*◌, ◌/◌, ◌%◌, Bool, cond, not, ◌&&◌, List, [], ◌∷◌, eqb, ltb, leb, get_or, take, drop, Float}
+use Rattle.std.specs.Prelude.{ℕ, zero, suc, ◌+◌, ◌-◌, ◌*◌, ◌/◌, ◌%◌, Bool, cond, not, ◌&&◌, List, [], ◌∷◌, eqb, ltb}
+use Rattle.std.specs.Prelude.{leb, get_or, take, drop, Float}
 use Rattle.std.specs.Float.{binary32, binary64}
 use Rattle.byte_layout.specs.Numbers.{num}
 use Rattle.float_bits.specs.Patterns.{float_of}

@@ -1,7 +1,8 @@
 -- The theorems about a trace's records (requests #104 and #105): what is written is read back as the same fields,
 -- whatever follows it, and what is read is written again byte for byte; the same for whole traces; and a read looks
 -- at no more than 575 bytes.
-use Rattle.std.specs.Prelude.{ℕ, ◌+◌, ◌-◌, ◌≤◌, ◌≡◌, true, cond, List, [], ◌∷◌, ◌++◌, leb, length, take, drop, replicate}
+use Rattle.std.specs.Prelude.{ℕ, ◌+◌, ◌-◌, ◌≤◌, ◌≡◌, true, cond, List, [], ◌∷◌, ◌++◌, leb, length, take, drop}
+use Rattle.std.specs.Prelude.{replicate}
 use Rattle.byte_layout.specs.Numbers.{Bytes}
 use Rattle.byte_layout.specs.Writes.{fine}
 use Rattle.trace_records.specs.Tables.{body, fields}

@@ -1,5 +1,6 @@
 -- The replay of a trace: docs/formats/TRACE.md, "What is printed". The whole run is a function of the bytes.
-use Rattle.std.specs.Prelude.{ℕ, zero, suc, ◌+◌, ◌-◌, ◌*◌, Bool, true, false, cond, List, [], ◌∷◌, ◌++◌, eqb, ltb, take, replicate, Float}
+use Rattle.std.specs.Prelude.{ℕ, zero, suc, ◌+◌, ◌-◌, ◌*◌, Bool, true, false, cond, List, [], ◌∷◌, ◌++◌, eqb, ltb}
+use Rattle.std.specs.Prelude.{take, replicate, Float}
 use Rattle.numbers.specs.Words.{positive_zero}
 use Rattle.playback_state_manager.specs.States.{number}
 use Rattle.sound_lanes.specs.Lanes.{Lanes, five}
@@ -58,7 +59,11 @@ pub record AfterRecord : Type 0 where
 -- a creation, accepted or refused; a refused one leads to the blank voice
 abbrev pub after_creation : Replay → List ℕ → AfterRecord
 after_creation c vs = record {
-  replay = record { voice = (created (samples_of vs) (settings_of vs)).voice; sound = samples_of vs; blocks = c.blocks };
+  replay = record {
+    voice = (created (samples_of vs) (settings_of vs)).voice;
+    sound = samples_of vs;
+    blocks = c.blocks;
+  };
   line = [];
 }
 

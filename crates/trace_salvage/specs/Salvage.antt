@@ -1,6 +1,7 @@
 -- Salvage of a damaged trace. `size` is the length of the complete record at the beginning of a list, 0 if there is
 -- none; k bytes of the current record are left to copy.
-use Rattle.std.specs.Prelude.{ℕ, zero, suc, ◌+◌, ◌-◌, ◌≤◌, ◌<◌, Bool, true, false, cond, List, [], ◌∷◌, ◌++◌, ◌≡◌, eqb, ltb, length, drop}
+use Rattle.std.specs.Prelude.{ℕ, zero, suc, ◌+◌, ◌-◌, ◌≤◌, ◌<◌, Bool, true, false, cond, List, [], ◌∷◌, ◌++◌, ◌≡◌}
+use Rattle.std.specs.Prelude.{eqb, ltb, length, drop}
 use Rattle.std.proofs.lemmas.List.Edits.{sets}
 use Rattle.trace_records.specs.Records.{Found, refused, found}
 use Rattle.trace_sealed.specs.Records.{read_by}

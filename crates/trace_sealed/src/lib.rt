@@ -2,7 +2,8 @@
 // "Version 2".
 #![tactic(auto)]
 
-ghost use Rattle.std.specs.Prelude.{◌≡◌, ◌+◌, ◌-◌, ◌*◌, ◌≤◌, ◌<◌, true, cond, [], eqb, length, take, drop, get_or, replicate};
+ghost use Rattle.std.specs.Prelude.{◌≡◌, ◌+◌, ◌-◌, ◌*◌, ◌≤◌, ◌<◌, true, cond, [], eqb, length, take, drop, get_or};
+ghost use Rattle.std.specs.Prelude.{replicate};
 ghost use Rattle.byte_layout.specs.Numbers.{num};
 ghost use Rattle.byte_layout.specs.Reads.{good, steps, view};
 ghost use Rattle.trace_sealed.specs.Promises.{Promises};
