@@ -93,7 +93,10 @@ int main(void) {
         expect(held.steps == answer.steps && memcmp(held_out, expected, sizeof expected) == 0, "held: the same frames");
         expect(memcmp(&held.state, &answer.state, sizeof held.state) == 0, "held: the same state");
         expect(refused == CABLEOWL_REFUSAL_ADVANCE, "held: the same refusal");
-        expect(returned == CABLEOWL_ACCEPTED || returned == CABLEOWL_REFUSAL_ADVANCE, "not held: it returns");
+        /* Where subnormal numbers count as 0, so does the time step. */
+        expect(returned == CABLEOWL_ACCEPTED || returned == CABLEOWL_REFUSAL_ADVANCE ||
+                   (i == 0 && returned == CABLEOWL_REFUSAL_TIME_STEP),
+               "not held: it returns");
         expect(loose.refusal == CABLEOWL_ACCEPTED, "not held: accepted");
         if (i == 0) expect(memcmp(out, expected, sizeof out) != 0, "flushing is seen, or this test shows nothing");
     }

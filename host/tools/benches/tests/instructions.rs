@@ -25,30 +25,30 @@ const CELLS: [Cell; 7] = [
 ];
 
 /// Instructions per frame in each cell, of our code with every check, by processor, as callgrind counts them; `None` if
-/// a cell was not counted there.
+/// a cell was not counted there. Those of x86-64 are of today's kit; those of Arm are of the kit before.
 const RECORDED: [(&str, [Option<f64>; 7]); 2] = [
     (
         "aarch64",
         [
-            Some(46.6),
-            Some(62.8),
-            Some(75.9),
+            Some(49.2),
+            Some(65.0),
+            Some(79.0),
             Some(37.7),
-            Some(50.9),
-            Some(39.8),
-            Some(52.3),
+            Some(50.7),
+            Some(42.2),
+            Some(53.4),
         ],
     ),
     (
         "x86_64",
         [
-            Some(65.3),
-            Some(84.8),
-            Some(99.6),
-            Some(49.7),
-            Some(67.0),
-            Some(52.0),
-            Some(67.9),
+            Some(97.6),
+            Some(119.9),
+            Some(130.2),
+            Some(51.2),
+            Some(70.9),
+            Some(80.6),
+            Some(97.3),
         ],
     ),
 ];
