@@ -79,7 +79,7 @@ use Rattle.theorems_replay.specs.Cuts.{block_numbers, Lines}
 use Rattle.theorems_replay.proofs.Streams.{Sized, sized}
 use Rattle.theorems_replay.proofs.Narrow.{Shown, cut_off, whole, narrow}
 use Rattle.theorems_replay.proofs.Cuts.{cut_records}
-use Rattle.theorems_replay.proofs.Example.{three_frames_lem}
+use Rattle.theorems_replay.proofs.Example.{three_frames}
 use Rattle.theorems_replay.proofs.Lengths.{lines_alike}
 
 -- ---- a recorded sound is short
@@ -383,7 +383,7 @@ archive_replays snd out bs h =
     ∙ ap (λ (c : Replay). printed c 0 0 bs) (blank_means snd)
 
 pub archive_three_frames : ThreeFramesC
-archive_three_frames snd out h = archive_replays snd out _ h ∙ three_frames_lem
+archive_three_frames snd out h = archive_replays snd out _ h ∙ three_frames
 
 pub archive_lines_alike : LinesAlikeC
 archive_lines_alike snd1 out1 snd2 out2 bs cs h =

@@ -88,5 +88,5 @@ of_creation vs e =
     ∙ to_the_block (made vs)
     ∙ of_block (made vs) refl
 
-pub three_frames_lem : ThreeFrames
-three_frames_lem = of_creation creation_numbers creation_read ∙ played
+pub three_frames : ThreeFrames
+three_frames = of_creation creation_numbers creation_read ∙ played

@@ -2,7 +2,7 @@
 use Rattle.theorems_replay.specs.Promises.{Promises}
 use Rattle.theorems_replay.proofs.Streams.{streams}
 use Rattle.theorems_replay.proofs.Cuts.{cut_records}
-use Rattle.theorems_replay.proofs.Example.{three_frames_lem}
+use Rattle.theorems_replay.proofs.Example.{three_frames}
 use Rattle.theorems_replay.proofs.Lengths.{lines_alike}
 use Rattle.theorems_replay.proofs.Archive.{archive_replays, archive_streams, archive_cut_records, archive_three_frames, archive_lines_alike}
 use Rattle.theorems_replay.proofs.AsVersion1.{as_version_1, archive_replays_v2}
@@ -17,7 +17,7 @@ all_kept =
     record {
       streams = streams;
       cut_records = cut_records;
-      three_frames_lem = three_frames_lem;
+      three_frames = three_frames;
       lines_alike = lines_alike;
       archive_replays = archive_replays;
       archive_streams = archive_streams;

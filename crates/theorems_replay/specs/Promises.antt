@@ -12,7 +12,7 @@ use Rattle.theorems_replay.specs.Witnesses.{Witnesses}
 pub record Promises : Type 0 where
   pub streams : Streams
   pub cut_records : CutRecords
-  pub three_frames_lem : ThreeFrames
+  pub three_frames : ThreeFrames
   -- the samples of creations do not matter to what is printed
   pub lines_alike : LinesAlike
   -- the steps of `cableowl_replay_step` print the same, so each of these theorems holds for that entry
