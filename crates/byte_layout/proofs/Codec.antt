@@ -8,6 +8,7 @@ use lib.Dec.{ltb, leb}
 use lib.ListN.{length, take, drop, length-append, take-append-drop}
 use lib.Seq.{take_at, drop_at}
 use borrow.Author.Tests.{le-leb, leb-true, ltb-true, eqb-true}
+use Rattle.refusals.specs.Numbers.{number}
 use Rattle.byte_layout.specs.declared.Row.{Row}
 use Rattle.byte_layout.specs.Numbers.{num, bytes}
 use Rattle.byte_layout.specs.Rows.{stands, within, sound}
@@ -32,19 +33,16 @@ ands false c e = never e
 -- what `sound` means for a row
 pub record Sound (r : Row) : Type 0 where
   pub narrow : r.width ≤ 8
-  pub numbered : 0 < r.refusal
   pub holds : r.most < 256 ^ r.width
 
 pub sound_cons : (r : Row) (rs : List Row) → sound (r ∷ rs) ≡ true → Sound r × (sound rs ≡ true)
 unfolding sound
 sound_cons r rs e =
     let w = leb r.width 8 in
-    let k = ltb 0 r.refusal in
     let m = ltb r.most (256 ^ r.width) in
-    let h = ands (w && k && m) (sound rs) e in
-    let g = ands (w && k) m h.0 in
-    let f = ands w k g.0 in
-    (record { narrow = leb-true r.width 8 f.0; numbered = ltb-true 0 r.refusal f.1; holds = ltb-true r.most (256 ^ r.width) g.1 }, h.1)
+    let h = ands (w && m) (sound rs) e in
+    let g = ands w m h.0 in
+    (record { narrow = leb-true r.width 8 g.0; holds = ltb-true r.most (256 ^ r.width) g.1 }, h.1)
 
 pub within_most : (r : Row) (x : ℕ) → within r x ≡ true → x ≤ r.most
 unfolding within
@@ -100,18 +98,18 @@ stepped r left vs bs h = go (stands r vs) refl
     short false = refused 18
 
     most : stands r vs ≡ true → w ≤ left → w ≤ length bs → (b : Bool) → within r n ≡ b
-        → Stepped r left vs bs (cond b (good (left - w) (vs ++ (n ∷ [])) (drop w bs)) (bad r.refusal))
-    most s p q false e = refused r.refusal
+        → Stepped r left vs bs (cond b (good (left - w) (vs ++ (n ∷ [])) (drop w bs)) (bad (number r.refusal)))
+    most s p q false e = refused (number r.refusal)
     most s p q true e =
         passed n (left - w) (drop w bs) (rw s e) (rw (s, bytes_num w bs h q) (sym (take-append-drop w bs))) (rw (s, length_bytes w n) (omega arith)) (small_drop w bs h)
 
     held : stands r vs ≡ true → w ≤ left → (b : Bool) → leb w (length bs) ≡ b
-        → Stepped r left vs bs (cond b (cond (within r n) (good (left - w) (vs ++ (n ∷ [])) (drop w bs)) (bad r.refusal)) (bad 18))
+        → Stepped r left vs bs (cond b (cond (within r n) (good (left - w) (vs ++ (n ∷ [])) (drop w bs)) (bad (number r.refusal))) (bad 18))
     held s p true e = most s p (leb-true w (length bs) e) (within r n) refl
     held s p false e = refused 18
 
     room : stands r vs ≡ true → (b : Bool) → leb w left ≡ b
-        → Stepped r left vs bs (cond b (cond (leb w (length bs)) (cond (within r n) (good (left - w) (vs ++ (n ∷ [])) (drop w bs)) (bad r.refusal)) (bad 18)) (cond (leb left (length bs)) (bad 17) (bad 18)))
+        → Stepped r left vs bs (cond b (cond (leb w (length bs)) (cond (within r n) (good (left - w) (vs ++ (n ∷ [])) (drop w bs)) (bad (number r.refusal))) (bad 18)) (cond (leb left (length bs)) (bad 17) (bad 18)))
     room s true e = held s (leb-true w left e) (leb w (length bs)) refl
     room s false e = short (leb left (length bs))
 
@@ -127,7 +125,7 @@ pub record Written (rs : List Row) (left : ℕ) (vs bs : List ℕ) (k : ℕ) (us
   pub from : bs ≡ payload rs vs more ++ rest
   pub count : left ≡ length (payload rs vs more) + k
 
-steps_bad : (rs : List Row) (k : ℕ) → steps rs (bad k) ≡ bad k
+pub steps_bad : (rs : List Row) (k : ℕ) → steps rs (bad k) ≡ bad k
 unfolding steps step
 steps_bad [] k = refl
 steps_bad (r ∷ rs) k = steps_bad rs k

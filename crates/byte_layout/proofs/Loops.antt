@@ -1,37 +1,34 @@
 -- The loop over the rows: one more row, and what holds for every row of a `sound` table.
 use mathlib.Core.Path.{◌≡◌, refl, sym, ap, ◌∙◌}
-use Prim.Native.Nat.{ℕ, zero, suc, ◌+◌, ◌-◌, ◌≤◌, ◌<◌}
+use Prim.Native.Nat.{ℕ, zero, suc, ◌+◌, ◌≤◌, ◌<◌}
 use native.Mathlib.Omega.{arith}
 use native.Mathlib.Numerals.{add-one}
 use mathlib.Core.Bool.{true}
-use mathlib.Core.List.{List}
-use lib.ListN.{drop}
-use lib.Seq.{drop-drop}
-use Rattle.byte_layout.specs.Rows.{row_at, rows, sound}
+use mathlib.Core.List.{List, [], ◌∷◌}
+use lib.ListN.{length, get_or, drop, drop_of_length-le}
+use lib.Seq.{drop-cons, drop-drop}
+use Rattle.refusals.specs.declared.Refusal.TheVariants.{State}
+use Rattle.byte_layout.specs.declared.Row.{Row}
+use Rattle.byte_layout.specs.Rows.{sound}
 use Rattle.byte_layout.specs.Reads.{Reading, step, steps}
 use Rattle.byte_layout.proofs.Codec.{Sound, sound_cons}
 
-none : {A : Type 0} → ⊥ → A
-none e = elim e [ ]
+-- what a goal names past a table's end
+abbrev pub blank : Row
+blank = record { width = 0; guard = 0; low = 0; least = 0; most = 0; refusal = State }
 
-sound_from : (t : List ℕ) (j n i : ℕ) → sound (rows t j n) ≡ true → i < n → Sound (row_at t (j + i))
-unfolding rows
-sound_from t j zero i e h = none (omega arith)
-sound_from t j (suc n) zero e h = let z : j + 0 ≡ j = omega arith in rw z (sound_cons (row_at t j) (rows t (suc j) n) e).0
-sound_from t j (suc n) (suc i) e h =
-    let z : suc j + i ≡ j + suc i = omega arith in
-    rw (← z) (sound_from t (suc j) n i (sound_cons (row_at t j) (rows t (suc j) n) e).1 (omega arith))
+pub sound_row : (t : List Row) (i : ℕ) (z : Row) → sound t ≡ true → i < length t → Sound (get_or t i z)
+sound_row [] i z e h = absurd (omega arith)
+sound_row (r ∷ t) zero z e h = (sound_cons r t e).0
+sound_row (r ∷ t) (suc i) z e h = sound_row t i z (sound_cons r t e).1 (omega arith)
 
-pub sound_row : (t : List ℕ) (n i : ℕ) → sound (rows t 0 n) ≡ true → i < n → Sound (row_at t i)
-sound_row t n i e h = let z : 0 + i ≡ i = omega arith in rw z at (sound_from t 0 n i e h)
+pub next : (t : List Row) (i : ℕ) (z : Row) (d : Reading) → i < length t → steps (drop i t) d ≡ steps (drop (i + 1) t) (step (get_or t i z) d)
+unfolding steps
+next t i z d h = rw (drop-cons t i z h, add-one i) refl
 
-pub next : (t : List ℕ) (n i : ℕ) (d : Reading) → i < n → steps (rows t i (n - i)) d ≡ steps (rows t (i + 1) (n - (i + 1))) (step (row_at t i) d)
-unfolding steps rows
-next t n i d h = let e : n - i ≡ suc (n - (i + 1)) = omega arith in rw (e, add-one i) refl
-
-pub last : (t : List ℕ) (n i : ℕ) (d : Reading) → n ≤ i → steps (rows t i (n - i)) d ≡ d
-unfolding steps rows
-last t n i d h = let e : n - i ≡ 0 = omega arith in rw e refl
+pub done : (t : List Row) (i : ℕ) (d : Reading) → length t ≤ i → steps (drop i t) d ≡ d
+unfolding steps
+done t i d h = rw (drop_of_length-le t h) refl
 
 -- the values after the rows read
 pub one_more : (xs ys : List ℕ) (i : ℕ) → drop i xs ≡ drop i ys → drop (i + 1) xs ≡ drop (i + 1) ys

@@ -1,57 +1,76 @@
--- Rows whose refusals are from 1 to 24 are refused by numbers from 1 to 24. Assumes nothing.
-use mathlib.Core.Path.{◌≡◌, sym, subst}
-use Prim.Native.Nat.{ℕ, ◌-◌, ◌≤◌, ◌<◌}
+-- A refusal's number is above 0, and so is the number by which a reading is refused. Assumes nothing.
+use mathlib.Core.Path.{◌≡◌, subst}
+use Prim.Native.Nat.{ℕ, ◌-◌, ◌<◌}
 use native.Mathlib.Omega.{arith}
-use mathlib.Core.Bool.{Bool, true, false, ◌&&◌, cond}
+use mathlib.Core.Bool.{Bool, true, false, cond}
 use mathlib.Core.List.{List, [], ◌∷◌, ◌++◌}
-use lib.Dec.{T, leb, ltb, leb→le, ltb→lt}
+use lib.Dec.{T, leb}
 use lib.ListN.{length, take, drop}
-use lib.Ieee.Fits.{and_l, and_r}
+use Rattle.refusals.specs.declared.Refusal.{Refusal}
+use Rattle.refusals.specs.declared.Refusal.TheVariants.{State, SampleRate, FrameCount, Slice, StartPosition, LoopRegion, PlaybackRate, Seek, Block, TimeStep, Lane, Advance, Level, Ramp, Mark, Kind, Record, Truncated, Room, LoopSlot, OtherHall, EmptySlot, Version, SavedField, Output, OtherSound, OtherFrames, TwoHalves}
+use Rattle.refusals.specs.Numbers.{number}
 use Rattle.byte_layout.specs.declared.Row.{Row}
-use Rattle.byte_layout.specs.declared.Parsed.{Parsed}
 use Rattle.byte_layout.specs.Numbers.{num}
 use Rattle.byte_layout.specs.Rows.{stands, within}
-use Rattle.byte_layout.specs.Reads.{Reading, bad, good, taken, step, steps, view}
-use Rattle.byte_layout.proofs.Ways.{shut}
+use Rattle.byte_layout.specs.Reads.{Reading, bad, good, taken, step, steps}
+
+pub numbered : (r : Refusal) → 0 < number r
+numbered State = omega arith
+numbered SampleRate = omega arith
+numbered FrameCount = omega arith
+numbered Slice = omega arith
+numbered StartPosition = omega arith
+numbered LoopRegion = omega arith
+numbered PlaybackRate = omega arith
+numbered Seek = omega arith
+numbered Block = omega arith
+numbered TimeStep = omega arith
+numbered Lane = omega arith
+numbered Advance = omega arith
+numbered Level = omega arith
+numbered Ramp = omega arith
+numbered Mark = omega arith
+numbered Kind = omega arith
+numbered Record = omega arith
+numbered Truncated = omega arith
+numbered Room = omega arith
+numbered LoopSlot = omega arith
+numbered OtherHall = omega arith
+numbered EmptySlot = omega arith
+numbered Version = omega arith
+numbered SavedField = omega arith
+numbered Output = omega arith
+numbered OtherSound = omega arith
+numbered OtherFrames = omega arith
+numbered TwoHalves = omega arith
 
 Low : Reading → Type 0
-Low (bad k) = (0 < k) × (k ≤ 24)
+Low (bad k) = 0 < k
 Low (good left vs bs) = T true
-
-unfoldable pub lows : List Row → Bool
-lows [] = true
-lows (r ∷ rs) = (ltb 0 r.refusal && leb r.refusal 24) && lows rs
 
 either : (b : Bool) (x y : Reading) → Low x → Low y → Low (cond b x y)
 either true x y p q = p
 either false x y p q = q
 
-step_low : (r : Row) (d : Reading) → (0 < r.refusal) × (r.refusal ≤ 24) → Low d → Low (step r d)
+step_low : (r : Row) (d : Reading) → Low d → Low (step r d)
 unfolding step taken Low
-step_low r (bad k) h l = l
-step_low r (good left vs bs) h l =
+step_low r (bad k) l = l
+step_low r (good left vs bs) l =
+    let w = r.width in
+    let n = num (take w bs) in
+    let x = good (left - w) (vs ++ (n ∷ [])) (drop w bs) in
+    let y = cond (within r n) x (bad (number r.refusal)) in
     either (stands r vs) (taken r left vs bs) (good left (vs ++ (0 ∷ [])) bs)
-    (either (leb r.width left)
-    (cond (leb r.width (length bs)) (cond (within r (num (take r.width bs))) (good (left - r.width) (vs ++ (num (take r.width bs) ∷ [])) (drop r.width bs)) (bad r.refusal)) (bad 18))
-    (cond (leb left (length bs)) (bad 17) (bad 18))
-    (either (leb r.width (length bs)) (cond (within r (num (take r.width bs))) (good (left - r.width) (vs ++ (num (take r.width bs) ∷ [])) (drop r.width bs)) (bad r.refusal)) (bad 18)
-    (either (within r (num (take r.width bs))) (good (left - r.width) (vs ++ (num (take r.width bs) ∷ [])) (drop r.width bs)) (bad r.refusal) tt h)
-    (omega arith, omega arith))
-    (either (leb left (length bs)) (bad 17) (bad 18) (omega arith, omega arith) (omega arith, omega arith)))
+    (either (leb w left) (cond (leb w (length bs)) y (bad 18)) (cond (leb left (length bs)) (bad 17) (bad 18))
+    (either (leb w (length bs)) y (bad 18) (either (within r n) x (bad (number r.refusal)) tt (numbered r.refusal)) (omega arith))
+    (either (leb left (length bs)) (bad 17) (bad 18) (omega arith) (omega arith)))
     tt
 
-steps_low : (rs : List Row) (d : Reading) → T (lows rs) → Low d → Low (steps rs d)
-unfolding steps lows
-steps_low [] d h l = l
-steps_low (r ∷ rs) d h l =
-    let n = r.refusal in
-    let a = and_l (ltb 0 n && leb n 24) (lows rs) h in
-    steps_low rs (step r d) (and_r (ltb 0 n && leb n 24) (lows rs) h) (step_low r d (ltb→lt 0 n (and_l (ltb 0 n) (leb n 24) a), leb→le n 24 (and_r (ltb 0 n) (leb n 24) a)) l)
+steps_low : (rs : List Row) (d : Reading) → Low d → Low (steps rs d)
+unfolding steps
+steps_low [] d l = l
+steps_low (r ∷ rs) d l = steps_low rs (step r d) (step_low r d l)
 
-pub read_low : (rs : List Row) (s : List ℕ) (n m : ℕ) (p : Parsed) → T (lows rs) → view s m p ≡ steps rs (good n [] s) → 0 < p.refused → p.refused ≤ 24
+pub some_refusal : (rs : List Row) (s : List ℕ) (n k : ℕ) → steps rs (good n [] s) ≡ bad k → 0 < k
 unfolding Low
-read_low rs s n m p h e g = (subst Low (shut s m p g) (subst Low (sym e) (steps_low rs (good n [] s) h tt))).1
-
-pub some_refusal : (rs : List Row) (s : List ℕ) (n k : ℕ) → T (lows rs) → steps rs (good n [] s) ≡ bad k → 0 < k
-unfolding Low
-some_refusal rs s n k h e = (subst Low e (steps_low rs (good n [] s) h tt)).0
+some_refusal rs s n k e = subst Low e (steps_low rs (good n [] s) tt)

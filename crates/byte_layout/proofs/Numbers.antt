@@ -63,25 +63,28 @@ bytes_num (suc m) (b ∷ l) h k =
     rw (e, f) (ap (λ (z : List ℕ). b ∷ z) (bytes_num m l (λ i. h (suc i)) (omega arith)))
 
 -- one more byte in front
-pub num_step : (s : List ℕ) (at k w : ℕ) → suc k ≤ w → at + w ≤ length s
-    → num (take (w - k) (drop (at + k) s)) ≡ get_or s (at + k) 0 + 256 * num (take (w - suc k) (drop (suc (at + k)) s))
+pub num_step : (s : List ℕ) (i e : ℕ) → i < e → e ≤ length s → num (take (e - i) (drop i s)) ≡ get_or s i 0 + 256 * num (take (e - suc i) (drop (suc i) s))
 unfolding num
-num_step s at k w a b =
-    let e : w - k ≡ suc (w - suc k) = omega arith in
-    rw (e, drop-cons s (at + k) 0 (omega arith)) refl
+num_step s i e a b =
+    let f : e - i ≡ suc (e - suc i) = omega arith in
+    rw (f, drop-cons s i 0 (omega arith)) refl
 
 pub word : (m : ℕ) (l : List ℕ) → Small l → m ≤ 7 → num (take m l) < 72057594037927936
 word m l h k = omega (arith, num_lt m l h, pow-le-pow_right {n = 256} (omega arith) {i = m} {j = 7} k)
 
--- the loop of `number`: one more byte, and what it fits
-pub turn : (s : List ℕ) (at w k x : ℕ) → 0 < k → k ≤ w → at + w ≤ length s → x ≡ num (take (w - k) (drop (at + k) s))
-    → x * 256 + get_or s (at + (k - 1)) 0 ≡ num (take (w - (k - 1)) (drop (at + (k - 1)) s))
-turn s at w k x p a b e =
-    let f : suc (k - 1) ≡ k = omega arith in
-    let g : suc (at + (k - 1)) ≡ at + k = omega arith in
-    let n = num_step s at (k - 1) w (omega arith) b in
-    let m : num (take (w - suc (k - 1)) (drop (suc (at + (k - 1))) s)) ≡ x = ap (λ (i : ℕ). num (take (w - i) (drop (suc (at + (k - 1))) s))) f ∙ ap (λ (i : ℕ). num (take (w - k) (drop i s))) g ∙ sym e in
+-- the loop of `number`, from the end e down: one more byte, what it fits, and the last
+pub turn : (s : List ℕ) (i e x : ℕ) → 0 < i → i ≤ e → e ≤ length s → x ≡ num (take (e - i) (drop i s))
+    → x * 256 + get_or s (i - 1) 0 ≡ num (take (e - (i - 1)) (drop (i - 1) s))
+turn s i e x p a b h =
+    let f : suc (i - 1) ≡ i = omega arith in
+    let n = num_step s (i - 1) e (omega arith) b in
+    let m : num (take (e - suc (i - 1)) (drop (suc (i - 1)) s)) ≡ x = ap (λ (k : ℕ). num (take (e - k) (drop k s))) f ∙ sym h in
     omega (arith, n, m)
 
-pub room : (s : List ℕ) (at w k x : ℕ) → Small s → 0 < k → w ≤ 8 → x ≡ num (take (w - k) (drop (at + k) s)) → x < 72057594037927936
-room s at w k x h p a e = omega (arith, e, word (w - k) (drop (at + k) s) (small_drop (at + k) s h) (omega arith))
+pub room : (s : List ℕ) (i e x : ℕ) → Small s → e ≤ i + 7 → x ≡ num (take (e - i) (drop i s)) → x < 72057594037927936
+room s i e x h a q = omega (arith, q, word (e - i) (drop i s) (small_drop i s h) (omega arith))
+
+pub counted : (s : List ℕ) (at w i x : ℕ) → i ≡ at → x ≡ num (take (at + w - i) (drop i s)) → x ≡ num (take w (drop at s))
+counted s at w i x e h =
+    let f : at + w - i ≡ w = omega arith in
+    h ∙ ap (λ (n : ℕ). num (take n (drop i s))) f ∙ ap (λ (n : ℕ). num (take w (drop n s))) e

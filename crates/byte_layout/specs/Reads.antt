@@ -1,6 +1,8 @@
 -- Reading by a layout, byte by byte in reading order: 17 if the payload ends inside a row, 18 if the input does; a
 -- number outside a row's range is refused with the row's own number.
-use Rattle.std.specs.Prelude.{ℕ, ◌-◌, cond, List, [], ◌∷◌, ◌++◌, leb, eqb, length, take, drop}
+use Rattle.std.specs.Prelude.{ℕ, ◌-◌, cond, List, [], ◌∷◌, ◌++◌, leb, length, take, drop, Result, Ok, Err}
+use Rattle.refusals.specs.declared.Refusal.{Refusal}
+use Rattle.refusals.specs.Numbers.{number}
 use Rattle.byte_layout.specs.declared.Row.{Row}
 use Rattle.byte_layout.specs.declared.Parsed.{Parsed}
 use Rattle.byte_layout.specs.Numbers.{num}
@@ -17,7 +19,7 @@ taken r left vs bs =
     cond (leb r.width left)
     (cond (leb r.width (length bs))
     (cond (within r (num (take r.width bs)))
-    (good (left - r.width) (vs ++ (num (take r.width bs) ∷ [])) (drop r.width bs)) (bad r.refusal))
+    (good (left - r.width) (vs ++ (num (take r.width bs) ∷ [])) (drop r.width bs)) (bad (number r.refusal)))
     (bad 18))
     (cond (leb left (length bs)) (bad 17) (bad 18))
 
@@ -32,5 +34,6 @@ steps [] d = d
 steps (r ∷ rs) d = steps rs (step r d)
 
 -- what a parse in progress represents: its first i values are the numbers read
-abbrev pub view : List ℕ → ℕ → Parsed → Reading
-view s i p = cond (eqb p.refused 0) (good p.left (take i p.values) (drop p.at s)) (bad p.refused)
+abbrev pub view : List ℕ → ℕ → Result Parsed Refusal → Reading
+view s i (Ok p) = good p.left (take i p.values) (drop p.at s)
+view s i (Err r) = bad (number r)

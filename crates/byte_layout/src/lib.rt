@@ -2,79 +2,122 @@
 // the same numbers, and what is read is written again byte for byte (proofs/Codec.antt).
 #![tactic(auto)]
 
-ghost use Rattle.std.specs.Prelude.{◌≡◌, ◌+◌, ◌-◌, ◌*◌, ◌≤◌, ◌<◌, true, [], length, take, drop, get_or, replicate};
+ghost use Rattle.std.specs.Prelude.{◌≡◌, ℕ, ◌+◌, ◌-◌, ◌≤◌, ◌<◌, true, [], Ok, IfOk};
+ghost use Rattle.std.specs.Prelude.{length, take, drop, replicate};
 ghost use Rattle.std.proofs.lemmas.List.Edits.{sets};
 ghost use Rattle.byte_layout.specs.Numbers.{num, bytes};
-ghost use Rattle.byte_layout.specs.Rows.{row_at, rows, stands, within, sound};
+ghost use Rattle.byte_layout.specs.Rows.{stands, within, sound};
 ghost use Rattle.byte_layout.specs.Reads.{step, steps, view};
 ghost use Rattle.byte_layout.specs.Writes.{field, payload, fits, fine};
 
-use refusals::words;
+use refusals::Refusal;
 
 // A row: a number of `width` bytes, from `least` to `most` or refused with `refusal`. It is present if the number of
 // row `guard` is at least `low`.
-#[derive(Clone, Copy)]
+#[derive(Clone, Copy, Debug, PartialEq, Eq)]
 pub struct Row {
     pub width: usize,
     pub guard: usize,
     pub low: u64,
     pub least: u64,
     pub most: u64,
-    pub refusal: u64,
+    pub refusal: Refusal,
 }
 
-// A parse in progress: refused with a number, or at offset `at` with `left` bytes of payload left, and the numbers
-// read.
-#[derive(Clone, Copy)]
+// A parse in progress: at offset `at` with `left` bytes of payload left, and the numbers read. They are 80 in fixed
+// memory, as in the C record of a trace, so that a table's length says how many of them are its own.
+#[derive(Clone, Copy, Debug, PartialEq, Eq)]
 pub struct Parsed {
-    pub refused: u64,
     pub at: usize,
     pub left: usize,
     pub values: [u64; 80],
 }
 
-// ---- rows
-
-// Row j of a table.
-fn row_at(table: &[u64], j: usize) -> Row
-    requires { 6 * j + 5 < length table.now }
-    ensures { result ≡ row_at table.now j }
-{
-    let a = 6 * j;
-    Row {
-        width: table[a] as usize,
-        guard: table[a + 1] as usize,
-        low: table[a + 2],
-        least: table[a + 3],
-        most: table[a + 4],
-        refusal: table[a + 5],
+impl Row {
+    // Whether the row is present after these numbers.
+    fn stands(self, before: &[u64]) -> bool
+        ensures { result ≡ stands self before.now }
+    {
+        let x = before.get(self.guard).copied().unwrap_or(0);
+        self.low <= x
     }
-}
 
-// Number g of the first i.
-fn guarding(values: [u64; 80], i: usize, g: usize) -> u64
-    requires { i ≤ 80 }
-    ensures { result ≡ get_or (take i values) g 0 }
-{
-    if g < i {
-        return values[g];
+    fn contains(self, x: u64) -> bool
+        ensures { result ≡ within self x }
+    {
+        (self.least <= x) & (x <= self.most)
     }
-    0
-}
 
-// Whether row r is present after the first i numbers.
-fn row_stands(values: [u64; 80], i: usize, r: Row) -> bool
-    requires { i ≤ 80 }
-    ensures { result ≡ stands r (take i values) }
-{
-    let x = guarding(values, i, r.guard);
-    r.low <= x
-}
+    // Whether the row accepts x after these numbers.
+    fn accepts(self, before: &[u64], x: u64) -> bool
+        ensures { result ≡ fits (stands self before.now) self x }
+    {
+        if self.stands(before) {
+            self.contains(x)
+        } else {
+            x == 0
+        }
+    }
 
-fn row_within(r: Row, x: u64) -> bool
-    ensures { result ≡ within r x }
-{
-    (r.least <= x) & (x <= r.most)
+    // The bytes of the row after these numbers, whatever its own.
+    fn length(self, before: &[u64]) -> usize
+        requires { self.width ≤ 8 }
+        ensures { ((x : ℕ) → result ≡ length (field (stands self before.now) self x)) × (result ≤ 8) }
+    {
+        if self.stands(before) { self.width } else { 0 }
+    }
+
+    // Writes the row's number x after these numbers, and returns the offset after it.
+    fn put(self, before: &[u64], x: u64, buf: &mut [u8], at: usize) -> usize
+        requires { at + length (field (stands self before.now) self x) ≤ length buf.old }
+        ensures { (buf.new ≡ sets buf.old at (field (stands self before.now) self x))
+            × (result ≡ at + length (field (stands self before.now) self x)) }
+    {
+        if self.stands(before) {
+            let w = self.width;
+            put_number(buf, at, w, x);
+            return at + w;
+        }
+        at
+    }
+
+    // Reads the row, the row of number i.
+    fn read(self, s: &[u8], p: Parsed, i: usize) -> Result<Parsed, Refusal>
+        requires { (i < 80) × (p.at ≤ length s.now) × (self.width ≤ 8) }
+        ensures { (view s.now (i + 1) result ≡ step self (view s.now i (Ok p)))
+            × IfOk result (λ q. (q.at ≤ length s.now) × (drop (i + 1) q.values ≡ drop (i + 1) p.values)) }
+    {
+        let Parsed {
+            at,
+            left,
+            mut values,
+        } = p;
+        if !self.stands(&values[..i]) {
+            values[i] = 0;
+            return Ok(Parsed { at, left, values });
+        }
+        let w = self.width;
+        let n = s.len() - at;
+        if left < w {
+            if left <= n {
+                return Err(Refusal::Record);
+            }
+            return Err(Refusal::Truncated);
+        }
+        if n < w {
+            return Err(Refusal::Truncated);
+        }
+        let x = number(s, at, w);
+        if !self.contains(x) {
+            return Err(self.refusal);
+        }
+        values[i] = x;
+        Ok(Parsed {
+            at: at + w,
+            left: left - w,
+            values,
+        })
+    }
 }
 
 // ---- reading
@@ -85,100 +128,36 @@ pub fn number(s: &[u8], at: usize, width: usize) -> u64
     ensures { result ≡ num (take width (drop at s.now)) }
 {
     let mut x: u64 = 0;
-    let mut k = width;
-    while 0 < k {
-        k -= 1;
-        let i = at + k;
+    for i in (at..at + width).rev() {
         let b = s[i] as u64;
         x = x * 256 + b;
     }
     x
 }
 
-// Reads row r, the row of number i.
-fn read_row(s: &[u8], p: Parsed, i: usize, r: Row) -> Parsed
-    requires { (i < 80) × (p.at ≤ length s.now) × (r.width ≤ 8) × (0 < r.refusal) }
-    ensures { (view s.now (i + 1) result ≡ step r (view s.now i p))
-        × (result.at ≤ length s.now) × (drop (i + 1) result.values ≡ drop (i + 1) p.values) }
-{
-    if 0 < p.refused {
-        return p;
-    }
-    let at = p.at;
-    let left = p.left;
-    let mut values = p.values;
-    if row_stands(values, i, r) {
-        let w = r.width;
-        let n = s.len() - at;
-        if left < w {
-            if left <= n {
-                return Parsed {
-                    refused: words::RECORD,
-                    ..p
-                };
-            }
-            return Parsed {
-                refused: words::TRUNCATED,
-                ..p
-            };
-        }
-        if n < w {
-            return Parsed {
-                refused: words::TRUNCATED,
-                ..p
-            };
-        }
-        let x = number(s, at, w);
-        if row_within(r, x) {
-            values[i] = x;
-            return Parsed {
-                refused: 0,
-                at: at + w,
-                left: left - w,
-                values,
-            };
-        }
-        return Parsed {
-            refused: r.refusal,
-            ..p
-        };
-    }
-    values[i] = 0;
-    Parsed {
-        refused: 0,
-        at,
-        left,
-        values,
-    }
-}
-
 // A parse at `at` with `left` bytes of payload to read.
 pub fn begin(at: usize, left: usize) -> Parsed
-    ensures { result ≡ record { refused = 0; at = at; left = left; values = replicate 80 0 } }
+    ensures { result ≡ record { at = at; left = left; values = replicate 80 0 } }
 {
     Parsed {
-        refused: 0,
         at,
         left,
         values: [0; 80],
     }
 }
 
-// Reads the first n rows of a table; the values after n do not change. A refused parse stays refused.
-pub fn read_rows(s: &[u8], p: Parsed, table: &[u64], n: usize) -> Parsed
-    requires { (p.at ≤ length s.now) × (n ≤ 80) × (6 * n ≤ length table.now)
-        × (sound (rows table.now 0 n) ≡ true) }
-    ensures { (view s.now n result ≡ steps (rows table.now 0 n) (view s.now 0 p))
-        × (result.at ≤ length s.now) × (drop n result.values ≡ drop n p.values) }
+// Reads a table's rows. The values after theirs do not change.
+pub fn read_rows(s: &[u8], parsed: Parsed, table: &[Row]) -> Result<Parsed, Refusal>
+    requires { (parsed.at ≤ length s.now) × (length table.now ≤ 80) × (sound table.now ≡ true) }
+    ensures { (view s.now (length table.now) result ≡ steps table.now (view s.now 0 (Ok parsed)))
+        × IfOk result (λ q. (q.at ≤ length s.now)
+        × (drop (length table.now) q.values ≡ drop (length table.now) parsed.values)) }
 {
-    let mut q = p;
-    let mut i = 0;
-    while i < n {
-        let r = row_at(table, i);
-        q = read_row(s, q, i, r);
-        i += 1;
+    let mut q = parsed;
+    for (i, row) in table.iter().enumerate() {
+        q = row.read(s, q, i)?;
     }
-    q
+    Ok(q)
 }
 
 // ---- writing
@@ -189,100 +168,48 @@ pub fn put_number(buf: &mut [u8], at: usize, width: usize, x: u64)
     ensures { buf.new ≡ sets buf.old at (bytes width x) }
 {
     let mut y = x;
-    let mut k = 0;
-    while k < width {
-        let i = at + k;
+    for i in at..at + width {
         buf[i] = (y % 256) as u8;
-        y = y / 256;
-        k += 1;
+        y /= 256;
     }
 }
 
-// Writes row r, the row of number i, and returns the offset after it.
-fn put_row(buf: &mut [u8], at: usize, values: [u64; 80], i: usize, r: Row) -> usize
-    requires { (i < 80)
-        × (at + length (field (stands r (take i values)) r (get_or values i 0)) ≤ length buf.old) }
+// Writes the numbers of a table's rows, and returns the offset after them.
+pub fn put_rows(buf: &mut [u8], at: usize, values: [u64; 80], table: &[Row]) -> usize
+    requires { (length table.now ≤ 80)
+        × (at + length (payload table.now [] (take (length table.now) values)) ≤ length buf.old) }
     ensures { (buf.new
-        ≡ sets buf.old at (field (stands r (take i values)) r (get_or values i 0)))
-        × (result ≡ at + length (field (stands r (take i values)) r (get_or values i 0))) }
-{
-    if row_stands(values, i, r) {
-        let w = r.width;
-        put_number(buf, at, w, values[i]);
-        return at + w;
-    }
-    at
-}
-
-// Writes the numbers of the first n rows of a table, and returns the offset after them.
-pub fn put_rows(buf: &mut [u8], at: usize, values: [u64; 80], table: &[u64], n: usize) -> usize
-    requires { (n ≤ 80) × (6 * n ≤ length table.now)
-        × (at + length (payload (rows table.now 0 n) [] (take n values)) ≤ length buf.old) }
-    ensures { (buf.new
-        ≡ sets buf.old at (payload (rows table.now 0 n) [] (take n values)))
-        × (result ≡ at + length (payload (rows table.now 0 n) [] (take n values))) }
+        ≡ sets buf.old at (payload table.now [] (take (length table.now) values)))
+        × (result ≡ at + length (payload table.now [] (take (length table.now) values))) }
 {
     let mut a = at;
-    let mut i = 0;
-    while i < n {
-        let r = row_at(table, i);
-        a = put_row(buf, a, values, i, r);
-        i += 1;
+    for (i, row) in table.iter().enumerate() {
+        a = row.put(&values[..i], values[i], buf, a);
     }
     a
 }
 
-// Whether row r accepts number i.
-fn row_fits(values: [u64; 80], i: usize, r: Row) -> bool
-    requires { i < 80 }
-    ensures { result ≡ fits (stands r (take i values)) r (get_or values i 0) }
+// Whether a table's rows accept the values.
+pub fn rows_fit(values: [u64; 80], table: &[Row]) -> bool
+    requires { length table.now ≤ 80 }
+    ensures { result ≡ fine table.now [] (take (length table.now) values) }
 {
-    let x = values[i];
-    if row_stands(values, i, r) {
-        return row_within(r, x);
-    }
-    x == 0
-}
-
-// Whether the first n rows of a table accept the values.
-pub fn rows_fit(values: [u64; 80], table: &[u64], n: usize) -> bool
-    requires { (n ≤ 80) × (6 * n ≤ length table.now) }
-    ensures { result ≡ fine (rows table.now 0 n) [] (take n values) }
-{
-    let mut i = 0;
-    while i < n {
-        let r = row_at(table, i);
-        if row_fits(values, i, r) {
-            i += 1;
-        } else {
+    for (i, row) in table.iter().enumerate() {
+        if !row.accepts(&values[..i], values[i]) {
             return false;
         }
     }
     true
 }
 
-// The bytes of row r, the row of number i.
-fn row_length(values: [u64; 80], i: usize, r: Row) -> usize
-    requires { (i < 80) × (r.width ≤ 8) }
-    ensures { (result ≡ length (field (stands r (take i values)) r (get_or values i 0))) × (result ≤ 8) }
-{
-    if row_stands(values, i, r) {
-        return r.width;
-    }
-    0
-}
-
-// The bytes of the numbers of the first n rows of a table.
-pub fn rows_length(values: [u64; 80], table: &[u64], n: usize) -> usize
-    requires { (n ≤ 80) × (6 * n ≤ length table.now) × (sound (rows table.now 0 n) ≡ true) }
-    ensures { result ≡ length (payload (rows table.now 0 n) [] (take n values)) }
+// The bytes of the numbers of a table's rows.
+pub fn rows_length(values: [u64; 80], table: &[Row]) -> usize
+    requires { (length table.now ≤ 80) × (sound table.now ≡ true) }
+    ensures { result ≡ length (payload table.now [] (take (length table.now) values)) }
 {
     let mut k: usize = 0;
-    let mut i: usize = 0;
-    while i < n {
-        let r = row_at(table, i);
-        k += row_length(values, i, r);
-        i += 1;
+    for (i, row) in table.iter().enumerate() {
+        k += row.length(&values[..i]);
     }
     k
 }
@@ -292,11 +219,6 @@ pub fn copy(s: &[u8], from: usize, to: usize, out: &mut [u8], at: usize)
     requires { (from ≤ to) × (to ≤ length s.now) × (at + (to - from) ≤ length out.old) }
     ensures { out.new ≡ sets out.old at (take (to - from) (drop from s.now)) }
 {
-    let mut i = from;
-    let mut k = at;
-    while i < to {
-        out[k] = s[i];
-        k += 1;
-        i += 1;
-    }
+    let end = at + (to - from);
+    out[at..end].copy_from_slice(&s[from..to]);
 }

@@ -1,2 +1,3 @@
 -- Laws of the inputs.
+pub mod Nan
 pub mod Unknown

@@ -1,4 +1,5 @@
 -- Unknown tags: each fails its field's check, since a NaN is not finite. Assumes nothing.
+use Rattle.std.specs.Prelude.{Some}
 use mathlib.Core.Path.{◌≡◌, refl}
 use Prim.Native.Nat.{ℕ, ◌<◌}
 use native.Mathlib.Omega.{arith}
@@ -39,7 +40,7 @@ pub ending_unknown : (hz n : ℕ) (r : CableowlRegion) → 2 < r.end.kind → we
 unfolding well_formed_region
 ending_unknown hz n r h = rw (end_unknown r.end h) (none (finite_position (position_of r.start)))
   where
-    none : (b : Bool) → (b && false && within n (region_in_frames hz n (region_if true r))) ≡ false
+    none : (b : Bool) → (b && false && within n (Some (region_in_frames hz n (region_if true r)))) ≡ false
     none true = refl
     none false = refl
 

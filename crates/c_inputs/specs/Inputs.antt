@@ -1,5 +1,5 @@
 -- Settings, commands and signals from C records: an unknown tag becomes a value that its field's check refuses.
-use Rattle.std.specs.Prelude.{ℕ, Bool, cond, eqb, Float}
+use Rattle.std.specs.Prelude.{ℕ, Bool, cond, eqb, Float, Option, Some, None}
 use Rattle.std.specs.Float.{nan}
 use Rattle.playback_position.specs.declared.PlaybackPosition.{PlaybackPosition}
 use Rattle.playback_position.specs.declared.PlaybackPosition.TheVariants.{Seconds, Samples}
@@ -10,11 +10,7 @@ use Rattle.playback_state_manager.specs.declared.StartAnswer.{StartAnswer}
 use Rattle.playback_state_manager.specs.declared.StartAnswer.TheVariants as answer
 use Rattle.start_time.specs.declared.StartSignal.{StartSignal}
 use Rattle.start_time.specs.declared.StartSignal.TheVariants as start
-use Rattle.sound_creation.specs.declared.OptionalRegion.{OptionalRegion}
-use Rattle.sound_creation.specs.declared.OptionalRegion.TheVariants as optional
 use Rattle.sound_creation.specs.declared.Settings.{Settings}
-use Rattle.sound_commands.specs.declared.Amount.{Amount}
-use Rattle.sound_commands.specs.declared.Amount.TheVariants as amount
 use Rattle.sound_commands.specs.declared.LoopCommand.{LoopCommand}
 use Rattle.sound_commands.specs.declared.LoopCommand.TheVariants as loop
 use Rattle.sound_commands.specs.declared.ResumeCommand.{ResumeCommand}
@@ -47,8 +43,8 @@ region_if known r = cond known (record { start = position_of r.start; end = end_
 -- ---- creation
 
 -- 0 is absent, 1 given
-abbrev pub optional_of : ℕ → CableowlRegion → OptionalRegion
-optional_of has r = cond (eqb has 0) optional.Absent (optional.Present (region_if (eqb has 1) r))
+abbrev pub optional_of : ℕ → CableowlRegion → Option Region
+optional_of has r = cond (eqb has 0) None (Some (region_if (eqb has 1) r))
 
 abbrev pub settings_of : CableowlSettings → Settings
 settings_of s =
@@ -65,8 +61,8 @@ settings_of s =
 -- ---- commands
 
 -- 0 is absent, 1 given, any other tag NaN
-abbrev pub amount_of : ℕ → Float → Amount
-amount_of has x = cond (eqb has 0) amount.Absent (cond (eqb has 1) (amount.Given x) (amount.Given nan))
+abbrev pub amount_of : ℕ → Float → Option Float
+amount_of has x = cond (eqb has 0) None (cond (eqb has 1) (Some x) (Some nan))
 
 -- 0 is keep, 1 clear, 2 set
 abbrev pub loop_of : ℕ → CableowlRegion → LoopCommand

@@ -1,8 +1,8 @@
-// Settings, commands and signals from C records. An unknown tag becomes a value that its field's check refuses.
+// Settings, commands and signals from C records. An unknown tag becomes a value that its field's check refuses, as
+// a NaN.
 #![tactic(auto)]
 
 ghost use Rattle.std.specs.Prelude.{◌≡◌};
-ghost use Rattle.std.specs.Float.{nan};
 ghost use Rattle.c_inputs.specs.Inputs.{
   position_of,
   end_of,
@@ -21,8 +21,8 @@ ghost use Rattle.c_inputs.specs.Inputs.{
 use playback_position::{EndPosition, PlaybackPosition, Region};
 use playback_state_manager::StartAnswer;
 use sound_block::Signals;
-use sound_commands::{Amount, Commands, LoopCommand, ResumeCommand};
-use sound_creation::{OptionalRegion, Settings};
+use sound_commands::{Commands, LoopCommand, ResumeCommand};
+use sound_creation::Settings;
 use start_time::StartSignal;
 
 // A position in a sound: kind 0 is seconds, 1 samples, and for an end 2 the end of audio.
@@ -85,156 +85,147 @@ pub struct CableowlSignals {
     pub now: u32,
 }
 
-// The value of an unknown tag: its field's check refuses it.
-fn nonsense() -> f64
-    ensures { result ≡ nan }
-{
-    0.0 / 0.0
+impl From<CableowlPlace> for PlaybackPosition {
+    ghost from_gives = { λ place position. position ≡ position_of place };
+
+    #[tactic(auto, using(crate::proofs::Nan::nan_is))]
+    fn from(place: CableowlPlace) -> PlaybackPosition {
+        match place.kind {
+            0 => PlaybackPosition::Seconds(place.seconds),
+            1 => PlaybackPosition::Samples(place.samples as usize),
+            _ => PlaybackPosition::Seconds(f64::NAN),
+        }
+    }
 }
 
-fn position_of(position: CableowlPlace) -> PlaybackPosition
-    ensures { result ≡ position_of position }
-{
-    if position.kind == 0 {
-        return PlaybackPosition::Seconds(position.seconds);
-    }
-    if position.kind == 1 {
-        return PlaybackPosition::Samples(position.samples as usize);
-    }
-    PlaybackPosition::Seconds(nonsense())
-}
+impl From<CableowlPlace> for EndPosition {
+    ghost from_gives = { λ place end. end ≡ end_of place };
 
-fn end_of(position: CableowlPlace) -> EndPosition
-    ensures { result ≡ end_of position }
-{
-    if position.kind == 2 {
-        return EndPosition::EndOfAudio;
+    fn from(place: CableowlPlace) -> EndPosition {
+        match place.kind {
+            2 => EndPosition::EndOfAudio,
+            _ => EndPosition::Custom(PlaybackPosition::from(place)),
+        }
     }
-    EndPosition::Custom(position_of(position))
 }
 
 // The region if its tag is known, otherwise one that is refused.
+#[tactic(auto, using(crate::proofs::Nan::nan_is))]
 fn region_if(known: bool, region: CableowlRegion) -> Region
     ensures { result ≡ region_if known region }
 {
     if known {
-        let start = region.start;
-        let end = region.end;
-        return Region {
-            start: position_of(start),
-            end: end_of(end),
-        };
-    }
-    Region {
-        start: PlaybackPosition::Seconds(nonsense()),
-        end: EndPosition::EndOfAudio,
+        Region {
+            start: PlaybackPosition::from(region.start),
+            end: EndPosition::from(region.end),
+        }
+    } else {
+        Region {
+            start: PlaybackPosition::Seconds(f64::NAN),
+            end: EndPosition::EndOfAudio,
+        }
     }
 }
 
-fn optional_of(has: u32, region: CableowlRegion) -> OptionalRegion
+fn optional_of(has: u32, region: CableowlRegion) -> Option<Region>
     ensures { result ≡ optional_of has region }
 {
-    if has == 0 {
-        return OptionalRegion::Absent;
-    }
-    OptionalRegion::Present(region_if(has == 1, region))
-}
-
-pub fn settings_of(settings: CableowlSettings) -> Settings
-    ensures { result ≡ settings_of settings }
-{
-    let slice = settings.slice;
-    let start = settings.start;
-    let loop_region = settings.loop_region;
-    Settings {
-        sample_rate: settings.sample_rate,
-        slice: optional_of(settings.has_slice, slice),
-        start_position: position_of(start),
-        loop_region: optional_of(settings.has_loop, loop_region),
-        reverse: settings.reverse != 0,
-        playback_rate: settings.playback_rate,
-        start_waits: settings.start_waits != 0,
+    match has {
+        0 => None,
+        _ => Some(region_if(has == 1, region)),
     }
 }
 
-fn amount_of(has: u32, x: f64) -> Amount
+impl From<CableowlSettings> for Settings {
+    ghost from_gives = { λ given settings. settings ≡ settings_of given };
+
+    fn from(settings: CableowlSettings) -> Settings {
+        Settings {
+            sample_rate: settings.sample_rate,
+            slice: optional_of(settings.has_slice, settings.slice),
+            start_position: PlaybackPosition::from(settings.start),
+            loop_region: optional_of(settings.has_loop, settings.loop_region),
+            reverse: settings.reverse != 0,
+            playback_rate: settings.playback_rate,
+            start_waits: settings.start_waits != 0,
+        }
+    }
+}
+
+#[tactic(auto, using(crate::proofs::Nan::nan_is))]
+fn amount_of(has: u32, x: f64) -> Option<f64>
     ensures { result ≡ amount_of has x }
 {
-    if has == 0 {
-        return Amount::Absent;
+    match has {
+        0 => None,
+        1 => Some(x),
+        _ => Some(f64::NAN),
     }
-    if has == 1 {
-        return Amount::Given(x);
-    }
-    Amount::Given(nonsense())
 }
 
 fn loop_of(command: u32, region: CableowlRegion) -> LoopCommand
     ensures { result ≡ loop_of command region }
 {
-    if command == 0 {
-        return LoopCommand::Keep;
+    match command {
+        0 => LoopCommand::Keep,
+        1 => LoopCommand::Clear,
+        _ => LoopCommand::Set(region_if(command == 2, region)),
     }
-    if command == 1 {
-        return LoopCommand::Clear;
-    }
-    LoopCommand::Set(region_if(command == 2, region))
 }
 
 fn resume_of(n: u32) -> ResumeCommand
     ensures { result ≡ resume_of n }
 {
-    if n == 0 {
-        return ResumeCommand::Keep;
+    match n {
+        0 => ResumeCommand::Keep,
+        1 => ResumeCommand::Now,
+        _ => ResumeCommand::Waiting,
     }
-    if n == 1 {
-        return ResumeCommand::Now;
-    }
-    ResumeCommand::Waiting
 }
 
-pub fn commands_of(commands: CableowlCommands) -> Commands
-    ensures { result ≡ commands_of commands }
-{
-    let region = commands.loop_region;
-    Commands {
-        playback_rate: amount_of(commands.has_rate, commands.rate),
-        loop_region: loop_of(commands.loop_command, region),
-        pause: commands.pause != 0,
-        resume: resume_of(commands.resume),
-        stop: commands.stop != 0,
-        seek_by: amount_of(commands.has_seek_by, commands.seek_by),
-        seek_to: amount_of(commands.has_seek_to, commands.seek_to),
+impl From<CableowlCommands> for Commands {
+    ghost from_gives = { λ given commands. commands ≡ commands_of given };
+
+    fn from(commands: CableowlCommands) -> Commands {
+        Commands {
+            playback_rate: amount_of(commands.has_rate, commands.rate),
+            loop_region: loop_of(commands.loop_command, commands.loop_region),
+            pause: commands.pause != 0,
+            resume: resume_of(commands.resume),
+            stop: commands.stop != 0,
+            seek_by: amount_of(commands.has_seek_by, commands.seek_by),
+            seek_to: amount_of(commands.has_seek_to, commands.seek_to),
+        }
     }
 }
 
 fn answer_of(n: u32) -> StartAnswer
     ensures { result ≡ answer_of n }
 {
-    if n == 1 {
-        return StartAnswer::Now;
+    match n {
+        1 => StartAnswer::Now,
+        2 => StartAnswer::Never,
+        _ => StartAnswer::Waiting,
     }
-    if n == 2 {
-        return StartAnswer::Never;
-    }
-    StartAnswer::Waiting
 }
 
 fn start_of(kind: u32, due: u32, now: u32) -> StartSignal
     ensures { result ≡ start_of kind due now }
 {
-    if kind == 3 {
-        return StartSignal::Tick(due, now);
+    match kind {
+        3 => StartSignal::Tick(due, now),
+        _ => StartSignal::Answer(answer_of(kind)),
     }
-    StartSignal::Answer(answer_of(kind))
 }
 
-pub fn signals_of(signals: CableowlSignals) -> Signals
-    ensures { result ≡ signals_of signals }
-{
-    Signals {
-        finished: signals.finished != 0,
-        start: start_of(signals.start, signals.due, signals.now),
-        resume: answer_of(signals.resume),
+impl From<CableowlSignals> for Signals {
+    ghost from_gives = { λ given signals. signals ≡ signals_of given };
+
+    fn from(signals: CableowlSignals) -> Signals {
+        Signals {
+            finished: signals.finished != 0,
+            start: start_of(signals.start, signals.due, signals.now),
+            resume: answer_of(signals.resume),
+        }
     }
 }

@@ -1,5 +1,6 @@
 -- The two translations of a state undo each other: every voice has a well formed record that represents it, and every well formed record is that of the voice that it represents.
 -- Field by field: states and flags by their few numbers, ranges by whether they are given, the window entry by entry. Assumes nothing.
+use Rattle.std.specs.Prelude.{Option, Some, None}
 use mathlib.Core.Path.{◌≡◌, refl, ap, ◌∙◌}
 use Prim.Native.Nat.{ℕ, zero, suc, ◌≤◌}
 use native.Mathlib.Omega.{arith}
@@ -8,8 +9,6 @@ use mathlib.Core.List.{List, [], ◌∷◌, map}
 use lib.Dec.{T, leb, eqb, leb→le, eqb→eq}
 use borrow.Author.Tests.{eqb-true}
 use lib.Ieee.Fits.{and_i, and_l, and_r}
-use Rattle.playback_position.specs.declared.FrameRange.{FrameRange}
-use Rattle.playback_position.specs.declared.FrameRange.TheVariants.{Absent, Frames}
 use Rattle.playback_state_manager.specs.declared.PlaybackState.{PlaybackState}
 use Rattle.playback_state_manager.specs.declared.PlaybackState.TheVariants.{Playing, Pausing, Paused, WaitingToResume, Resuming, Stopping, Stopped}
 use Rattle.playback_state_manager.specs.States.{number}
@@ -22,7 +21,7 @@ use Rattle.c_state.specs.Records.{yes, bit, well_formed_range, well_formed_state
 
 -- ---- a voice, its record, and back
 
-state_back : (s : PlaybackState) → state_of (number s) ≡ s
+pub state_back : (s : PlaybackState) → state_of (number s) ≡ s
 unfolding state_of
 state_back Playing = refl
 state_back Pausing = refl
@@ -49,13 +48,13 @@ bit_known : (b : Bool) → T (leb (bit b) 1)
 bit_known true = tt
 bit_known false = tt
 
-range_back : (r : FrameRange) → range_of (given r) (start_of r) (ending_of r) ≡ r
-range_back Absent = refl
-range_back (Frames s e) = refl
+range_back : (r : Option (ℕ × ℕ)) → range_of (given r) (start_of r) (ending_of r) ≡ r
+range_back None = refl
+range_back (Some (s, e)) = refl
 
-range_known : (r : FrameRange) → T (well_formed_range (given r) (start_of r) (ending_of r))
-range_known Absent = tt
-range_known (Frames s e) = tt
+range_known : (r : Option (ℕ × ℕ)) → T (well_formed_range (given r) (start_of r) (ending_of r))
+range_known None = tt
+range_known (Some (s, e)) = tt
 
 frames_back : (l : List RecentFrame) → map recent_of (map entry_of l) ≡ l
 frames_back [] = refl
@@ -90,7 +89,7 @@ decoded_well_formed c h = go (well_formed_state c) h
 
 -- the voice of these fields
 module _ (v : StaticSound) where
-  voice_of : (s : PlaybackState) (k l : FrameRange) (a b c : Bool) (fs : List RecentFrame)
+  voice_of : (s : PlaybackState) (k l : Option (ℕ × ℕ)) (a b c : Bool) (fs : List RecentFrame)
       → s ≡ v.moving.state → k ≡ v.setup.slice → l ≡ v.moving.transport.loop_region
       → a ≡ v.setup.reverse → b ≡ v.started → c ≡ v.moving.transport.playing → fs ≡ v.moving.resampler.frames
       → ◌≡◌ {A = StaticSound}

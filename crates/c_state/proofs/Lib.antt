@@ -1,3 +1,3 @@
 -- Laws of the record of a voice.
-pub mod Fours
+pub mod Maps
 pub mod Inverse

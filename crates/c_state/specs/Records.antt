@@ -1,7 +1,5 @@
 -- A voice as a C record: which records are well formed, the voice of a record, and the record of a voice.
-use Rattle.std.specs.Prelude.{ℕ, Bool, not, ◌&&◌, ◌||◌, cond, List, map, leb, eqb}
-use Rattle.playback_position.specs.declared.FrameRange.{FrameRange}
-use Rattle.playback_position.specs.declared.FrameRange.TheVariants.{Absent, Frames}
+use Rattle.std.specs.Prelude.{ℕ, Bool, not, ◌&&◌, ◌||◌, cond, List, map, leb, eqb, Option, Some, None}
 use Rattle.playback_state_manager.specs.declared.PlaybackState.{PlaybackState}
 use Rattle.playback_state_manager.specs.declared.PlaybackState.TheVariants as state
 use Rattle.playback_state_manager.specs.States.{number}
@@ -46,8 +44,8 @@ state_of n =
     (cond (eqb n 4) state.Resuming
     (cond (eqb n 5) state.Stopping state.Stopped)))))
 
-abbrev pub range_of : ℕ → ℕ → ℕ → FrameRange
-range_of has s e = cond (eqb has 0) Absent (Frames s e)
+abbrev pub range_of : ℕ → ℕ → ℕ → Option (ℕ × ℕ)
+range_of has s e = cond (eqb has 0) None (Some (s, e))
 
 abbrev pub recent_of : CableowlEntry → RecentFrame
 recent_of e = record { frame = record { left = e.left; right = e.right }; frame_index = e.number }
@@ -86,17 +84,17 @@ decoded c = cond (well_formed_state c) (stated c) blank_sound
 
 -- ---- the record of a voice
 
-abbrev pub given : FrameRange → ℕ
-given Absent = 0
-given (Frames s e) = 1
+abbrev pub given : Option (ℕ × ℕ) → ℕ
+given None = 0
+given (Some (s, e)) = 1
 
-abbrev pub start_of : FrameRange → ℕ
-start_of Absent = 0
-start_of (Frames s e) = s
+abbrev pub start_of : Option (ℕ × ℕ) → ℕ
+start_of None = 0
+start_of (Some (s, e)) = s
 
-abbrev pub ending_of : FrameRange → ℕ
-ending_of Absent = 0
-ending_of (Frames s e) = e
+abbrev pub ending_of : Option (ℕ × ℕ) → ℕ
+ending_of None = 0
+ending_of (Some (s, e)) = e
 
 abbrev pub entry_of : RecentFrame → CableowlEntry
 entry_of r = record { left = r.frame.left; right = r.frame.right; number = r.frame_index }

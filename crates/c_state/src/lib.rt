@@ -2,16 +2,13 @@
 // every entry refuses.
 #![tactic(auto)]
 
-ghost use Rattle.std.specs.Prelude.{◌≡◌, map, ◌≤◌};
+ghost use Rattle.std.specs.Prelude.{◌≡◌, ◌≤◌};
 ghost use Rattle.c_state.specs.Records.{
-  yes,
-  bit,
   well_formed_range,
   well_formed_state,
   state_of,
   range_of,
   recent_of,
-  window_of,
   decoded,
   given,
   start_of,
@@ -21,7 +18,6 @@ ghost use Rattle.c_state.specs.Records.{
 };
 
 use frame::Frame;
-use playback_position::FrameRange;
 use playback_state_manager::PlaybackState;
 use resampler::{RecentFrame, Resampler};
 use sound_state::{Setup, StaticSound};
@@ -62,18 +58,6 @@ pub struct CableowlState {
     pub backward_wraps: u32,
 }
 
-fn yes_of(n: u32) -> bool
-    ensures { result ≡ yes n }
-{
-    n != 0
-}
-
-fn bit_of(b: bool) -> u32
-    ensures { result ≡ bit b }
-{
-    if b { 1 } else { 0 }
-}
-
 fn is_range(has: u32, start: u64, end: u64) -> bool
     ensures { result ≡ well_formed_range has start end }
 {
@@ -91,181 +75,127 @@ fn is_well_formed(state: CableowlState) -> bool
         & is_range(state.has_loop, state.loop_start, state.loop_end)
 }
 
+// A number above 6 is in no well formed record.
 fn state_of(n: u32) -> PlaybackState
     ensures { result ≡ state_of n }
 {
-    if n == 0 {
-        return PlaybackState::Playing;
-    }
-    if n == 1 {
-        return PlaybackState::Pausing;
-    }
-    if n == 2 {
-        return PlaybackState::Paused;
-    }
-    if n == 3 {
-        return PlaybackState::WaitingToResume;
-    }
-    if n == 4 {
-        return PlaybackState::Resuming;
-    }
-    if n == 5 {
-        return PlaybackState::Stopping;
-    }
-    PlaybackState::Stopped
+    PlaybackState::try_from(n).unwrap_or(PlaybackState::Stopped)
 }
 
-fn range_of(has: u32, start: u64, end: u64) -> FrameRange
+fn range_of(has: u32, start: u64, end: u64) -> Option<(usize, usize)>
     ensures { result ≡ range_of has start end }
 {
-    if has == 0 {
-        return FrameRange::Absent;
-    }
-    FrameRange::Frames(start as usize, end as usize)
-}
-
-fn recent_of(entry: CableowlEntry) -> RecentFrame
-    ensures { result ≡ recent_of entry }
-{
-    RecentFrame {
-        frame: Frame {
-            left: entry.left,
-            right: entry.right,
-        },
-        frame_index: entry.number as usize,
+    match has {
+        0 => None,
+        _ => Some((start as usize, end as usize)),
     }
 }
 
-fn window_of(window: [CableowlEntry; 4], count: u32) -> Resampler
-    ensures { result ≡ window_of window count }
-{
-    let a = recent_of(window[0]);
-    let b = recent_of(window[1]);
-    let c = recent_of(window[2]);
-    let d = recent_of(window[3]);
-    Resampler {
-        frames: [a, b, c, d],
-        time_until_empty: count as usize,
+impl From<CableowlEntry> for RecentFrame {
+    ghost from_gives = { λ entry recent. recent ≡ recent_of entry };
+
+    fn from(entry: CableowlEntry) -> RecentFrame {
+        RecentFrame {
+            frame: Frame {
+                left: entry.left,
+                right: entry.right,
+            },
+            frame_index: entry.number as usize,
+        }
     }
 }
 
 // A record that is not well formed becomes the blank state, which is not well formed.
-pub fn decode(state: CableowlState) -> StaticSound
-    ensures { result ≡ decoded state }
-{
-    if !is_well_formed(state) {
-        return sound_creation::blank();
-    }
-    let window = state.window;
-    let setup = Setup {
-        sample_rate: state.sample_rate,
-        num_frames: state.num_frames as usize,
-        slice: range_of(state.has_slice, state.slice_start, state.slice_end),
-        reverse: yes_of(state.reverse),
-    };
-    let transport = Transport {
-        position: state.position as usize,
-        loop_region: range_of(state.has_loop, state.loop_start, state.loop_end),
-        playing: yes_of(state.playing),
-    };
-    let moving = Moving {
-        state: state_of(state.state),
-        transport,
-        resampler: window_of(window, state.count),
-        wraps: Wraps {
-            forward: state.forward_wraps,
-            backward: state.backward_wraps,
-        },
-    };
-    StaticSound {
-        setup,
-        playback_rate: state.playback_rate,
-        started: yes_of(state.started),
-        fractional_position: state.fraction,
-        moving,
+impl From<CableowlState> for StaticSound {
+    ghost from_gives = { λ state voice. voice ≡ decoded state };
+
+    fn from(state: CableowlState) -> StaticSound {
+        if !is_well_formed(state) {
+            return sound_creation::blank();
+        }
+        let setup = Setup {
+            sample_rate: state.sample_rate,
+            num_frames: state.num_frames as usize,
+            slice: range_of(state.has_slice, state.slice_start, state.slice_end),
+            reverse: state.reverse != 0,
+        };
+        let moving = Moving {
+            state: state_of(state.state),
+            transport: Transport {
+                position: state.position as usize,
+                loop_region: range_of(state.has_loop, state.loop_start, state.loop_end),
+                playing: state.playing != 0,
+            },
+            resampler: Resampler {
+                frames: state.window.map(RecentFrame::from),
+                time_until_empty: state.count as usize,
+            },
+            wraps: Wraps {
+                forward: state.forward_wraps,
+                backward: state.backward_wraps,
+            },
+        };
+        StaticSound {
+            setup,
+            playback_rate: state.playback_rate,
+            started: state.started != 0,
+            fractional_position: state.fraction,
+            moving,
+        }
     }
 }
 
-fn has_range(range: FrameRange) -> u32
-    ensures { result ≡ given range }
-{
-    match range {
-        FrameRange::Absent => 0,
-        FrameRange::Frames(_, _) => 1,
-    }
-}
-
-fn start_of(range: FrameRange) -> u64
-    ensures { result ≡ start_of range }
+// Whether there is a range, its start and its end.
+fn parts_of(range: Option<(usize, usize)>) -> (u32, u64, u64)
+    ensures { result ≡ (given range, start_of range, ending_of range) }
 {
     match range {
-        FrameRange::Absent => 0,
-        FrameRange::Frames(start, _) => start as u64,
+        None => (0, 0, 0),
+        Some((start, end)) => (1, start as u64, end as u64),
     }
 }
 
-fn ending_of(range: FrameRange) -> u64
-    ensures { result ≡ ending_of range }
-{
-    match range {
-        FrameRange::Absent => 0,
-        FrameRange::Frames(_, end) => end as u64,
+impl From<RecentFrame> for CableowlEntry {
+    ghost from_gives = { λ recent entry. entry ≡ entry_of recent };
+
+    fn from(recent: RecentFrame) -> CableowlEntry {
+        CableowlEntry {
+            left: recent.frame.left,
+            right: recent.frame.right,
+            number: recent.frame_index as u64,
+        }
     }
 }
 
-fn entry_of(recent: RecentFrame) -> CableowlEntry
-    ensures { result ≡ entry_of recent }
-{
-    let frame = recent.frame;
-    CableowlEntry {
-        left: frame.left,
-        right: frame.right,
-        number: recent.frame_index as u64,
-    }
-}
-
-fn entries_of(frames: [RecentFrame; 4]) -> [CableowlEntry; 4]
-    ensures { result ≡ map entry_of frames }
-{
-    let a = entry_of(frames[0]);
-    let b = entry_of(frames[1]);
-    let c = entry_of(frames[2]);
-    let d = entry_of(frames[3]);
-    [a, b, c, d]
-}
-
+// A function and no `From`: the count of a voice that is not well formed may have more than 32 bits.
 pub fn encode(voice: StaticSound) -> CableowlState
     requires { voice.moving.resampler.time_until_empty ≤ 4 }
     ensures { result ≡ encoded voice }
 {
     let setup = voice.setup;
-    let slice = setup.slice;
     let moving = voice.moving;
-    let state = moving.state;
     let transport = moving.transport;
-    let loop_region = transport.loop_region;
-    let resampler = moving.resampler;
-    let frames = resampler.frames;
-    let wraps = moving.wraps;
+    let (has_slice, slice_start, slice_end) = parts_of(setup.slice);
+    let (has_loop, loop_start, loop_end) = parts_of(transport.loop_region);
     CableowlState {
         sample_rate: setup.sample_rate,
-        state: state.number(),
-        reverse: bit_of(setup.reverse),
-        started: bit_of(voice.started),
-        playing: bit_of(transport.playing),
-        has_slice: has_range(slice),
-        has_loop: has_range(loop_region),
-        count: resampler.time_until_empty as u32,
+        state: u32::from(moving.state),
+        reverse: u32::from(setup.reverse),
+        started: u32::from(voice.started),
+        playing: u32::from(transport.playing),
+        has_slice,
+        has_loop,
+        count: moving.resampler.time_until_empty as u32,
         num_frames: setup.num_frames as u64,
-        slice_start: start_of(slice),
-        slice_end: ending_of(slice),
+        slice_start,
+        slice_end,
         position: transport.position as u64,
-        loop_start: start_of(loop_region),
-        loop_end: ending_of(loop_region),
+        loop_start,
+        loop_end,
         playback_rate: voice.playback_rate,
         fraction: voice.fractional_position,
-        window: entries_of(frames),
-        forward_wraps: wraps.forward,
-        backward_wraps: wraps.backward,
+        window: moving.resampler.frames.map(CableowlEntry::from),
+        forward_wraps: moving.wraps.forward,
+        backward_wraps: moving.wraps.backward,
     }
 }

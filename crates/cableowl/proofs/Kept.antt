@@ -13,7 +13,7 @@ use Rattle.sound_state.specs.declared.StaticSound.{StaticSound}
 use Rattle.sound_state.specs.WellFormed.{well_formed_for}
 use Rattle.sound_creation.specs.Creation.{blank_sound}
 use Rattle.sound_creation.proofs.Answers.{created_passed, created_done, created_refused}
-use Rattle.sound_commands.specs.declared.Commanded.{Commanded}
+use Rattle.sound_commands.specs.Commands.{CommandsAnswer}
 use Rattle.sound_commands.proofs.Answers.{commanded_refused}
 use Rattle.sound_slow_path.specs.Plays.{Outcome}
 use Rattle.static_sound.proofs.Entries.{processed_refused, into_refused}
@@ -74,7 +74,7 @@ pub commanded_given : (snd : List Float) (c : CableowlState) (k : CableowlComman
 unfolding commanded_c
 commanded_given snd c k n = (
   after_given _ _ c n,
-  ap (λ (r : Commanded). r.position) (commanded_refused snd (decoded c) (commands_of k) n),
+  ap (λ (r : CommandsAnswer). r.position) (commanded_refused snd (decoded c) (commands_of k) n),
 )
 
 -- the record, the steps, the count and the samples of a refused block

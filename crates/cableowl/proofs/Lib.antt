@@ -2,6 +2,7 @@
 pub mod Few
 pub mod Answers
 pub mod Takes
+pub mod Results
 pub mod Kept
 pub mod Unknown
 pub mod Parts

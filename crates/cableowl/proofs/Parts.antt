@@ -1,5 +1,6 @@
 -- The part that the entry returns is the stretch: this many samples of the sound from its offset on, and none if the state is refused.
 -- By whether the state is well formed and whether there is a slice. Assumes nothing.
+use Rattle.std.specs.Prelude.{Option, Some, None}
 use mathlib.Core.Path.{◌≡◌, refl, sym, ap, ◌∙◌, subst}
 use Prim.Native.Nat.{ℕ, ◌-◌, ◌*◌, ◌≤◌, ◌<◌}
 use native.Mathlib.Omega.{arith}
@@ -9,8 +10,6 @@ use lib.Dec.{T}
 use lib.ListN.{length, take, drop, length-drop}
 use lib.Seq.{take-length, length-take-le}
 use lib.Ieee.{Float}
-use Rattle.playback_position.specs.declared.FrameRange.{FrameRange}
-use Rattle.playback_position.specs.declared.FrameRange.TheVariants.{Absent, Frames}
 use Rattle.playback_position.specs.Positions.{within}
 use Rattle.playback_position.proofs.Ranges.{ranged_parts}
 use Rattle.sound_state.specs.declared.Setup.{Setup}
@@ -30,11 +29,11 @@ use Rattle.cableowl.proofs.Few.{part_few}
 sliced_part : (snd : List Float) (k : Setup) → length snd ≡ 2 * k.num_frames → sliced k.slice snd ≡ take (2 * length_of_slice k) (drop (2 * start_of_slice k) snd)
 sliced_part snd k e = go k.slice
   where
-    go : (r : FrameRange)
+    go : (r : Option (ℕ × ℕ))
         → sliced r snd
-        ≡ take (2 * elim r as (λ (r : FrameRange). ℕ) [ Absent ↦ k.num_frames | Frames s e ↦ e - s ]) (drop (2 * elim r as (λ (r : FrameRange). ℕ) [ Absent ↦ 0 | Frames s e ↦ s ]) snd)
-    go Absent = sym (ap (λ (n : ℕ). take n snd) (sym e) ∙ take-length snd)
-    go (Frames s t) = ap (λ (n : ℕ). take n (drop (2 * s) snd)) (twice s t)
+        ≡ take (2 * elim r as (λ (r : Option (ℕ × ℕ)). ℕ) [ None ↦ k.num_frames | Some (s, e) ↦ e - s ]) (drop (2 * elim r as (λ (r : Option (ℕ × ℕ)). ℕ) [ None ↦ 0 | Some (s, e) ↦ s ]) snd)
+    go None = sym (ap (λ (n : ℕ). take n snd) (sym e) ∙ take-length snd)
+    go (Some (s, t)) = ap (λ (n : ℕ). take n (drop (2 * s) snd)) (twice s t)
       where
         twice : (s t : ℕ) → 2 * t - 2 * s ≡ 2 * (t - s)
         twice s t = omega arith
@@ -43,9 +42,9 @@ sliced_part snd k e = go k.slice
 span_some : (k : Setup) → Fixed k → 0 < length_of_slice k
 span_some k h = go k.slice h.slice
   where
-    go : (r : FrameRange) → T (within k.num_frames r) → 0 < elim r as (λ (r : FrameRange). ℕ) [ Absent ↦ k.num_frames | Frames s e ↦ e - s ]
-    go Absent w = h.some
-    go (Frames s e) w = let r = (ranged_parts k.num_frames s e w).more in omega arith
+    go : (r : Option (ℕ × ℕ)) → T (within k.num_frames r) → 0 < elim r as (λ (r : Option (ℕ × ℕ)). ℕ) [ None ↦ k.num_frames | Some (s, e) ↦ e - s ]
+    go None w = h.some
+    go (Some (s, e)) w = let r = (ranged_parts k.num_frames s e w).more in omega arith
 
 module _ (snd : List Float) (v : StaticSound) where
   abbrev Stretch : Bool → List Float

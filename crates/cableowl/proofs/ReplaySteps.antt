@@ -1,4 +1,5 @@
 -- What a step of a replay returns, from the results of the calls below it. Assumes nothing.
+use Rattle.std.specs.Prelude.{Result, Ok, Err}
 use mathlib.Core.Path.{◌≡◌, refl, sym, ap, ◌∙◌, subst}
 use Prim.Native.Nat.{ℕ, ◌+◌, ◌-◌, ◌*◌, ◌/◌, ◌≤◌}
 use native.Mathlib.Omega.{arith}
@@ -12,27 +13,25 @@ use borrow.Author.Tests.{eq-eqb, ne_eqb, leb-true}
 use Rattle.sound_held.specs.declared.Held.{Held}
 use Rattle.sound_held.specs.Held.{held_lanes}
 use Rattle.sound_state.specs.declared.StaticSound.{StaticSound}
-use Rattle.sound_creation.specs.declared.Settings.{Settings}
-use Rattle.sound_creation.specs.declared.Created.{Created}
-use Rattle.sound_creation.specs.Creation.{blank_sound, created}
-use Rattle.sound_commands.specs.declared.Commands.{Commands}
-use Rattle.sound_commands.specs.declared.Commanded.{Commanded}
-use Rattle.sound_commands.specs.Commands.{commanded}
+use Rattle.refusals.specs.declared.Refusal.{Refusal}
+use Rattle.refusals.specs.Numbers.{number, number_of}
+use Rattle.refusals.proofs.Numbers.{number_eqb, number_not_0}
+use Rattle.sound_creation.specs.Creation.{blank_sound}
 use Rattle.sound_slow_path.specs.declared.Processed.{Processed}
-use Rattle.sound_slow_path.specs.Plays.{Outcome}
-use Rattle.static_sound.specs.Entries.{processed}
+use Rattle.sound_slow_path.specs.Plays.{BlockAnswer, Outcome}
+use Rattle.static_sound.specs.Entries.{processed, block_answer}
 use Rattle.trace_inputs.specs.declared.Block.{Block}
 use Rattle.trace_inputs.specs.Inputs.{settings_of, samples_of, commands_of, block_of}
 use Rattle.trace_inputs.proofs.Samples.{at_most_le, all_samples}
-use Rattle.trace_records.specs.declared.Record.{Record}
-use Rattle.trace_records.specs.Records.{record_at}
+use Rattle.trace_records.specs.Records.{Record, record_at}
 use Rattle.c_state.specs.declared.CableowlState.{CableowlState}
 use Rattle.c_state.specs.Records.{decoded, encoded}
 use Rattle.cableowl.specs.declared.replays.CableowlReplay.{CableowlReplay}
 use Rattle.cableowl.specs.declared.replays.CableowlReplayed.{CableowlReplayed}
-use Rattle.cableowl.specs.Entries.{after}
-use Rattle.cableowl.specs.Replays.{blank_replay, more, behind, played_as, unplayed, StepC, creation_c, commands_c, lanes_of, block_outcome, block_c, block_step, played_record, judged, begun, refused_step, stepped_c}
-use Rattle.cableowl.proofs.Few.{count_of, well_formed_for_few, created_few, commanded_well_formed_for, processed_well_formed_for}
+use Rattle.cableowl.specs.Replays.{unplayed, StepC, creation_over, creation_c, commands_c, lanes_of, block_outcome, block_c, block_step, played_record, judged, begun, refused_step, stepped_c}
+use Rattle.cableowl.specs.ReplaysV2.{of_kind}
+use Rattle.cableowl.proofs.Few.{count_of}
+use Rattle.cableowl.proofs.Answers.{Few, block_few, block_low}
 
 none : {A : Type 0} → ⊥ → A
 none e = elim e [ ]
@@ -63,64 +62,42 @@ few_frames vs b e = omega (arith, ap (λ (x : Block). x.frames) e, at_most_le 10
 pub blank_few : (v : StaticSound) → v ≡ blank_sound → count_of v ≤ 4
 blank_few v e = rw e (omega arith)
 
-abbrev at_start : CableowlState → CableowlReplay
-at_start c = record { voice = c; samples = 0; blocks = 0; offset = 0; reader = 1; given = 0 }
-
-pub blank_is : (v : StaticSound) (c : CableowlState) → v ≡ blank_sound → c ≡ encoded v → at_start c ≡ blank_replay
-blank_is v c e f = ap at_start (f ∙ ap encoded e)
-
 -- ---- the three kinds
 
-pub created_count : (x : List Float) (s : Settings) (d : Created) → d ≡ created x s → count_of d.voice ≤ 4
-created_count x s d f = rw f (created_few x s)
+pub creation_is : (r : CableowlReplay) (n : ℕ) (vs : List ℕ) → creation_over (samples_of vs) 1 r n vs ≡ creation_c r n vs
+unfolding creation_over creation_c
+creation_is r n vs = refl
 
-pub obeyed_count : (x : List Float) (v : StaticSound) (u : Commands) (d : Commanded) → d ≡ commanded x v u → d.refusal ≡ 0 → count_of d.voice ≤ 4
-obeyed_count x v u d f = rw f (λ z. well_formed_for_few (length x) _ (commanded_well_formed_for x v u z))
-
-module _ (r : CableowlReplay) (n : ℕ) (vs : List ℕ) where
-  pub creation_is : (x : List Float) (m : ℕ) (s : Settings) (d : Created) (e : CableowlState) (a : CableowlReplay) (p : CableowlReplayed)
-      → x ≡ samples_of vs → m ≡ length (samples_of vs) → s ≡ settings_of vs → d ≡ created x s → e ≡ encoded d.voice
-      → a ≡ behind r n e m r.blocks → p ≡ played_as a n 1 d.refusal 0 0 4 → p ≡ creation_c r n vs
-  unfolding creation_c
-  creation_is x m s d e a p hx hm hs hd he ha hp = rw (hp, ha, he, hd, hs, hm, hx)
-
-  pub commands_is : (x : List Float) (v : StaticSound) (u : Commands) (d : Commanded) (e : CableowlState) (a : CableowlReplay) (p : CableowlReplayed)
-      → v ≡ decoded r.voice → u ≡ commands_of vs → d ≡ commanded x v u → e ≡ after d.refusal d.voice r.voice
-      → a ≡ behind r n e r.samples r.blocks → p ≡ played_as a n 2 d.refusal 0 0 4 → p ≡ commands_c x r n vs
-  unfolding commands_c
-  commands_is x v u d e a p hv hu hd he ha hp = rw (hp, ha, he, hd, hu, hv)
-
-  pub block_answer : (frames : ℕ) (q : Processed) (e : CableowlState) (k : ℕ) (a : CableowlReplay) (p : CableowlReplayed)
-      → e ≡ after q.refusal q.voice r.voice → k ≡ more r.blocks → a ≡ behind r n e r.samples k
-      → p ≡ played_as a n 3 q.refusal frames q.steps q.lowest_count → p ≡ block_c r n frames q
-  unfolding block_c
-  block_answer frames q e k a p he hk ha hp = rw (hp, ha, hk, he)
+pub counted_is : (r : CableowlReplay) (n frames : ℕ) (a : BlockAnswer) → of_kind 3 (block_c r n frames a) ≡ block_c r n frames a
+unfolding block_c
+counted_is r n frames a = refl
 
 -- a block with held lanes is the block of its lanes
 abbrev held_of : Block → Held
-held_of b = record { fade = b.fade; volume = b.volume; left = b.left; right = b.right; rate = b.rate }
+held_of b = record { gains = record { fade = b.fade; volume = b.volume; left = b.left; right = b.right }; rate = b.rate }
 
 abbrev as_given : List Float → StaticSound → Block → Held → List Float → Outcome
 as_given x v b h part = processed x v b.time_step (held_lanes h (length part / 2)) b.signals part
 
-module _ (x out : List Float) (c : CableowlState) (b : Block) (v : StaticSound) (h : Held) (q : Processed) (part : List Float)
+module _ (x out : List Float) (c : CableowlState) (b : Block) (v : StaticSound) (h : Held) (q : Result Processed Refusal) (part : List Float)
     (hv : v ≡ decoded c) (hh : h ≡ held_of b) (room : 2 * b.frames ≤ length out)
-    (f : record { answer = q; samples = part } ≡ as_given x v b h (take (2 * b.frames) out)) where
-  pub held_outcome : record { answer = q; samples = part } ≡ block_outcome x c b (take (2 * b.frames) out)
+    (f : record { answer = block_answer v q; samples = part } ≡ as_given x v b h (take (2 * b.frames) out)) where
+  abbrev answered : StaticSound → Outcome
+  answered u = record { answer = block_answer u q; samples = part }
+
+  pub held_outcome : answered (decoded c) ≡ block_outcome x c b (take (2 * b.frames) out)
   held_outcome =
       let l : length (take (2 * b.frames) out) / 2 ≡ b.frames = omega (arith, length-take-le (2 * b.frames) out room) in
-      f ∙ rw (hv, hh, l)
+      subst (λ (u : StaticSound). answered u ≡ as_given x u b h (take (2 * b.frames) out)) hv f ∙ rw (hh, l)
 
-  pub held_count : q.refusal ≡ 0 → count_of q.voice ≤ 4
-  held_count =
-      subst (λ (o : Outcome). o.answer.refusal ≡ 0 → count_of o.answer.voice ≤ 4) (sym held_outcome)
-      (λ z. well_formed_for_few (length x) _ (processed_well_formed_for x (decoded c) b.time_step (lanes_of b) b.signals (take (2 * b.frames) out) z))
+  pub held_few : Few q
+  held_few = block_few (decoded c) _ q part (block_low x (decoded c) b.time_step (lanes_of b) b.signals (take (2 * b.frames) out)) held_outcome
 
 module _ (r : CableowlReplay) (n : ℕ) (vs : List ℕ) (snd out : List Float) where
   abbrev step_of : Block → Outcome → StepC
   step_of b o = record { answer = block_c r n b.frames o.answer; sound = snd; samples = o.samples ++ drop (2 * b.frames) out }
 
-  pub block_is : (b : Block) (q : Processed) (part : List Float) (p : CableowlReplayed) → b ≡ block_of vs → p ≡ block_c r n b.frames q
+  pub block_is : (b : Block) (q : BlockAnswer) (part : List Float) (p : CableowlReplayed) → b ≡ block_of vs → p ≡ block_c r n b.frames q
       → record { answer = q; samples = part } ≡ block_outcome (take r.samples snd) r.voice b (take (2 * b.frames) out)
       → record { answer = p; sound = snd; samples = part ++ drop (2 * b.frames) out } ≡ block_step r n vs snd out
   unfolding block_step
@@ -164,13 +141,9 @@ module _ (r : CableowlReplay) (s o : ℕ) where
   unfolding refused_step
   number_1 h = rw (h) refl
 
-  pub number_19 : of_replay ≡ true → has_room ≡ false → 19 ≡ refused_step r s o
+  pub number_room : of_replay ≡ true → cond has_room 0 19 ≡ refused_step r s o
   unfolding refused_step
-  number_19 g h = rw (g, h) refl
-
-  pub number_none : of_replay ≡ true → has_room ≡ true → 0 ≡ refused_step r s o
-  unfolding refused_step
-  number_none g h = rw (g, h) refl
+  number_room h = rw (h) refl
 
   pub accepted_room : refused_step r s o ≡ 0 → (128 ≤ s) × (r.samples ≤ s) × (2048 ≤ o)
   unfolding refused_step
@@ -190,31 +163,36 @@ module _ (r : CableowlReplay) (s o : ℕ) where
 abbrev only : CableowlReplayed → List Float → List Float → StepC
 only p snd out = record { answer = p; sound = snd; samples = out }
 
-module _ (r : CableowlReplay) (bs : List ℕ) (ended : ℕ) (snd out : List Float) (k : ℕ) (e : k ≡ refused_step r (length snd) (length out)) where
-  pub step_refused : (p : CableowlReplayed) → (k ≡ 0 → ⊥) → p ≡ unplayed r 4 k → only p snd out ≡ stepped_c r bs ended snd out
+-- a call that is refused, or accepted
+pub called_err : (q : Result (Unit {0}) Refusal) (x : Refusal) (k : ℕ) → number_of q ≡ k → q ≡ Err x → number x ≡ k
+called_err q x k e f = ap number_of (sym f) ∙ e
+
+pub called_ok : (q : Result (Unit {0}) Refusal) (x : Unit {0}) (k : ℕ) → number_of q ≡ k → q ≡ Ok x → k ≡ 0
+called_ok q x k e f = sym e ∙ ap number_of f
+
+-- the answer to a record that is refused
+abbrev pub unread : CableowlReplay → ℕ → ℕ → CableowlReplayed
+unread r ended k = cond (eqb k 18 && eqb ended 0) (unplayed r 1 0) (unplayed r 3 k)
+
+module _ (r : CableowlReplay) (bs : List ℕ) (ended : ℕ) (snd out : List Float) where
+  abbrev k : ℕ
+  k = refused_step r (length snd) (length out)
+
+  pub step_refused : (x : Refusal) (p : CableowlReplayed) → number x ≡ k → p ≡ unplayed r 4 (number x) → only p snd out ≡ stepped_c r bs ended snd out
   unfolding stepped_c
-  step_refused p h f =
-      ap (λ (a : CableowlReplayed). only a snd out) (f ∙ ap (unplayed r 4) e)
-      ∙ rw (ne_eqb (refused_step r (length snd) (length out)) 0 (λ z. h (e ∙ z))) refl
+  step_refused x p e f = ap (λ (a : CableowlReplayed). only a snd out) (f ∙ ap (unplayed r 4) e) ∙ rw (ap (λ (n : ℕ). eqb n 0) (sym e) ∙ number_eqb x) refl
 
   step_begun : k ≡ 0 → begun r ended bs snd out ≡ stepped_c r bs ended snd out
   unfolding stepped_c
-  step_begun h = rw (eq-eqb (refused_step r (length snd) (length out)) 0 (sym e ∙ h)) refl
+  step_begun h = rw (eq-eqb k 0 h) refl
 
-  pub step_more : (p : CableowlReplayed) → k ≡ 0 → length bs ≡ 0 → ended ≡ 0 → p ≡ unplayed r 1 0 → only p snd out ≡ stepped_c r bs ended snd out
+  pub step_empty : (p : CableowlReplayed) → k ≡ 0 → length bs ≡ 0 → p ≡ cond (eqb ended 0) (unplayed r 1 0) (unplayed r 2 0)
+      → only p snd out ≡ stepped_c r bs ended snd out
   unfolding begun
-  step_more p h l z f = go bs l ∙ step_begun h
+  step_empty p h l f = go bs l ∙ step_begun h
     where
       go : (l : List ℕ) → length l ≡ 0 → only p snd out ≡ begun r ended l snd out
-      go [] q = ap (λ (a : CableowlReplayed). only a snd out) f ∙ rw (eq-eqb ended 0 z) refl
-      go (b ∷ l) q = none (omega (arith, q))
-
-  pub step_end : (p : CableowlReplayed) → k ≡ 0 → length bs ≡ 0 → (ended ≡ 0 → ⊥) → p ≡ unplayed r 2 0 → only p snd out ≡ stepped_c r bs ended snd out
-  unfolding begun
-  step_end p h l z f = go bs l ∙ step_begun h
-    where
-      go : (l : List ℕ) → length l ≡ 0 → only p snd out ≡ begun r ended l snd out
-      go [] q = ap (λ (a : CableowlReplayed). only a snd out) f ∙ rw (ne_eqb ended 0 z) refl
+      go [] q = ap (λ (a : CableowlReplayed). only a snd out) f
       go (b ∷ l) q = none (omega (arith, q))
 
   -- the record that some bytes begin with
@@ -234,14 +212,8 @@ module _ (r : CableowlReplay) (bs : List ℕ) (ended : ℕ) (snd out : List Floa
     unfolding judged
     step_played s z g = as_judged s (g ∙ rw (eq-eqb d.refusal 0 z) refl)
 
-    pub step_unfinished : (p : CableowlReplayed) → (d.refusal ≡ 0 → ⊥) → (eqb d.refusal 18 && eqb ended 0) ≡ true → p ≡ unplayed r 1 0
+    pub step_unread : (x : Refusal) (p : CableowlReplayed) → d.refusal ≡ number x → p ≡ unread r ended (number x)
         → only p snd out ≡ stepped_c r bs ended snd out
     unfolding judged
-    step_unfinished p z t g =
-        as_judged (only p snd out) (ap (λ (a : CableowlReplayed). only a snd out) g ∙ rw (ne_eqb d.refusal 0 z, t) refl)
-
-    pub step_broken : (p : CableowlReplayed) → (d.refusal ≡ 0 → ⊥) → (eqb d.refusal 18 && eqb ended 0) ≡ false → p ≡ unplayed r 3 d.refusal
-        → only p snd out ≡ stepped_c r bs ended snd out
-    unfolding judged
-    step_broken p z t g =
-        as_judged (only p snd out) (ap (λ (a : CableowlReplayed). only a snd out) g ∙ rw (ne_eqb d.refusal 0 z, t) refl)
+    step_unread x p z g =
+        as_judged (only p snd out) (ap (λ (a : CableowlReplayed). only a snd out) g ∙ rw (z, number_eqb x) refl)

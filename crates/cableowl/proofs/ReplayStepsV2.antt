@@ -1,4 +1,5 @@
 -- What a step of a replay of version 2 returns, from the results of the calls below it. Assumes nothing.
+use Rattle.std.specs.Prelude.{Result}
 use mathlib.Core.Path.{◌≡◌, refl, sym, ap, ◌∙◌, subst}
 use Prim.Native.Nat.{ℕ, ◌+◌, ◌-◌, ◌*◌, ◌/◌, ◌%◌, ◌≤◌}
 use native.Mathlib.Omega.{arith}
@@ -12,38 +13,29 @@ use borrow.Author.Tests.{eq-eqb, ne_eqb, eqb-true, eqb-false, leb-true}
 use Rattle.numbers.specs.Words.{positive_zero}
 use Rattle.sound_lanes.specs.Lanes.{five}
 use Rattle.sound_state.specs.declared.StaticSound.{StaticSound}
-use Rattle.sound_creation.specs.declared.Settings.{Settings}
-use Rattle.sound_creation.specs.declared.Created.{Created}
-use Rattle.sound_creation.specs.Creation.{blank_sound, created}
+use Rattle.refusals.specs.declared.Refusal.{Refusal}
+use Rattle.refusals.specs.Numbers.{number}
+use Rattle.refusals.proofs.Numbers.{number_eqb}
 use Rattle.sound_slow_path.specs.declared.Processed.{Processed}
-use Rattle.sound_slow_path.specs.Plays.{Outcome}
-use Rattle.static_sound.specs.Entries.{processed}
+use Rattle.sound_slow_path.specs.Plays.{BlockAnswer, Outcome}
+use Rattle.static_sound.specs.Entries.{processed, block_answer}
 use Rattle.trace_inputs.specs.declared.LanedBlock.{LanedBlock}
 use Rattle.trace_inputs.specs.Inputs.{single, double, settings_of, samples_of, given_frames, given_samples, lane_of, laned_block_of}
 use Rattle.trace_inputs.proofs.Samples.{at_most_le}
 use Rattle.trace_inputs.proofs.LaneLoops.{length_lane}
-use Rattle.trace_records.specs.declared.Record.{Record}
+use Rattle.trace_records.specs.Records.{Record}
 use Rattle.trace_sealed.specs.Records.{any_at}
 use Rattle.c_state.specs.declared.CableowlState.{CableowlState}
 use Rattle.c_state.specs.Records.{decoded, encoded}
 use Rattle.cableowl.specs.declared.replays.CableowlReplay.{CableowlReplay}
 use Rattle.cableowl.specs.declared.replays.CableowlReplayed.{CableowlReplayed}
-use Rattle.cableowl.specs.Entries.{after}
-use Rattle.cableowl.specs.Replays.{more, behind, played_as, unplayed, StepC, creation_c, commands_c, block_c, block_step, judged, begun}
-use Rattle.cableowl.specs.ReplaysV2.{blank_replay_v2, playing, buffer_of, other_sound, refused_given, given_c, laned_outcome, of_kind, laned_step, obeyed, played_record_v2, lacking, judged_v2, begun_v2, refused_step_v2, stepped_v2}
-use Rattle.cableowl.proofs.Few.{count_of, well_formed_for_few, processed_well_formed_for}
-use Rattle.cableowl.proofs.ReplaySteps.{prefix}
+use Rattle.cableowl.specs.Replays.{unplayed, StepC, creation_over, creation_c, commands_c, block_c, block_step, judged, begun}
+use Rattle.cableowl.specs.ReplaysV2.{playing, buffer_of, other_sound, refused_given, given_c, laned_outcome, of_kind, laned_step, obeyed, played_record_v2, lacking, judged_v2, begun_v2, refused_step_v2, stepped_v2}
+use Rattle.cableowl.proofs.Answers.{Few, block_few, block_low}
+use Rattle.cableowl.proofs.ReplaySteps.{prefix, unread}
 
 none : {A : Type 0} → ⊥ → A
 none e = elim e [ ]
-
--- ---- before any record
-
-abbrev at_start_v2 : CableowlState → CableowlReplay
-at_start_v2 c = record { voice = c; samples = 0; blocks = 0; offset = 0; reader = 2; given = 0 }
-
-pub blank_is_v2 : (v : StaticSound) (c : CableowlState) → v ≡ blank_sound → c ≡ encoded v → at_start_v2 c ≡ blank_replay_v2
-blank_is_v2 v c e f = ap at_start_v2 (f ∙ ap encoded e)
 
 -- ---- a creation over a given sound
 
@@ -56,15 +48,6 @@ twice n f = go (eqb (n / 2) f) (eqb (n % 2) 0) refl refl
     go false y p q = sym (ne_eqb n (2 * f) (λ (e : n ≡ 2 * f). eqb-false (n / 2) f p (omega (arith, e))))
 
 module _ (sounds len : ℕ) (vs : List ℕ) where
-  pub other_none : sounds ≡ 0 → false ≡ other_sound sounds len vs
-  other_none z = rw (eq-eqb sounds 0 z) refl
-
-  pub other_one : (b : Bool) → (sounds ≡ 0 → ⊥) → sounds ≡ 1 → b ≡ eqb len (2 * get_or vs 12 0) → not b ≡ other_sound sounds len vs
-  other_one b z o e = rw (ne_eqb sounds 0 z, eq-eqb sounds 1 o, e) refl
-
-  pub other_more : (sounds ≡ 0 → ⊥) → (sounds ≡ 1 → ⊥) → true ≡ other_sound sounds len vs
-  other_more z o = rw (ne_eqb sounds 0 z, ne_eqb sounds 1 o) refl
-
   least : given_samples vs ≤ 2 * given_frames vs
   least = go (leb (given_frames vs) 16777216)
     where
@@ -89,21 +72,16 @@ given_long vs m e = omega (arith, e, go (leb (given_frames vs) 16777216) refl)
     go true p = omega (arith, leb-true (given_frames vs) 16777216 p)
     go false p = omega arith
 
-module _ (r : CableowlReplay) (n : ℕ) where
-  pub refused_given_is : (v : StaticSound) (e : CableowlState) (q a : CableowlReplay) (p : CableowlReplayed)
-      → v ≡ blank_sound → e ≡ encoded v → q ≡ playing 1 r → a ≡ behind q n e 0 r.blocks → p ≡ played_as a n 4 26 0 0 4 → p ≡ refused_given r n
-  refused_given_is v e q a p hv he hq ha hp = rw (hp, ha, he, hv, hq)
-
 module _ (given : List Float) (sounds : ℕ) (r : CableowlReplay) (n : ℕ) (vs : List ℕ) where
   pub given_other : (b : Bool) (p : CableowlReplayed) → b ≡ other_sound sounds (length given) vs → b ≡ true → p ≡ refused_given r n → p ≡ given_c given sounds r n vs
   unfolding given_c
   given_other b p hb t hp = hp ∙ rw (sym hb ∙ t) refl
 
-  pub given_is : (b : Bool) (m : ℕ) (s : Settings) (d : Created) (e : CableowlState) (q a : CableowlReplay) (p : CableowlReplayed)
-      → b ≡ other_sound sounds (length given) vs → b ≡ false → m ≡ given_samples vs → s ≡ settings_of vs → d ≡ created (take m given) s → e ≡ encoded d.voice
-      → q ≡ playing 1 r → a ≡ behind q n e m r.blocks → p ≡ played_as a n 4 d.refusal 0 0 4 → p ≡ given_c given sounds r n vs
-  unfolding given_c
-  given_is b m s d e q a p hb f hm hs hd he hq ha hp = rw (sym hb ∙ f, hp, ha, hq, he, hd, hs, hm)
+  pub given_is : (b : Bool) (m : ℕ) (q : CableowlReplay) (p : CableowlReplayed)
+      → b ≡ other_sound sounds (length given) vs → b ≡ false → m ≡ given_samples vs → m ≡ length (take m given)
+      → q ≡ playing 1 r → p ≡ creation_over (take m given) 4 q n vs → p ≡ given_c given sounds r n vs
+  unfolding given_c creation_over
+  given_is b m q p hb f hm l hq hp = hp ∙ rw (sym hb ∙ f, hq, ← l, hm)
 
 -- ---- a laned block
 
@@ -127,33 +105,23 @@ pub lanes_outcome : (snd : List Float) (v : StaticSound) (b : LanedBlock) (bs : 
     → o ≡ processed snd v b.time_step (five fa vo le ri ra) b.signals out → o ≡ laned_outcome snd v b bs out
 lanes_outcome snd v b bs out fa vo le ri ra o e1 e2 e3 e4 e5 q = q ∙ rw (e1, e2, e3, e4, e5)
 
-module _ (r : CableowlReplay) (n : ℕ) where
-  pub counted_is : (kind frames : ℕ) (q : Processed) (e : CableowlState) (k : ℕ) (a : CableowlReplay) (p : CableowlReplayed)
-      → e ≡ after q.refusal q.voice r.voice → k ≡ more r.blocks → a ≡ behind r n e r.samples k
-      → p ≡ played_as a n kind q.refusal frames q.steps q.lowest_count → p ≡ of_kind kind (block_c r n frames q)
-  unfolding block_c
-  counted_is kind frames q e k a p he hk ha hp = rw (hp, ha, hk, he)
-
-module _ (snd out : List Float) (v : StaticSound) (b : LanedBlock) (bs : List ℕ) (q : Processed) (part : List Float)
-    (f : record { answer = q; samples = part } ≡ laned_outcome snd v b bs out) where
-  pub laned_count : q.refusal ≡ 0 → count_of q.voice ≤ 4
-  laned_count =
-      subst (λ (o : Outcome). o.answer.refusal ≡ 0 → count_of o.answer.voice ≤ 4) (sym f)
-      (λ z. well_formed_for_few (length snd) _ (processed_well_formed_for snd v b.time_step _ b.signals out z))
+pub laned_few : (snd out : List Float) (v : StaticSound) (b : LanedBlock) (bs : List ℕ) (q : Result Processed Refusal) (part : List Float)
+    → record { answer = block_answer v q; samples = part } ≡ laned_outcome snd v b bs out → Few q
+laned_few snd out v b bs q part f = block_few v _ q part (block_low snd v b.time_step _ b.signals out) f
 
 module _ (r : CableowlReplay) (n : ℕ) (vs bs : List ℕ) (snd out : List Float) where
   abbrev laned_of : LanedBlock → Outcome → StepC
   laned_of b o = record { answer = of_kind 5 (block_c r n b.frames o.answer); sound = snd; samples = o.samples ++ drop (2 * b.frames) out }
 
-  pub laned_is : (b : LanedBlock) (v : StaticSound) (q : Processed) (part : List Float) (p : CableowlReplayed) → b ≡ laned_block_of vs → v ≡ decoded r.voice
-      → p ≡ of_kind 5 (block_c r n b.frames q)
-      → record { answer = q; samples = part } ≡ laned_outcome (take r.samples snd) v b bs (take (2 * b.frames) out)
+  pub laned_is : (b : LanedBlock) (v : StaticSound) (q : Result Processed Refusal) (part : List Float) (p : CableowlReplayed) → b ≡ laned_block_of vs → v ≡ decoded r.voice
+      → p ≡ of_kind 5 (block_c r n b.frames (block_answer (decoded r.voice) q))
+      → record { answer = block_answer v q; samples = part } ≡ laned_outcome (take r.samples snd) v b bs (take (2 * b.frames) out)
       → record { answer = p; sound = snd; samples = part ++ drop (2 * b.frames) out } ≡ laned_step r n vs bs snd out
   unfolding laned_step
   laned_is b v q part p hb hv hp f =
       ap (λ (a : CableowlReplayed). record { answer = a; sound = snd; samples = part ++ drop (2 * b.frames) out }) hp
-      ∙ ap (laned_of b) f
-      ∙ ap (λ (u : StaticSound). laned_of b (laned_outcome (take r.samples snd) u b bs (take (2 * b.frames) out))) hv
+      ∙ ap (laned_of b)
+      (subst (λ (u : StaticSound). record { answer = block_answer u q; samples = part } ≡ laned_outcome (take r.samples snd) u b bs (take (2 * b.frames) out)) hv f)
       ∙ ap (λ (z : LanedBlock). laned_of z (laned_outcome (take r.samples snd) (decoded r.voice) z bs (take (2 * z.frames) out))) hb
 
 -- ---- by the kind
@@ -256,13 +224,9 @@ module _ (r : CableowlReplay) (s o : ℕ) where
   unfolding refused_step_v2
   number_1_v2 h = rw (h) refl
 
-  pub number_19_v2 : of_replay ≡ true → has_room ≡ false → 19 ≡ refused_step_v2 r s o
+  pub number_room_v2 : of_replay ≡ true → cond has_room 0 19 ≡ refused_step_v2 r s o
   unfolding refused_step_v2
-  number_19_v2 g h = rw (g, h) refl
-
-  pub number_none_v2 : of_replay ≡ true → has_room ≡ true → 0 ≡ refused_step_v2 r s o
-  unfolding refused_step_v2
-  number_none_v2 g h = rw (g, h) refl
+  number_room_v2 h = rw (h) refl
 
   pub accepted_room_v2 : refused_step_v2 r s o ≡ 0 → (128 ≤ s) × (2048 ≤ o) × (r.given ≡ 0 → r.samples ≤ s)
   unfolding refused_step_v2
@@ -282,34 +246,27 @@ module _ (r : CableowlReplay) (s o : ℕ) where
 
 -- ---- a step
 
-module _ (r : CableowlReplay) (bs : List ℕ) (ended : ℕ) (snd given : List Float) (sounds : ℕ) (out : List Float) (k : ℕ) (e : k ≡ refused_step_v2 r (length snd) (length out)) where
+module _ (r : CableowlReplay) (bs : List ℕ) (ended : ℕ) (snd given : List Float) (sounds : ℕ) (out : List Float) where
+  abbrev k : ℕ
+  k = refused_step_v2 r (length snd) (length out)
+
   abbrev step : StepC
   step = stepped_v2 r bs ended snd given sounds out
 
-  pub step_refused_v2 : (p : CableowlReplayed) → (k ≡ 0 → ⊥) → p ≡ unplayed r 4 k → only p snd out ≡ step
+  pub step_refused_v2 : (x : Refusal) (p : CableowlReplayed) → number x ≡ k → p ≡ unplayed r 4 (number x) → only p snd out ≡ step
   unfolding stepped_v2
-  step_refused_v2 p h f =
-      ap (λ (a : CableowlReplayed). only a snd out) (f ∙ ap (unplayed r 4) e)
-      ∙ rw (ne_eqb (refused_step_v2 r (length snd) (length out)) 0 (λ z. h (e ∙ z))) refl
+  step_refused_v2 x p e f = ap (λ (a : CableowlReplayed). only a snd out) (f ∙ ap (unplayed r 4) e) ∙ rw (ap (λ (n : ℕ). eqb n 0) (sym e) ∙ number_eqb x) refl
 
   step_begun : k ≡ 0 → begun_v2 r ended bs snd given sounds out ≡ step
   unfolding stepped_v2
-  step_begun h = rw (eq-eqb (refused_step_v2 r (length snd) (length out)) 0 (sym e ∙ h)) refl
+  step_begun h = rw (eq-eqb k 0 h) refl
 
-  pub step_more_v2 : (p : CableowlReplayed) → k ≡ 0 → length bs ≡ 0 → ended ≡ 0 → p ≡ unplayed r 1 0 → only p snd out ≡ step
+  pub step_empty_v2 : (p : CableowlReplayed) → k ≡ 0 → length bs ≡ 0 → p ≡ cond (eqb ended 0) (unplayed r 1 0) (unplayed r 2 0) → only p snd out ≡ step
   unfolding begun begun_v2
-  step_more_v2 p h l z f = go bs l ∙ step_begun h
+  step_empty_v2 p h l f = go bs l ∙ step_begun h
     where
       go : (l : List ℕ) → length l ≡ 0 → only p snd out ≡ begun_v2 r ended l snd given sounds out
-      go [] q = ap (λ (a : CableowlReplayed). only a snd out) f ∙ rw (eq-eqb ended 0 z) refl
-      go (b ∷ l) q = none (omega (arith, q))
-
-  pub step_end_v2 : (p : CableowlReplayed) → k ≡ 0 → length bs ≡ 0 → (ended ≡ 0 → ⊥) → p ≡ unplayed r 2 0 → only p snd out ≡ step
-  unfolding begun begun_v2
-  step_end_v2 p h l z f = go bs l ∙ step_begun h
-    where
-      go : (l : List ℕ) → length l ≡ 0 → only p snd out ≡ begun_v2 r ended l snd given sounds out
-      go [] q = ap (λ (a : CableowlReplayed). only a snd out) f ∙ rw (ne_eqb ended 0 z) refl
+      go [] q = ap (λ (a : CableowlReplayed). only a snd out) f
       go (b ∷ l) q = none (omega (arith, q))
 
   -- the record that some bytes begin with
@@ -325,23 +282,18 @@ module _ (r : CableowlReplay) (bs : List ℕ) (ended : ℕ) (snd given : List Fl
     as_judged : (s : StepC) → s ≡ judged_v2 r ended d bs snd given sounds out → s ≡ step
     as_judged s g = g ∙ some_judged l d f ∙ step_begun h
 
-    pub step_lacking : (j : ℕ) (p : CableowlReplayed) → d.refusal ≡ 0 → j ≡ lacking r d sounds (length given) → (j ≡ 0 → ⊥) → p ≡ unplayed r 4 j → only p snd out ≡ step
+    pub step_lacking : (x : Refusal) (p : CableowlReplayed) → d.refusal ≡ 0 → number x ≡ lacking r d sounds (length given) → p ≡ unplayed r 4 (number x) → only p snd out ≡ step
     unfolding judged_v2
-    step_lacking j p z m n g =
+    step_lacking x p z m g =
         as_judged (only p snd out)
-        (ap (λ (a : CableowlReplayed). only a snd out) (g ∙ ap (unplayed r 4) m)
-        ∙ rw (eq-eqb d.refusal 0 z, ne_eqb (lacking r d sounds (length given)) 0 (λ y. n (m ∙ y))) refl)
+        (ap (λ (a : CableowlReplayed). only a snd out) g
+        ∙ subst (λ (n : ℕ). only (unplayed r 4 (number x)) snd out ≡ cond (eqb n 0) (played_record_v2 r d bs snd given sounds out) (only (unplayed r 4 n) snd out)) m (rw (number_eqb x) refl)
+        ∙ rw (eq-eqb d.refusal 0 z) refl)
 
-    pub step_played_v2 : (j : ℕ) (s : StepC) → d.refusal ≡ 0 → j ≡ lacking r d sounds (length given) → j ≡ 0 → s ≡ played_record_v2 r d bs snd given sounds out → s ≡ step
+    pub step_played_v2 : (s : StepC) → d.refusal ≡ 0 → lacking r d sounds (length given) ≡ 0 → s ≡ played_record_v2 r d bs snd given sounds out → s ≡ step
     unfolding judged_v2
-    step_played_v2 j s z m n g = as_judged s (g ∙ rw (eq-eqb d.refusal 0 z, eq-eqb (lacking r d sounds (length given)) 0 (sym m ∙ n)) refl)
+    step_played_v2 s z m g = as_judged s (g ∙ rw (eq-eqb d.refusal 0 z, eq-eqb (lacking r d sounds (length given)) 0 m) refl)
 
-    pub step_unfinished_v2 : (p : CableowlReplayed) → (d.refusal ≡ 0 → ⊥) → (eqb d.refusal 18 && eqb ended 0) ≡ true → p ≡ unplayed r 1 0 → only p snd out ≡ step
+    pub step_unread_v2 : (x : Refusal) (p : CableowlReplayed) → d.refusal ≡ number x → p ≡ unread r ended (number x) → only p snd out ≡ step
     unfolding judged judged_v2
-    step_unfinished_v2 p z t g =
-        as_judged (only p snd out) (ap (λ (a : CableowlReplayed). only a snd out) g ∙ rw (ne_eqb d.refusal 0 z, t) refl)
-
-    pub step_broken_v2 : (p : CableowlReplayed) → (d.refusal ≡ 0 → ⊥) → (eqb d.refusal 18 && eqb ended 0) ≡ false → p ≡ unplayed r 3 d.refusal → only p snd out ≡ step
-    unfolding judged judged_v2
-    step_broken_v2 p z t g =
-        as_judged (only p snd out) (ap (λ (a : CableowlReplayed). only a snd out) g ∙ rw (ne_eqb d.refusal 0 z, t) refl)
+    step_unread_v2 x p z g = as_judged (only p snd out) (ap (λ (a : CableowlReplayed). only a snd out) g ∙ rw (z, number_eqb x) refl)

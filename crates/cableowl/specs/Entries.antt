@@ -4,9 +4,9 @@ use Rattle.sound_lanes.specs.Lanes.{Lanes}
 use Rattle.sound_held.specs.declared.Held.{Held}
 use Rattle.sound_held.specs.Held.{held_lanes}
 use Rattle.sound_state.specs.declared.StaticSound.{StaticSound}
-use Rattle.sound_creation.specs.Creation.{created}
-use Rattle.sound_commands.specs.Commands.{commanded}
-use Rattle.sound_slow_path.specs.declared.Processed.{Processed}
+use Rattle.sound_creation.specs.Creation.{Created, created}
+use Rattle.sound_commands.specs.Commands.{CommandsAnswer, commanded}
+use Rattle.sound_slow_path.specs.Plays.{BlockAnswer}
 use Rattle.static_sound.specs.Entries.{processed, processed_into, stretch_of, stretch_at}
 use Rattle.c_state.specs.declared.CableowlState.{CableowlState}
 use Rattle.c_inputs.specs.declared.CableowlSettings.{CableowlSettings}
@@ -23,9 +23,17 @@ use Rattle.c_inputs.specs.Inputs.{settings_of, commands_of, signals_of}
 unfoldable pub after : ℕ → StaticSound → CableowlState → CableowlState
 after k v c = cond (eqb k 0) (encoded v) c
 
+-- the answer of a creation as a C record
+abbrev pub created_as : Created → CableowlCreated
+created_as r = record { state = encoded r.voice; refusal = r.refusal }
+
 -- creation; if refused, the blank state
 unfoldable pub created_c : List Float → CableowlSettings → CableowlCreated
 created_c snd s = let r = created snd (settings_of s) in record { state = encoded r.voice; refusal = r.refusal }
+
+-- the answer of a command set that was given this state
+abbrev pub commanded_as : CommandsAnswer → CableowlState → CableowlCommanded
+commanded_as r c = record { state = after r.refusal r.voice c; position = r.position; refusal = r.refusal }
 
 -- a command set
 unfoldable pub commanded_c : List Float → CableowlState → CableowlCommands → CableowlCommanded
@@ -34,7 +42,7 @@ commanded_c snd c k =
     record { state = after r.refusal r.voice c; position = r.position; refusal = r.refusal }
 
 -- the result of a block that was given this state
-abbrev pub answered : Processed → CableowlState → CableowlProcessed
+abbrev pub answered : BlockAnswer → CableowlState → CableowlProcessed
 answered p c = record {
   state = after p.refusal p.voice c;
   steps = p.steps;
@@ -59,6 +67,11 @@ unfoldable pub processed_into_c : List Float → CableowlState → Float → Lan
 processed_into_c snd c dt b g mix from =
     let o = processed_into snd (decoded c) dt b (signals_of g) mix from in
     record { answer = answered o.answer c; samples = o.samples }
+
+-- held lanes from their five numbers
+abbrev pub held_as : Float → Float → Float → Float → Float → Held
+held_as fade volume left right rate =
+    record { gains = record { fade = fade; volume = volume; left = left; right = right }; rate = rate }
 
 -- a block with held lanes: the block over lanes that repeat the five numbers, one frame for each two samples of the
 -- output

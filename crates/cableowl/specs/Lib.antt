@@ -2,5 +2,6 @@
 pub mod Entries
 pub mod Loops
 pub mod Saved
+pub mod Traces
 pub mod Replays
 pub mod ReplaysV2

@@ -7,11 +7,9 @@ use Rattle.sound_lanes.specs.Lanes.{Lanes, five}
 use Rattle.sound_state.specs.Refusals.{unless}
 use Rattle.sound_creation.specs.Creation.{blank_sound, created}
 use Rattle.sound_commands.specs.Commands.{commanded}
-use Rattle.sound_slow_path.specs.declared.Processed.{Processed}
-use Rattle.sound_slow_path.specs.Plays.{Outcome}
+use Rattle.sound_slow_path.specs.Plays.{BlockAnswer, Outcome}
 use Rattle.static_sound.specs.Entries.{processed}
-use Rattle.trace_records.specs.declared.Record.{Record}
-use Rattle.trace_records.specs.Records.{record_at}
+use Rattle.trace_records.specs.Records.{Record, record_at}
 use Rattle.trace_inputs.specs.declared.Block.{Block}
 use Rattle.trace_inputs.specs.Inputs.{settings_of, samples_of, commands_of, block_of}
 use Rattle.c_state.specs.declared.CableowlState.{CableowlState}
@@ -25,6 +23,19 @@ use Rattle.cableowl.specs.Entries.{after}
 -- before any record: the blank voice, at the trace's first byte, read by reader 1
 abbrev pub blank_replay : CableowlReplay
 blank_replay = record { voice = encoded blank_sound; samples = 0; blocks = 0; offset = 0; reader = 1; given = 0 }
+
+-- the same for any reader
+abbrev pub blank_by : ℕ → CableowlReplay
+blank_by n =
+    let r = blank_replay in
+    record {
+      voice = r.voice;
+      samples = r.samples;
+      blocks = r.blocks;
+      offset = r.offset;
+      reader = n;
+      given = r.given;
+    }
 
 -- one block more, up to the largest 64-bit number
 abbrev pub more : ℕ → ℕ
@@ -91,6 +102,13 @@ creation_c r n vs =
     let c = created (samples_of vs) (settings_of vs) in
     played_as (behind r n (encoded c.voice) (length (samples_of vs)) r.blocks) n 1 c.refusal 0 0 4
 
+-- a creation over these samples, for a record of kind k
+unfoldable pub creation_over : List Float → ℕ → CableowlReplay → ℕ → List ℕ → CableowlReplayed
+creation_over snd k r n vs =
+    let c = created snd (settings_of vs) in
+    let m = length snd in
+    played_as (behind r n (encoded c.voice) m r.blocks) n k c.refusal 0 0 4
+
 -- a command set over the voice's sound
 unfoldable pub commands_c : List Float → CableowlReplay → ℕ → List ℕ → CableowlReplayed
 commands_c snd r n vs =
@@ -108,7 +126,7 @@ abbrev pub block_outcome : List Float → CableowlState → Block → List Float
 block_outcome snd v b out = processed snd (decoded v) b.time_step (lanes_of b) b.signals out
 
 -- a block, accepted or refused, is counted
-unfoldable pub block_c : CableowlReplay → ℕ → ℕ → Processed → CableowlReplayed
+unfoldable pub block_c : CableowlReplay → ℕ → ℕ → BlockAnswer → CableowlReplayed
 block_c r n frames p =
     played_as (behind r n (after p.refusal p.voice r.voice) r.samples (more r.blocks)) n 3
     p.refusal frames p.steps

@@ -9,7 +9,7 @@ use Rattle.sound_state.specs.Refusals.{unless}
 use Rattle.sound_creation.specs.Creation.{blank_sound, created}
 use Rattle.sound_slow_path.specs.Plays.{Outcome}
 use Rattle.static_sound.specs.Entries.{processed}
-use Rattle.trace_records.specs.declared.Record.{Record}
+use Rattle.trace_records.specs.Records.{Record}
 use Rattle.trace_sealed.specs.Records.{any_at}
 use Rattle.trace_inputs.specs.declared.LanedBlock.{LanedBlock}
 use Rattle.trace_inputs.specs.Inputs.{settings_of, samples_of, given_frames, given_samples, laned_block_of, singles}

@@ -5,8 +5,7 @@ use Rattle.std.specs.Float.{nan, binary64}
 use Rattle.std.specs.Float.Ieee.{of_bits}
 use Rattle.numbers.specs.Words.{positive_zero}
 use Rattle.saved_settings.specs.declared.SavedSettings.{SavedSettings}
-use Rattle.saved_settings.specs.declared.Loaded.{Loaded}
-use Rattle.saved_settings.specs.Records.{finite_bits}
+use Rattle.saved_settings.specs.Records.{Loaded, finite_bits}
 use Rattle.semitones.specs.Ratios.{raised_by}
 use Rattle.c_inputs.specs.declared.CableowlPlace.{CableowlPlace}
 use Rattle.c_inputs.specs.declared.CableowlRegion.{CableowlRegion}

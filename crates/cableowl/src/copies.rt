@@ -1,10 +1,27 @@
 // The C entries of copies of the loop table: crate loop_copies over numbers. Hall A is 0, B is 1.
 ghost use Rattle.std.specs.Prelude.{◌≡◌};
-ghost use Rattle.loop_copies.specs.Copies.{empty_copy, merged_copy};
-ghost use Rattle.cableowl.specs.Loops.{copy_written_c, copy_cleared_c};
+ghost use Rattle.loop_copies.specs.Copies.{empty_copy, copy_changed_of};
+ghost use Rattle.cableowl.specs.Loops.{copy_changed_c, copy_written_c, copy_cleared_c, merged_c};
 
 use crate::loops::hall_of;
-use loop_copies::{CopyChanged, LoopCopy};
+use crate::value_or;
+use loop_copies::LoopCopy;
+use refusals::Refusal;
+
+// After a write, a clear or a merge: the copy, the given one if it was refused.
+#[repr(C)]
+#[derive(Clone, Copy, Debug, PartialEq, Eq, Hash)]
+pub struct CopyChanged {
+    pub copy: LoopCopy,
+    pub refusal: u32,
+}
+
+fn changed(given: LoopCopy, answer: Result<LoopCopy, Refusal>) -> CopyChanged
+    ensures { result ≡ copy_changed_c (copy_changed_of given answer) }
+{
+    let (copy, refusal) = value_or(given, answer);
+    CopyChanged { copy, refusal }
+}
 
 #[unsafe(no_mangle)]
 pub extern "C" fn cableowl_loop_copy(num_frames: u64) -> LoopCopy
@@ -23,31 +40,25 @@ pub extern "C" fn cableowl_write_copy(
 ) -> CopyChanged
     ensures { result ≡ copy_written_c copy hall slot start end }
 {
-    if hall > 1 {
-        return CopyChanged {
-            copy,
-            refusal: refusals::STATE,
-        };
+    match hall_of(hall) {
+        Ok(hall) => changed(copy, copy.write(hall, slot as usize, start, end)),
+        Err(refusal) => changed(copy, Err(refusal)),
     }
-    copy.write(hall_of(hall), slot as usize, start, end)
 }
 
 #[unsafe(no_mangle)]
 pub extern "C" fn cableowl_clear_copy(copy: LoopCopy, hall: u32, slot: u64) -> CopyChanged
     ensures { result ≡ copy_cleared_c copy hall slot }
 {
-    if hall > 1 {
-        return CopyChanged {
-            copy,
-            refusal: refusals::STATE,
-        };
+    match hall_of(hall) {
+        Ok(hall) => changed(copy, copy.clear(hall, slot as usize)),
+        Err(refusal) => changed(copy, Err(refusal)),
     }
-    copy.clear(hall_of(hall), slot as usize)
 }
 
 #[unsafe(no_mangle)]
 pub extern "C" fn cableowl_merge_copies(ours: LoopCopy, theirs: LoopCopy) -> CopyChanged
-    ensures { result ≡ merged_copy ours theirs }
+    ensures { result ≡ merged_c ours theirs }
 {
-    ours.merge(theirs)
+    changed(ours, ours.merge(theirs))
 }

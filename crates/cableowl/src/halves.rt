@@ -3,13 +3,14 @@
 ghost use Rattle.std.specs.Prelude.{◌≡◌, length};
 ghost use Rattle.saved_loops.specs.Records.{store_refusal, stored, loaded};
 
+use crate::{number_of, value_or};
+
 #[unsafe(no_mangle)]
 pub extern "C" fn cableowl_store_half(half: &[u64; 19], names: &[u8], buffer: &mut [u8]) -> u32
     ensures { (result ≡ store_refusal half.now (length names.now) (length buffer.old))
         × (buffer.new ≡ stored half.now names.now buffer.old) }
 {
-    let words = *half;
-    saved_loops::store(words, names, buffer)
+    number_of(saved_loops::store(*half, names, buffer))
 }
 
 #[unsafe(no_mangle)]
@@ -17,8 +18,7 @@ pub extern "C" fn cableowl_load_half(bytes: &[u8], half: &mut [u64; 19]) -> u32
     ensures { (result ≡ (loaded bytes.now).refusal)
         × (half.new ≡ (loaded bytes.now).words) }
 {
-    let l = saved_loops::load(bytes);
-    let words = l.words;
+    let (words, refusal) = value_or([0; 19], saved_loops::load(bytes));
     *half = words;
-    l.refusal
+    refusal
 }

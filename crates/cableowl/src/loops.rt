@@ -1,19 +1,47 @@
 // The C entries of the loop table: crates loop_table and take_loop over numbers. Hall A is 0, B is 1.
-ghost use Rattle.std.specs.Prelude.{◌≡◌};
-ghost use Rattle.loop_table.specs.Tables.{empty_table, found};
-ghost use Rattle.cableowl.specs.Loops.{hall_of, written_c, cleared_c, taken_c};
+ghost use Rattle.std.specs.Prelude.{◌≡◌, ◌≤◌, ◌<◌, MatchResult};
+ghost use Rattle.refusals.specs.declared.Refusal.TheVariants.{State};
+ghost use Rattle.loop_table.specs.Tables.{empty_table, changed_of};
+ghost use Rattle.cableowl.specs.Loops.{hall_of, changed_c, written_c, cleared_c, read_c, taken_c};
 
-use crate::{CableowlCommanded, state_after};
-use c_state::{CableowlState, decode};
-use loop_table::{Hall, LoopChanged, LoopFound, LoopTable};
+use crate::{CableowlCommanded, command_answer, value_or};
+use c_state::CableowlState;
+use loop_table::{Hall, LoopSlot, LoopTable};
+use refusals::Refusal;
+use sound_state::StaticSound;
 
-pub(crate) fn hall_of(n: u32) -> Hall
-    ensures { result ≡ hall_of n }
+// After a write or a clear: the table, the given one if it was refused.
+#[repr(C)]
+#[derive(Clone, Copy, Debug, PartialEq, Eq, Hash)]
+pub struct LoopChanged {
+    pub table: LoopTable,
+    pub refusal: u32,
+}
+
+// After a read: the slot, an empty one if it was refused.
+#[repr(C)]
+#[derive(Clone, Copy, Debug, PartialEq, Eq, Hash)]
+pub struct LoopFound {
+    pub slot: LoopSlot,
+    pub refusal: u32,
+}
+
+// A function and no `TryFrom`: `Hall` and `u32` are both of other crates.
+pub(crate) fn hall_of(n: u32) -> Result<Hall, Refusal>
+    ensures { MatchResult result (λ hall. (hall ≡ hall_of n) × (n ≤ 1)) (λ e. (e ≡ State) × (1 < n)) }
 {
-    if n == 0 {
-        return Hall::A;
+    match n {
+        0 => Ok(Hall::A),
+        1 => Ok(Hall::B),
+        _ => Err(Refusal::State),
     }
-    Hall::B
+}
+
+fn changed(given: LoopTable, answer: Result<LoopTable, Refusal>) -> LoopChanged
+    ensures { result ≡ changed_c (changed_of given answer) }
+{
+    let (table, refusal) = value_or(given, answer);
+    LoopChanged { table, refusal }
 }
 
 #[unsafe(no_mangle)]
@@ -33,33 +61,28 @@ pub extern "C" fn cableowl_write_loop(
 ) -> LoopChanged
     ensures { result ≡ written_c table hall slot start end }
 {
-    if hall > 1 {
-        return LoopChanged {
-            table,
-            refusal: refusals::STATE,
-        };
+    match hall_of(hall) {
+        Ok(hall) => changed(table, table.write(hall, slot as usize, start, end)),
+        Err(refusal) => changed(table, Err(refusal)),
     }
-    table.write(hall_of(hall), slot as usize, start, end)
 }
 
 #[unsafe(no_mangle)]
 pub extern "C" fn cableowl_clear_loop(table: LoopTable, hall: u32, slot: u64) -> LoopChanged
     ensures { result ≡ cleared_c table hall slot }
 {
-    if hall > 1 {
-        return LoopChanged {
-            table,
-            refusal: refusals::STATE,
-        };
+    match hall_of(hall) {
+        Ok(hall) => changed(table, table.clear(hall, slot as usize)),
+        Err(refusal) => changed(table, Err(refusal)),
     }
-    table.clear(hall_of(hall), slot as usize)
 }
 
 #[unsafe(no_mangle)]
 pub extern "C" fn cableowl_read_loop(table: LoopTable, slot: u64) -> LoopFound
-    ensures { result ≡ found table slot }
+    ensures { result ≡ read_c table slot }
 {
-    table.read(slot as usize)
+    let (slot, refusal) = value_or(LoopSlot { start: 0, end: 0 }, table.read(slot as usize));
+    LoopFound { slot, refusal }
 }
 
 #[unsafe(no_mangle)]
@@ -71,11 +94,6 @@ pub extern "C" fn cableowl_take_loop(
 ) -> CableowlCommanded
     ensures { result ≡ taken_c sound.now table slot state }
 {
-    let commanded = take_loop::take(table, slot as usize, decode(state), sound);
-    let voice = commanded.voice;
-    CableowlCommanded {
-        state: state_after(commanded.refusal, voice, state),
-        position: commanded.position,
-        refusal: commanded.refusal,
-    }
+    let voice = StaticSound::from(state);
+    command_answer(take_loop::take(table, slot as usize, voice, sound), state)
 }

@@ -1,11 +1,14 @@
 // Blocks with held lanes: five numbers that apply to every frame.
 ghost use Rattle.std.specs.Prelude.{◌≡◌};
-ghost use Rattle.cableowl.specs.Entries.{processed_held_c, processed_held_into_c};
+ghost use Rattle.cableowl.specs.Entries.{held_as, processed_held_c, processed_held_into_c};
 
 use crate::{CableowlProcessed, answer};
-use c_inputs::{CableowlSignals, signals_of};
-use c_state::{CableowlState, decode};
+use c_inputs::CableowlSignals;
+use c_state::CableowlState;
+use sound_block::Signals;
 use sound_held::Held;
+use sound_lanes::Gains;
+use sound_state::StaticSound;
 
 // As many frames as the output has space for.
 #[unsafe(no_mangle)]
@@ -23,22 +26,21 @@ pub extern "C" fn cableowl_process_held(
 ) -> CableowlProcessed
     ensures { record { answer = result; samples = out.new }
         ≡ processed_held_c sound.now state dt
-        (record { fade = fade; volume = volume; left = left; right = right; rate = rate }) signals
+        (held_as fade volume left right rate) signals
         out.old }
 {
-    let held = Held {
+    let gains = Gains {
         fade,
         volume,
         left,
         right,
-        rate,
     };
     let processed = static_sound::process_held(
-        decode(state),
+        StaticSound::from(state),
         sound,
-        held,
+        Held { gains, rate },
         dt,
-        signals_of(signals),
+        Signals::from(signals),
         out,
     );
     answer(processed, state)
@@ -62,22 +64,21 @@ pub extern "C" fn cableowl_process_held_into(
 ) -> CableowlProcessed
     ensures { record { answer = result; samples = mix.new }
         ≡ processed_held_into_c sound.now state dt
-        (record { fade = fade; volume = volume; left = left; right = right; rate = rate }) signals
+        (held_as fade volume left right rate) signals
         mix.old from frames }
 {
-    let held = Held {
+    let gains = Gains {
         fade,
         volume,
         left,
         right,
-        rate,
     };
     let processed = static_sound::process_held_into(
-        decode(state),
+        StaticSound::from(state),
         sound,
-        held,
+        Held { gains, rate },
         dt,
-        signals_of(signals),
+        Signals::from(signals),
         mix,
         from as usize,
         frames as usize,

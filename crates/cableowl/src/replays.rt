@@ -1,27 +1,38 @@
 // The C ABI of a replay: the next record of a trace, read and played (docs/formats/TRACE.md).
-ghost use Rattle.std.specs.Prelude.{◌≡◌, ◌&&◌, ◌≤◌, length, take};
+ghost use Rattle.std.specs.Prelude.{◌≡◌, ◌&&◌, ◌≤◌, Ok, IfOk, cond, eqb, leb, length, take};
 ghost use Rattle.std.proofs.lemmas.List.Edits.{sets};
+ghost use Rattle.refusals.specs.Numbers.{number, number_of};
+ghost use Rattle.sound_state.specs.Refusals.{unless};
+ghost use Rattle.static_sound.specs.Entries.{block_answer};
 ghost use Rattle.trace_inputs.specs.Inputs.{samples_of};
+ghost use Rattle.trace_records.specs.Records.{record_read};
+ghost use Rattle.c_state.specs.Records.{decoded};
 ghost use Rattle.cableowl.specs.Replays.{
+  blank_by,
   blank_replay,
   more,
   onward,
   behind,
   played_as,
   unplayed,
+  creation_over,
   creation_c,
   commands_c,
+  block_c,
   block_step,
   played_record,
-  judged,
   refused_step,
   stepped_c,
 };
+ghost use Rattle.cableowl.specs.ReplaysV2.{of_kind};
 
-use crate::state_after;
-use c_state::{CableowlState, decode, encode};
-use refusals::words;
+use crate::{CableowlProcessed, answer, command, create};
+use c_state::{CableowlState, encode};
+use refusals::Refusal;
 use sound_held::Held;
+use sound_lanes::Gains;
+use sound_slow_path::Processed;
+use sound_state::StaticSound;
 use trace_inputs::Block;
 use trace_records::Record;
 
@@ -39,9 +50,9 @@ pub struct CableowlReplay {
     pub given: u32,
 }
 
-// The result of a step. `what` is 0 if it played a record, 1 if it needs more bytes, 2 if the trace has ended, 3 if
-// the record is refused and 4 if the call is refused. For a record: its size in bytes, its kind and the player's
-// refusal. For a block also its frames, its steps and its lowest count.
+// The result of a step. C reads `what` and `kind` as numbers: `what` is 0 if it played a record, 1 if it needs more
+// bytes, 2 if the trace has ended, 3 if the record is refused and 4 if the call is refused. For a record: its size in
+// bytes, its kind and the player's refusal. For a block also its frames, its steps and its lowest count.
 #[repr(C)]
 #[derive(Clone, Copy)]
 pub struct CableowlReplayed {
@@ -55,22 +66,16 @@ pub struct CableowlReplayed {
     pub lowest_count: u64,
 }
 
-pub(crate) fn more_of(n: u64) -> u64
+fn more_of(n: u64) -> u64
     ensures { result ≡ more n }
 {
-    if n < 18446744073709551615 {
-        return n + 1;
-    }
-    n
+    n.saturating_add(1)
 }
 
 fn onward_of(at: u64, n: u64) -> u64
     ensures { result ≡ onward at n }
 {
-    if n <= 18446744073709551615 - at {
-        return at + n;
-    }
-    18446744073709551615
+    at.saturating_add(n)
 }
 
 pub(crate) fn behind_record(
@@ -87,8 +92,7 @@ pub(crate) fn behind_record(
         samples,
         blocks,
         offset: onward_of(replay.offset, size),
-        reader: replay.reader,
-        given: replay.given,
+        ..replay
     }
 }
 
@@ -97,17 +101,17 @@ pub(crate) fn played(
     size: u64,
     kind: u64,
     refusal: u32,
-    frames: usize,
-    steps: usize,
-    lowest_count: usize,
+    frames: u64,
+    steps: u64,
+    lowest_count: u32,
 ) -> CableowlReplayed
     ensures { result ≡ played_as replay size kind refusal frames steps lowest_count }
 {
     CableowlReplayed {
         replay,
         size,
-        frames: frames as u64,
-        steps: steps as u64,
+        frames,
+        steps,
         what: 0,
         kind,
         refusal: refusal as u64,
@@ -130,8 +134,58 @@ pub(crate) fn not_played(replay: CableowlReplay, what: u64, refusal: u64) -> Cab
     }
 }
 
-// Plays a creation record: writes its sound to the start of the buffer `sound`.
-pub(crate) fn create(
+// The answer to a call that is refused.
+pub(crate) fn refused_call(replay: CableowlReplay, refusal: Refusal) -> CableowlReplayed
+    ensures { result ≡ unplayed replay 4 (number refusal) }
+{
+    not_played(replay, 4, u64::from(refusal))
+}
+
+// The answer where there are no bytes.
+pub(crate) fn no_record(replay: CableowlReplay, ended: u32) -> CableowlReplayed
+    ensures { result ≡ cond (eqb ended 0) (unplayed replay 1 0) (unplayed replay 2 0) }
+{
+    match ended {
+        0 => not_played(replay, 1, 0),
+        _ => not_played(replay, 2, 0),
+    }
+}
+
+// The answer to a record that is refused; where only its end is missing, more bytes are needed as long as more may
+// come.
+pub(crate) fn refused_record(
+    replay: CableowlReplay,
+    ended: u32,
+    refusal: Refusal,
+) -> CableowlReplayed
+    ensures { result ≡ cond (eqb (number refusal) 18 && eqb ended 0) (unplayed replay 1 0)
+        (unplayed replay 3 (number refusal)) }
+{
+    if refusal == Refusal::Truncated && ended == 0 {
+        not_played(replay, 1, 0)
+    } else {
+        not_played(replay, 3, u64::from(refusal))
+    }
+}
+
+// Plays a creation record over these samples.
+pub(crate) fn create_over(
+    replay: CableowlReplay,
+    size: u64,
+    kind: u64,
+    values: [u64; 80],
+    sound: &[f32],
+) -> CableowlReplayed
+    ensures { result ≡ creation_over sound.now kind replay size values }
+{
+    let created = create(trace_inputs::settings_of(values), sound);
+    let samples = sound.len() as u64;
+    let after = behind_record(replay, size, created.state, samples, replay.blocks);
+    played(after, size, kind, created.refusal, 0, 0, 4)
+}
+
+// Plays a creation record with its samples: writes its sound to the start of the buffer `sound`.
+pub(crate) fn create_with(
     replay: CableowlReplay,
     size: u64,
     values: [u64; 80],
@@ -142,14 +196,11 @@ pub(crate) fn create(
         × (sound.new ≡ sets sound.old 0 (samples_of values)) }
 {
     let samples = trace_inputs::put_samples(values, sound);
-    let created = sound_creation::new(trace_inputs::settings_of(values), &sound[..samples]);
-    let voice = created.voice;
-    let after = behind_record(replay, size, encode(voice), samples as u64, replay.blocks);
-    played(after, size, 1, created.refusal, 0, 0, 4)
+    create_over(replay, size, 1, values, &sound[..samples])
 }
 
 // Plays a command set record.
-pub(crate) fn command(
+pub(crate) fn obey(
     replay: CableowlReplay,
     size: u64,
     values: [u64; 80],
@@ -157,35 +208,59 @@ pub(crate) fn command(
 ) -> CableowlReplayed
     ensures { result ≡ commands_c sound.now replay size values }
 {
-    let before = replay.voice;
-    let commanded = sound_commands::on_start_processing(
-        decode(before),
-        sound,
-        trace_inputs::commands_of(values),
-    );
-    let voice = commanded.voice;
-    let refusal = commanded.refusal;
-    let state = state_after(refusal, voice, before);
-    let after = behind_record(replay, size, state, replay.samples, replay.blocks);
-    played(after, size, 2, refusal, 0, 0, 4)
+    let obeyed = command(replay.voice, sound, trace_inputs::commands_of(values));
+    let after = behind_record(replay, size, obeyed.state, replay.samples, replay.blocks);
+    played(after, size, 2, obeyed.refusal, 0, 0, 4)
 }
 
+// A function and no `From`: `Block` and `Held` are both of other crates.
 fn held_of(block: Block) -> Held
     ensures { result ≡ record {
-      fade = block.fade;
-      volume = block.volume;
-      left = block.left;
-      right = block.right;
+      gains = record { fade = block.fade; volume = block.volume; left = block.left; right = block.right };
       rate = block.rate;
     } }
 {
-    Held {
+    let gains = Gains {
         fade: block.fade,
         volume: block.volume,
         left: block.left,
         right: block.right,
+    };
+    Held {
+        gains,
         rate: block.rate,
     }
+}
+
+// The answer of a block. The block is counted.
+pub(crate) fn count_block(
+    replay: CableowlReplay,
+    size: u64,
+    kind: u64,
+    frames: usize,
+    processed: Result<Processed, Refusal>,
+) -> CableowlReplayed
+    requires { IfOk processed (λ p. (p.voice.moving.resampler.time_until_empty ≤ 4) × (p.lowest_count ≤ 4)) }
+    ensures { result ≡ of_kind kind
+        (block_c replay size frames (block_answer (decoded replay.voice) processed)) }
+{
+    let answered = answer(processed, replay.voice);
+    let after = behind_record(
+        replay,
+        size,
+        answered.state,
+        replay.samples,
+        more_of(replay.blocks),
+    );
+    played(
+        after,
+        size,
+        kind,
+        answered.refusal,
+        frames as u64,
+        answered.steps,
+        answered.lowest_count,
+    )
 }
 
 // Plays a block record into the first samples of the output.
@@ -200,32 +275,18 @@ pub(crate) fn play(
     ensures { record { answer = result; sound = sound.now; samples = out.new }
         ≡ block_step replay size values sound.now out.old }
 {
-    let before = replay.voice;
     let samples = replay.samples as usize;
     let block = trace_inputs::block_of(values);
-    let signals = block.signals;
     let n = 2 * block.frames;
     let processed = static_sound::process_held(
-        decode(before),
+        StaticSound::from(replay.voice),
         &sound[..samples],
         held_of(block),
         block.time_step,
-        signals,
+        block.signals,
         &mut out[..n],
     );
-    let voice = processed.voice;
-    let refusal = processed.refusal;
-    let state = state_after(refusal, voice, before);
-    let after = behind_record(replay, size, state, replay.samples, more_of(replay.blocks));
-    played(
-        after,
-        size,
-        3,
-        refusal,
-        block.frames,
-        processed.steps,
-        processed.lowest_count,
-    )
+    count_block(replay, size, 3, block.frames, processed)
 }
 
 // Plays one record, by its kind.
@@ -237,30 +298,50 @@ fn play_record(
 ) -> CableowlReplayed
     requires { (128 ≤ length sound.old) × (replay.samples ≤ length sound.old) × (2048 ≤ length out.old) }
     ensures { record { answer = result; sound = sound.new; samples = out.new }
-        ≡ played_record replay read sound.old out.old }
+        ≡ played_record replay (record_read 0 (Ok read)) sound.old out.old }
 {
     let size = read.next as u64;
     let values = read.values;
-    if read.kind == 1 {
-        return create(replay, size, values, sound);
+    let samples = replay.samples as usize;
+    match read.kind {
+        1 => create_with(replay, size, values, sound),
+        2 => obey(replay, size, values, &sound[..samples]),
+        _ => play(replay, size, values, sound, out),
     }
-    if read.kind == 2 {
-        let samples = replay.samples as usize;
-        return command(replay, size, values, &sound[..samples]);
-    }
-    play(replay, size, values, sound, out)
 }
 
-fn refusal_of(replay: CableowlReplay, sound: usize, out: usize) -> u64
-    ensures { result ≡ refused_step replay sound out }
+// Whether the buffers for a sound and for an output hold those of any record.
+pub(crate) fn check_room(sound: usize, out: usize) -> Result<(), Refusal>
+    ensures { number_of result ≡ unless (leb 128 sound && leb 2048 out) 19 0 }
+{
+    if (128 <= sound) & (2048 <= out) {
+        Ok(())
+    } else {
+        Err(Refusal::Room)
+    }
+}
+
+fn check(replay: CableowlReplay, sound: usize, out: usize) -> Result<(), Refusal>
+    ensures { number_of result ≡ refused_step replay sound out }
 {
     if !((replay.reader == 1) & (replay.given == 0) & (replay.samples <= sound as u64)) {
-        return words::STATE;
+        return Err(Refusal::State);
     }
-    if !((128 <= sound) & (2048 <= out)) {
-        return words::ROOM;
+    check_room(sound, out)
+}
+
+// The replay of a reader before the first record.
+pub(crate) fn blank(reader: u32) -> CableowlReplay
+    ensures { result ≡ blank_by reader }
+{
+    CableowlReplay {
+        voice: encode(sound_creation::blank()),
+        samples: 0,
+        blocks: 0,
+        offset: 0,
+        reader,
+        given: 0,
     }
-    0
 }
 
 // The replay before the first record.
@@ -268,14 +349,7 @@ fn refusal_of(replay: CableowlReplay, sound: usize, out: usize) -> u64
 pub extern "C" fn cableowl_replay() -> CableowlReplay
     ensures { result ≡ blank_replay }
 {
-    CableowlReplay {
-        voice: encode(sound_creation::blank()),
-        samples: 0,
-        blocks: 0,
-        offset: 0,
-        reader: 1,
-        given: 0,
-    }
+    blank(1)
 }
 
 // Reads and plays the next record of a trace; returns what it did and the replay after it.
@@ -290,22 +364,14 @@ pub extern "C" fn cableowl_replay_step(
     ensures { record { answer = result; sound = sound.new; samples = out.new }
         ≡ stepped_c replay bytes.now ended sound.old out.old }
 {
-    let refused = refusal_of(replay, sound.len(), out.len());
-    if refused != 0 {
-        return not_played(replay, 4, refused);
+    if let Err(refusal) = check(replay, sound.len(), out.len()) {
+        return refused_call(replay, refusal);
     }
     if bytes.len() == 0 {
-        if ended == 0 {
-            return not_played(replay, 1, 0);
-        }
-        return not_played(replay, 2, 0);
+        return no_record(replay, ended);
     }
-    let read = trace_records::read(bytes, 0);
-    if read.refusal == 0 {
-        return play_record(replay, read, sound, out);
+    match trace_records::read(bytes, 0) {
+        Ok(read) => play_record(replay, read, sound, out),
+        Err(refusal) => refused_record(replay, ended, refusal),
     }
-    if (read.refusal == words::TRUNCATED) & (ended == 0) {
-        return not_played(replay, 1, 0);
-    }
-    not_played(replay, 3, read.refusal)
 }

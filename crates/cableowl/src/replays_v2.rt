@@ -1,8 +1,10 @@
 // The C ABI of a replay for trace version 2: the next record of any of the five kinds, read and played
 // (docs/formats/TRACE.md, "Version 2").
-ghost use Rattle.std.specs.Prelude.{◌≡◌, ◌*◌, ◌≤◌, eqb, length};
+ghost use Rattle.std.specs.Prelude.{◌≡◌, ◌*◌, ◌≤◌, Ok, eqb, length};
+ghost use Rattle.refusals.specs.Numbers.{number_of};
+ghost use Rattle.static_sound.specs.Entries.{block_answer};
 ghost use Rattle.trace_inputs.specs.Inputs.{given_samples};
-ghost use Rattle.cableowl.specs.Replays.{block_c};
+ghost use Rattle.trace_records.specs.Records.{record_read};
 ghost use Rattle.cableowl.specs.ReplaysV2.{
   blank_replay_v2,
   playing,
@@ -10,7 +12,6 @@ ghost use Rattle.cableowl.specs.ReplaysV2.{
   refused_given,
   given_c,
   laned_outcome,
-  of_kind,
   laned_step,
   obeyed,
   played_record_v2,
@@ -20,12 +21,12 @@ ghost use Rattle.cableowl.specs.ReplaysV2.{
 };
 
 use crate::replays::{
-    CableowlReplay, CableowlReplayed, behind_record, command, create, more_of, not_played, play,
-    played,
+    CableowlReplay, CableowlReplayed, behind_record, blank, check_room, count_block, create_over,
+    create_with, no_record, obey, play, played, refused_call, refused_record,
 };
-use crate::state_after;
-use c_state::{decode, encode};
-use refusals::words;
+use c_state::encode;
+use refusals::Refusal;
+use sound_lanes::Lanes;
 use sound_slow_path::Processed;
 use sound_state::StaticSound;
 use trace_inputs::LanedBlock;
@@ -47,13 +48,11 @@ fn is_twice(n: usize, frames: u64) -> bool
 fn is_other_sound(sounds: u32, len: usize, values: [u64; 80]) -> bool
     ensures { result ≡ other_sound sounds len values }
 {
-    if sounds == 0 {
-        return false;
+    match sounds {
+        0 => false,
+        1 => !is_twice(len, values[12]),
+        _ => true,
     }
-    if sounds == 1 {
-        return !is_twice(len, values[12]);
-    }
-    true
 }
 
 // A creation that is refused with 26: the voice is blank and has no sound.
@@ -62,11 +61,11 @@ fn refuse_sound(replay: CableowlReplay, size: u64) -> CableowlReplayed
 {
     let voice = encode(sound_creation::blank());
     let after = behind_record(playing_of(1, replay), size, voice, 0, replay.blocks);
-    played(after, size, 4, refusals::OTHER_SOUND, 0, 0, 4)
+    played(after, size, 4, u32::from(Refusal::OtherSound), 0, 0, 4)
 }
 
 // Plays a creation record over a given sound.
-fn create_over(
+fn create_over_given(
     replay: CableowlReplay,
     size: u64,
     values: [u64; 80],
@@ -80,16 +79,7 @@ fn create_over(
         return refuse_sound(replay, size);
     }
     let samples = trace_inputs::given_samples_of(values);
-    let created = sound_creation::new(trace_inputs::settings_of(values), &given[..samples]);
-    let voice = created.voice;
-    let after = behind_record(
-        playing_of(1, replay),
-        size,
-        encode(voice),
-        samples as u64,
-        replay.blocks,
-    );
-    played(after, size, 4, created.refusal, 0, 0, 4)
+    create_over(playing_of(1, replay), size, 4, values, &given[..samples])
 }
 
 // The player's result for a block whose lanes are in the record's bytes.
@@ -99,57 +89,25 @@ fn process_lanes(
     block: LanedBlock,
     bytes: &[u8],
     out: &mut [f32],
-) -> Processed
+) -> Result<Processed, Refusal>
     requires { block.frames ≤ 1024 }
-    ensures { record { answer = result; samples = out.new }
+    ensures { record { answer = block_answer voice result; samples = out.new }
         ≡ laned_outcome sound.now voice block bytes.now out.old }
 {
     let n = block.frames;
-    let signals = block.signals;
     let fade = trace_inputs::singles_of(bytes, 18, n);
     let volume = trace_inputs::singles_of(bytes, 22, n);
     let left = trace_inputs::singles_of(bytes, 26, n);
     let right = trace_inputs::singles_of(bytes, 30, n);
     let rate = trace_inputs::doubles_of(bytes, 34, n);
-    static_sound::process(
-        voice,
-        sound,
-        &fade[..n],
-        &volume[..n],
-        &left[..n],
-        &right[..n],
-        &rate[..n],
-        block.time_step,
-        signals,
-        out,
-    )
-}
-
-// The answer of a block. The block is counted.
-fn counted(
-    replay: CableowlReplay,
-    size: u64,
-    kind: u64,
-    frames: usize,
-    processed: Processed,
-) -> CableowlReplayed
-    requires { processed.refusal ≡ 0 → processed.voice.moving.resampler.time_until_empty ≤ 4 }
-    ensures { result ≡ of_kind kind (block_c replay size frames processed) }
-{
-    let voice = processed.voice;
-    let refusal = processed.refusal;
-    let before = replay.voice;
-    let state = state_after(refusal, voice, before);
-    let after = behind_record(replay, size, state, replay.samples, more_of(replay.blocks));
-    played(
-        after,
-        size,
-        kind,
-        refusal,
-        frames,
-        processed.steps,
-        processed.lowest_count,
-    )
+    let lanes = Lanes {
+        fade: &fade[..n],
+        volume: &volume[..n],
+        left: &left[..n],
+        right: &right[..n],
+        rate: &rate[..n],
+    };
+    static_sound::process(voice, sound, lanes, block.time_step, block.signals, out)
 }
 
 // Plays a block record with a value for each frame into the first samples of the output.
@@ -165,22 +123,21 @@ fn play_lanes(
     ensures { record { answer = result; sound = sound.now; samples = out.new }
         ≡ laned_step replay size values bytes.now sound.now out.old }
 {
-    let before = replay.voice;
     let samples = replay.samples as usize;
     let block = trace_inputs::laned_block_of(values);
     let n = 2 * block.frames;
     let processed = process_lanes(
-        decode(before),
+        StaticSound::from(replay.voice),
         &sound[..samples],
         block,
         bytes,
         &mut out[..n],
     );
-    counted(replay, size, 5, block.frames, processed)
+    count_block(replay, size, 5, block.frames, processed)
 }
 
 // Plays a command set or a block.
-fn obey(
+fn obey_or_play(
     replay: CableowlReplay,
     read: Record,
     bytes: &[u8],
@@ -189,18 +146,16 @@ fn obey(
 ) -> CableowlReplayed
     requires { (replay.samples ≤ length sound.now) × (2048 ≤ length out.old) }
     ensures { record { answer = result; sound = sound.now; samples = out.new }
-        ≡ obeyed replay read bytes.now sound.now out.old }
+        ≡ obeyed replay (record_read 0 (Ok read)) bytes.now sound.now out.old }
 {
     let size = read.next as u64;
     let values = read.values;
-    if read.kind == 2 {
-        let samples = replay.samples as usize;
-        return command(replay, size, values, &sound[..samples]);
+    let samples = replay.samples as usize;
+    match read.kind {
+        2 => obey(replay, size, values, &sound[..samples]),
+        5 => play_lanes(replay, size, values, bytes, sound, out),
+        _ => play(replay, size, values, sound, out),
     }
-    if read.kind == 5 {
-        return play_lanes(replay, size, values, bytes, sound, out);
-    }
-    play(replay, size, values, sound, out)
 }
 
 // Plays one record, by its kind.
@@ -215,53 +170,51 @@ fn play_record_v2(
 ) -> CableowlReplayed
     requires { (128 ≤ length sound.old) × (2048 ≤ length out.old)
         × (replay.given ≡ 0 → replay.samples ≤ length sound.old)
-        × (lacking replay read sounds (length given.now) ≡ 0) }
+        × (lacking replay (record_read 0 (Ok read)) sounds (length given.now) ≡ 0) }
     ensures { record { answer = result; sound = sound.new; samples = out.new }
-        ≡ played_record_v2 replay read bytes.now sound.old given.now sounds
-        out.old }
+        ≡ played_record_v2 replay (record_read 0 (Ok read)) bytes.now sound.old given.now
+        sounds out.old }
 {
     let size = read.next as u64;
     let values = read.values;
-    if read.kind == 1 {
-        return create(playing_of(0, replay), size, values, sound);
+    match read.kind {
+        1 => create_with(playing_of(0, replay), size, values, sound),
+        4 => create_over_given(replay, size, values, given, sounds),
+        _ => {
+            if replay.given == 0 {
+                obey_or_play(replay, read, bytes, sound, out)
+            } else {
+                obey_or_play(replay, read, bytes, given, out)
+            }
+        }
     }
-    if read.kind == 4 {
-        return create_over(replay, size, values, given, sounds);
-    }
-    if replay.given == 0 {
-        return obey(replay, read, bytes, sound, out);
-    }
-    obey(replay, read, bytes, given, out)
 }
 
-fn lacking_of(replay: CableowlReplay, read: Record, sounds: u32, len: usize) -> u64
-    ensures { result ≡ lacking replay read sounds len }
+// Whether the given buffer is long enough for the record.
+fn check_given(replay: CableowlReplay, read: Record, sounds: u32, len: usize) -> Result<(), Refusal>
+    ensures { number_of result ≡ lacking replay (record_read 0 (Ok read)) sounds len }
 {
-    let values = read.values;
     if read.kind == 4 {
-        let samples = trace_inputs::given_samples_of(values);
+        let samples = trace_inputs::given_samples_of(read.values);
         if (sounds != 0) | (samples <= len) {
-            return 0;
+            return Ok(());
         }
-        return words::ROOM;
+        return Err(Refusal::Room);
     }
     if (read.kind == 1) | (replay.given == 0) | (replay.samples <= len as u64) {
-        return 0;
+        return Ok(());
     }
-    words::STATE
+    Err(Refusal::State)
 }
 
-fn refusal_v2(replay: CableowlReplay, sound: usize, out: usize) -> u64
-    ensures { result ≡ refused_step_v2 replay sound out }
+fn check(replay: CableowlReplay, sound: usize, out: usize) -> Result<(), Refusal>
+    ensures { number_of result ≡ refused_step_v2 replay sound out }
 {
     let held = (replay.given == 1) | (replay.samples <= sound as u64);
     if !((replay.reader == 2) & (replay.given <= 1) & held) {
-        return words::STATE;
+        return Err(Refusal::State);
     }
-    if !((128 <= sound) & (2048 <= out)) {
-        return words::ROOM;
-    }
-    0
+    check_room(sound, out)
 }
 
 // The replay of version 2 before the first record.
@@ -269,14 +222,7 @@ fn refusal_v2(replay: CableowlReplay, sound: usize, out: usize) -> u64
 pub extern "C" fn cableowl_replay_v2() -> CableowlReplay
     ensures { result ≡ blank_replay_v2 }
 {
-    CableowlReplay {
-        voice: encode(sound_creation::blank()),
-        samples: 0,
-        blocks: 0,
-        offset: 0,
-        reader: 2,
-        given: 0,
-    }
+    blank(2)
 }
 
 // Reads and plays the next record of a trace of version 2; returns what it did and the replay after it.
@@ -294,26 +240,17 @@ pub extern "C" fn cableowl_replay_step_v2(
         ≡ stepped_v2 replay bytes.now ended sound.old given.now sounds
         out.old }
 {
-    let refused = refusal_v2(replay, sound.len(), out.len());
-    if refused != 0 {
-        return not_played(replay, 4, refused);
+    if let Err(refusal) = check(replay, sound.len(), out.len()) {
+        return refused_call(replay, refusal);
     }
     if bytes.len() == 0 {
-        if ended == 0 {
-            return not_played(replay, 1, 0);
-        }
-        return not_played(replay, 2, 0);
+        return no_record(replay, ended);
     }
-    let read = trace_sealed::read(bytes, 0);
-    if read.refusal == 0 {
-        let short = lacking_of(replay, read, sounds, given.len());
-        if short != 0 {
-            return not_played(replay, 4, short);
-        }
-        return play_record_v2(replay, read, bytes, sound, given, sounds, out);
+    match trace_sealed::read(bytes, 0) {
+        Ok(read) => match check_given(replay, read, sounds, given.len()) {
+            Ok(()) => play_record_v2(replay, read, bytes, sound, given, sounds, out),
+            Err(refusal) => refused_call(replay, refusal),
+        },
+        Err(refusal) => refused_record(replay, ended, refusal),
     }
-    if (read.refusal == words::TRUNCATED) & (ended == 0) {
-        return not_played(replay, 1, 0);
-    }
-    not_played(replay, 3, read.refusal)
 }

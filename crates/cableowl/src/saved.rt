@@ -1,9 +1,10 @@
 // The C entries of saved settings: crates saved_settings and semitones over eight words: start, has_loop, loop_start,
 // loop_end, reverse, the rate's bits, pitch, version.
-ghost use Rattle.std.specs.Prelude.{◌≡◌, length};
-ghost use Rattle.saved_settings.specs.Records.{store_refusal, stored, loaded};
+ghost use Rattle.std.specs.Prelude.{◌≡◌, length, Ok};
+ghost use Rattle.saved_settings.specs.Records.{store_refusal, stored, loaded, loaded_of};
 ghost use Rattle.cableowl.specs.Saved.{saved_in, version_in, words_of, rate_of, tag_of, frame_at, settings_from};
 
+use crate::number_of;
 use c_inputs::{CableowlPlace, CableowlRegion, CableowlSettings};
 use saved_settings::{Loaded, SavedSettings};
 
@@ -22,7 +23,7 @@ fn saved_in(words: &[u64; 8]) -> SavedSettings
 }
 
 fn words_of(l: Loaded) -> [u64; 8]
-    ensures { result ≡ words_of l }
+    ensures { result ≡ words_of (loaded_of (Ok l)) }
 {
     let s = l.settings;
     [
@@ -45,7 +46,7 @@ pub extern "C" fn cableowl_store_settings(saved: &[u64; 8], buffer: &mut [u8]) -
         ≡ stored (version_in saved.now) (saved_in saved.now) buffer.old) }
 {
     let version = saved[7];
-    saved_settings::store(version, saved_in(saved), buffer)
+    number_of(saved_settings::store(version, saved_in(saved), buffer))
 }
 
 // Reader 1 knows version 1 only, any other reader also version 2.
@@ -54,10 +55,17 @@ pub extern "C" fn cableowl_load_settings(reader: u32, bytes: &[u8], saved: &mut 
     ensures { (result ≡ (loaded reader bytes.now).refusal)
         × (saved.new ≡ words_of (loaded reader bytes.now)) }
 {
-    let l = saved_settings::load(reader as u64, bytes);
-    let words = words_of(l);
-    *saved = words;
-    l.refusal
+    match saved_settings::load(reader as u64, bytes) {
+        Ok(loaded) => {
+            let words = words_of(loaded);
+            *saved = words;
+            0
+        }
+        Err(refusal) => {
+            *saved = [0; 8];
+            u32::from(refusal)
+        }
+    }
 }
 
 // The held rate; NaN, which creation refuses, if the rate is not finite or the pitch is not -24 to 24.
@@ -65,19 +73,17 @@ fn rate_of(bits: u64, pitch: u64) -> f64
     ensures { result ≡ rate_of bits pitch }
 {
     if bits % 9223372036854775808 < 9218868437227405312 {
-        return semitones::raised(f64::from_bits(bits), pitch);
+        semitones::raised(f64::from_bits(bits), pitch)
+    } else {
+        f64::NAN
     }
-    0.0 / 0.0
 }
 
 // 0 or 1 unchanged, any other number becomes 2.
 fn tag_of(word: u64) -> u32
     ensures { result ≡ tag_of word }
 {
-    if word == 0 {
-        return 0;
-    }
-    if word == 1 { 1 } else { 2 }
+    word.min(2) as u32
 }
 
 fn frame(samples: u64) -> CableowlPlace

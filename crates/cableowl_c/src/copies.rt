@@ -1,9 +1,10 @@
 // Copies of the loop table. Hall A is 0, B is 1.
 ghost use Rattle.std.specs.Prelude.{◌≡◌};
-ghost use Rattle.loop_copies.specs.Copies.{empty_copy, merged_copy};
-ghost use Rattle.cableowl.specs.Loops.{copy_written_c, copy_cleared_c};
+ghost use Rattle.loop_copies.specs.Copies.{empty_copy};
+ghost use Rattle.cableowl.specs.Loops.{copy_written_c, copy_cleared_c, merged_c};
 
-use loop_copies::{CopyChanged, LoopCopy};
+use cableowl::CopyChanged;
+use loop_copies::LoopCopy;
 
 #[unsafe(no_mangle)]
 pub extern "C" fn cableowl_loop_copy(num_frames: u64) -> LoopCopy
@@ -34,7 +35,7 @@ pub extern "C" fn cableowl_clear_copy(copy: LoopCopy, hall: u32, slot: u64) -> C
 
 #[unsafe(no_mangle)]
 pub extern "C" fn cableowl_merge_copies(ours: LoopCopy, theirs: LoopCopy) -> CopyChanged
-    ensures { result ≡ merged_copy ours theirs }
+    ensures { result ≡ merged_c ours theirs }
 {
     cableowl::cableowl_merge_copies(ours, theirs)
 }

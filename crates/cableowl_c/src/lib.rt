@@ -2,7 +2,7 @@
 #![tactic(auto)]
 
 ghost use Rattle.std.specs.Prelude.{◌≡◌};
-ghost use Rattle.sound_lanes.specs.Lanes.{lanes_at_entry};
+ghost use Rattle.sound_lanes.specs.Lanes.{five};
 ghost use Rattle.cableowl.specs.Entries.{created_c, commanded_c, processed_c, processed_into_c, part_c};
 
 mod copies;
@@ -59,7 +59,7 @@ pub extern "C" fn cableowl_process(
     out: &mut [f32],
 ) -> CableowlProcessed
     ensures { record { answer = result; samples = out.new }
-        ≡ processed_c sound.now state dt (lanes_at_entry fade volume left right rate) signals
+        ≡ processed_c sound.now state dt (five fade.now volume.now left.now right.now rate.now) signals
         out.old }
 {
     cableowl::cableowl_process(
@@ -83,7 +83,7 @@ pub extern "C" fn cableowl_process_into(
     from: u64,
 ) -> CableowlProcessed
     ensures { record { answer = result; samples = mix.new }
-        ≡ processed_into_c sound.now state dt (lanes_at_entry fade volume left right rate) signals
+        ≡ processed_into_c sound.now state dt (five fade.now volume.now left.now right.now rate.now) signals
         mix.old from }
 {
     cableowl::cableowl_process_into(

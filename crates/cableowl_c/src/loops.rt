@@ -1,11 +1,11 @@
 // The loop table. Hall A is 0, B is 1.
 ghost use Rattle.std.specs.Prelude.{◌≡◌};
-ghost use Rattle.loop_table.specs.Tables.{empty_table, found};
-ghost use Rattle.cableowl.specs.Loops.{written_c, cleared_c, taken_c};
+ghost use Rattle.loop_table.specs.Tables.{empty_table};
+ghost use Rattle.cableowl.specs.Loops.{written_c, cleared_c, read_c, taken_c};
 
 use c_state::CableowlState;
-use cableowl::CableowlCommanded;
-use loop_table::{LoopChanged, LoopFound, LoopTable};
+use cableowl::{CableowlCommanded, LoopChanged, LoopFound};
+use loop_table::LoopTable;
 
 #[unsafe(no_mangle)]
 pub extern "C" fn cableowl_loop_table(num_frames: u64) -> LoopTable
@@ -36,7 +36,7 @@ pub extern "C" fn cableowl_clear_loop(table: LoopTable, hall: u32, slot: u64) ->
 
 #[unsafe(no_mangle)]
 pub extern "C" fn cableowl_read_loop(table: LoopTable, slot: u64) -> LoopFound
-    ensures { result ≡ found table slot }
+    ensures { result ≡ read_c table slot }
 {
     cableowl::cableowl_read_loop(table, slot)
 }

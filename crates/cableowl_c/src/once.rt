@@ -1,6 +1,6 @@
 // Blocks with held lanes: five numbers that apply to every frame.
 ghost use Rattle.std.specs.Prelude.{◌≡◌};
-ghost use Rattle.cableowl.specs.Entries.{processed_held_c, processed_held_into_c};
+ghost use Rattle.cableowl.specs.Entries.{held_as, processed_held_c, processed_held_into_c};
 
 use c_inputs::CableowlSignals;
 use c_state::CableowlState;
@@ -22,7 +22,7 @@ pub extern "C" fn cableowl_process_held(
 ) -> CableowlProcessed
     ensures { record { answer = result; samples = out.new }
         ≡ processed_held_c sound.now state dt
-        (record { fade = fade; volume = volume; left = left; right = right; rate = rate }) signals
+        (held_as fade volume left right rate) signals
         out.old }
 {
     cableowl::cableowl_process_held(
@@ -48,7 +48,7 @@ pub extern "C" fn cableowl_process_held_into(
 ) -> CableowlProcessed
     ensures { record { answer = result; samples = mix.new }
         ≡ processed_held_into_c sound.now state dt
-        (record { fade = fade; volume = volume; left = left; right = right; rate = rate }) signals
+        (held_as fade volume left right rate) signals
         mix.old from frames }
 {
     cableowl::cableowl_process_held_into(

@@ -2,17 +2,17 @@
 ghost use Rattle.std.specs.Prelude.{◌≡◌, take};
 ghost use Rattle.trace_records.specs.Tables.{fields};
 ghost use Rattle.trace_records.specs.Records.{record_at};
-ghost use Rattle.trace_records.specs.Writes.{sent_of, write_record};
+ghost use Rattle.trace_records.specs.Writes.{write_record};
 ghost use Rattle.trace_sealed.specs.Records.{any_at};
 ghost use Rattle.trace_sealed.specs.Writes.{write_any};
-ghost use Rattle.trace_salvage.specs.Salvage.{saved_of, salvage_by, salvage_of};
+ghost use Rattle.trace_salvage.specs.Salvage.{salvage_by, salvage_of};
+ghost use Rattle.cableowl.specs.Traces.{record_c, sent_of, saved_of};
 
-use trace_records::{Record, Sent};
-use trace_salvage::Saved;
+use cableowl::{Record, Saved, Sent};
 
 #[unsafe(no_mangle)]
 pub extern "C" fn cableowl_read_record(bytes: &[u8], at: u64) -> Record
-    ensures { result ≡ record_at bytes.now at }
+    ensures { result ≡ record_c (record_at bytes.now at) }
 {
     cableowl::cableowl_read_record(bytes, at)
 }
@@ -41,7 +41,7 @@ pub extern "C" fn cableowl_salvage(bytes: &[u8], out: &mut [u8]) -> Saved
 // last four of the record.
 #[unsafe(no_mangle)]
 pub extern "C" fn cableowl_read_record_v2(bytes: &[u8], at: u64) -> Record
-    ensures { result ≡ any_at bytes.now at }
+    ensures { result ≡ record_c (any_at bytes.now at) }
 {
     cableowl::cableowl_read_record_v2(bytes, at)
 }

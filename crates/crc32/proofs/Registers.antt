@@ -1,16 +1,16 @@
 -- Eight bits of the register at once: the table has the effect of the low byte, and the rest is shifted. Assumes nothing.
 use mathlib.Core.Path.{◌≡◌, refl, sym, ap, ap₂, ◌∙◌, subst}
 use mathlib.Core.Bool.{Bool}
-use mathlib.Core.List.{List, []}
-use Prim.Native.Nat.{ℕ, zero, suc, ◌+◌, ◌-◌, ◌*◌, ◌/◌, ◌%◌, ◌^◌, ◌<◌}
+use mathlib.Core.List.{List}
+use Prim.Native.Nat.{ℕ, zero, suc, ◌+◌, ◌*◌, ◌/◌, ◌%◌, ◌^◌, ◌<◌}
 use native.Mathlib.Omega.{arith}
 use lib.Dec.{T, eqb, eqb→eq}
-use lib.ListN.{length, get_or, take, drop, length-drop, drop_of_length-le}
+use lib.ListN.{length, get_or, drop, drop_of_length-le}
 use native.Mathlib.Numerals.{add-one}
-use lib.Seq.{drop-cons, take_all}
+use lib.Seq.{drop-cons}
 use lib.Bits.{bit_xor, bit_and, differ, and_mask, shifted_half, shifted_even}
 use Rattle.tables.proofs.Every.{every, at}
-use Rattle.crc32.specs.Checksums.{bit, bits, byte, register, checksum_of, Table}
+use Rattle.crc32.specs.Checksums.{bit, bits, byte, register, Table}
 use Rattle.crc32.proofs.Xor.{xor_half, xor_odd, xor_four, xor_split}
 
 none : {A : Type 0} → ⊥ → A
@@ -75,18 +75,3 @@ byte_on c s i h = rw (add-one, drop-cons s i 0) refl
 pub at_end_lem : (c : ℕ) (s : List ℕ) (i : ℕ) → length s < suc i → register c (drop i s) ≡ c
 unfolding register
 at_end_lem c s i h = ap (register c) (drop_of_length-le s {i = i} (omega arith))
-
--- ---- a part of the bytes
-
-pub past : (s : List ℕ) (at n : ℕ) → length s < at → 0 ≡ checksum_of (take n (drop at s))
-unfolding checksum_of register
-past s at n h = nothing n ∙ ap (λ (l : List ℕ). checksum_of (take n l)) (sym (drop_of_length-le s {i = at} (omega arith)))
-  where
-    nothing : (n : ℕ) → 0 ≡ checksum_of (take n [])
-    nothing zero = refl
-    nothing (suc n) = refl
-
-pub all_left : (s : List ℕ) (at n : ℕ) → length s - at < n → take (length s - at) (drop at s) ≡ take n (drop at s)
-all_left s at n h =
-    let l : length (drop at s) ≡ length s - at = length-drop at s in
-    take_all (length s - at) (drop at s) (omega arith) ∙ sym (take_all n (drop at s) (omega arith))

@@ -24,10 +24,8 @@ fn whole(s: &[u8]) -> u32
 {
     let entries = table::all();
     let mut c: u32 = 4294967295;
-    let mut i = 0;
-    while i < s.len() {
-        c = step(&entries, c, s[i]);
-        i += 1;
+    for b in s {
+        c = step(&entries, c, *b);
     }
     c ^ 4294967295
 }
@@ -36,14 +34,9 @@ fn whole(s: &[u8]) -> u32
 pub fn checksum(s: &[u8], at: usize, n: usize) -> u32
     ensures { result ≡ checksum_of (take n (drop at s.now)) }
 {
-    if s.len() < at {
-        return 0;
-    }
-    if s.len() - at < n {
-        return whole(&s[at..]);
-    }
-    let end = at + n;
-    whole(&s[at..end])
+    let start = at.min(s.len());
+    let end = start + n.min(s.len() - start);
+    whole(&s[start..end])
 }
 
 // An empty function whose contract collects the theorems, so that the checker must prove them.

@@ -1,20 +1,19 @@
 -- The levels of a ramp: where they begin and end, between which numbers they stay, and that they go one way; and the lane filled so far. Assumes nothing.
 use mathlib.Core.Path.{◌≡◌, refl, sym, ap, ◌∙◌, subst}
-use mathlib.Core.Bool.{Bool, true, false, cond, ◌&&◌}
-use mathlib.Core.List.{List, [], ◌∷◌, ◌++◌}
+use mathlib.Core.Bool.{Bool, true, false, cond}
+use mathlib.Core.List.{[], ◌∷◌, ◌++◌}
 use Prim.Native.Nat.{ℕ, zero, suc, ◌+◌, ◌-◌, ◌*◌, ◌/◌, ◌≤◌, ◌<◌}
 use native.Mathlib.Nat.{le_refl, le_trans, le_of_eq, mul-add, add-le-add, mul-le-mul_right, mul-le-mul_left, mul_comm, mul-zero, zero-add, add-zero, sub_self, sub-zero, mul-div_cancel, le-div_iff_mul-le, div-le_of_le-mul, not-suc-le-zero}
 use native.Mathlib.Numerals.{add-one}
 use native.Mathlib.Omega.{arith}
-use lib.Dec.{T, leb, eqb, leb→le, eqb→eq}
-use lib.ListN.{length, get_or, take, set, length-append, get_or-append}
-use lib.Seq.{take-suc-set, take_all, get_or_at}
+use lib.Dec.{eqb}
+use lib.ListN.{length, get_or, length-append, get_or-append}
+use lib.Seq.{get_or_at}
 use lib.Ieee.{Float, nan}
 use lib.Ieee.Nearest.{div_mono}
-use lib.Ieee.Fits.{and_l, and_r}
 use borrow.Author.Tests.{ne_eqb, eq-eqb, eqb-true, eqb-false}
 use Rattle.decibels.specs.Levels.{amplitude}
-use Rattle.decibels.specs.Ramps.{level_at, frames, refusal, faded}
+use Rattle.decibels.specs.Ramps.{level_at, frames}
 
 -- ---- the formula
 
@@ -141,50 +140,3 @@ each s e n (suc k) i h = go (λ (l : i < k). each s e n k i l) (eqb i k) refl
         let d = eqb-false i k q in
         let l : i < k = omega (arith, h, d) in
         get_or-append (frames s e n k) (a ∷ []) nan i (subst (λ (m : ℕ). i < m) (sym (frames_length s e n k)) l) ∙ rest l
-
-pub filled_more : (s e n i level : ℕ) (lane : List Float) (x : Float) → level ≡ level_at s e n i → x ≡ amplitude level → i < length lane → take i lane ≡ frames s e n i
-    → take (i + 1) (set lane i x) ≡ frames s e n (i + 1)
-filled_more s e n i level lane x l v h f =
-    ap (λ (k : ℕ). take k (set lane i x)) (add-one i)
-    ∙ take-suc-set lane i x h
-    ∙ ap (λ (r : List Float). r ++ (x ∷ [])) f
-    ∙ ap (λ (y : Float). frames s e n i ++ (y ∷ [])) (v ∙ ap amplitude l)
-    ∙ ap (frames s e n) (sym (add-one i))
-
-pub filled_all : (s e n i : ℕ) (lane : List Float) → i ≤ n → n ≤ i → length lane ≡ n → take i lane ≡ frames s e n i → lane ≡ frames s e n n
-filled_all s e n i lane a b l f =
-    let t : take i lane ≡ lane = take_all i lane (omega (arith, b, l)) in
-    let q : i ≡ n = omega (arith, a, b) in
-    sym t ∙ f ∙ ap (frames s e n) q
-
--- ---- refusals
-
-passed : (b : Bool) (x k : ℕ) → cond b x (suc k) ≡ 0 → (b ≡ true) × (x ≡ 0)
-passed true x k h = (refl, h)
-passed false x k h = absurd (omega (arith, h))
-
-pub record Accepted (s e n room : ℕ) : Type 0 where
-  pub start : s ≤ 601
-  pub end : e ≤ 601
-  pub count : n ≤ 65536
-  pub fits : room ≡ n
-
-pub accepted : (s e n room : ℕ) → refusal s e n room ≡ 0 → Accepted s e n room
-accepted s e n room h =
-    let a = leb s 601 in
-    let b = leb e 601 in
-    let c = leb 1 n in
-    let d = leb n 65536 in
-    let f = eqb n room in
-    let p = passed (a && b) (cond (c && d && f) 0 14) 12 h in
-    let q = passed (c && d && f) 0 13 p.1 in
-    let t : T (a && b) = subst T (sym p.0) tt in
-    let u : T (c && d && f) = subst T (sym q.0) tt in
-    let v : T (c && d) = and_l (c && d) f u in
-    record { start = leb→le s 601 (and_l a b t); end = leb→le e 601 (and_r a b t); count = leb→le n 65536 (and_r c d v); fits = sym (eqb→eq n room (and_r (c && d) f u)) }
-
-pub lane_kept : (s e n : ℕ) (lane : List Float) → 0 < refusal s e n (length lane) → lane ≡ faded s e n lane
-lane_kept s e n lane h = sym (ap (λ (b : Bool). cond b (frames s e n n) lane) (ne_eqb (refusal s e n (length lane)) 0 (λ q. omega (arith, h, q))))
-
-pub lane_filled : (s e n : ℕ) (lane : List Float) → refusal s e n (length lane) ≡ 0 → frames s e n n ≡ faded s e n lane
-lane_filled s e n lane h = sym (ap (λ (b : Bool). cond b (frames s e n n) lane) (eq-eqb (refusal s e n (length lane)) 0 h))

@@ -1,7 +1,10 @@
 -- Levels in tenths of a decibel below full level, and their amplitudes: request #101. Level 601 is silence.
 use Rattle.std.specs.Prelude.{ℕ, suc, ◌*◌, ◌^◌, ◌≤◌, ◌<◌, ◌≡◌, Bool, false, cond, List, leb, ltb, length, get_or, Float}
+use Rattle.std.specs.Prelude.{Result, Ok, Err}
 use Rattle.std.specs.Float.{binary32}
 use Rattle.std.specs.Float.Ieee.{round}
+use Rattle.refusals.specs.declared.Refusal.{Refusal}
+use Rattle.refusals.specs.declared.Refusal.TheVariants as refusal
 use Rattle.tables.specs.Largest.{largest}
 use Rattle.numbers.specs.Words.{positive_zero}
 
@@ -32,3 +35,7 @@ level_refusal t = cond (leb t 601) 0 13
 -- the amplitude of a level, or the old value if the level is refused
 abbrev pub amplitude_or : ℕ → Float → Float
 amplitude_or t given = cond (leb t 601) (amplitude t) given
+
+-- the amplitude of a level, or its refusal
+abbrev pub amplitude_answer : ℕ → Result Float Refusal
+amplitude_answer t = cond (leb t 601) (Ok (amplitude t)) (Err refusal.Level)

@@ -2,49 +2,40 @@
 // lane.
 #![tactic(auto)]
 
-ghost use Rattle.std.specs.Prelude.{◌≡◌, ◌/◌, ◌<◌, ◌≤◌, length};
+ghost use Rattle.std.specs.Prelude.{◌≡◌, ◌<◌, ◌≤◌, length};
+ghost use Rattle.refusals.specs.Numbers.{number_of};
 ghost use Rattle.decibels.specs.Levels as Levels;
-ghost use Rattle.decibels.specs.Levels.{Table, level_refusal, amplitude_or};
+ghost use Rattle.decibels.specs.Levels.{amplitude_answer};
 ghost use Rattle.decibels.specs.Ramps.{level_at, frames, refusal, faded};
 ghost use Rattle.decibels.specs.Promises.{Promises};
+
+use refusals::Refusal;
 
 mod table;
 
 // An entry of the table is at most 2^24, so it is an f32 and its quotient is exact.
-fn amplitude(entries: &[u32; 601], level: u32) -> f32
-    requires table { Table entries.now }
-    requires level_bound { level ≤ 601 }
+fn amplitude(level: u32) -> f32
+    requires { level ≤ 601 }
     ensures { result ≡ Levels.amplitude level }
 {
     if level < 601 {
-        let e = entries[level as usize];
+        let e = table::all()[level as usize];
         (e as f32) / 16777216.0
     } else {
         0.0
     }
 }
 
-// Returns the refusal, or 0 and writes the level's amplitude.
-pub fn as_amplitude(level: u32, to: &mut f32) -> u32
-    ensures { (result ≡ level_refusal level) × (to.new ≡ amplitude_or level to.old) }
+pub fn as_amplitude(level: u32) -> Result<f32, Refusal>
+    ensures { result ≡ amplitude_answer level }
 {
     if level > 601 {
-        return refusals::LEVEL;
+        return Err(Refusal::Level);
     }
-    let entries = table::all();
-    *to = amplitude(&entries, level);
-    0
+    Ok(amplitude(level))
 }
 
-// Rounded down.
-fn divided(sum: u32, by: u32) -> u32
-    requires { 0 < by }
-    ensures { result ≡ sum / by }
-{
-    sum / by
-}
-
-// The level of a frame on the straight line from start to end; a single frame has the end level.
+// The level of a frame on the straight line from start to end, rounded down; a single frame has the end level.
 fn level_at(start: u32, end: u32, count: u32, i: u32) -> u32
     requires start_bound { start ≤ 601 }
     requires end_bound { end ≤ 601 }
@@ -57,59 +48,41 @@ fn level_at(start: u32, end: u32, count: u32, i: u32) -> u32
     }
     let last = count - 1;
     let sum = start * (last - i) + end * i;
-    divided(sum, last)
+    sum / last
 }
 
-fn fill(entries: &[u32; 601], start: u32, end: u32, count: u32, lane: &mut [f32])
-    requires table { Table entries.now }
+fn fill(start: u32, end: u32, count: u32, lane: &mut [f32])
     requires start_bound { start ≤ 601 }
     requires end_bound { end ≤ 601 }
     requires count_bound { count ≤ 65536 }
     requires lane_len { length lane.old ≡ count }
     ensures { lane.new ≡ frames start end count count }
 {
-    let mut i: u32 = 0;
-    while i < count {
-        let level = level_at(start, end, count, i);
-        lane[i as usize] = amplitude(entries, level);
-        i += 1;
+    for (i, frame) in lane.iter_mut().enumerate() {
+        *frame = amplitude(level_at(start, end, count, i as u32));
     }
 }
 
-fn refusal_of(start: u32, end: u32, count: u32, room: usize) -> u32
-    ensures { result ≡ refusal start end count room }
+fn check(start: u32, end: u32, count: u32, room: usize) -> Result<(), Refusal>
+    ensures { number_of result ≡ refusal start end count room }
 {
-    if start > 601 {
-        return refusals::LEVEL;
+    if start > 601 || end > 601 {
+        return Err(Refusal::Level);
     }
-    if end > 601 {
-        return refusals::LEVEL;
+    if count < 1 || count > 65536 || count as usize != room {
+        return Err(Refusal::Ramp);
     }
-    if count < 1 {
-        return refusals::RAMP;
-    }
-    if count > 65536 {
-        return refusals::RAMP;
-    }
-    if count as usize == room {
-        0
-    } else {
-        refusals::RAMP
-    }
+    Ok(())
 }
 
-// Returns the refusal, or 0 and writes the whole lane.
-pub fn fade_ramp(start: u32, end: u32, count: u32, lane: &mut [f32]) -> u32
-    ensures { (result ≡ refusal start end count (length lane.old))
+// Writes the whole lane; if refused, nothing.
+pub fn fade_ramp(start: u32, end: u32, count: u32, lane: &mut [f32]) -> Result<(), Refusal>
+    ensures { (number_of result ≡ refusal start end count (length lane.old))
         × (lane.new ≡ faded start end count lane.old) }
 {
-    let refused = refusal_of(start, end, count, lane.len());
-    if refused > 0 {
-        return refused;
-    }
-    let entries = table::all();
-    fill(&entries, start, end, count, lane);
-    0
+    check(start, end, count, lane.len())?;
+    fill(start, end, count, lane);
+    Ok(())
 }
 
 // An empty function whose contract collects the theorems, so that the checker must prove them.

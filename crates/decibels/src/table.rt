@@ -58,9 +58,8 @@ const AMPLITUDES: [u32; 601] = [
     18395, 18185, 17977, 17771, 17567, 17366, 17168, 16971, 16777,
 ];
 
-// Call it once and pass the result to each look-up: each call copies the table.
-pub(crate) fn all() -> [u32; 601]
-    ensures { Table result }
+pub(crate) fn all() -> &'static [u32; 601]
+    ensures { Table result.now }
 {
-    AMPLITUDES
+    &AMPLITUDES
 }

@@ -1,2 +1,3 @@
 -- Laws of copies.
+pub mod Counts
 pub mod Slots

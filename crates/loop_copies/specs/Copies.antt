@@ -2,14 +2,25 @@
 -- clears that it has made. Each hall changes only its own half, so the half with the larger number is the newer one.
 -- Refusals 1, 27 and 28.
 use Rattle.std.specs.Prelude.{ℕ, zero, suc, ◌+◌, Bool, true, ◌&&◌, ◌||◌, not, cond, List, ◌++◌, eqb, ltb, get_or}
+use Rattle.std.specs.Prelude.{Result, Ok, Err}
+use Rattle.refusals.specs.declared.Refusal.{Refusal}
+use Rattle.refusals.specs.Numbers.{number}
 use Rattle.loop_table.specs.declared.Hall.{Hall}
 use Rattle.loop_table.specs.declared.Hall.TheVariants as hall
 use Rattle.loop_table.specs.declared.LoopSlot.{LoopSlot}
 use Rattle.loop_table.specs.declared.LoopTable.{LoopTable}
-use Rattle.loop_table.specs.declared.LoopChanged.{LoopChanged}
-use Rattle.loop_table.specs.Tables.{unless, empty, empty_table, well_formed_table, half, written, cleared}
+use Rattle.loop_table.specs.Tables.{LoopChanged, unless, empty, empty_table, well_formed_table, half, written, cleared}
 use Rattle.loop_copies.specs.declared.LoopCopy.{LoopCopy}
-use Rattle.loop_copies.specs.declared.CopyChanged.{CopyChanged}
+
+-- after a write, a clear or a merge: the copy, and the number of the refusal
+pub record CopyChanged : Type 0 where
+  pub copy : LoopCopy
+  pub refusal : ℕ
+
+-- what a write, a clear or a merge of a copy returns; if refused, the copy unchanged
+abbrev pub copy_changed_of : LoopCopy → Result LoopCopy Refusal → CopyChanged
+copy_changed_of c (Ok d) = record { copy = d; refusal = 0 }
+copy_changed_of c (Err r) = record { copy = c; refusal = number r }
 
 abbrev pub empty_copy : ℕ → LoopCopy
 empty_copy n = record { table = empty_table n; changes_a = 0; changes_b = 0 }

@@ -2,16 +2,25 @@
 -- by hall A, 8 to 15 by hall B. Every loop is in frames and must lie inside the sound, whose frame count the table
 -- records.
 use Rattle.std.specs.Prelude.{ℕ, Bool, true, false, ◌&&◌, ◌||◌, cond, List, eqb, leb, ltb, get_or, set, take, drop}
-use Rattle.std.specs.Prelude.{replicate}
+use Rattle.std.specs.Prelude.{Some, replicate, Result, Ok, Err}
+use Rattle.refusals.specs.declared.Refusal.{Refusal}
+use Rattle.refusals.specs.Numbers.{number}
 use Rattle.numbers.specs.Lists.{all}
-use Rattle.playback_position.specs.declared.FrameRange.TheVariants.{Frames}
 use Rattle.playback_position.specs.Positions.{within}
 use Rattle.loop_table.specs.declared.Hall.{Hall}
 use Rattle.loop_table.specs.declared.Hall.TheVariants as hall
 use Rattle.loop_table.specs.declared.LoopSlot.{LoopSlot}
 use Rattle.loop_table.specs.declared.LoopTable.{LoopTable}
-use Rattle.loop_table.specs.declared.LoopChanged.{LoopChanged}
-use Rattle.loop_table.specs.declared.LoopFound.{LoopFound}
+
+-- after a write or a clear: the table, and the number of the refusal
+pub record LoopChanged : Type 0 where
+  pub table : LoopTable
+  pub refusal : ℕ
+
+-- after a read
+pub record LoopFound : Type 0 where
+  pub slot : LoopSlot
+  pub refusal : ℕ
 
 -- a number if its test fails, otherwise the result of the rest
 abbrev pub unless : Bool → ℕ → ℕ → ℕ
@@ -19,7 +28,7 @@ unless ok n rest = cond ok rest n
 
 -- 6: start < end <= n, as for every loop
 abbrev pub looping : ℕ → ℕ → ℕ → Bool
-looping n s e = within n (Frames s e)
+looping n s e = within n (Some (s, e))
 
 abbrev pub slot_of : ℕ → ℕ → LoopSlot
 slot_of s e = record { start = s; end = e }
@@ -38,6 +47,10 @@ well_formed_slot n s = is_empty s || looping n s.start s.end
 -- 1: no slot holds a loop that 6 would refuse
 unfoldable pub well_formed_table : LoopTable → Bool
 well_formed_table t = all (well_formed_slot t.num_frames) t.slots
+
+-- 1, for every call
+abbrev pub refused_table : LoopTable → ℕ
+refused_table t = unless (well_formed_table t) 1 0
 
 -- which slots a hall writes
 abbrev pub owns : Hall → ℕ → Bool
@@ -74,6 +87,11 @@ abbrev pub changed : ℕ → LoopTable → ℕ → LoopSlot → LoopChanged
 changed refusal t k s = cond (eqb refusal 0) (record { table = stored t k s; refusal = 0 })
     (record { table = t; refusal = refusal })
 
+-- what a write or a clear of a table returns; if refused, the table unchanged
+abbrev pub changed_of : LoopTable → Result LoopTable Refusal → LoopChanged
+changed_of t (Ok u) = record { table = u; refusal = 0 }
+changed_of t (Err r) = record { table = t; refusal = number r }
+
 -- a write
 unfoldable pub refused_write : LoopTable → Hall → ℕ → ℕ → ℕ → ℕ
 refused_write t h k s e = unless (well_formed_table t) 1 (unless (looping t.num_frames s e) 6 (refused_slot h k))
@@ -94,3 +112,8 @@ refused_read t k = unless (well_formed_table t) 1 (unless (leb k 15) 20 (cond (i
 
 unfoldable pub found : LoopTable → ℕ → LoopFound
 found t k = let n = refused_read t k in record { slot = cond (eqb n 0) (held_in t k) empty; refusal = n }
+
+-- what a read returns; if refused, no loop
+abbrev pub found_of : Result LoopSlot Refusal → LoopFound
+found_of (Ok s) = record { slot = s; refusal = 0 }
+found_of (Err r) = record { slot = empty; refusal = number r }

@@ -3,6 +3,7 @@
 #![tactic(auto)]
 
 ghost use Rattle.std.specs.Prelude.{◌≡◌, ◌<◌};
+ghost use Rattle.refusals.specs.Numbers.{number_of};
 ghost use Rattle.loop_table.specs.Tables.{
   looping,
   is_empty,
@@ -10,24 +11,28 @@ ghost use Rattle.loop_table.specs.Tables.{
   well_formed_table,
   owns,
   empty_table,
-  changed,
+  stored,
+  changed_of,
+  refused_table,
   refused_slot,
-  refused_write,
   written,
-  refused_clear,
   cleared,
+  found_of,
   found,
 };
 
-#[derive(Clone, Copy)]
+use refusals::Refusal;
+
+#[derive(Clone, Copy, Debug, PartialEq, Eq, Hash)]
 pub enum Hall {
     A,
     B,
 }
 
-// A loop in frames, end exclusive. An empty slot has start 0 and end 0, which no loop has.
+// A loop in frames, end exclusive. The C interface and saved loops fix what an empty slot is: start 0 and end 0, which
+// no loop has.
 #[repr(C)]
-#[derive(Clone, Copy)]
+#[derive(Clone, Copy, Debug, PartialEq, Eq, Hash)]
 pub struct LoopSlot {
     pub start: u64,
     pub end: u64,
@@ -35,46 +40,32 @@ pub struct LoopSlot {
 
 // The frame count of the sound, inside which every loop must lie, and the slots.
 #[repr(C)]
-#[derive(Clone, Copy)]
+#[derive(Clone, Copy, Debug, PartialEq, Eq, Hash)]
 pub struct LoopTable {
     pub num_frames: u64,
     pub slots: [LoopSlot; 16],
 }
 
-// After a write or a clear.
-#[repr(C)]
-#[derive(Clone, Copy)]
-pub struct LoopChanged {
-    pub table: LoopTable,
-    pub refusal: u32,
-}
-
-// After a read.
-#[repr(C)]
-#[derive(Clone, Copy)]
-pub struct LoopFound {
-    pub slot: LoopSlot,
-    pub refusal: u32,
-}
-
-// Refusal 6.
-fn is_loop(num_frames: u64, start: u64, end: u64) -> bool
-    ensures { result ≡ looping num_frames start end }
-{
-    (start < end) & (end <= num_frames)
-}
-
 impl LoopSlot {
+    const EMPTY: LoopSlot = LoopSlot { start: 0, end: 0 };
+
     fn is_empty(self) -> bool
         ensures { result ≡ is_empty self }
     {
-        (self.start == 0) & (self.end == 0)
+        self == LoopSlot::EMPTY
+    }
+
+    // Whether refusal 6 does not apply.
+    fn is_loop(self, num_frames: u64) -> bool
+        ensures { result ≡ looping num_frames self.start self.end }
+    {
+        self.start < self.end && self.end <= num_frames
     }
 
     fn is_well_formed(self, num_frames: u64) -> bool
         ensures { result ≡ well_formed_slot num_frames self }
     {
-        self.is_empty() | is_loop(num_frames, self.start, self.end)
+        self.is_empty() || self.is_loop(num_frames)
     }
 }
 
@@ -88,17 +79,17 @@ impl Hall {
         }
     }
 
-    // Refusals 20 and 21, or 0.
-    fn refusal_of(self, slot: usize) -> u32
-        ensures { result ≡ refused_slot self slot }
+    // Refusals 20 and 21.
+    fn check(self, slot: usize) -> Result<(), Refusal>
+        ensures { number_of result ≡ refused_slot self slot }
     {
         if slot > 15 {
-            return refusals::LOOP_SLOT;
+            return Err(Refusal::LoopSlot);
         }
         if !self.owns(slot) {
-            return refusals::OTHER_HALL;
+            return Err(Refusal::OtherHall);
         }
-        0
+        Ok(())
     }
 }
 
@@ -106,10 +97,9 @@ impl LoopTable {
     pub fn new(num_frames: u64) -> Self
         ensures { result ≡ empty_table num_frames }
     {
-        let empty = LoopSlot { start: 0, end: 0 };
         LoopTable {
             num_frames,
-            slots: [empty; 16],
+            slots: [LoopSlot::EMPTY; 16],
         }
     }
 
@@ -117,103 +107,62 @@ impl LoopTable {
     pub fn is_well_formed(self) -> bool
         ensures { result ≡ well_formed_table self }
     {
-        let slots = self.slots;
-        let num_frames = self.num_frames;
-        let mut ok = true;
-        let mut i: usize = 0;
-        while i < 16 {
-            let slot = slots[i];
-            ok = slot.is_well_formed(num_frames) & ok;
-            i += 1;
-        }
-        ok
+        self.slots
+            .iter()
+            .all(|slot| slot.is_well_formed(self.num_frames))
     }
 
-    // Replaces the slot if the call is accepted; otherwise nothing changes.
-    fn change(self, refusal: u32, slot: usize, held: LoopSlot) -> LoopChanged
-        requires { refusal ≡ 0 → slot < 16 }
-        ensures { result ≡ changed refusal self slot held }
+    fn check(self) -> Result<(), Refusal>
+        ensures { number_of result ≡ refused_table self }
     {
-        if refusal != 0 {
-            return LoopChanged {
-                table: self,
-                refusal,
-            };
-        }
-        let mut slots = self.slots;
-        slots[slot] = held;
-        LoopChanged {
-            table: LoopTable {
-                num_frames: self.num_frames,
-                slots,
-            },
-            refusal: 0,
+        if self.is_well_formed() {
+            Ok(())
+        } else {
+            Err(Refusal::State)
         }
     }
 
-    fn refusal_of_write(self, hall: Hall, slot: usize, start: u64, end: u64) -> u32
-        ensures { result ≡ refused_write self hall slot start end }
+    // The table with one slot replaced.
+    fn stored(mut self, slot: usize, held: LoopSlot) -> Self
+        requires { slot < 16 }
+        ensures { result ≡ stored self slot held }
     {
-        if !self.is_well_formed() {
-            return refusals::STATE;
-        }
-        if !is_loop(self.num_frames, start, end) {
-            return refusals::LOOP_REGION;
-        }
-        hall.refusal_of(slot)
+        self.slots[slot] = held;
+        self
     }
 
-    fn refusal_of_clear(self, hall: Hall, slot: usize) -> u32
-        ensures { result ≡ refused_clear self hall slot }
+    pub fn write(self, hall: Hall, slot: usize, start: u64, end: u64) -> Result<LoopTable, Refusal>
+        ensures { changed_of self result ≡ written self hall slot start end }
     {
-        if !self.is_well_formed() {
-            return refusals::STATE;
+        self.check()?;
+        let held = LoopSlot { start, end };
+        if !held.is_loop(self.num_frames) {
+            return Err(Refusal::LoopRegion);
         }
-        hall.refusal_of(slot)
+        hall.check(slot)?;
+        Ok(self.stored(slot, held))
     }
 
-    pub fn write(self, hall: Hall, slot: usize, start: u64, end: u64) -> LoopChanged
-        ensures { result ≡ written self hall slot start end }
+    pub fn clear(self, hall: Hall, slot: usize) -> Result<LoopTable, Refusal>
+        ensures { changed_of self result ≡ cleared self hall slot }
     {
-        let refusal = self.refusal_of_write(hall, slot, start, end);
-        self.change(refusal, slot, LoopSlot { start, end })
-    }
-
-    pub fn clear(self, hall: Hall, slot: usize) -> LoopChanged
-        ensures { result ≡ cleared self hall slot }
-    {
-        let refusal = self.refusal_of_clear(hall, slot);
-        self.change(refusal, slot, LoopSlot { start: 0, end: 0 })
+        self.check()?;
+        hall.check(slot)?;
+        Ok(self.stored(slot, LoopSlot::EMPTY))
     }
 
     // By either hall.
-    pub fn read(self, slot: usize) -> LoopFound
-        ensures { result ≡ found self slot }
+    pub fn read(self, slot: usize) -> Result<LoopSlot, Refusal>
+        ensures { found_of result ≡ found self slot }
     {
-        let none = LoopSlot { start: 0, end: 0 };
-        if !self.is_well_formed() {
-            return LoopFound {
-                slot: none,
-                refusal: refusals::STATE,
-            };
-        }
+        self.check()?;
         if slot > 15 {
-            return LoopFound {
-                slot: none,
-                refusal: refusals::LOOP_SLOT,
-            };
+            return Err(Refusal::LoopSlot);
         }
-        let slots = self.slots;
-        let held = slots[slot];
+        let held = self.slots[slot];
         if held.is_empty() {
-            return LoopFound {
-                slot: none,
-                refusal: refusals::EMPTY_SLOT,
-            };
+            return Err(Refusal::EmptySlot);
         }
-        LoopFound {
-            slot: held,
-            refusal: 0,
-        }
+        Ok(held)
     }
 }

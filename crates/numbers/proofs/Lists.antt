@@ -1,11 +1,17 @@
--- Laws of `all`: over two lists joined, over what is dropped, and over a list shifted by one, for every length.
+-- Laws of `all`: that it is std's, over two lists joined, over what is dropped, and over a list shifted by one, for every length.
 -- Shifted, what held of each entry from the t-th on holds from the one before it on. Assumes nothing.
-use Rattle.std.proofs.Common.{◌≡◌, ℕ, zero, suc, ◌+◌, ◌-◌, ◌<◌, Bool, true, T, List, [], ◌∷◌, ◌++◌, length, drop, sym, ◌∙◌, subst, arith, length-append, length-drop}
+use Rattle.std.proofs.Common.{◌≡◌, ℕ, zero, suc, ◌+◌, ◌-◌, ◌<◌, Bool, true, T, List, [], ◌∷◌, ◌++◌, length, drop, ◌&&◌, refl, sym, ap, ◌∙◌, subst, arith, length-append, length-drop}
 use native.Mathlib.Nat.{zero-sub, suc-sub-suc, sub-zero}
 use lib.Ieee.Fits.{and_i, and_l, and_r}
+use Rattle.std.specs.List.{list_all}
 use Rattle.numbers.specs.Lists.{all}
 
 module _ {A : Type 0} (p : A → Bool) where
+  -- as std's `list_all`, which `Iterator::all` computes
+  pub all_is : (xs : List A) → list_all p xs ≡ all p xs
+  all_is [] = refl
+  all_is (x ∷ xs) = ap (λ (b : Bool). p x && b) (all_is xs)
+
   pub all_append : (xs ys : List A) → T (all p xs) → T (all p ys) → T (all p (xs ++ ys))
   all_append [] ys h k = k
   all_append (x ∷ xs) ys h k = and_i (p x) (all p (xs ++ ys)) (and_l (p x) (all p xs) h) (all_append xs ys (and_r (p x) (all p xs) h) k)

@@ -1,6 +1,6 @@
 -- Sign bits: clear ones stay clear through rounding and products, a magnitude's is off, and the bits of a number show it.
 -- The bits of a number with its sign set are those with it clear, and the top bit. Assumes nothing.
-use Rattle.std.proofs.Common.{◌≡◌, ℕ, zero, suc, ◌+◌, ◌-◌, ◌*◌, ◌%◌, ◌^◌, ◌<◌, ◌≤◌, Bool, true, false, cond, not, ◌&&◌, ◌||◌, T, eqb, ltb, leb, ℤ, pos, negsuc, sym, refl, ap, ◌∙◌, subst, true≢false, mod-eq_of_lt, zero-lt-suc, mul-pos, arith, eqb→eq, le-ltb, lt-ltb, le-leb}
+use Rattle.std.proofs.Common.{◌≡◌, ℕ, zero, suc, ◌+◌, ◌-◌, ◌*◌, ◌%◌, ◌^◌, ◌<◌, ◌≤◌, Bool, true, false, cond, not, ◌&&◌, ◌||◌, T, eqb, ltb, ℤ, pos, negsuc, sym, refl, ap, ◌∙◌, subst, true≢false, mod-eq_of_lt, zero-lt-suc, mul-pos, arith, eqb→eq, le-ltb, lt-ltb}
 use native.Mathlib.Nat.{add-mod_left}
 use mathlib.Core.Bool.{beq, false≢true}
 use lib.Dec.{eqb_refl}
@@ -8,7 +8,7 @@ use lib.Bits.{bit_and, and_mask}
 use lib.Ieee.{Float, nan, inf, fin, Format, binary32, binary64, prec, low, emax, top, up, down, odd, units, round, neg, mul, div, lt, le, eq, fits, is_nan, to_bits, of_bits, nan_bits}
 use lib.Ieee.Fits.{up_pos, neg-fits, inf-fits, and_l}
 use lib.Ieee.Bits.{of_bits-to_bits, to_bits-lt, nan_bits_is}
-use borrow.Author.Tests.{lt-leb}
+use Rattle.std.specs.Float.{float_is_finite, is_sign_negative}
 use Rattle.numbers.specs.Words.{positive_zero, one, finite, finite_clear, is_positive_zero, negative, proper, magnitude}
 use Rattle.numbers.proofs.Values.{zero_exp}
 
@@ -78,22 +78,11 @@ finite_number nan h = absurd h
 finite_number (inf s) h = absurd h
 finite_number (fin s m e) h = tt
 
-abbrev infinity : Format → Float
-infinity f = div f one positive_zero
-
-pub below_infinity : (x : Float) → lt x (infinity binary64) ≡ true → lt (neg (infinity binary64)) x ≡ finite x
-unfolding lt div neg
-below_infinity nan h = refl
-below_infinity (inf true) h = refl
-below_infinity (inf false) h = absurd (false≢true h)
-below_infinity (fin s m e) h = refl
-
-pub at_infinity : (x : Float) → lt x (infinity binary64) ≡ false → lt x (infinity binary64) ≡ finite x
-unfolding lt div
-at_infinity nan h = refl
-at_infinity (inf true) h = absurd (true≢false h)
-at_infinity (inf false) h = refl
-at_infinity (fin s m e) h = refl
+pub finite_is : (x : Float) → float_is_finite x ≡ finite x
+unfolding float_is_finite
+finite_is nan = refl
+finite_is (inf s) = refl
+finite_is (fin s m e) = refl
 
 -- ---- the sign bit, among the bits: the top one
 pub set_bit : (f : Format) (m : ℕ) (e : ℤ) → to_bits f (fin true m e) ≡ top f + to_bits f (fin false m e)
@@ -176,16 +165,8 @@ low_bits : (f : Format) (s : Bool) (m : ℕ) (e : ℤ) → T (fits f (fin s m e)
 low_bits f true m e t = ap (λ (n : ℕ). ltb n (top f)) (set_bit f m e) ∙ le-ltb _ _ (more (top f) (to_bits f (fin false m e)))
 low_bits f false m e t = lt-ltb _ _ (clear_bit f m e t)
 
-high_bits : (f : Format) (s : Bool) (m : ℕ) (e : ℤ) → T (fits f (fin s m e)) → leb (top f) (to_bits f (fin s m e)) ≡ s
-high_bits f true m e t = ap (λ (n : ℕ). leb (top f) n) (set_bit f m e) ∙ le-leb _ _ (more (top f) (to_bits f (fin false m e)))
-high_bits f false m e t = lt-leb _ _ (clear_bit f m e t)
-
--- finite and clear
-pub below_number : (x y : Float) → lt x y ≡ true → T (not (is_nan x))
-unfolding lt is_nan
-below_number nan y h = absurd (false≢true h)
-below_number (inf s) y h = tt
-below_number (fin s m e) y h = tt
+abbrev infinity : Format → Float
+infinity f = div f one positive_zero
 
 pub finite_clear_bits : (x : Float) → T (fits binary32 x) → lt x (infinity binary32) ≡ true → ltb (to_bits binary32 x) (2 ^ 31) ≡ finite_clear x
 unfolding lt div
@@ -194,40 +175,42 @@ finite_clear_bits (inf false) t h = absurd (false≢true h)
 finite_clear_bits (inf true) t h = unfold to_bits in refl
 finite_clear_bits (fin s m e) t h = low_bits binary32 s m e t
 
-pub not_finite_clear : (x : Float) → lt x (infinity binary32) ≡ false → lt x (infinity binary32) ≡ finite_clear x
-unfolding lt div
+-- below infinity, a clear sign decides; at it or above, or for a NaN, the answer is no
+pub finite_clear_is : (x : Float) → lt x (inf false) ≡ true → not (is_sign_negative x) ≡ finite_clear x
+unfolding lt is_sign_negative
+finite_clear_is nan h = absurd (false≢true h)
+finite_clear_is (inf false) h = absurd (false≢true h)
+finite_clear_is (inf true) h = refl
+finite_clear_is (fin s m e) h = refl
+
+pub not_finite_clear : (x : Float) → lt x (inf false) ≡ false → lt x (inf false) ≡ finite_clear x
+unfolding lt
 not_finite_clear nan h = refl
 not_finite_clear (inf false) h = refl
 not_finite_clear (inf true) h = absurd (true≢false h)
 not_finite_clear (fin s m e) h = absurd (true≢false h)
 
 -- proper
-pub proper_bits : (x : Float) → T (fits binary64 x) → lt x one ≡ true → ltb (to_bits binary64 x) (2 ^ 63) ≡ proper x
-proper_bits nan t h = unfold lt in absurd (false≢true h)
-proper_bits (inf false) t h = unfold lt in absurd (false≢true h)
-proper_bits (inf true) t h = unfold to_bits in refl
-proper_bits (fin true m e) t h = low_bits binary64 true m e t
-proper_bits (fin false m e) t h = low_bits binary64 false m e t ∙ sym h
-
-pub not_proper : (x : Float) → lt x one ≡ false → lt x one ≡ proper x
-not_proper nan h = h
-not_proper (inf s) h = h
-not_proper (fin true m e) h = h
-not_proper (fin false m e) h = refl
+pub proper_is : (x : Float) → lt x one ≡ true → not (is_sign_negative x) ≡ proper x
+unfolding is_sign_negative
+proper_is nan h = unfold lt in absurd (false≢true h)
+proper_is (inf false) h = unfold lt in absurd (false≢true h)
+proper_is (inf true) h = refl
+proper_is (fin true m e) h = refl
+proper_is (fin false m e) h = sym h
 
 -- negative
-pub negative_bits : (x : Float) → T (fits binary64 x) → eq x x ≡ true → leb (2 ^ 63) (to_bits binary64 x) ≡ negative x
-negative_bits nan t h = unfold eq in absurd (false≢true h)
-negative_bits (inf true) t h = unfold to_bits in refl
-negative_bits (inf false) t h = unfold to_bits in refl
-negative_bits (fin s m e) t h = high_bits binary64 s m e t
+pub negative_is : (x : Float) → is_sign_negative x ≡ negative x
+unfolding is_sign_negative
+negative_is nan = refl
+negative_is (inf s) = refl
+negative_is (fin s m e) = refl
 
-pub not_negative : (x : Float) → eq x x ≡ false → eq x x ≡ negative x
-unfolding eq
-not_negative nan h = refl
-not_negative (inf true) h = absurd (true≢false h)
-not_negative (inf false) h = absurd (true≢false h)
-not_negative (fin s m e) h = absurd (true≢false (sym (equal_self (fin s m e) tt) ∙ h))
+pub nan_not_negative : (x : Float) → is_nan x ≡ true → negative x ≡ false
+unfolding is_nan
+nan_not_negative nan h = refl
+nan_not_negative (inf s) h = absurd (false≢true h)
+nan_not_negative (fin s m e) h = absurd (false≢true h)
 
 -- positive zero
 pub equal_number : (x y : Float) → eq x y ≡ true → T (not (is_nan x))
@@ -236,13 +219,13 @@ equal_number nan y h = absurd (false≢true h)
 equal_number (inf s) y h = tt
 equal_number (fin s m e) y h = tt
 
-pub positive_zero_bits : (x : Float) → T (fits binary32 x) → eq x positive_zero ≡ true → ltb (to_bits binary32 x) (2 ^ 31) ≡ is_positive_zero x
-unfolding eq
-positive_zero_bits nan t h = absurd (false≢true h)
-positive_zero_bits (inf s) t h = absurd (false≢true h)
-positive_zero_bits (fin true zero e) t h = low_bits binary32 true zero e t
-positive_zero_bits (fin false zero e) t h = low_bits binary32 false zero e t ∙ sym (ap (λ (z : ℤ). is_positive_zero (fin false 0 z)) (zero_exp binary32 false e t))
-positive_zero_bits (fin s (suc m) e) t h = absurd (some (eqb→eq (suc m * up e * 1) (0 * down e) (and_l (eqb (suc m * up e * 1) (0 * down e)) _ (subst T (sym h) tt))))
+pub positive_zero_is : (x : Float) → T (fits binary32 x) → eq x positive_zero ≡ true → not (is_sign_negative x) ≡ is_positive_zero x
+unfolding eq is_sign_negative
+positive_zero_is nan t h = absurd (false≢true h)
+positive_zero_is (inf s) t h = absurd (false≢true h)
+positive_zero_is (fin true zero e) t h = refl
+positive_zero_is (fin false zero e) t h = sym (ap (λ (z : ℤ). is_positive_zero (fin false 0 z)) (zero_exp binary32 false e t))
+positive_zero_is (fin s (suc m) e) t h = absurd (some (eqb→eq (suc m * up e * 1) (0 * down e) (and_l (eqb (suc m * up e * 1) (0 * down e)) _ (subst T (sym h) tt))))
   where
     some : suc m * up e * 1 ≡ 0 * down e → ⊥
     some h = clash (suc m * up e) (down e) (mul-pos (zero-lt-suc m) (up_pos e)) h

@@ -1,6 +1,6 @@
 -- docs/assurance/RULES.md, "Seconds to frames" and refusals 4 to 6: positions as frame indices, and which regions are
 -- accepted.
-use Rattle.std.specs.Prelude.{ℕ, Bool, true, ◌&&◌, leb, ltb, pos}
+use Rattle.std.specs.Prelude.{ℕ, Bool, true, ◌&&◌, leb, ltb, pos, Option, Some, None}
 use Rattle.std.specs.Float.{binary64}
 use Rattle.std.specs.Float.Ieee.{mul, of_int}
 use Rattle.numbers.specs.Words.{finite}
@@ -10,18 +10,16 @@ use Rattle.playback_position.specs.declared.PlaybackPosition.TheVariants.{Second
 use Rattle.playback_position.specs.declared.EndPosition.{EndPosition}
 use Rattle.playback_position.specs.declared.EndPosition.TheVariants.{EndOfAudio, Custom}
 use Rattle.playback_position.specs.declared.Region.{Region}
-use Rattle.playback_position.specs.declared.FrameRange.{FrameRange}
-use Rattle.playback_position.specs.declared.FrameRange.TheVariants.{Absent, Frames}
 
 -- a range of frames is not empty: start < end
-abbrev pub ordered : FrameRange → Bool
-ordered Absent = true
-ordered (Frames s e) = ltb s e
+abbrev pub ordered : Option (ℕ × ℕ) → Bool
+ordered None = true
+ordered (Some (s, e)) = ltb s e
 
 -- a range of frames is inside n frames: start < end <= n
-abbrev pub within : ℕ → FrameRange → Bool
-within n Absent = true
-within n (Frames s e) = ltb s e && leb e n
+abbrev pub within : ℕ → Option (ℕ × ℕ) → Bool
+within n None = true
+within n (Some (s, e)) = ltb s e && leb e n
 
 -- seconds must be finite; samples can be any number
 abbrev pub finite_position : PlaybackPosition → Bool
@@ -44,9 +42,9 @@ end_in_frames hz n EndOfAudio = n
 end_in_frames hz n (Custom p) = position_in_frames hz p
 
 -- a region as a range of frames
-unfoldable pub region_in_frames : ℕ → ℕ → Region → FrameRange
-region_in_frames hz n r = Frames (position_in_frames hz r.start) (end_in_frames hz n r.end)
+unfoldable pub region_in_frames : ℕ → ℕ → Region → ℕ × ℕ
+region_in_frames hz n r = (position_in_frames hz r.start, end_in_frames hz n r.end)
 
 -- its seconds and its frames are accepted: refusal 4 for a slice, with n all frames, and 6 for a loop, with n = N
 unfoldable pub well_formed_region : ℕ → ℕ → Region → Bool
-well_formed_region hz n r = finite_position r.start && finite_end r.end && within n (region_in_frames hz n r)
+well_formed_region hz n r = finite_position r.start && finite_end r.end && within n (Some (region_in_frames hz n r))

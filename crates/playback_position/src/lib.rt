@@ -15,31 +15,24 @@ ghost use Rattle.playback_position.specs.Positions.{
 use numbers::{is_finite, round_half_away};
 
 // A point in time in a piece of audio.
-#[derive(Clone, Copy)]
+#[derive(Clone, Copy, Debug)]
 pub enum PlaybackPosition {
     Seconds(f64),
     Samples(usize),
 }
 
-// Where a region ends.
-#[derive(Clone, Copy)]
+// Where a region ends: kira's type under kira's names, so not an Option.
+#[derive(Clone, Copy, Debug)]
 pub enum EndPosition {
     EndOfAudio,
     Custom(PlaybackPosition),
 }
 
 // A part of a piece of audio. The end is exclusive.
-#[derive(Clone, Copy)]
+#[derive(Clone, Copy, Debug)]
 pub struct Region {
     pub start: PlaybackPosition,
     pub end: EndPosition,
-}
-
-// A region in frames, or none.
-#[derive(Clone, Copy)]
-pub enum FrameRange {
-    Absent,
-    Frames(usize, usize),
 }
 
 impl PlaybackPosition {
@@ -82,26 +75,20 @@ impl EndPosition {
     }
 }
 
-impl FrameRange {
-    pub fn is_within(self, num_frames: usize) -> bool
-        ensures { result ≡ within num_frames self }
-    {
-        match self {
-            FrameRange::Absent => true,
-            FrameRange::Frames(start, end) => start < end && end <= num_frames,
-        }
-    }
+// Whether a range of frames, start and exclusive end, is inside this many frames and not empty.
+pub fn is_within(range: Option<(usize, usize)>, num_frames: usize) -> bool
+    ensures { result ≡ within num_frames range }
+{
+    range.is_none_or(|(start, end)| start < end && end <= num_frames)
 }
 
 impl Region {
-    pub fn into_frames(self, sample_rate: u32, num_frames: usize) -> FrameRange
+    pub fn into_frames(self, sample_rate: u32, num_frames: usize) -> (usize, usize)
         ensures { result ≡ region_in_frames sample_rate num_frames self }
     {
-        let start = self.start;
-        let end = self.end;
-        FrameRange::Frames(
-            start.into_samples(sample_rate),
-            end.into_samples(sample_rate, num_frames),
+        (
+            self.start.into_samples(sample_rate),
+            self.end.into_samples(sample_rate, num_frames),
         )
     }
 
@@ -109,15 +96,8 @@ impl Region {
     pub fn is_well_formed(self, sample_rate: u32, num_frames: usize) -> bool
         ensures { result ≡ well_formed_region sample_rate num_frames self }
     {
-        let start = self.start;
-        let end = self.end;
-        if !start.is_finite_position() {
-            return false;
-        }
-        if !end.is_finite_end() {
-            return false;
-        }
-        self.into_frames(sample_rate, num_frames)
-            .is_within(num_frames)
+        self.start.is_finite_position()
+            && self.end.is_finite_end()
+            && is_within(Some(self.into_frames(sample_rate, num_frames)), num_frames)
     }
 }

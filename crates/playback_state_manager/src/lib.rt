@@ -1,7 +1,7 @@
 // The seven playback states: pause, resume, stop, and one change per block.
 #![tactic(auto)]
 
-ghost use Rattle.std.specs.Prelude.{◌≡◌};
+ghost use Rattle.std.specs.Prelude.{◌≡◌, ◌<◌, MatchResult};
 ghost use Rattle.playback_state_manager.specs.States.{
   number,
   advancing,
@@ -13,7 +13,7 @@ ghost use Rattle.playback_state_manager.specs.States.{
 };
 ghost use Rattle.playback_state_manager.specs.declared.PlaybackState.TheVariants.{Stopped};
 
-#[derive(Clone, Copy)]
+#[derive(Clone, Copy, Debug, PartialEq, Eq)]
 pub enum PlaybackState {
     Playing,
     Pausing,
@@ -25,18 +25,22 @@ pub enum PlaybackState {
 }
 
 // The host's answer for a start or a waiting resume.
-#[derive(Clone, Copy)]
+#[derive(Clone, Copy, Debug, PartialEq, Eq)]
 pub enum StartAnswer {
     Waiting,
     Now,
     Never,
 }
 
-impl PlaybackState {
-    pub fn number(self) -> u32
-        ensures { result ≡ number self }
-    {
-        match self {
+// A number that is no state's.
+#[derive(Clone, Copy, Debug, PartialEq, Eq)]
+pub struct UnknownState;
+
+impl From<PlaybackState> for u32 {
+    ghost from_gives = { λ state n. n ≡ number state };
+
+    fn from(state: PlaybackState) -> u32 {
+        match state {
             PlaybackState::Playing => 0,
             PlaybackState::Pausing => 1,
             PlaybackState::Paused => 2,
@@ -46,19 +50,38 @@ impl PlaybackState {
             PlaybackState::Stopped => 6,
         }
     }
+}
 
+impl TryFrom<u32> for PlaybackState {
+    type Error = UnknownState;
+
+    ghost try_from_gives = { λ n r. MatchResult r (λ state. number state ≡ n) (λ _. 6 < n) };
+
+    fn try_from(n: u32) -> Result<PlaybackState, UnknownState> {
+        match n {
+            0 => Ok(PlaybackState::Playing),
+            1 => Ok(PlaybackState::Pausing),
+            2 => Ok(PlaybackState::Paused),
+            3 => Ok(PlaybackState::WaitingToResume),
+            4 => Ok(PlaybackState::Resuming),
+            5 => Ok(PlaybackState::Stopping),
+            6 => Ok(PlaybackState::Stopped),
+            _ => Err(UnknownState),
+        }
+    }
+}
+
+impl PlaybackState {
     pub fn is_advancing(self) -> bool
         ensures { result ≡ advancing self }
     {
-        match self {
-            PlaybackState::Playing => true,
-            PlaybackState::Pausing => true,
-            PlaybackState::Paused => false,
-            PlaybackState::WaitingToResume => false,
-            PlaybackState::Resuming => true,
-            PlaybackState::Stopping => true,
-            PlaybackState::Stopped => false,
-        }
+        matches!(
+            self,
+            PlaybackState::Playing
+                | PlaybackState::Pausing
+                | PlaybackState::Resuming
+                | PlaybackState::Stopping
+        )
     }
 
     // Pause, resume and stop are ignored in Stopped.
@@ -66,13 +89,8 @@ impl PlaybackState {
         ensures { result ≡ unless_stopped wanted self }
     {
         match self {
-            PlaybackState::Playing => wanted,
-            PlaybackState::Pausing => wanted,
-            PlaybackState::Paused => wanted,
-            PlaybackState::WaitingToResume => wanted,
-            PlaybackState::Resuming => wanted,
-            PlaybackState::Stopping => wanted,
-            PlaybackState::Stopped => PlaybackState::Stopped,
+            PlaybackState::Stopped => self,
+            _ => wanted,
         }
     }
 
@@ -108,35 +126,15 @@ impl PlaybackState {
         ensures { result ≡ settled finished resume self }
     {
         match self {
-            PlaybackState::Playing => self,
-            PlaybackState::Pausing => {
-                if finished {
-                    PlaybackState::Paused
-                } else {
-                    self
-                }
-            }
-            PlaybackState::Paused => self,
+            PlaybackState::Pausing if finished => PlaybackState::Paused,
+            PlaybackState::Resuming if finished => PlaybackState::Playing,
+            PlaybackState::Stopping if finished => PlaybackState::Stopped,
             PlaybackState::WaitingToResume => match resume {
                 StartAnswer::Waiting => self,
                 StartAnswer::Now => PlaybackState::Resuming,
                 StartAnswer::Never => PlaybackState::Stopped,
             },
-            PlaybackState::Resuming => {
-                if finished {
-                    PlaybackState::Playing
-                } else {
-                    self
-                }
-            }
-            PlaybackState::Stopping => {
-                if finished {
-                    PlaybackState::Stopped
-                } else {
-                    self
-                }
-            }
-            PlaybackState::Stopped => self,
+            _ => self,
         }
     }
 }

@@ -1,70 +1,92 @@
-// The refusals by name, in the order of document 01's table; 0 is no refusal. The header has the same names and
-// numbers, and the sentence for each.
-
+// The refusals, in the order of document 01's table. The header has the same names and numbers, and the sentence for
+// each.
 #![tactic(auto)]
 
-pub mod words;
+ghost use Rattle.std.specs.Prelude.{◌≡◌};
+ghost use Rattle.refusals.specs.Numbers.{number};
 
-// The state, or the table of loops, is not well formed.
-pub const STATE: u32 = 1;
+#[derive(Clone, Copy, Debug, PartialEq, Eq, Hash)]
+pub enum Refusal {
+    // The state, or the table of loops, is not well formed.
+    State,
+    SampleRate,
+    FrameCount,
+    Slice,
+    StartPosition,
+    LoopRegion,
+    PlaybackRate,
+    Seek,
+    // A block's frame count, its lanes' lengths, or its output's.
+    Block,
+    TimeStep,
+    // A number of a lane is not finite, or has a minus sign where none may be.
+    Lane,
+    // A frame advances by more than 256.
+    Advance,
+    Level,
+    Ramp,
+    // The bytes do not begin with a record's two marks.
+    Mark,
+    Kind,
+    Record,
+    // The bytes end inside the record.
+    Truncated,
+    // The buffer is too short.
+    Room,
+    LoopSlot,
+    OtherHall,
+    EmptySlot,
+    Version,
+    SavedField,
+    // The output of a salvage is shorter than the trace.
+    Output,
+    OtherSound,
+    OtherFrames,
+    TwoHalves,
+}
 
-pub const SAMPLE_RATE: u32 = 2;
+// Its number in the table, from 1 on.
+impl From<Refusal> for u32 {
+    ghost from_gives = { λ refusal n. n ≡ number refusal };
 
-pub const FRAME_COUNT: u32 = 3;
+    fn from(refusal: Refusal) -> u32 {
+        match refusal {
+            Refusal::State => 1,
+            Refusal::SampleRate => 2,
+            Refusal::FrameCount => 3,
+            Refusal::Slice => 4,
+            Refusal::StartPosition => 5,
+            Refusal::LoopRegion => 6,
+            Refusal::PlaybackRate => 7,
+            Refusal::Seek => 8,
+            Refusal::Block => 9,
+            Refusal::TimeStep => 10,
+            Refusal::Lane => 11,
+            Refusal::Advance => 12,
+            Refusal::Level => 13,
+            Refusal::Ramp => 14,
+            Refusal::Mark => 15,
+            Refusal::Kind => 16,
+            Refusal::Record => 17,
+            Refusal::Truncated => 18,
+            Refusal::Room => 19,
+            Refusal::LoopSlot => 20,
+            Refusal::OtherHall => 21,
+            Refusal::EmptySlot => 22,
+            Refusal::Version => 23,
+            Refusal::SavedField => 24,
+            Refusal::Output => 25,
+            Refusal::OtherSound => 26,
+            Refusal::OtherFrames => 27,
+            Refusal::TwoHalves => 28,
+        }
+    }
+}
 
-pub const SLICE: u32 = 4;
+impl From<Refusal> for u64 {
+    ghost from_gives = { λ refusal n. n ≡ number refusal };
 
-pub const START_POSITION: u32 = 5;
-
-pub const LOOP_REGION: u32 = 6;
-
-pub const PLAYBACK_RATE: u32 = 7;
-
-pub const SEEK: u32 = 8;
-
-// A block's frame count, its lanes' lengths, or its output's.
-pub const BLOCK: u32 = 9;
-
-pub const TIME_STEP: u32 = 10;
-
-// A number of a lane is not finite, or has a minus sign where none may be.
-pub const LANE: u32 = 11;
-
-// A frame advances by more than 256.
-pub const ADVANCE: u32 = 12;
-
-pub const LEVEL: u32 = 13;
-
-pub const RAMP: u32 = 14;
-
-// The bytes do not begin with a record's two marks.
-pub const MARK: u32 = 15;
-
-pub const KIND: u32 = 16;
-
-pub const RECORD: u32 = 17;
-
-// The bytes end inside the record.
-pub const TRUNCATED: u32 = 18;
-
-// The buffer is too short.
-pub const ROOM: u32 = 19;
-
-pub const LOOP_SLOT: u32 = 20;
-
-pub const OTHER_HALL: u32 = 21;
-
-pub const EMPTY_SLOT: u32 = 22;
-
-pub const VERSION: u32 = 23;
-
-pub const SAVED_FIELD: u32 = 24;
-
-// The output of a salvage is shorter than the trace.
-pub const OUTPUT: u32 = 25;
-
-pub const OTHER_SOUND: u32 = 26;
-
-pub const OTHER_FRAMES: u32 = 27;
-
-pub const TWO_HALVES: u32 = 28;
+    fn from(refusal: Refusal) -> u64 {
+        u32::from(refusal) as u64
+    }
+}

@@ -3,6 +3,3 @@ use Rattle.std.proofs.Common.{ℕ, ◌≤◌, List, length, take, arith, length-
 
 pub within : (s : List ℕ) (end n : ℕ) → end ≤ length s → n ≤ end → n ≤ length (take end s)
 within s end n h k = omega (arith, k, length-take-le end s h)
-
-pub inside : (s : List ℕ) (end n : ℕ) → end ≤ length s → n ≤ length (take end s) → n ≤ end
-inside s end n h k = omega (arith, k, length-take-le end s h)

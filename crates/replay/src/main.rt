@@ -3,7 +3,7 @@
 // moves over it that holds a whole record or the input's end.
 #![tactic(auto)]
 
-ghost use Rattle.std.specs.Prelude.{◌≡◌, ◌-◌, ◌≤◌, length};
+ghost use Rattle.std.specs.Prelude.{◌-◌, ◌≤◌, length, IfSome};
 ghost use Rattle.replay.specs.Windows.{Held};
 
 use std::io::{Print, Read, Stdin, Stdout};
@@ -11,7 +11,7 @@ use trace_replay::Run;
 
 // The window on the input: its bytes are `at` to `end` of a buffer whose first byte has the offset `base` in the
 // trace. `ended` means that the input has ended.
-#[derive(Clone, Copy)]
+#[derive(Clone, Copy, Debug, PartialEq, Eq)]
 pub struct Window {
     pub at: usize,
     pub end: usize,
@@ -23,7 +23,6 @@ pub struct Window {
 pub struct Play {
     pub run: Run,
     pub window: Window,
-    pub done: bool,
 }
 
 // Reads until `buf` is full, the input ends or a read fails, and returns how many bytes it put at the start of `buf`.
@@ -49,44 +48,40 @@ fn refill(input: Stdin, bytes: &mut [u8], spare: &mut [u8], w: Window) -> Window
     requires { (w.at ≤ w.end) × (w.end ≤ length bytes.old) × (w.end - w.at ≤ length spare.old) }
     ensures { Held result bytes.new }
 {
-    let at = w.at;
-    let end = w.end;
-    let n = end - at;
-    byte_layout::copy(bytes, at, end, spare, 0);
+    let n = w.end - w.at;
+    byte_layout::copy(bytes, w.at, w.end, spare, 0);
     byte_layout::copy(spare, 0, n, bytes, 0);
     let got = read_full(input, &mut bytes[n..]);
     let end = n + got;
     Window {
         at: 0,
         end,
-        base: std::num::wrapping_add_u64(w.base, at as u64),
+        base: w.base.wrapping_add(w.at as u64),
         ended: end < bytes.len(),
     }
 }
 
-// Plays one record and prints its line.
-fn play_one(output: Stdout, p: Play, bytes: &[u8], sound: &mut [f32], line: &mut [u8]) -> Play
+// Plays one record and prints its line. None if the run is over.
+fn play_one(
+    output: Stdout,
+    p: Play,
+    bytes: &[u8],
+    sound: &mut [f32],
+    line: &mut [u8],
+) -> Option<Play>
     requires { Held p.window bytes.now × (128 ≤ length sound.old) × (p.run.samples ≤ length sound.old)
         × (139 ≤ length line.old) }
-    ensures { Held result.window bytes.now × (result.run.samples ≤ length sound.new) }
+    ensures { IfSome result (λ q. Held q.window bytes.now × (q.run.samples ≤ length sound.new)) }
 {
     let window = p.window;
-    let run = p.run;
-    let at = window.at;
-    let end = window.end;
-    let place = std::num::wrapping_add_u64(window.base, at as u64);
-    let played = trace_replay::advance(run, &bytes[..end], at, place, sound, line);
-    let n = played.written;
-    let _ = output.write_all(&line[..n]);
-    let run = played.run;
-    Play {
-        run,
-        window: Window {
-            at: played.next,
-            ..window
-        },
-        done: played.over,
-    }
+    let place = window.base.wrapping_add(window.at as u64);
+    let played = trace_replay::advance(p.run, &bytes[..window.end], window.at, place, sound, line);
+    let _ = output.write_all(&line[..played.written]);
+    let next = played.next?;
+    Some(Play {
+        run: played.run,
+        window: Window { at: next, ..window },
+    })
 }
 
 // Reads more if the window may end inside a record (no record has more than 575 bytes), then plays one record.
@@ -98,16 +93,13 @@ fn advance(
     spare: &mut [u8],
     sound: &mut [f32],
     line: &mut [u8],
-) -> Play
+) -> Option<Play>
     requires { Held p.window bytes.old × (1024 ≤ length spare.old) × (128 ≤ length sound.old)
         × (p.run.samples ≤ length sound.old) × (139 ≤ length line.old) }
-    ensures { Held result.window bytes.new × (result.run.samples ≤ length sound.new) }
+    ensures { IfSome result (λ q. Held q.window bytes.new × (q.run.samples ≤ length sound.new)) }
 {
     let window = p.window;
-    if window.ended {
-        return play_one(output, p, bytes, sound, line);
-    }
-    if 1024 <= window.end - window.at {
+    if window.ended || 1024 <= window.end - window.at {
         return play_one(output, p, bytes, sound, line);
     }
     let window = refill(input, bytes, spare, window);
@@ -133,15 +125,12 @@ fn replay(
     let mut p = Play {
         run: trace_replay::begin(),
         window,
-        done: false,
     };
-    let mut left: u64 = 18446744073709551615;
-    while left > 0 {
-        if p.done {
-            return;
+    'records: for _ in 0..u64::MAX {
+        match advance(input, output, p, bytes, spare, sound, line) {
+            Some(next) => p = next,
+            None => return,
         }
-        p = advance(input, output, p, bytes, spare, sound, line);
-        left -= 1;
     }
 }
 

@@ -1,5 +1,6 @@
 -- A window stays well formed: the test and the named facts are the same, a push into four entries is a shift, and a shift keeps them.
 -- The law of the shift is proved for lists of any length.
+use Rattle.std.specs.Prelude.{Option, Some, None}
 use mathlib.Core.Path.{◌≡◌, refl, sym, ◌∙◌, subst}
 use Prim.Native.Nat.{ℕ, ◌≤◌, ◌<◌}
 use native.Mathlib.Nat.{le_refl, le_of_eq}
@@ -16,9 +17,8 @@ use Rattle.numbers.specs.Lists.{all}
 use Rattle.numbers.proofs.Lists.{shifted, shifted_length, all_append, all_drop}
 use Rattle.resampler.specs.declared.RecentFrame.{RecentFrame}
 use Rattle.resampler.specs.declared.Resampler.{Resampler}
-use Rattle.resampler.specs.declared.MaybeFrame.{MaybeFrame}
-use Rattle.resampler.specs.declared.MaybeFrame.TheVariants.{Absent, Present}
 use Rattle.resampler.specs.Windows.{blank, given_count, given_entry, push, fresh, zero_frame, numbered, windowed, Windowed, current_frame_index}
+use Rattle.frame.specs.declared.Frame.{Frame}
 
 pub windowed_parts : (w : Resampler) → T (windowed w) → Windowed w
 windowed_parts w h =
@@ -42,7 +42,7 @@ windowed_of w h =
     and_i (a && b && c) d (and_i (a && b) c (and_i a b (eq→eqb h.four) (le→leb w.time_until_empty 4 h.few)) h.last_zero) h.numbers
 
 -- the first entry is removed, and the given one is appended
-abbrev pub shift : Resampler → MaybeFrame → ℕ → Resampler
+abbrev pub shift : Resampler → Option Frame → ℕ → Resampler
 shift w g n = record { frames = drop 1 w.frames ++ given_entry g n ∷ []; time_until_empty = given_count g w.time_until_empty }
 
 four_shift : (l : List RecentFrame) (x : RecentFrame) → length l ≡ 4 → get_or l 1 blank ∷ get_or l 2 blank ∷ get_or l 3 blank ∷ x ∷ [] ≡ drop 1 l ++ x ∷ []
@@ -54,7 +54,7 @@ four_shift l x e =
     rw (drop-cons l 1 blank one, drop-cons l 2 blank two, drop-cons l 3 blank three, drop_of_length-le l end)
 
 -- a push into four entries is a shift
-pub push_shift : (w : Resampler) (g : MaybeFrame) (n : ℕ) → length w.frames ≡ 4 → push w g n ≡ shift w g n
+pub push_shift : (w : Resampler) (g : Option Frame) (n : ℕ) → length w.frames ≡ 4 → push w g n ≡ shift w g n
 unfolding push
 push_shift w g n e = simp (four_shift w.frames (given_entry g n) e)
 
@@ -62,7 +62,7 @@ push_shift w g n e = simp (four_shift w.frames (given_entry g n) e)
 none_left : (l : List RecentFrame) → length l ≡ 4 → T (all zero_frame (drop 4 l))
 none_left l e = subst (λ (r : List RecentFrame). T (all zero_frame r)) (sym (drop_of_length-le l {i = 4} (le_of_eq e))) tt
 
-shift_parts : (w : Resampler) (g : MaybeFrame) (n : ℕ) → n ≤ most → Windowed w → Windowed (shift w g n)
+shift_parts : (w : Resampler) (g : Option Frame) (n : ℕ) → n ≤ most → Windowed w → Windowed (shift w g n)
 shift_parts w g n k h =
     record {
       four = four g;
@@ -71,19 +71,19 @@ shift_parts w g n k h =
       numbers = all_append numbered (drop 1 w.frames) (given_entry g n ∷ []) (all_drop numbered 1 w.frames h.numbers) (and_i (leb n most) true (le→leb n most k) tt);
     }
   where
-    four : (g : MaybeFrame) → length (drop 1 w.frames ++ given_entry g n ∷ []) ≡ 4
+    four : (g : Option Frame) → length (drop 1 w.frames ++ given_entry g n ∷ []) ≡ 4
     four g = shifted_length zero_frame w.frames (given_entry g n) (let e = h.four in omega arith) ∙ h.four
 
-    few : (g : MaybeFrame) → given_count g w.time_until_empty ≤ 4
-    few Absent = let e = h.few in omega arith
-    few (Present f) = le_refl 4
+    few : (g : Option Frame) → given_count g w.time_until_empty ≤ 4
+    few None = let e = h.few in omega arith
+    few (Some f) = le_refl 4
 
-    last_zero : (g : MaybeFrame) → T (all zero_frame (drop (given_count g w.time_until_empty) (drop 1 w.frames ++ given_entry g n ∷ [])))
-    last_zero Absent = shifted zero_frame w.time_until_empty w.frames (given_entry Absent n) h.last_zero tt
-    last_zero (Present f) = none_left (drop 1 w.frames ++ given_entry (Present f) n ∷ []) (four (Present f))
+    last_zero : (g : Option Frame) → T (all zero_frame (drop (given_count g w.time_until_empty) (drop 1 w.frames ++ given_entry g n ∷ [])))
+    last_zero None = shifted zero_frame w.time_until_empty w.frames (given_entry None n) h.last_zero tt
+    last_zero (Some f) = none_left (drop 1 w.frames ++ given_entry (Some f) n ∷ []) (four (Some f))
 
 -- a push keeps the window well formed
-pub push_parts : (w : Resampler) (g : MaybeFrame) (n : ℕ) → n ≤ most → Windowed w → Windowed (push w g n)
+pub push_parts : (w : Resampler) (g : Option Frame) (n : ℕ) → n ≤ most → Windowed w → Windowed (push w g n)
 push_parts w g n k h = subst Windowed (sym (push_shift w g n h.four)) (shift_parts w g n k h)
 
 -- the new window is well formed

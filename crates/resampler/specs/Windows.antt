@@ -1,5 +1,6 @@
 -- docs/assurance/RULES.md, "The window of four", and "Well formed" for the window.
 use Rattle.std.specs.Prelude.{ℕ, ◌-◌, ◌≤◌, ◌≡◌, Bool, ◌&&◌, [], ◌∷◌, T, leb, eqb, length, get_or, drop, Float}
+use Rattle.std.specs.Prelude.{Option, Some, None}
 use Rattle.std.specs.Float.{nan}
 use Rattle.numbers.specs.Words.{is_positive_zero}
 use Rattle.numbers.specs.Frames.{most}
@@ -9,29 +10,27 @@ use Rattle.frame.specs.Frames.{last_zero, interpolated}
 use Rattle.resampler.specs.declared.RecentFrame.{RecentFrame}
 use Rattle.resampler.specs.declared.Reading.{Reading}
 use Rattle.resampler.specs.declared.Resampler.{Resampler}
-use Rattle.resampler.specs.declared.MaybeFrame.{MaybeFrame}
-use Rattle.resampler.specs.declared.MaybeFrame.TheVariants.{Absent, Present}
 
 -- the value that the logic reads outside an array
 abbrev pub blank : RecentFrame
 blank = record { frame = record { left = nan; right = nan }; frame_index = 0 }
 
 -- the frame to store: no frame stores a zero frame
-abbrev pub given_frame_lem : MaybeFrame → Frame
-given_frame_lem Absent = last_zero
-given_frame_lem (Present f) = f
+abbrev pub given_frame_lem : Option Frame → Frame
+given_frame_lem None = last_zero
+given_frame_lem (Some f) = f
 
 -- the count afterwards: a real frame sets it to 4; no frame lowers it, not below 0
-abbrev pub given_count : MaybeFrame → ℕ → ℕ
-given_count Absent t = t - 1
-given_count (Present f) t = 4
+abbrev pub given_count : Option Frame → ℕ → ℕ
+given_count None t = t - 1
+given_count (Some f) t = 4
 
 -- the entry to store, with its frame index in both cases
-abbrev pub given_entry : MaybeFrame → ℕ → RecentFrame
+abbrev pub given_entry : Option Frame → ℕ → RecentFrame
 given_entry g n = record { frame = given_frame_lem g; frame_index = n }
 
 -- pushing shifts left by one
-unfoldable pub push : Resampler → MaybeFrame → ℕ → Resampler
+unfoldable pub push : Resampler → Option Frame → ℕ → Resampler
 push w g n =
     record {
       frames = get_or w.frames 1 blank ∷ get_or w.frames 2 blank ∷ get_or w.frames 3 blank ∷ given_entry g n ∷ [];
@@ -57,7 +56,7 @@ is_empty w = eqb w.time_until_empty 0
 -- the new window: the first position and zeros, four times
 abbrev pub fresh : ℕ → Resampler
 fresh n =
-    let e = given_entry Absent n in
+    let e = given_entry None n in
     record { frames = e ∷ e ∷ e ∷ e ∷ []; time_until_empty = 0 }
 
 -- positive zero in both channels

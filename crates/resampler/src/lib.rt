@@ -6,37 +6,23 @@ ghost use Rattle.resampler.specs.Windows.{fresh, push, reading, current_frame_in
 
 use frame::{Frame, interpolate_frame};
 
-#[derive(Clone, Copy)]
+#[derive(Clone, Copy, Debug)]
 pub struct RecentFrame {
     pub frame: Frame,
     pub frame_index: usize,
 }
 
 // A reading: the frame, and the window's count.
-#[derive(Clone, Copy)]
+#[derive(Clone, Copy, Debug)]
 pub struct Reading {
     pub frame: Frame,
     pub count: usize,
 }
 
-#[derive(Clone, Copy)]
+#[derive(Clone, Copy, Debug)]
 pub struct Resampler {
     pub frames: [RecentFrame; 4],
     pub time_until_empty: usize,
-}
-
-// A frame, or none: the sound has ended.
-#[derive(Clone, Copy)]
-pub enum MaybeFrame {
-    Absent,
-    Present(Frame),
-}
-
-// One less, but not below 0.
-fn lowered(count: usize) -> usize
-    ensures { result ≡ count - 1 }
-{
-    if count > 0 { count - 1 } else { 0 }
 }
 
 impl Resampler {
@@ -53,22 +39,20 @@ impl Resampler {
         }
     }
 
-    pub fn push_frame(self, frame: MaybeFrame, frame_index: usize) -> Resampler
+    pub fn push_frame(self, frame: Option<Frame>, frame_index: usize) -> Resampler
         ensures { result ≡ push self frame frame_index }
     {
-        let a = self.frames[1];
-        let b = self.frames[2];
-        let c = self.frames[3];
+        let [_, a, b, c] = self.frames;
         match frame {
-            MaybeFrame::Present(frame) => Resampler {
+            Some(frame) => Resampler {
                 frames: [a, b, c, RecentFrame { frame, frame_index }],
                 time_until_empty: 4,
             },
-            MaybeFrame::Absent => {
+            None => {
                 let frame = Frame::ZERO;
                 Resampler {
                     frames: [a, b, c, RecentFrame { frame, frame_index }],
-                    time_until_empty: lowered(self.time_until_empty),
+                    time_until_empty: self.time_until_empty.saturating_sub(1),
                 }
             }
         }
@@ -77,10 +61,7 @@ impl Resampler {
     pub fn get(self, fractional_position: f32) -> Reading
         ensures { result ≡ reading self fractional_position }
     {
-        let a = self.frames[0];
-        let b = self.frames[1];
-        let c = self.frames[2];
-        let d = self.frames[3];
+        let [a, b, c, d] = self.frames;
         Reading {
             frame: interpolate_frame(a.frame, b.frame, c.frame, d.frame, fractional_position),
             count: self.time_until_empty,
@@ -90,8 +71,7 @@ impl Resampler {
     pub fn current_frame_index(self) -> usize
         ensures { result ≡ current_frame_index self }
     {
-        let current = self.frames[1];
-        current.frame_index
+        self.frames[1].frame_index
     }
 
     pub fn empty(self) -> bool

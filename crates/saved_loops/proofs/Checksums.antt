@@ -3,7 +3,6 @@ use Prim.Native.Nat.{ℕ, zero, suc, ◌*◌, ◌/◌, ◌%◌, ◌^◌, ◌<◌
 use native.Mathlib.Omega.{arith}
 use mathlib.Core.List.{List, [], ◌∷◌}
 use lib.Bits.{bit_xor, xor_lt}
-use lib.ListN.{get_or}
 use Rattle.byte_layout.specs.Numbers.{Bytes}
 use Rattle.crc32.specs.Checksums.{bit, bits, byte, register, checksum_of}
 

@@ -1,6 +1,5 @@
 -- Laws of a half's bytes.
 pub mod Checksums
-pub mod Slots
 pub mod Loads
 pub mod Stores
 pub mod Rounds

@@ -1,12 +1,12 @@
 -- The theorems about a half's bytes, put together. Assumes nothing.
 use mathlib.Core.Path.{◌≡◌, refl, sym, ap, ◌∙◌}
 use mathlib.Core.Bool.{true}
-use Prim.Native.Nat.{ℕ, zero, suc, ◌^◌, ◌<◌}
+use Prim.Native.Nat.{ℕ, zero, suc, ◌<◌}
 use native.Mathlib.Omega.{arith}
-use mathlib.Core.List.{List, [], ◌∷◌, append-nil}
+use mathlib.Core.List.{[], append-nil}
 use lib.ListN.{get_or, replicate}
 use Rattle.saved_loops.specs.Records.{well_formed, well_formed_slots, encoded, loaded}
-use Rattle.saved_loops.specs.Promises.{whole, no_words, no_names, Witnesses, Promises}
+use Rattle.saved_loops.specs.Promises.{no_words, no_names, Witnesses, Promises}
 use Rattle.saved_loops.proofs.Rounds.{encoded_small, shown_again, store_loads, load_stores}
 
 zeros : (n i k : ℕ) → get_or (replicate n 0) i 0 < suc k

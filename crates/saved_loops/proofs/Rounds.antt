@@ -1,32 +1,31 @@
 -- Round trips: what is stored loads as the same words and names, and what was loaded is stored as the same bytes. Assumes nothing.
-use mathlib.Core.Path.{◌≡◌, refl, sym, ap, ap₂, ◌∙◌, subst}
-use Prim.Native.Nat.{ℕ, zero, suc, ◌+◌, ◌^◌, ◌%◌, ◌/◌, ◌≤◌, ◌<◌}
+use mathlib.Core.Path.{◌≡◌, refl, sym, ap, ap₂, ◌∙◌}
+use Prim.Native.Nat.{ℕ, zero, suc, ◌+◌, ◌^◌, ◌/◌, ◌≤◌, ◌<◌}
 use native.Mathlib.Nat.{le_antisymm}
 use native.Mathlib.Omega.{arith}
 use mathlib.Core.Bool.{Bool, true, false, ◌&&◌, cond}
 use mathlib.Core.List.{List, [], ◌∷◌, ◌++◌, append_assoc}
-use lib.Dec.{T, leb, eqb}
+use lib.Dec.{leb, eqb}
 use lib.ListN.{length, get_or, take, drop, length-append, length-drop}
 use lib.Seq.{sets, sets-eq, take_at, drop_at, take-add, length-take-le}
 use borrow.Author.Tests.{eq-eqb, eqb-true, leb-true, le-leb}
 use Rattle.byte_layout.specs.declared.Row.{Row}
 use Rattle.byte_layout.specs.Numbers.{Bytes, num, bytes}
-use Rattle.byte_layout.specs.Rows.{row_at, rows, stands}
+use Rattle.byte_layout.specs.Rows.{stands}
 use Rattle.byte_layout.specs.Reads.{Reading, bad, good, steps}
 use Rattle.byte_layout.specs.Writes.{field, fine, payload}
 use Rattle.byte_layout.proofs.Numbers.{length_bytes, num_bytes, bytes_num, small_drop}
-use Rattle.byte_layout.proofs.Codec.{read_written, written_read, Written}
+use Rattle.byte_layout.proofs.Codec.{read_written, written_read}
 use Rattle.byte_layout.proofs.Lengths.{most, least, at_most, at_least}
 use Rattle.byte_layout.proofs.Takes.{peel}
-use Rattle.byte_layout.proofs.Low.{lows, some_refusal}
+use Rattle.byte_layout.proofs.Low.{some_refusal}
 use Rattle.crc32.specs.Checksums.{checksum_of}
-use Rattle.saved_loops.specs.declared.LoadedHalf.{LoadedHalf}
-use Rattle.saved_loops.specs.Tables.{half_table, half_rows}
-use Rattle.saved_loops.specs.Records.{well_formed_slots, well_formed, names_in, crc_right, refused_by, shown, judged, loaded, half_numbers, body, encoded, store_refusal, stored}
-use Rattle.saved_loops.specs.Promises.{whole, Stores, Kept, Loads}
+use Rattle.saved_loops.specs.Tables.{half_rows}
+use Rattle.saved_loops.specs.Records.{LoadedHalf, well_formed_slots, well_formed, names_in, crc_right, refused_by, shown, judged, loaded, half_numbers, body, encoded, stored}
+use Rattle.saved_loops.specs.Promises.{whole, Stores, Kept}
 use Rattle.saved_loops.proofs.Checksums.{checksum_word}
 use Rattle.saved_loops.proofs.Loads.{half_sound}
-use Rattle.saved_loops.proofs.Stores.{half_length, half_fine, body_length, encoded_length, written, Accepted, accepted, enough}
+use Rattle.saved_loops.proofs.Stores.{half_length, half_fine, body_length, encoded_length, written, accepted, enough}
 
 -- ---- what is written is bytes
 
@@ -83,16 +82,16 @@ module _ (ws names rest : List ℕ) (nineteen : length ws ≡ 19) (words : (i : 
   unfolding encoded
   parts = append_assoc (body ws names) (bytes 4 (checksum_of (body ws names))) rest
 
-  apart : (tail : List ℕ) → body ws names ++ tail ≡ payload (rows half_table 0 23) [] (half_numbers ws) ++ (names ++ tail)
+  apart : (tail : List ℕ) → body ws names ++ tail ≡ payload half_rows [] (half_numbers ws) ++ (names ++ tail)
   unfolding body half_rows
-  apart tail = append_assoc (payload (rows half_table 0 23) [] (half_numbers ws)) names tail
+  apart tail = append_assoc (payload half_rows [] (half_numbers ws)) names tail
 
   reads : (tail : List ℕ) → steps half_rows (good 666 [] (body ws names ++ tail)) ≡ good 516 (half_numbers ws) (names ++ tail)
   unfolding half_rows
   reads tail =
-      let n : length (payload (rows half_table 0 23) [] (half_numbers ws)) + 516 ≡ 666 = omega (arith, half_length ws nineteen) in
-      ap₂ (λ (k : ℕ) (l : List ℕ). steps (rows half_table 0 23) (good k [] l)) (sym n) (apart tail)
-      ∙ read_written (rows half_table 0 23) [] (half_numbers ws) (names ++ tail) 516 half_sound (half_fine ws nineteen (hall_small ws right) words)
+      let n : length (payload half_rows [] (half_numbers ws)) + 516 ≡ 666 = omega (arith, half_length ws nineteen) in
+      ap₂ (λ (k : ℕ) (l : List ℕ). steps half_rows (good k [] l)) (sym n) (apart tail)
+      ∙ read_written half_rows [] (half_numbers ws) (names ++ tail) 516 half_sound (half_fine ws nineteen (hall_small ws right) words)
 
   is_right : crc_right (body ws names ++ (bytes 4 (checksum_of (body ws names)) ++ rest)) ≡ true
   is_right =
@@ -114,7 +113,7 @@ module _ (ws names rest : List ℕ) (nineteen : length ws ≡ 19) (words : (i : 
   pub named_again : names_in (encoded ws names ++ rest) ≡ names
   named_again =
       ap names_in (parts ∙ apart (bytes 4 (checksum_of (body ws names)) ++ rest))
-      ∙ ap (take 512) (drop_at (payload (rows half_table 0 23) [] (half_numbers ws)) (names ++ (bytes 4 (checksum_of (body ws names)) ++ rest)) 150 (half_length ws nineteen))
+      ∙ ap (take 512) (drop_at (payload half_rows [] (half_numbers ws)) (names ++ (bytes 4 (checksum_of (body ws names)) ++ rest)) 150 (half_length ws nineteen))
       ∙ take_at names (bytes 4 (checksum_of (body ws names)) ++ rest) 512 named
 
 pub store_loads : (ws names buffer : List ℕ) → Stores ws names buffer → Kept ws names (stored ws names buffer)
@@ -129,10 +128,6 @@ store_loads ws names buffer x =
     }
 
 -- ---- loaded, then stored
-
-half_lows : T (lows half_rows)
-unfolding lows half_rows rows row_at half_table
-half_lows = tt
 
 some : (k : ℕ) (ws : List ℕ) → refused_by (suc k) ≡ whole ws → ⊥
 some k ws e = let z : suc k ≡ 0 = ap (λ (l : LoadedHalf). l.refusal) e in omega (arith, z)
@@ -161,8 +156,8 @@ head_is : (a b c d : ℕ) (l : List ℕ) → 167 ≡ a → 76 ≡ b → 1 ≡ c 
 head_is a b c d l p q r t =
     ap (λ (x : ℕ). x ∷ 76 ∷ 1 ∷ 661 ∷ l) p ∙ ap (λ (x : ℕ). a ∷ x ∷ 1 ∷ 661 ∷ l) q ∙ ap (λ (x : ℕ). a ∷ b ∷ x ∷ 661 ∷ l) r ∙ ap (λ (x : ℕ). a ∷ b ∷ c ∷ x ∷ l) t
 
-numbers_are : (ws : List ℕ) → fine (rows half_table 0 23) [] ws ≡ true → half_numbers (drop 4 ws) ≡ ws
-unfolding rows row_at half_table
+numbers_are : (ws : List ℕ) → fine half_rows [] ws ≡ true → half_numbers (drop 4 ws) ≡ ws
+unfolding half_rows
 numbers_are ws h =
     peel (λ (l : List ℕ). half_numbers (drop 4 l) ≡ l) _ _ _ ws refl h (λ a l0 a0 a1 h0.
     peel (λ (l : List ℕ). half_numbers (drop 4 (a ∷ l)) ≡ a ∷ l) _ _ _ l0 refl h0 (λ b l1 b0 b1 h1.
@@ -170,28 +165,28 @@ numbers_are ws h =
     peel (λ (l : List ℕ). half_numbers (drop 4 (a ∷ b ∷ c ∷ l)) ≡ a ∷ b ∷ c ∷ l) _ _ _ l2 refl h2 (λ d l3 d0 d1 h3.
     head_is a b c d l3 (le_antisymm a0 a1) (le_antisymm b0 b1) (le_antisymm c0 c1) (le_antisymm d0 d1)))))
 
-half_most : most (rows half_table 0 23) ≡ 150
-unfolding most rows row_at half_table
+half_most : most half_rows ≡ 150
+unfolding most half_rows
 half_most = refl
 
-half_least : least (rows half_table 0 23) ≡ 150
-unfolding least rows row_at half_table
+half_least : least half_rows ≡ 150
+unfolding least half_rows
 half_least = refl
 
-fine_length : (ws : List ℕ) → fine (rows half_table 0 23) [] ws ≡ true → length (payload (rows half_table 0 23) [] ws) ≡ 150
+fine_length : (ws : List ℕ) → fine half_rows [] ws ≡ true → length (payload half_rows [] ws) ≡ 150
 fine_length ws h =
-    omega (arith, at_most (rows half_table 0 23) [] ws, at_least (rows half_table 0 23) [] ws h, half_most, half_least)
+    omega (arith, at_most half_rows [] ws, at_least half_rows [] ws h, half_most, half_least)
 
 module _ (ws bs : List ℕ) (small : Bytes bs) where
   -- the bytes of a record that loads
-  record_is : (left : ℕ) (vs rest : List ℕ) → steps (rows half_table 0 23) (good 666 [] bs) ≡ good left vs rest → Shown ws bs vs → take 666 bs ≡ encoded ws (names_in bs)
+  record_is : (left : ℕ) (vs rest : List ℕ) → steps half_rows (good 666 [] bs) ≡ good left vs rest → Shown ws bs vs → take 666 bs ≡ encoded ws (names_in bs)
   unfolding encoded body half_rows
   record_is left vs rest q x =
-      let w = written_read (rows half_table 0 23) 666 [] bs left vs rest small q in
+      let w = written_read half_rows 666 [] bs left vs rest small q in
       let nums : w.more ≡ half_numbers ws = sym (numbers_are w.more w.takes) ∙ ap (λ (l : List ℕ). half_numbers (drop 4 l)) (sym w.same) ∙ ap half_numbers x.words in
-      let pay = payload (rows half_table 0 23) [] (half_numbers ws) in
-      let from : bs ≡ pay ++ rest = w.from ∙ ap (λ (l : List ℕ). payload (rows half_table 0 23) [] l ++ rest) nums in
-      let n : length pay ≡ 150 = ap (λ (l : List ℕ). length (payload (rows half_table 0 23) [] l)) (sym nums) ∙ fine_length w.more w.takes in
+      let pay = payload half_rows [] (half_numbers ws) in
+      let from : bs ≡ pay ++ rest = w.from ∙ ap (λ (l : List ℕ). payload half_rows [] l ++ rest) nums in
+      let n : length pay ≡ 150 = ap (λ (l : List ℕ). length (payload half_rows [] l)) (sym nums) ∙ fine_length w.more w.takes in
       let head : take 150 bs ≡ pay = ap (take 150) from ∙ take_at pay rest 150 n in
       let front : take 662 bs ≡ pay ++ names_in bs = take-add 150 512 bs ∙ ap (λ (l : List ℕ). l ++ names_in bs) head in
       let l : 4 ≤ length (drop 662 bs) = omega (arith, length-drop 662 bs, x.long) in
@@ -203,11 +198,11 @@ module _ (ws bs : List ℕ) (small : Bytes bs) where
 
   pub load_stores : (buffer : List ℕ) → loaded bs ≡ whole ws → 666 ≤ length buffer → stored ws (names_in bs) buffer ≡ sets buffer 0 (take 666 bs)
   unfolding loaded judged half_rows
-  load_stores buffer e room = go (steps (rows half_table 0 23) (good 666 [] bs)) refl e
+  load_stores buffer e room = go (steps half_rows (good 666 [] bs)) refl e
     where
-      go : (d : Reading) → steps (rows half_table 0 23) (good 666 [] bs) ≡ d → judged bs d ≡ whole ws → stored ws (names_in bs) buffer ≡ sets buffer 0 (take 666 bs)
+      go : (d : Reading) → steps half_rows (good 666 [] bs) ≡ d → judged bs d ≡ whole ws → stored ws (names_in bs) buffer ≡ sets buffer 0 (take 666 bs)
       go (bad k) q u =
-          let p = some_refusal (rows half_table 0 23) bs 666 k half_lows q in
+          let p = some_refusal half_rows bs 666 k q in
           let z : k ≡ 0 = ap (λ (l : LoadedHalf). l.refusal) u in
           absurd (omega (arith, p, z))
       go (good left vs rest) q u =

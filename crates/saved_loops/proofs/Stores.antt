@@ -1,5 +1,5 @@
 -- What is stored: 666 bytes at the buffer's start, or nothing. Assumes nothing.
-use mathlib.Core.Path.{◌≡◌, refl, sym, ap, ◌∙◌, subst}
+use mathlib.Core.Path.{◌≡◌, refl, sym, ap, ◌∙◌}
 use Prim.Native.Nat.{ℕ, zero, suc, ◌+◌, ◌*◌, ◌^◌, ◌≤◌, ◌<◌}
 use native.Mathlib.Omega.{arith}
 use mathlib.Core.Bool.{Bool, true, false, ◌&&◌, cond}
@@ -8,22 +8,23 @@ use lib.Dec.{eqb, leb}
 use lib.ListN.{length, get_or, take, drop, replicate, length-append}
 use lib.Seq.{sets, sets-eq, take_at}
 use borrow.Author.Tests.{eq-eqb, ne_eqb, eqb-true, leb-true, le-leb, lt-leb}
+use Rattle.refusals.specs.declared.Refusal.TheVariants.{SavedField}
 use Rattle.byte_layout.specs.declared.Row.{Row}
-use Rattle.byte_layout.specs.Numbers.{Bytes, bytes}
-use Rattle.byte_layout.specs.Rows.{row_at, rows, stands}
+use Rattle.byte_layout.specs.Numbers.{bytes}
+use Rattle.byte_layout.specs.Rows.{row, stands}
 use Rattle.byte_layout.specs.Writes.{field, fine, payload}
 use Rattle.byte_layout.proofs.Numbers.{length_bytes}
 use Rattle.byte_layout.proofs.Puts.{sets_append}
 use Rattle.byte_layout.proofs.Lengths.{always}
 use Rattle.byte_layout.proofs.Takes.{took, none}
 use Rattle.crc32.specs.Checksums.{checksum_of}
-use Rattle.saved_loops.specs.Tables.{half_table, half_rows}
+use Rattle.saved_loops.specs.Tables.{half_rows}
 use Rattle.saved_loops.specs.Records.{well_formed, storable, store_refusal, half_numbers, body, encoded, stored}
 
 -- ---- the rows of a half: five, then eighteen words
 
 abbrev word_row : Row
-word_row = record { width = 8; guard = 0; low = 0; least = 0; most = 18446744073709551615; refusal = 24 }
+word_row = row 8 0 0 0 18446744073709551615 SavedField
 
 words_length : (n : ℕ) (vs ws : List ℕ) → length ws ≡ n → length (payload (replicate n word_row) vs ws) ≡ 8 * n
 unfolding payload field
@@ -39,13 +40,13 @@ words_fine (suc n) vs [] h s = absurd (omega (arith, h))
 words_fine (suc n) vs (x ∷ ws) h s =
     took word_row (replicate n word_row) vs x ws refl (omega arith) (omega (arith, s 0)) (words_fine n (vs ++ (x ∷ [])) ws (omega (arith, h)) (λ i. s (suc i)))
 
-pub half_length : (ws : List ℕ) → length ws ≡ 19 → length (payload (rows half_table 0 23) [] (half_numbers ws)) ≡ 150
-unfolding payload field stands rows row_at half_table bytes
+pub half_length : (ws : List ℕ) → length ws ≡ 19 → length (payload half_rows [] (half_numbers ws)) ≡ 150
+unfolding payload field stands half_rows bytes
 half_length [] h = absurd (omega (arith, h))
 half_length (x ∷ ws) h = omega (arith, words_length 18 (167 ∷ 76 ∷ 1 ∷ 661 ∷ x ∷ []) ws (omega (arith, h)))
 
-pub half_fine : (ws : List ℕ) → length ws ≡ 19 → get_or ws 0 0 ≤ 255 → ((i : ℕ) → get_or ws i 0 < 2 ^ 64) → fine (rows half_table 0 23) [] (half_numbers ws) ≡ true
-unfolding rows row_at half_table
+pub half_fine : (ws : List ℕ) → length ws ≡ 19 → get_or ws 0 0 ≤ 255 → ((i : ℕ) → get_or ws i 0 < 2 ^ 64) → fine half_rows [] (half_numbers ws) ≡ true
+unfolding half_rows
 half_fine [] h a s = absurd (omega (arith, h))
 half_fine (x ∷ ws) h a s =
     took _ _ _ _ _ refl (omega arith) (omega arith)
@@ -57,18 +58,21 @@ half_fine (x ∷ ws) h a s =
 
 -- ---- the numbers in the code's array
 
-pub half_room : (ws vs : List ℕ) (n : ℕ) → length ws ≡ 19 → take 23 vs ≡ half_numbers ws → 666 ≤ n → 0 + length (payload (rows half_table 0 23) [] (take 23 vs)) ≤ n
+pub listed : (ws xs rest : List ℕ) → length ws ≡ 19 → xs ≡ ws → 167 ∷ 76 ∷ 1 ∷ 661 ∷ take 19 (xs ++ rest) ≡ half_numbers ws
+listed ws xs rest n e = rw (e, take_at ws rest 19 n) refl
+
+pub half_room : (ws vs : List ℕ) (n : ℕ) → length ws ≡ 19 → take 23 vs ≡ half_numbers ws → 666 ≤ n → 0 + length (payload half_rows [] (take 23 vs)) ≤ n
 half_room ws vs n l e h = rw e (rw (half_length ws l) (omega (arith, h)))
 
-pub half_put : (ws vs buffer after : List ℕ) → take 23 vs ≡ half_numbers ws → after ≡ sets buffer 0 (payload (rows half_table 0 23) [] (take 23 vs)) → after ≡ sets buffer 0 (payload half_rows [] (half_numbers ws))
+pub half_put : (ws vs buffer after : List ℕ) → take 23 vs ≡ half_numbers ws → after ≡ sets buffer 0 (payload half_rows [] (take 23 vs)) → after ≡ sets buffer 0 (payload half_rows [] (half_numbers ws))
 unfolding half_rows
-half_put ws vs buffer after e h = h ∙ ap (λ (xs : List ℕ). sets buffer 0 (payload (rows half_table 0 23) [] xs)) e
+half_put ws vs buffer after e h = h ∙ ap (λ (xs : List ℕ). sets buffer 0 (payload half_rows [] xs)) e
 
 -- ---- numbers, names, checksum
 
 pub body_length : (ws names : List ℕ) → length ws ≡ 19 → length names ≡ 512 → length (body ws names) ≡ 662
 unfolding body half_rows
-body_length ws names h l = length-append (payload (rows half_table 0 23) [] (half_numbers ws)) names ∙ omega (arith, half_length ws h, l)
+body_length ws names h l = length-append (payload half_rows [] (half_numbers ws)) names ∙ omega (arith, half_length ws h, l)
 
 pub encoded_length : (ws names : List ℕ) → length ws ≡ 19 → length names ≡ 512 → length (encoded ws names) ≡ 666
 unfolding encoded
@@ -81,8 +85,8 @@ module _ (ws names buffer : List ℕ) (nineteen : length ws ≡ 19) (named : len
   body_put first second p q =
       let n = half_length ws nineteen in
       q ∙ ap (λ (l : List ℕ). sets first 150 l) (all names named) ∙ ap (λ (l : List ℕ). sets l 150 names) p
-      ∙ ap (λ (k : ℕ). sets (sets buffer 0 (payload (rows half_table 0 23) [] (half_numbers ws))) k names) (omega (arith, n))
-      ∙ sym (sets_append buffer 0 (payload (rows half_table 0 23) [] (half_numbers ws)) names)
+      ∙ ap (λ (k : ℕ). sets (sets buffer 0 (payload half_rows [] (half_numbers ws))) k names) (omega (arith, n))
+      ∙ sym (sets_append buffer 0 (payload half_rows [] (half_numbers ws)) names)
     where
       all : (l : List ℕ) → length l ≡ 512 → take 512 l ≡ l
       all l e = ap (λ (k : ℕ). take k l) (sym e) ∙ whole l

@@ -2,8 +2,7 @@
 use Rattle.std.specs.Prelude.{ℕ, ◌^◌, ◌≤◌, ◌<◌, ◌≡◌, List, length, get_or, take, replicate}
 use Rattle.std.proofs.lemmas.List.Edits.{sets}
 use Rattle.byte_layout.specs.Numbers.{Bytes}
-use Rattle.saved_loops.specs.declared.LoadedHalf.{LoadedHalf}
-use Rattle.saved_loops.specs.Records.{names_in, loaded, encoded, store_refusal, stored}
+use Rattle.saved_loops.specs.Records.{LoadedHalf, names_in, loaded, encoded, store_refusal, stored}
 
 -- the words are returned, without a refusal
 abbrev pub whole : List ℕ → LoadedHalf

@@ -1,15 +1,16 @@
 -- The bytes of a hall's half of a loop table: docs/formats/LOOPS.md. A half is nineteen words: hall (A is 0, B is 1),
 -- frames of the sound, number of changes, then start and end of its eight slots.
 use Rattle.std.specs.Prelude.{ℕ, zero, suc, ◌+◌, ◌*◌, Bool, true, ◌&&◌, cond, List, [], ◌∷◌, ◌++◌, leb, eqb, length}
-use Rattle.std.specs.Prelude.{get_or, take, drop, replicate}
+use Rattle.std.specs.Prelude.{get_or, take, drop, replicate, Result, Ok, Err}
 use Rattle.std.proofs.lemmas.List.Edits.{sets}
+use Rattle.refusals.specs.declared.Refusal.{Refusal}
+use Rattle.refusals.specs.Numbers.{number}
 use Rattle.byte_layout.specs.Numbers.{num, bytes}
 use Rattle.byte_layout.specs.Reads.{Reading, bad, good, steps}
 use Rattle.byte_layout.specs.Writes.{payload}
 use Rattle.crc32.specs.Checksums.{checksum_of}
 use Rattle.loop_table.specs.declared.LoopSlot.{LoopSlot}
 use Rattle.loop_table.specs.Tables.{well_formed_slot}
-use Rattle.saved_loops.specs.declared.LoadedHalf.{LoadedHalf}
 use Rattle.saved_loops.specs.Tables.{half_rows}
 
 -- ---- fields
@@ -35,6 +36,16 @@ names_in bs = take 512 (drop 150 bs)
 -- the last four bytes are the CRC-32 of all bytes before them
 abbrev pub crc_right : List ℕ → Bool
 crc_right bs = eqb (num (take 4 (drop 662 bs))) (checksum_of (take 662 bs))
+
+-- the words of a half and a refusal, which is 0 if there is none
+pub record LoadedHalf : Type 0 where
+  pub words : List ℕ
+  pub refusal : ℕ
+
+-- what a load answers
+abbrev pub half_of : Result (List ℕ) Refusal → LoadedHalf
+half_of (Ok ws) = record { words = ws; refusal = 0 }
+half_of (Err r) = record { words = replicate 19 0; refusal = number r }
 
 -- if refused, every word is 0
 abbrev pub refused_by : ℕ → LoadedHalf

@@ -2,9 +2,9 @@
 // bytes here; the host checks whether they are text.
 #![tactic(auto)]
 
-ghost use Rattle.std.specs.Prelude.{◌≡◌, [], ◌≤◌, ◌<◌, length, take, drop};
+ghost use Rattle.std.specs.Prelude.{◌≡◌, [], ◌≤◌, length, take, drop};
 ghost use Rattle.std.proofs.lemmas.List.Edits.{sets};
-ghost use Rattle.byte_layout.specs.Reads.{good, steps, view};
+ghost use Rattle.refusals.specs.Numbers.{number_of};
 ghost use Rattle.byte_layout.specs.Writes.{payload};
 ghost use Rattle.loop_table.specs.Tables.{well_formed_slot, slot_of};
 ghost use Rattle.saved_loops.specs.Tables.{half_rows};
@@ -12,9 +12,8 @@ ghost use Rattle.saved_loops.specs.Records.{
   well_formed_slots,
   well_formed,
   crc_right,
-  refused_by,
-  shown,
   loaded,
+  half_of,
   half_numbers,
   encoded,
   storable,
@@ -25,15 +24,8 @@ ghost use Rattle.saved_loops.specs.Promises.{Promises};
 
 mod layouts;
 
-use byte_layout::Parsed;
-use layouts::{HALF, HALF_ROWS};
-
-// The words of a half, or a refusal's number and every word 0.
-#[derive(Clone, Copy)]
-pub struct LoadedHalf {
-    pub words: [u64; 19],
-    pub refusal: u32,
-}
+use layouts::HALF;
+use refusals::Refusal;
 
 // ---- fields
 
@@ -46,12 +38,9 @@ fn is_slot(num_frames: u64, start: u64, end: u64) -> bool
 fn are_slots(words: [u64; 19]) -> bool
     ensures { result ≡ well_formed_slots 8 words }
 {
-    let num_frames = words[1];
     let mut ok = true;
-    let mut i: usize = 0;
-    while i < 8 {
-        ok = ok & is_slot(num_frames, words[3 + 2 * i], words[4 + 2 * i]);
-        i += 1;
+    for k in 0..8 {
+        ok &= is_slot(words[1], words[3 + 2 * k], words[4 + 2 * k]);
     }
     ok
 }
@@ -59,29 +48,17 @@ fn are_slots(words: [u64; 19]) -> bool
 fn is_well_formed(words: [u64; 19]) -> bool
     ensures { result ≡ well_formed words }
 {
-    let hall = words[0];
-    (hall <= 1) & are_slots(words)
+    (words[0] <= 1) & are_slots(words)
 }
 
 // ---- loading
-
-fn read_half(s: &[u8]) -> Parsed
-    ensures { view s.now 23 result ≡ steps half_rows (good 666 [] s.now) }
-{
-    let table = HALF;
-    byte_layout::read_rows(s, byte_layout::begin(0, 666), &table, HALF_ROWS)
-}
 
 // The words among the numbers of a record.
 fn words_of(values: [u64; 80]) -> [u64; 19]
     ensures { result ≡ take 19 (drop 4 values) }
 {
     let mut words = [0u64; 19];
-    let mut i: usize = 0;
-    while i < 19 {
-        words[i] = values[4 + i];
-        i += 1;
-    }
+    words.copy_from_slice(&values[4..23]);
     words
 }
 
@@ -93,39 +70,19 @@ fn is_crc(s: &[u8]) -> bool
     byte_layout::number(s, 662, 4) == crc as u64
 }
 
-fn refused(refusal: u32) -> LoadedHalf
-    ensures { result ≡ refused_by refusal }
+// Loads a half's words from any bytes. It does not read what follows the record.
+pub fn load(s: &[u8]) -> Result<[u64; 19], Refusal>
+    ensures { half_of result ≡ loaded s.now }
 {
-    LoadedHalf {
-        words: [0; 19],
-        refusal,
-    }
-}
-
-fn show(ok: bool, words: [u64; 19]) -> LoadedHalf
-    ensures { result ≡ shown ok words }
-{
-    if ok {
-        return LoadedHalf { words, refusal: 0 };
-    }
-    refused(refusals::SAVED_FIELD)
-}
-
-// Loads a half from any bytes. It does not read what follows the record.
-pub fn load(s: &[u8]) -> LoadedHalf
-    ensures { result ≡ loaded s.now }
-{
-    let p = read_half(s);
-    if 0 < p.refused {
-        return refused(p.refused as u32);
-    }
+    let parsed = byte_layout::read_rows(s, byte_layout::begin(0, 666), &HALF)?;
     if s.len() < 666 {
-        return refused(refusals::TRUNCATED);
+        return Err(Refusal::Truncated);
     }
-    let values = p.values;
-    let words = words_of(values);
-    let ok = is_well_formed(words) & is_crc(s);
-    show(ok, words)
+    let words = words_of(parsed.values);
+    if !(is_well_formed(words) & is_crc(s)) {
+        return Err(Refusal::SavedField);
+    }
+    Ok(words)
 }
 
 // ---- storing
@@ -136,38 +93,35 @@ fn is_storable(words: [u64; 19], named: usize) -> bool
     is_well_formed(words) & (named == 512)
 }
 
-fn refusal_of(words: [u64; 19], named: usize, room: usize) -> u32
-    ensures { result ≡ store_refusal words named room }
+fn check_store(words: [u64; 19], named: usize, room: usize) -> Result<(), Refusal>
+    ensures { number_of result ≡ store_refusal words named room }
 {
     if !is_storable(words, named) {
-        return refusals::SAVED_FIELD;
+        return Err(Refusal::SavedField);
     }
-    if room < 666 { refusals::ROOM } else { 0 }
+    if room < 666 {
+        return Err(Refusal::Room);
+    }
+    Ok(())
 }
 
 fn numbers(words: [u64; 19]) -> [u64; 80]
     ensures { take 23 result ≡ half_numbers words }
 {
-    let mut v = [0u64; 80];
-    v[0] = 167;
-    v[1] = 76;
-    v[2] = 1;
-    v[3] = 661;
-    let mut i: usize = 0;
-    while i < 19 {
-        v[4 + i] = words[i];
-        i += 1;
-    }
-    v
+    let mut values = [0u64; 80];
+    values[0] = 167;
+    values[1] = 76;
+    values[2] = 1;
+    values[3] = 661;
+    values[4..23].copy_from_slice(&words);
+    values
 }
 
 fn put_numbers(words: [u64; 19], buffer: &mut [u8])
     requires { 666 ≤ length buffer.old }
     ensures { buffer.new ≡ sets buffer.old 0 (payload half_rows [] (half_numbers words)) }
 {
-    let table = HALF;
-    let values = numbers(words);
-    let end = byte_layout::put_rows(buffer, 0, values, &table, HALF_ROWS);
+    byte_layout::put_rows(buffer, 0, numbers(words), &HALF);
 }
 
 fn put(words: [u64; 19], names: &[u8], buffer: &mut [u8])
@@ -180,18 +134,15 @@ fn put(words: [u64; 19], names: &[u8], buffer: &mut [u8])
     byte_layout::put_number(buffer, 662, 4, crc as u64);
 }
 
-// Writes the record to the start of the buffer and returns 0, or returns a refusal and writes nothing. The names have
-// 64 bytes for each slot.
-pub fn store(words: [u64; 19], names: &[u8], buffer: &mut [u8]) -> u32
-    ensures { (result ≡ store_refusal words (length names.now) (length buffer.old))
+// Writes the record to the start of the buffer, or returns a refusal and writes nothing. The names have 64 bytes for
+// each slot.
+pub fn store(words: [u64; 19], names: &[u8], buffer: &mut [u8]) -> Result<(), Refusal>
+    ensures { (number_of result ≡ store_refusal words (length names.now) (length buffer.old))
         × (buffer.new ≡ stored words names.now buffer.old) }
 {
-    let refusal = refusal_of(words, names.len(), buffer.len());
-    if refusal > 0 {
-        return refusal;
-    }
+    check_store(words, names.len(), buffer.len())?;
     put(words, names, buffer);
-    0
+    Ok(())
 }
 
 // An empty function whose contract collects the theorems, so that the checker must prove them.

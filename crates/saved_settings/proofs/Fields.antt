@@ -1,8 +1,7 @@
 -- What well formed fields have, and what a byte with a sign is. Assumes nothing.
-use Rattle.std.proofs.Common.{◌≡◌, ℕ, zero, suc, ◌+◌, ◌-◌, ◌*◌, ◌/◌, ◌%◌, ◌^◌, ◌<◌, ◌≤◌, Bool, true, false, cond, not, ◌&&◌, ◌||◌, T, eqb, ltb, leb, sym, refl, ap, ◌∙◌, subst, mod-eq_of_lt, div-lt_iff_lt-mul, arith, eqb→eq, ltb→lt, leb→le, ltb-false, ltb-true, le-ltb, lt-ltb, eq-eqb, ne_eqb, eqb-true, le-leb, leb-true}
-use lib.Ieee.{Float, nan, inf, fin, binary64, odd, of_fields, of_bits}
+use Rattle.std.proofs.Common.{◌≡◌, ℕ, zero, suc, ◌+◌, ◌-◌, ◌/◌, ◌%◌, ◌^◌, ◌<◌, ◌≤◌, Bool, true, false, cond, ◌&&◌, ◌||◌, T, eqb, ltb, leb, sym, refl, ap, ◌∙◌, subst, mod-eq_of_lt, arith, eqb→eq, ltb→lt, leb→le, ltb-false, ltb-true, le-ltb, lt-ltb, ne_eqb, eqb-true, leb-true}
+use lib.Ieee.{nan, inf, binary64, odd, of_fields, of_bits}
 use lib.Ieee.Fits.{and_l, and_r}
-use borrow.Author.Tests.{lt-leb}
 use Rattle.numbers.specs.Words.{finite}
 use Rattle.saved_settings.specs.declared.SavedSettings.{SavedSettings}
 use Rattle.saved_settings.specs.Records.{loop_right, finite_bits, pitch_right, well_formed, signed, has_loop_word, storable}

@@ -1,5 +1,4 @@
 -- Laws of saved settings.
-pub mod Low
 pub mod Loads
 pub mod Stores
 pub mod Fields

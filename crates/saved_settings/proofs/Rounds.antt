@@ -1,16 +1,14 @@
 -- Round trips: what is stored loads as the same fields, and what was loaded is stored as the same bytes, by the laws of the codec. Assumes nothing.
-use Rattle.std.proofs.Common.{◌≡◌, ℕ, zero, suc, ◌+◌, ◌-◌, ◌*◌, ◌%◌, ◌^◌, ◌<◌, ◌≤◌, Bool, true, false, cond, ◌&&◌, T, eqb, ltb, leb, List, [], ◌∷◌, ◌++◌, length, get_or, sym, refl, ap, ◌∙◌, subst, add-zero, le_antisymm, arith, eqb-true, le-leb, leb-true}
-use Rattle.byte_layout.specs.declared.Row.{Row}
+use Rattle.std.proofs.Common.{◌≡◌, ℕ, suc, ◌%◌, ◌^◌, ◌<◌, Bool, true, false, cond, ◌&&◌, eqb, List, [], ◌∷◌, ◌++◌, length, get_or, sym, refl, ap, ◌∙◌, subst, le_antisymm, arith, eqb-true, le-leb}
 use Rattle.byte_layout.specs.Numbers.{num, bytes}
-use Rattle.byte_layout.specs.Rows.{row_at, rows, stands, within}
+use Rattle.byte_layout.specs.Rows.{stands, within}
 use Rattle.byte_layout.specs.Reads.{Reading, bad, good, steps, step, taken}
-use Rattle.byte_layout.specs.Writes.{field, fits, fine, payload}
-use Rattle.byte_layout.proofs.Codec.{read_written, written_read, Written}
+use Rattle.byte_layout.specs.Writes.{field, fine, payload}
+use Rattle.byte_layout.proofs.Codec.{read_written, written_read}
 use Rattle.byte_layout.proofs.Takes.{took, none, peel, ended, read_back}
 use Rattle.saved_settings.specs.declared.SavedSettings.{SavedSettings}
-use Rattle.saved_settings.specs.declared.Loaded.{Loaded}
-use Rattle.saved_settings.specs.Tables.{first_table, second_table, first_rows, second_rows}
-use Rattle.saved_settings.specs.Records.{pitch_right, well_formed, has_loop_word, pitch_of, signed, saved_of, refused_by, shown, judged, second, loaded, storable, first_numbers, second_numbers, encoded}
+use Rattle.saved_settings.specs.Tables.{first_rows, second_rows}
+use Rattle.saved_settings.specs.Records.{Loaded, well_formed, signed, saved_of, refused_by, shown, judged, second, loaded, storable, first_numbers, second_numbers, encoded}
 use Rattle.saved_settings.specs.Promises.{whole, Holds}
 use Rattle.saved_settings.proofs.Fields.{WellFormed, well_formed_parts, storable_parts, signed_back, byte_back}
 use Rattle.saved_settings.proofs.Loads.{first_sound, second_sound}
@@ -18,8 +16,8 @@ use Rattle.saved_settings.proofs.Stores.{first_length, second_length}
 
 -- ---- stored, then loaded
 
-first_fine : (s : SavedSettings) → s.rate < 2 ^ 64 → WellFormed s → fine (rows first_table 0 9) [] (first_numbers s) ≡ true
-unfolding rows row_at first_table
+first_fine : (s : SavedSettings) → s.rate < 2 ^ 64 → WellFormed s → fine first_rows [] (first_numbers s) ≡ true
+unfolding first_rows
 first_fine s r l =
     took _ _ _ _ _ refl (omega arith) (omega arith)
     (took _ _ _ _ _ refl (omega arith) (omega arith)
@@ -32,8 +30,8 @@ first_fine s r l =
     (took _ _ _ _ _ refl (omega arith) (omega (arith, r))
     (none _)))))))))
 
-second_fine : (s : SavedSettings) → s.rate < 2 ^ 64 → WellFormed s → fine (rows second_table 0 10) [] (second_numbers s) ≡ true
-unfolding rows row_at second_table
+second_fine : (s : SavedSettings) → s.rate < 2 ^ 64 → WellFormed s → fine second_rows [] (second_numbers s) ≡ true
+unfolding second_rows
 second_fine s r l =
     took _ _ _ _ _ refl (omega arith) (omega arith)
     (took _ _ _ _ _ refl (omega arith) (omega arith)
@@ -48,16 +46,16 @@ second_fine s r l =
     (none _))))))))))
 
 -- the version's byte
-first_is : (reader : ℕ) (s : SavedSettings) (rest : List ℕ) → second reader (payload (rows first_table 0 9) [] (first_numbers s) ++ rest) ≡ false
-unfolding payload field stands rows row_at first_table bytes
+first_is : (reader : ℕ) (s : SavedSettings) (rest : List ℕ) → second reader (payload first_rows [] (first_numbers s) ++ rest) ≡ false
+unfolding payload field stands first_rows bytes
 first_is reader s rest = go (eqb reader 1)
   where
     go : (b : Bool) → cond b false false ≡ false
     go true = refl
     go false = refl
 
-second_is : (s : SavedSettings) (rest : List ℕ) → second 2 (payload (rows second_table 0 10) [] (second_numbers s) ++ rest) ≡ true
-unfolding payload field stands rows row_at second_table bytes
+second_is : (s : SavedSettings) (rest : List ℕ) → second 2 (payload second_rows [] (second_numbers s) ++ rest) ≡ true
+unfolding payload field stands second_rows bytes
 second_is s rest = refl
 
 first_saved : (s : SavedSettings) → WellFormed s → s.pitch ≡ 0 → saved_of 1 (first_numbers s) ≡ s
@@ -78,7 +76,7 @@ unfolding loaded encoded judged first_rows
 first reader s rest r h =
     let p = storable_parts 1 s h in
     let l = well_formed_parts s p.0 in
-    let e = read_back (rows first_table 0 9) (first_numbers s) rest 25 (first_length s) (read_written (rows first_table 0 9) [] (first_numbers s) rest 0 first_sound (first_fine s r l)) in
+    let e = read_back first_rows (first_numbers s) rest 25 (first_length s) (read_written first_rows [] (first_numbers s) rest 0 first_sound (first_fine s r l)) in
     rw (first_is reader s rest) (ap (judged 1) e ∙ show_whole 1 s (saved_of 1 (first_numbers s)) (first_saved s l (eqb-true s.pitch 0 p.1)) p.0)
 
 pub second_back : (s : SavedSettings) (rest : List ℕ) → s.rate < 2 ^ 64 → s.pitch < 2 ^ 64 → storable 2 s ≡ true → loaded 2 (encoded 2 s ++ rest) ≡ whole 2 s
@@ -86,19 +84,19 @@ unfolding loaded encoded judged second_rows
 second_back s rest r k h =
     let p = storable_parts 2 s h in
     let l = well_formed_parts s p.0 in
-    let e = read_back (rows second_table 0 10) (second_numbers s) rest 26 (second_length s) (read_written (rows second_table 0 10) [] (second_numbers s) rest 0 second_sound (second_fine s r l)) in
+    let e = read_back second_rows (second_numbers s) rest 26 (second_length s) (read_written second_rows [] (second_numbers s) rest 0 second_sound (second_fine s r l)) in
     rw (second_is s rest) (ap (judged 2) e ∙ show_whole 2 s (saved_of 2 (second_numbers s)) (second_saved s l k) p.0)
 
 -- ---- loaded, then stored
 
 -- a version 1 reader stops at the version's byte
 stops : (l : List ℕ) → judged 1 (steps first_rows (good 25 [] (94 ∷ 113 ∷ 2 ∷ l))) ≡ refused_by 23
-unfolding judged first_rows rows row_at first_table steps step stands taken within num
+unfolding judged first_rows steps step stands taken within num
 stops l =
     rw (le-leb 1 (suc (suc (suc (length l)))) (omega arith), le-leb 1 (suc (suc (length l))) (omega arith), le-leb 1 (suc (length l)) (omega arith)) refl
 
 pub unknown : (s : SavedSettings) (rest : List ℕ) → loaded 1 (encoded 2 s ++ rest) ≡ refused_by 23
-unfolding loaded encoded payload field stands second_rows rows row_at second_table bytes
+unfolding loaded encoded payload field stands second_rows bytes
 unknown s rest = stops _
 
 -- loaded fields are well formed, and they are the fields among the numbers read
@@ -130,8 +128,8 @@ version_is v w (good left vs rest) s p e = go (well_formed (saved_of v vs)) e
 marks : (a b c d : ℕ) (l : List ℕ) (v n : ℕ) → 94 ≡ a → 113 ≡ b → v ≡ c → n ≡ d → 94 ∷ 113 ∷ v ∷ n ∷ l ≡ a ∷ b ∷ c ∷ d ∷ l
 marks a b c d l v n p q r t = ap (λ (x : ℕ). x ∷ 113 ∷ v ∷ n ∷ l) p ∙ ap (λ (x : ℕ). a ∷ x ∷ v ∷ n ∷ l) q ∙ ap (λ (x : ℕ). a ∷ b ∷ x ∷ n ∷ l) r ∙ ap (λ (x : ℕ). a ∷ b ∷ c ∷ x ∷ l) t
 
-first_numbers_lem : (ws : List ℕ) → fine (rows first_table 0 9) [] ws ≡ true → first_numbers (saved_of 1 ws) ≡ ws
-unfolding rows row_at first_table
+first_numbers_lem : (ws : List ℕ) → fine first_rows [] ws ≡ true → first_numbers (saved_of 1 ws) ≡ ws
+unfolding first_rows
 first_numbers_lem ws h =
     peel (λ (l : List ℕ). first_numbers (saved_of 1 (l)) ≡ l) _ _ _ ws refl h (λ a l0 a0 a1 h0.
     peel (λ (l : List ℕ). first_numbers (saved_of 1 (a ∷ l)) ≡ a ∷ l) _ _ _ l0 refl h0 (λ b l1 b0 b1 h1.
@@ -145,8 +143,8 @@ first_numbers_lem ws h =
     subst (λ (l : List ℕ). first_numbers (saved_of 1 (a ∷ b ∷ c ∷ d ∷ e ∷ f ∷ g ∷ i ∷ j ∷ l)) ≡ a ∷ b ∷ c ∷ d ∷ e ∷ f ∷ g ∷ i ∷ j ∷ l) (sym (ended _ l8 h8))
     (marks a b c d (e ∷ f ∷ g ∷ i ∷ j ∷ []) 1 21 (le_antisymm a0 a1) (le_antisymm b0 b1) (le_antisymm c0 c1) (le_antisymm d0 d1)))))))))))
 
-second_numbers_lem : (ws : List ℕ) → fine (rows second_table 0 10) [] ws ≡ true → second_numbers (saved_of 2 ws) ≡ ws
-unfolding rows row_at second_table
+second_numbers_lem : (ws : List ℕ) → fine second_rows [] ws ≡ true → second_numbers (saved_of 2 ws) ≡ ws
+unfolding second_rows
 second_numbers_lem ws h =
     peel (λ (l : List ℕ). second_numbers (saved_of 2 (l)) ≡ l) _ _ _ ws refl h (λ a l0 a0 a1 h0.
     peel (λ (l : List ℕ). second_numbers (saved_of 2 (a ∷ l)) ≡ a ∷ l) _ _ _ l0 refl h0 (λ b l1 b0 b1 h1.
@@ -162,35 +160,35 @@ second_numbers_lem ws h =
     (ap (λ (y : ℕ). 94 ∷ 113 ∷ 2 ∷ 22 ∷ e ∷ f ∷ g ∷ i ∷ j ∷ y ∷ []) (byte_back o o1) ∙ marks a b c d (e ∷ f ∷ g ∷ i ∷ j ∷ o ∷ []) 2 22 (le_antisymm a0 a1) (le_antisymm b0 b1) (le_antisymm c0 c1) (le_antisymm d0 d1))))))))))))
 
 module _ (reader : ℕ) (s : SavedSettings) (bytes : List ℕ) (small : (i : ℕ) → get_or bytes i 0 < 256) where
-  from_first : (d : Reading) → steps (rows first_table 0 9) (good 25 [] bytes) ≡ d → judged 1 d ≡ whole 1 s → Holds 1 s bytes
+  from_first : (d : Reading) → steps first_rows (good 25 [] bytes) ≡ d → judged 1 d ≡ whole 1 s → Holds 1 s bytes
   unfolding judged encoded first_rows
   from_first (bad k) q e =
       let z : ◌≡◌ {A = ℕ} 0 1 = ap (λ (l : Loaded). l.version) e in
       absurd (omega (arith, z))
   from_first (good left vs rest) q e =
-      let w = written_read (rows first_table 0 9) 25 [] bytes left vs rest small q in
+      let w = written_read first_rows 25 [] bytes left vs rest small q in
       let x = shown_is 1 s (saved_of 1 vs) (omega arith) e in
       let t : saved_of 1 w.more ≡ s = ap (saved_of 1) (sym w.same) ∙ x.0 in
       let y : w.more ≡ first_numbers s = sym (first_numbers_lem w.more w.takes) ∙ ap first_numbers t in
       record {
         rest = rest;
-        is = w.from ∙ ap (λ (l : List ℕ). payload (rows first_table 0 9) [] l ++ rest) y;
+        is = w.from ∙ ap (λ (l : List ℕ). payload first_rows [] l ++ rest) y;
         may = ap (λ (b : Bool). b && eqb s.pitch 0) x.1 ∙ ap (λ (n : ℕ). eqb n 0) (sym (ap (λ (u : SavedSettings). u.pitch) t));
       }
 
-  from_second : (d : Reading) → steps (rows second_table 0 10) (good 26 [] bytes) ≡ d → judged 2 d ≡ whole 2 s → Holds 2 s bytes
+  from_second : (d : Reading) → steps second_rows (good 26 [] bytes) ≡ d → judged 2 d ≡ whole 2 s → Holds 2 s bytes
   unfolding judged encoded second_rows
   from_second (bad k) q e =
       let z : ◌≡◌ {A = ℕ} 0 2 = ap (λ (l : Loaded). l.version) e in
       absurd (omega (arith, z))
   from_second (good left vs rest) q e =
-      let w = written_read (rows second_table 0 10) 26 [] bytes left vs rest small q in
+      let w = written_read second_rows 26 [] bytes left vs rest small q in
       let x = shown_is 2 s (saved_of 2 vs) (omega arith) e in
       let t : saved_of 2 w.more ≡ s = ap (saved_of 2) (sym w.same) ∙ x.0 in
       let y : w.more ≡ second_numbers s = sym (second_numbers_lem w.more w.takes) ∙ ap second_numbers t in
       record {
         rest = rest;
-        is = w.from ∙ ap (λ (l : List ℕ). payload (rows second_table 0 10) [] l ++ rest) y;
+        is = w.from ∙ ap (λ (l : List ℕ). payload second_rows [] l ++ rest) y;
         may = ap (λ (b : Bool). b && true) x.1;
       }
 
@@ -198,18 +196,18 @@ module _ (reader : ℕ) (s : SavedSettings) (bytes : List ℕ) (small : (i : ℕ
   unfolding loaded first_rows
   first_again e = go (second reader bytes) e
     where
-      go : (b : Bool) → cond b (judged 2 (steps second_rows (good 26 [] bytes))) (judged 1 (steps (rows first_table 0 9) (good 25 [] bytes))) ≡ whole 1 s → Holds 1 s bytes
+      go : (b : Bool) → cond b (judged 2 (steps second_rows (good 26 [] bytes))) (judged 1 (steps first_rows (good 25 [] bytes))) ≡ whole 1 s → Holds 1 s bytes
       go true q =
           let z = version_is 2 1 (steps second_rows (good 26 [] bytes)) s (omega arith) q in
           absurd (omega (arith, z))
-      go false q = from_first (steps (rows first_table 0 9) (good 25 [] bytes)) refl q
+      go false q = from_first (steps first_rows (good 25 [] bytes)) refl q
 
   pub second_again : loaded reader bytes ≡ whole 2 s → Holds 2 s bytes
   unfolding loaded second_rows
   second_again e = go (second reader bytes) e
     where
-      go : (b : Bool) → cond b (judged 2 (steps (rows second_table 0 10) (good 26 [] bytes))) (judged 1 (steps first_rows (good 25 [] bytes))) ≡ whole 2 s → Holds 2 s bytes
-      go true q = from_second (steps (rows second_table 0 10) (good 26 [] bytes)) refl q
+      go : (b : Bool) → cond b (judged 2 (steps second_rows (good 26 [] bytes))) (judged 1 (steps first_rows (good 25 [] bytes))) ≡ whole 2 s → Holds 2 s bytes
+      go true q = from_second (steps second_rows (good 26 [] bytes)) refl q
       go false q =
           let z = version_is 1 2 (steps first_rows (good 25 [] bytes)) s (omega arith) q in
           absurd (omega (arith, z))

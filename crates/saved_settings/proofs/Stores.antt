@@ -1,36 +1,46 @@
 -- What is stored: 25 or 26 bytes at the buffer's start, or nothing. Assumes nothing.
-use Rattle.std.proofs.Common.{◌≡◌, ℕ, suc, ◌+◌, ◌<◌, ◌≤◌, Bool, true, false, cond, eqb, leb, List, [], ◌∷◌, length, take, sym, refl, ap, ◌∙◌, subst, arith, eq-eqb, ne_eqb, le-leb, leb-true}
+use Rattle.std.proofs.Common.{◌≡◌, ℕ, suc, ◌+◌, ◌-◌, ◌%◌, ◌<◌, ◌≤◌, Bool, true, false, cond, leb, List, [], ◌∷◌, ◌++◌, length, take, sym, refl, ap, ◌∙◌, arith, eq-eqb, ne_eqb, le-leb, leb-true}
 use lib.Seq.{sets}
-use borrow.Author.Tests.{lt-leb}
 use Rattle.byte_layout.specs.Numbers.{bytes}
-use Rattle.byte_layout.specs.Rows.{row_at, rows, stands}
+use Rattle.byte_layout.specs.Rows.{stands}
 use Rattle.byte_layout.specs.Writes.{field, payload}
 use Rattle.saved_settings.specs.declared.SavedSettings.{SavedSettings}
-use Rattle.saved_settings.specs.Tables.{first_table, second_table, first_rows, second_rows}
-use Rattle.saved_settings.specs.Records.{storable, size, store_refusal, first_numbers, second_numbers, encoded, stored}
+use Rattle.saved_settings.specs.Tables.{first_rows, second_rows}
+use Rattle.saved_settings.specs.declared.Version.{Version}
+use Rattle.saved_settings.specs.declared.Version.TheVariants.{First, Second}
+use Rattle.saved_settings.specs.Records.{version_number, layout, numbers, storable, size, store_refusal, first_numbers, second_numbers, encoded, stored}
 
-pub first_length : (s : SavedSettings) → length (payload (rows first_table 0 9) [] (first_numbers s)) ≡ 25
-unfolding payload field stands rows row_at first_table bytes
+pub first_length : (s : SavedSettings) → length (payload first_rows [] (first_numbers s)) ≡ 25
+unfolding payload field stands first_rows bytes
 first_length s = refl
 
-pub second_length : (s : SavedSettings) → length (payload (rows second_table 0 10) [] (second_numbers s)) ≡ 26
-unfolding payload field stands rows row_at second_table bytes
+pub second_length : (s : SavedSettings) → length (payload second_rows [] (second_numbers s)) ≡ 26
+unfolding payload field stands second_rows bytes
 second_length s = refl
 
+pub long : (v : Version) (s : SavedSettings) → length (payload (layout v) [] (numbers v s)) ≡ size (version_number v)
+long First s = first_length s
+long Second s = second_length s
+
+pub encoded_is : (v : Version) (s : SavedSettings) → encoded (version_number v) s ≡ payload (layout v) [] (numbers v s)
+unfolding encoded
+encoded_is First s = refl
+encoded_is Second s = refl
+
 -- the numbers in the code's array
-pub first_room : (s : SavedSettings) (vs : List ℕ) (n : ℕ) → take 9 vs ≡ first_numbers s → 25 ≤ n → 0 + length (payload (rows first_table 0 9) [] (take 9 vs)) ≤ n
-first_room s vs n e h = rw e (rw (first_length s) h)
+pub listed : (v : Version) (s : SavedSettings) (n m : ℕ) (xs ys : List ℕ) → n ≡ version_number v → m ≡ size (version_number v)
+    → xs ≡ 94 ∷ 113 ∷ n ∷ (m - 4) ∷ s.start ∷ s.loop_start ∷ s.loop_end ∷ s.reverse ∷ s.rate ∷ s.pitch % 256 ∷ [] → take (length (layout v)) (xs ++ ys) ≡ numbers v s
+unfolding first_rows second_rows
+listed First s n m xs ys e f g = rw (g, e, f) refl
+listed Second s n m xs ys e f g = rw (g, e, f) refl
 
-pub second_room : (s : SavedSettings) (vs : List ℕ) (n : ℕ) → take 10 vs ≡ second_numbers s → 26 ≤ n → 0 + length (payload (rows second_table 0 10) [] (take 10 vs)) ≤ n
-second_room s vs n e h = rw e (rw (second_length s) h)
+pub room_for : (v : Version) (s : SavedSettings) (vs : List ℕ) (n : ℕ) → take (length (layout v)) vs ≡ numbers v s → size (version_number v) ≤ n
+    → 0 + length (payload (layout v) [] (take (length (layout v)) vs)) ≤ n
+room_for v s vs n e h = rw e (omega (arith, long v s, h))
 
-pub first_put : (s : SavedSettings) (vs buffer after : List ℕ) → take 9 vs ≡ first_numbers s → after ≡ sets buffer 0 (payload (rows first_table 0 9) [] (take 9 vs)) → after ≡ sets buffer 0 (encoded 1 s)
-unfolding encoded first_rows
-first_put s vs buffer after e h = h ∙ ap (λ (ws : List ℕ). sets buffer 0 (payload (rows first_table 0 9) [] ws)) e
-
-pub second_put : (s : SavedSettings) (vs buffer after : List ℕ) → take 10 vs ≡ second_numbers s → after ≡ sets buffer 0 (payload (rows second_table 0 10) [] (take 10 vs)) → after ≡ sets buffer 0 (encoded 2 s)
-unfolding encoded second_rows
-second_put s vs buffer after e h = h ∙ ap (λ (ws : List ℕ). sets buffer 0 (payload (rows second_table 0 10) [] ws)) e
+pub put_in : (v : Version) (s : SavedSettings) (vs buffer : List ℕ) → take (length (layout v)) vs ≡ numbers v s
+    → sets buffer 0 (payload (layout v) [] (take (length (layout v)) vs)) ≡ sets buffer 0 (encoded (version_number v) s)
+put_in v s vs buffer e = rw (e, encoded_is v s) refl
 
 -- ---- the buffer afterwards
 
@@ -50,23 +60,6 @@ passed false x k h = absurd (omega (arith, h))
 
 pub room_left : (version : ℕ) (s : SavedSettings) (n : ℕ) → store_refusal version s n ≡ 0 → size version ≤ n
 room_left version s n h = leb-true (size version) n (passed (leb (size version) n) 0 18 (passed (storable version s) (cond (leb (size version) n) 0 19) 23 h).1).0
-
-pub room_first : (version : ℕ) (s : SavedSettings) (n : ℕ) → store_refusal version s n ≡ 0 → version ≡ 1 → 25 ≤ n
-room_first version s n h e = subst (λ (b : Bool). cond b 25 26 ≤ n) (eq-eqb version 1 e) (room_left version s n h)
-
-pub room_second : (version : ℕ) (s : SavedSettings) (n : ℕ) → store_refusal version s n ≡ 0 → (version ≡ 1 → ⊥) → 26 ≤ n
-room_second version s n h e = subst (λ (b : Bool). cond b 25 26 ≤ n) (ne_eqb version 1 e) (room_left version s n h)
-
--- a version that is stored and is not 1 is 2; the bytes are the same for every version that is not 1
-pub as_first : (version : ℕ) (s : SavedSettings) → version ≡ 1 → encoded 1 s ≡ encoded version s
-as_first version s e = ap (λ (v : ℕ). encoded v s) (sym e)
-
-pub as_second : (version : ℕ) (s : SavedSettings) → (version ≡ 1 → ⊥) → encoded 2 s ≡ encoded version s
-unfolding encoded
-as_second version s e = sym (ap (λ (b : Bool). cond b (payload first_rows [] (first_numbers s)) (payload second_rows [] (second_numbers s))) (ne_eqb version 1 e))
-
-pub no_room : (version : ℕ) (s : SavedSettings) (n : ℕ) → storable version s ≡ true → n < size version → 19 ≡ store_refusal version s n
-no_room version s n h l = sym (ap (λ (b : Bool). cond b (cond (leb (size version) n) 0 19) 24) h ∙ ap (λ (b : Bool). cond b 0 19) (lt-leb (size version) n l))
 
 pub enough : (version : ℕ) (s : SavedSettings) (n : ℕ) → storable version s ≡ true → size version ≤ n → 0 ≡ store_refusal version s n
 enough version s n h l = sym (ap (λ (b : Bool). cond b (cond (leb (size version) n) 0 19) 24) h ∙ ap (λ (b : Bool). cond b 0 19) (le-leb (size version) n l))

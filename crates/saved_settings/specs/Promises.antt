@@ -5,8 +5,8 @@ use Rattle.std.specs.Float.{binary64}
 use Rattle.numbers.specs.Words.{finite}
 use Rattle.byte_layout.specs.Numbers.{Bytes}
 use Rattle.saved_settings.specs.declared.SavedSettings.{SavedSettings}
-use Rattle.saved_settings.specs.declared.Loaded.{Loaded}
 use Rattle.saved_settings.specs.Records.{
+  Loaded,
   finite_bits,
   storable,
   size,

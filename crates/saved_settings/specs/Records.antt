@@ -1,12 +1,27 @@
 -- Saved settings as a record of bytes: docs/formats/SETTINGS.md, request #113.
-use Rattle.std.specs.Prelude.{ℕ, ◌+◌, ◌%◌, ◌^◌, Bool, true, false, cond, ◌&&◌, ◌||◌, List, [], ◌∷◌, length, ◌==◌}
-use Rattle.std.specs.Prelude.{nat_le, nat_lt, slice_index}
+use Rattle.std.specs.Prelude.{ℕ, ◌+◌, ◌%◌, ◌^◌, Bool, false, cond, ◌&&◌, ◌||◌, List, [], ◌∷◌, length, ◌==◌}
+use Rattle.std.specs.Prelude.{nat_le, nat_lt, slice_index, Result, Ok, Err}
 use Rattle.std.proofs.lemmas.List.Edits.{sets}
+use Rattle.refusals.specs.declared.Refusal.{Refusal}
+use Rattle.refusals.specs.Numbers.{number}
 use Rattle.byte_layout.specs.Reads.{Reading, bad, good, steps}
 use Rattle.byte_layout.specs.Writes.{payload}
+use Rattle.byte_layout.specs.declared.Row.{Row}
 use Rattle.saved_settings.specs.declared.SavedSettings.{SavedSettings}
-use Rattle.saved_settings.specs.declared.Loaded.{Loaded}
+use Rattle.saved_settings.specs.declared.Loaded as Answer
+use Rattle.saved_settings.specs.declared.Version.{Version}
+use Rattle.saved_settings.specs.declared.Version.TheVariants.{First, Second}
 use Rattle.saved_settings.specs.Tables.{first_rows, second_rows}
+
+-- ---- versions
+
+abbrev pub version_number : Version → ℕ
+version_number First = 1
+version_number Second = 2
+
+abbrev pub layout : Version → List Row
+layout First = first_rows
+layout Second = second_rows
 
 -- ---- fields
 
@@ -58,12 +73,23 @@ saved_of version vs =
 abbrev pub nothing : SavedSettings
 nothing = record { start = 0; has_loop = 0; loop_start = 0; loop_end = 0; reverse = 0; rate = 0; pitch = 0 }
 
+-- the fields and their version, or a refusal, which is 0 if there is none
+pub record Loaded : Type 0 where
+  pub settings : SavedSettings
+  pub version : ℕ
+  pub refusal : ℕ
+
 -- if refused, every field is 0
 abbrev pub refused_by : ℕ → Loaded
 refused_by k = record { settings = nothing; version = 0; refusal = k }
 
 abbrev pub shown : ℕ → SavedSettings → Loaded
 shown version s = cond (well_formed s) (record { settings = s; version = version; refusal = 0 }) (refused_by 24)
+
+-- what a load answers
+abbrev pub loaded_of : Result Answer.Loaded Refusal → Loaded
+loaded_of (Ok l) = record { settings = l.settings; version = l.version; refusal = 0 }
+loaded_of (Err r) = record { settings = nothing; version = 0; refusal = number r }
 
 -- the fields are checked once all bytes are there
 unfoldable pub judged : ℕ → Reading → Loaded
@@ -73,6 +99,10 @@ judged version (good left vs rest) = shown version (saved_of version vs)
 -- reader 1 knows version 1 only, any other reader also version 2
 abbrev pub second : ℕ → List ℕ → Bool
 second reader bs = cond (reader == 1) false (slice_index bs 2 == 2)
+
+-- the version that a reader reads
+abbrev pub version_in : ℕ → List ℕ → Version
+version_in reader bs = cond (second reader bs) Second First
 
 unfoldable pub loaded : ℕ → List ℕ → Loaded
 loaded reader bs = cond (second reader bs) (judged 2 (steps second_rows (good 26 [] bs)))
@@ -97,6 +127,10 @@ first_numbers s = 94 ∷ 113 ∷ 1 ∷ 21 ∷ s.start ∷ s.loop_start ∷ s.loo
 abbrev pub second_numbers : SavedSettings → List ℕ
 second_numbers s = 94 ∷ 113 ∷ 2 ∷ 22 ∷ s.start ∷ s.loop_start ∷ s.loop_end ∷ s.reverse ∷ s.rate
     ∷ s.pitch % 256 ∷ []
+
+abbrev pub numbers : Version → SavedSettings → List ℕ
+numbers First s = first_numbers s
+numbers Second s = second_numbers s
 
 -- the bytes of a record
 unfoldable pub encoded : ℕ → SavedSettings → List ℕ

@@ -1,11 +1,13 @@
 // Saved settings, stored and loaded: docs/formats/SETTINGS.md has their layout.
 #![tactic(auto)]
 
-ghost use Rattle.std.specs.Prelude.{◌≡◌, ◌≤◌, [], length, take};
+ghost use Rattle.std.specs.Prelude.{◌≡◌, ◌≤◌, [], length, take, IfOk};
 ghost use Rattle.std.proofs.lemmas.List.Edits.{sets};
+ghost use Rattle.refusals.specs.Numbers.{number_of};
 ghost use Rattle.byte_layout.specs.Reads.{good, steps, view};
-ghost use Rattle.saved_settings.specs.Tables.{first_rows, second_rows};
 ghost use Rattle.saved_settings.specs.Records.{
+  version_number,
+  layout,
   loop_right,
   finite_bits,
   pitch_right,
@@ -13,14 +15,12 @@ ghost use Rattle.saved_settings.specs.Records.{
   has_loop_word,
   pitch_of,
   saved_of,
-  refused_by,
   shown,
-  second,
+  version_in,
   loaded,
+  loaded_of,
   storable,
   store_refusal,
-  first_numbers,
-  second_numbers,
   encoded,
   stored,
 };
@@ -29,11 +29,13 @@ ghost use Rattle.saved_settings.specs.Promises.{Promises};
 
 mod tables;
 
-use byte_layout::Parsed;
-use tables::{FIRST, FIRST_ROWS, SECOND, SECOND_ROWS};
+use byte_layout::{Parsed, Row};
+use refusals::Refusal;
+use tables::{FIRST, SECOND};
 
 // Frames, the rate by its bits, the pitch in semitones in two's complement. Without a loop both loop numbers are 0.
-#[derive(Clone, Copy)]
+// `has_loop` and `reverse` are numbers: a C caller gives any, and `store` refuses those other than 0 and 1.
+#[derive(Clone, Copy, Debug, PartialEq, Eq)]
 pub struct SavedSettings {
     pub start: u64,
     pub has_loop: u64,
@@ -44,12 +46,47 @@ pub struct SavedSettings {
     pub pitch: u64,
 }
 
-// The refusal, or 0. If refused, every other number is 0.
-#[derive(Clone, Copy)]
+// The fields and the number of their version, which C is told.
+#[derive(Clone, Copy, Debug, PartialEq, Eq)]
 pub struct Loaded {
     pub settings: SavedSettings,
     pub version: u64,
-    pub refusal: u32,
+}
+
+#[derive(Clone, Copy, Debug, PartialEq, Eq)]
+enum Version {
+    First,
+    Second,
+}
+
+impl Version {
+    fn number(self) -> u64
+        ensures { result ≡ version_number self }
+    {
+        match self {
+            Version::First => 1,
+            Version::Second => 2,
+        }
+    }
+
+    // The bytes of a record.
+    fn size(self) -> usize
+        ensures { result ≡ Records.size (version_number self) }
+    {
+        match self {
+            Version::First => 25,
+            Version::Second => 26,
+        }
+    }
+
+    fn layout(self) -> &'static [Row]
+        ensures { result.now ≡ layout self }
+    {
+        match self {
+            Version::First => &FIRST,
+            Version::Second => &SECOND,
+        }
+    }
 }
 
 // ---- fields
@@ -57,10 +94,11 @@ pub struct Loaded {
 fn is_loop(s: SavedSettings) -> bool
     ensures { result ≡ loop_right s }
 {
-    if s.has_loop == 0 {
-        return (s.loop_start == 0) & (s.loop_end == 0);
+    match s.has_loop {
+        0 => (s.loop_start == 0) & (s.loop_end == 0),
+        1 => s.loop_start < s.loop_end,
+        _ => false,
     }
-    (s.has_loop == 1) & (s.loop_start < s.loop_end)
 }
 
 fn is_finite(bits: u64) -> bool
@@ -103,14 +141,17 @@ fn has_loop(start: u64, end: u64) -> u64
     if (start == 0) & (end == 0) { 0 } else { 1 }
 }
 
-fn pitch_of(version: u64, byte: u64) -> u64
-    ensures { result ≡ pitch_of version byte }
+fn pitch_of(version: Version, byte: u64) -> u64
+    ensures { result ≡ pitch_of (version_number version) byte }
 {
-    if version == 2 { signed(byte) } else { 0 }
+    match version {
+        Version::First => 0,
+        Version::Second => signed(byte),
+    }
 }
 
-fn saved_of(version: u64, values: [u64; 80]) -> SavedSettings
-    ensures { result ≡ saved_of version values }
+fn saved_of(version: Version, values: [u64; 80]) -> SavedSettings
+    ensures { result ≡ saved_of (version_number version) values }
 {
     SavedSettings {
         start: values[4],
@@ -123,180 +164,104 @@ fn saved_of(version: u64, values: [u64; 80]) -> SavedSettings
     }
 }
 
-fn refused(refusal: u32) -> Loaded
-    ensures { result ≡ refused_by refusal }
+fn show(version: Version, settings: SavedSettings) -> Result<Loaded, Refusal>
+    ensures { loaded_of result ≡ shown (version_number version) settings }
 {
-    let settings = SavedSettings {
-        start: 0,
-        has_loop: 0,
-        loop_start: 0,
-        loop_end: 0,
-        reverse: 0,
-        rate: 0,
-        pitch: 0,
-    };
-    Loaded {
+    if !is_well_formed(settings) {
+        return Err(Refusal::SavedField);
+    }
+    Ok(Loaded {
         settings,
-        version: 0,
-        refusal,
+        version: version.number(),
+    })
+}
+
+// The version that a reader reads: by the third byte, if it knows more than version 1.
+fn version_in(reader: u64, s: &[u8]) -> Version
+    ensures { result ≡ version_in reader s.now }
+{
+    if reader != 1 && s.len() > 2 && s[2] == 2 {
+        Version::Second
+    } else {
+        Version::First
     }
 }
 
-fn show(version: u64, settings: SavedSettings) -> Loaded
-    ensures { result ≡ shown version settings }
+fn read(version: Version, s: &[u8]) -> Result<Parsed, Refusal>
+    ensures { view s.now (length (layout version)) result
+        ≡ steps (layout version) (good (Records.size (version_number version)) [] s.now) }
 {
-    if is_well_formed(settings) {
-        return Loaded {
-            settings,
-            version,
-            refusal: 0,
-        };
-    }
-    refused(refusals::SAVED_FIELD)
+    byte_layout::read_rows(s, byte_layout::begin(0, version.size()), version.layout())
 }
 
-fn read_first(s: &[u8]) -> Parsed
-    ensures { view s.now 9 result ≡ steps first_rows (good 25 [] s.now) }
+// Accepts any bytes. Reader 1 knows version 1 only, any other reader, of the numbers that C may give, also version 2.
+pub fn load(reader: u64, s: &[u8]) -> Result<Loaded, Refusal>
+    ensures { loaded_of result ≡ loaded reader s.now }
 {
-    let table = FIRST;
-    byte_layout::read_rows(s, byte_layout::begin(0, 25), &table, FIRST_ROWS)
-}
-
-fn read_second(s: &[u8]) -> Parsed
-    ensures { view s.now 10 result ≡ steps second_rows (good 26 [] s.now) }
-{
-    let table = SECOND;
-    byte_layout::read_rows(s, byte_layout::begin(0, 26), &table, SECOND_ROWS)
-}
-
-fn is_second(reader: u64, s: &[u8]) -> bool
-    ensures { result ≡ second reader s.now }
-{
-    if reader == 1 {
-        return false;
-    }
-    if s.len() < 3 {
-        return false;
-    }
-    s[2] == 2
-}
-
-// Accepts any bytes. Reader 1 knows version 1 only, any other reader also version 2.
-pub fn load(reader: u64, s: &[u8]) -> Loaded
-    ensures { result ≡ loaded reader s.now }
-{
-    if is_second(reader, s) {
-        let p = read_second(s);
-        if 0 < p.refused {
-            return refused(p.refused as u32);
-        }
-        let values = p.values;
-        return show(2, saved_of(2, values));
-    }
-    let p = read_first(s);
-    if 0 < p.refused {
-        return refused(p.refused as u32);
-    }
-    let values = p.values;
-    show(1, saved_of(1, values))
+    let version = version_in(reader, s);
+    let parsed = read(version, s)?;
+    show(version, saved_of(version, parsed.values))
 }
 
 // ---- storing
 
-fn is_storable(version: u64, s: SavedSettings) -> bool
-    ensures { result ≡ storable version s }
+// The version that these fields may be stored in by this number.
+fn check_store(version: u64, s: SavedSettings, room: usize) -> Result<Version, Refusal>
+    ensures refusal { number_of result ≡ store_refusal version s room }
+    ensures version { IfOk result (λ v. version_number v ≡ version) }
 {
-    if version == 1 {
-        return is_well_formed(s) & (s.pitch == 0);
+    let version = match version {
+        1 if s.pitch == 0 => Version::First,
+        2 => Version::Second,
+        _ => return Err(Refusal::SavedField),
+    };
+    if !is_well_formed(s) {
+        return Err(Refusal::SavedField);
     }
-    is_well_formed(s) & (version == 2)
-}
-
-fn size_of(version: u64) -> usize
-    ensures { result ≡ Records.size version }
-{
-    if version == 1 { 25 } else { 26 }
-}
-
-fn refusal_of(version: u64, s: SavedSettings, room: usize) -> u32
-    ensures { result ≡ store_refusal version s room }
-{
-    if !is_storable(version, s) {
-        return refusals::SAVED_FIELD;
+    if room < version.size() {
+        return Err(Refusal::Room);
     }
-    if room < size_of(version) {
-        refusals::ROOM
-    } else {
-        0
-    }
+    Ok(version)
 }
 
-fn first_numbers(s: SavedSettings) -> [u64; 80]
-    ensures { take 9 result ≡ first_numbers s }
+fn numbers(version: Version, s: SavedSettings) -> [u64; 80]
+    ensures { take (length (layout version)) result ≡ Records.numbers version s }
 {
-    let mut v = [0u64; 80];
-    v[0] = 94;
-    v[1] = 113;
-    v[2] = 1;
-    v[3] = 21;
-    v[4] = s.start;
-    v[5] = s.loop_start;
-    v[6] = s.loop_end;
-    v[7] = s.reverse;
-    v[8] = s.rate;
-    v
+    // The length is that of the bytes after it. Version 1 has no row for the pitch.
+    let numbers = [
+        94,
+        113,
+        version.number(),
+        (version.size() - 4) as u64,
+        s.start,
+        s.loop_start,
+        s.loop_end,
+        s.reverse,
+        s.rate,
+        s.pitch % 256,
+    ];
+    let mut values = [0u64; 80];
+    values[..10].copy_from_slice(&numbers);
+    values
 }
 
-fn second_numbers(s: SavedSettings) -> [u64; 80]
-    ensures { take 10 result ≡ second_numbers s }
+fn put(version: Version, s: SavedSettings, buffer: &mut [u8])
+    requires { Records.size (version_number version) ≤ length buffer.old }
+    ensures { buffer.new ≡ sets buffer.old 0 (encoded (version_number version) s) }
 {
-    let mut v = [0u64; 80];
-    v[0] = 94;
-    v[1] = 113;
-    v[2] = 2;
-    v[3] = 22;
-    v[4] = s.start;
-    v[5] = s.loop_start;
-    v[6] = s.loop_end;
-    v[7] = s.reverse;
-    v[8] = s.rate;
-    v[9] = s.pitch % 256;
-    v
+    let values = numbers(version, s);
+    byte_layout::put_rows(buffer, 0, values, version.layout());
 }
 
-fn put_first(s: SavedSettings, buffer: &mut [u8])
-    requires { 25 ≤ length buffer.old }
-    ensures { buffer.new ≡ sets buffer.old 0 (encoded 1 s) }
-{
-    let table = FIRST;
-    let values = first_numbers(s);
-    let end = byte_layout::put_rows(buffer, 0, values, &table, FIRST_ROWS);
-}
-
-fn put_second(s: SavedSettings, buffer: &mut [u8])
-    requires { 26 ≤ length buffer.old }
-    ensures { buffer.new ≡ sets buffer.old 0 (encoded 2 s) }
-{
-    let table = SECOND;
-    let values = second_numbers(s);
-    let end = byte_layout::put_rows(buffer, 0, values, &table, SECOND_ROWS);
-}
-
-// Returns the refusal, or 0 and writes the record at the buffer's start.
-pub fn store(version: u64, s: SavedSettings, buffer: &mut [u8]) -> u32
-    ensures { (result ≡ store_refusal version s (length buffer.old))
+// Writes the record at the buffer's start, or returns a refusal and writes nothing. The version is a number, since a C
+// caller gives any, and those other than 1 and 2 are refused.
+pub fn store(version: u64, s: SavedSettings, buffer: &mut [u8]) -> Result<(), Refusal>
+    ensures { (number_of result ≡ store_refusal version s (length buffer.old))
         × (buffer.new ≡ stored version s buffer.old) }
 {
-    let refusal = refusal_of(version, s, buffer.len());
-    if refusal > 0 {
-        return refusal;
-    }
-    if version == 1 {
-        put_first(s, buffer);
-        return 0;
-    }
-    put_second(s, buffer);
-    0
+    let known = check_store(version, s, buffer.len())?;
+    put(known, s, buffer);
+    Ok(())
 }
 
 // An empty function whose contract collects the theorems, so that the checker must prove them.

@@ -89,10 +89,16 @@ pub record Product (steps x : ℕ) : Type 0 where
   pub low : x ≤ 9007199254740976
   pub is : x ≡ scaled (steps % 12) * 2 ^ (steps / 12)
 
-pub product : (steps e o d : ℕ) → steps ≤ 48 → e ≡ scaled (steps % 12) → o ≡ steps / 12 → d ≡ 2 ^ o → Product steps (e * d)
-product steps e o d h p q r =
-    let y : e * d ≡ scaled (steps % 12) * 2 ^ (steps / 12) = ap (λ (z : ℕ). z * d) p ∙ ap (λ (z : ℕ). scaled (steps % 12) * z) (r ∙ ap (λ (z : ℕ). 2 ^ z) q) in
-    record { low = subst (λ (z : ℕ). z ≤ 9007199254740976) (sym y) (scaled_room (steps % 12) (steps / 12) (octaves_low steps h)); is = y }
+-- an entry shifted by its octaves: no bit is lost
+pub product : (steps e : ℕ) → steps ≤ 48 → e ≡ scaled (steps % 12) → Product steps (e * 2 ^ (steps / 12) % 18446744073709551616)
+product steps e h p =
+    let y : e * 2 ^ (steps / 12) ≡ scaled (steps % 12) * 2 ^ (steps / 12) = ap (λ (z : ℕ). z * 2 ^ (steps / 12)) p in
+    let l : e * 2 ^ (steps / 12) ≤ 9007199254740976 = subst (λ (z : ℕ). z ≤ 9007199254740976) (sym y) (scaled_room (steps % 12) (steps / 12) (octaves_low steps h)) in
+    let m = kept (e * 2 ^ (steps / 12)) l in
+    record { low = subst (λ (z : ℕ). z ≤ 9007199254740976) (sym m) l; is = m ∙ y }
+  where
+    kept : (x : ℕ) → x ≤ 9007199254740976 → x % 18446744073709551616 ≡ x
+    kept x l = omega arith
 
 pub whole_float : (steps x : ℕ) → Product steps x → T (in_float binary64 (pos x))
 unfolding in_float

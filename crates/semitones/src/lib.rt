@@ -1,7 +1,7 @@
 // Semitones: the ratio of a pitch by a table of twelve numbers scaled by 2^48, and a rate times that ratio.
 #![tactic(auto)]
 
-ghost use Rattle.std.specs.Prelude.{◌≡◌, ◌/◌, ◌^◌, ◌≤◌, ◌<◌};
+ghost use Rattle.std.specs.Prelude.{◌≡◌, ◌≤◌};
 ghost use Rattle.semitones.specs.Ratios.{Table, raised_by};
 ghost use Rattle.semitones.specs.Ratios as Ratios;
 ghost use Rattle.semitones.specs.Promises.{Promises};
@@ -21,36 +21,10 @@ const RATIOS: [u64; 12] = [
     531354000359732,
 ];
 
-fn all() -> [u64; 12]
-    ensures { Table result }
+fn all() -> &'static [u64; 12]
+    ensures { Table result.now }
 {
-    RATIOS
-}
-
-// Whole octaves above the lowest pitch, rounded down.
-fn octaves(steps: u64) -> u64
-    ensures { result ≡ steps / 12 }
-{
-    steps / 12
-}
-
-fn doubled(octaves: u64) -> u64
-    requires { octaves < 5 }
-    ensures { result ≡ 2 ^ octaves }
-{
-    if octaves == 0 {
-        return 1;
-    }
-    if octaves == 1 {
-        return 2;
-    }
-    if octaves == 2 {
-        return 4;
-    }
-    if octaves == 3 {
-        return 8;
-    }
-    16
+    &RATIOS
 }
 
 // The ratio of the pitch this many steps above the lowest, -24. The dividend is below 2^53, so it is an f64 and its
@@ -59,10 +33,8 @@ fn ratio(steps: u64) -> f64
     requires { steps ≤ 48 }
     ensures { result ≡ Ratios.ratio steps }
 {
-    let entries = all();
-    let n = (steps % 12) as usize;
-    let e = entries[n];
-    let scaled = e * doubled(octaves(steps));
+    let octaves = steps / 12;
+    let scaled = all()[(steps % 12) as usize] << octaves;
     (scaled as f64) / 1125899906842624.0
 }
 
@@ -71,13 +43,12 @@ fn ratio(steps: u64) -> f64
 pub fn raised(rate: f64, pitch: u64) -> f64
     ensures { result ≡ raised_by rate pitch }
 {
-    if pitch <= 24 {
-        return rate * ratio(pitch + 24);
+    let steps = pitch.wrapping_add(24);
+    if steps <= 48 {
+        rate * ratio(steps)
+    } else {
+        f64::NAN
     }
-    if pitch >= 18446744073709551592 {
-        return rate * ratio(pitch - 18446744073709551592);
-    }
-    0.0 / 0.0
 }
 
 // An empty function whose contract collects the theorems, so that the checker must prove them.

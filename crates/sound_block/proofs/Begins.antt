@@ -41,14 +41,14 @@ kept_started Now s = refl
 kept_started Never s = refl
 
 module _ (g : Signals) (v : StaticSound) (s : PlaybackState) (h : s ≡ settled g.finished g.resume v.moving.state) where
-  pub begun_started : v.started ≡ true → restated v v.started s ≡ begun g v
-  begun_started f = let a = answering g.start in answered g v a true v.started s s refl f h (f ∙ come_started a) (kept_started a s)
+  pub begun_started : v.started ≡ true → restated v true s ≡ begun g v
+  begun_started f = let a = answering g.start in answered g v a true true s s refl f h (come_started a) (kept_started a s)
 
-  pub begun_waiting : v.started ≡ false → answering g.start ≡ Waiting → restated v v.started s ≡ begun g v
-  begun_waiting f e = answered g v Waiting false v.started s s e f h f refl
+  pub begun_waiting : v.started ≡ false → answering g.start ≡ Waiting → restated v false s ≡ begun g v
+  begun_waiting f e = answered g v Waiting false false s s e f h refl refl
 
   pub begun_now : v.started ≡ false → answering g.start ≡ Now → restated v true s ≡ begun g v
   begun_now f e = answered g v Now false true s s e f h refl refl
 
-  pub begun_never : v.started ≡ false → answering g.start ≡ Never → restated v v.started Stopped ≡ begun g v
-  begun_never f e = answered g v Never false v.started s Stopped e f h f refl
+  pub begun_never : v.started ≡ false → answering g.start ≡ Never → restated v false Stopped ≡ begun g v
+  begun_never f e = answered g v Never false false s Stopped e f h refl refl

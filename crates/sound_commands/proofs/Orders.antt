@@ -1,5 +1,6 @@
 -- A command set: an accepted one keeps a voice well formed over its sound. Rate and loop were checked, and a seek goes to a frame index in range.
 -- By the order in which the commands act. Assumes nothing.
+use Rattle.std.specs.Prelude.{Option, Some, None}
 use mathlib.Core.Path.{◌≡◌, refl, sym, ap, ◌∙◌}
 use Prim.Native.Nat.{ℕ, ◌*◌, ◌≤◌}
 use mathlib.Core.Bool.{Bool, true, false, cond}
@@ -19,8 +20,6 @@ use Rattle.sound_state.specs.Voices.{length_of_slice, slice_of}
 use Rattle.sound_state.specs.WellFormed.{well_formed_for, WellFormed}
 use Rattle.sound_state.proofs.WellFormed.{span_most, well_formed_for_parts, well_formed_for_of, moved_well_formed}
 use Rattle.sound_update.proofs.Kept.{Kept, pushed_windowed}
-use Rattle.sound_commands.specs.declared.Amount.{Amount}
-use Rattle.sound_commands.specs.declared.Amount.TheVariants as amount
 use Rattle.sound_commands.specs.declared.LoopCommand.{LoopCommand}
 use Rattle.sound_commands.specs.declared.LoopCommand.TheVariants as loop
 use Rattle.sound_commands.specs.declared.Commands.{Commands}
@@ -35,9 +34,9 @@ looped_within v loop.Keep k h = h
 looped_within v loop.Clear k h = tt
 looped_within v (loop.Set r) k h = well_formed_within v.setup.sample_rate (length_of_slice v.setup) r k
 
-rate_finite : (a : Amount) (x : Float) → T (rateable a) → T (finite x) → T (finite (or_else a x))
-rate_finite amount.Absent x k h = h
-rate_finite (amount.Given y) x k h = k
+rate_finite : (a : Option Float) (x : Float) → T (rateable a) → T (finite x) → T (finite (or_else a x))
+rate_finite None x k h = h
+rate_finite (Some y) x k h = k
 
 pub told_well_formed : (c : Commands) (v : StaticSound) → T (loopable v c.loop_region) → T (rateable c.playback_rate) → WellFormed v → WellFormed (before_seeks c v)
 unfolding before_seeks
@@ -71,21 +70,21 @@ pub sought_setup : (snd : List Float) (v : StaticSound) (q : ℕ) → (sought sn
 unfolding sought
 sought_setup snd v q = refl
 
-pub by_well_formed : (snd : List Float) (v : StaticSound) (a : Amount) → WellFormed v → WellFormed (sought_by snd v a)
-by_well_formed snd v amount.Absent h = h
-by_well_formed snd v (amount.Given x) h = sought_well_formed snd v (cut_off (target_by v x)) (cut_le (target_by v x)) h
+pub by_well_formed : (snd : List Float) (v : StaticSound) (a : Option Float) → WellFormed v → WellFormed (sought_by snd v a)
+by_well_formed snd v None h = h
+by_well_formed snd v (Some x) h = sought_well_formed snd v (cut_off (target_by v x)) (cut_le (target_by v x)) h
 
-pub by_setup : (snd : List Float) (v : StaticSound) (a : Amount) → (sought_by snd v a).setup ≡ v.setup
-by_setup snd v amount.Absent = refl
-by_setup snd v (amount.Given x) = sought_setup snd v (cut_off (target_by v x))
+pub by_setup : (snd : List Float) (v : StaticSound) (a : Option Float) → (sought_by snd v a).setup ≡ v.setup
+by_setup snd v None = refl
+by_setup snd v (Some x) = sought_setup snd v (cut_off (target_by v x))
 
-to_well_formed : (snd : List Float) (v : StaticSound) (a : Amount) → WellFormed v → WellFormed (sought_to snd v a)
-to_well_formed snd v amount.Absent h = h
-to_well_formed snd v (amount.Given x) h = sought_well_formed snd v (cut_off (target_to v x)) (cut_le (target_to v x)) h
+to_well_formed : (snd : List Float) (v : StaticSound) (a : Option Float) → WellFormed v → WellFormed (sought_to snd v a)
+to_well_formed snd v None h = h
+to_well_formed snd v (Some x) h = sought_well_formed snd v (cut_off (target_to v x)) (cut_le (target_to v x)) h
 
-to_setup : (snd : List Float) (v : StaticSound) (a : Amount) → (sought_to snd v a).setup ≡ v.setup
-to_setup snd v amount.Absent = refl
-to_setup snd v (amount.Given x) = sought_setup snd v (cut_off (target_to v x))
+to_setup : (snd : List Float) (v : StaticSound) (a : Option Float) → (sought_to snd v a).setup ≡ v.setup
+to_setup snd v None = refl
+to_setup snd v (Some x) = sought_setup snd v (cut_off (target_to v x))
 
 -- ---- the set
 

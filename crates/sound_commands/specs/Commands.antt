@@ -1,11 +1,12 @@
 -- A command set (docs/assurance/RULES.md, "Creation, commands, block"), refusals 1 and 6 to 8.
 use Rattle.std.specs.Prelude.{ℕ, Bool, true, false, ◌&&◌, cond, List, eqb, pos, length, Float}
+use Rattle.std.specs.Prelude.{Option, Some, None, Result, Ok, Err}
+use Rattle.refusals.specs.declared.Refusal.{Refusal}
+use Rattle.refusals.specs.Numbers.{number}
 use Rattle.std.specs.Float.{fin, binary64}
 use Rattle.std.specs.Float.Ieee.{add, mul, div, lt, of_int}
 use Rattle.numbers.specs.Words.{positive_zero, finite}
 use Rattle.numbers.specs.Frames.{cut_off}
-use Rattle.playback_position.specs.declared.FrameRange.{FrameRange}
-use Rattle.playback_position.specs.declared.FrameRange.TheVariants as range
 use Rattle.playback_position.specs.Positions.{region_in_frames, well_formed_region}
 use Rattle.playback_state_manager.specs.declared.PlaybackState.{PlaybackState}
 use Rattle.playback_state_manager.specs.States.{advancing, pausing, resuming, stopping}
@@ -17,8 +18,6 @@ use Rattle.sound_update.specs.declared.Slice.{Slice}
 use Rattle.sound_state.specs.Voices.{length_of_slice, slice_of, moved}
 use Rattle.sound_update.specs.Updates.{pushed}
 use Rattle.sound_state.specs.WellFormed.{well_formed_for}
-use Rattle.sound_commands.specs.declared.Amount.{Amount}
-use Rattle.sound_commands.specs.declared.Amount.TheVariants as amount
 use Rattle.sound_commands.specs.declared.LoopCommand.{LoopCommand}
 use Rattle.sound_commands.specs.declared.LoopCommand.TheVariants as loop
 use Rattle.sound_commands.specs.declared.ResumeCommand.{ResumeCommand}
@@ -36,9 +35,9 @@ loopable v loop.Clear = true
 loopable v (loop.Set r) = well_formed_region v.setup.sample_rate (length_of_slice v.setup) r
 
 -- 7: the given rate is finite
-abbrev pub rateable : Amount → Bool
-rateable amount.Absent = true
-rateable (amount.Given x) = finite x
+abbrev pub rateable : Option Float → Bool
+rateable None = true
+rateable (Some x) = finite x
 
 -- the target of a seek by x, in frames: (position / rate + x) * rate
 unfoldable pub target_by : StaticSound → Float → Float
@@ -53,9 +52,9 @@ unfoldable pub target_to : StaticSound → Float → Float
 target_to v x = mul binary64 x (of_int binary64 (pos v.setup.sample_rate))
 
 -- 8: finite, and the product below 2 ^ 32
-abbrev pub seekable : (Float → Float) → Amount → Bool
-seekable f amount.Absent = true
-seekable f (amount.Given x) = finite x && lt (f x) (fin false 1 (pos 32))
+abbrev pub seekable : (Float → Float) → Option Float → Bool
+seekable f None = true
+seekable f (Some x) = finite x && lt (f x) (fin false 1 (pos 32))
 
 -- the refusal of a command set, 0 if it is accepted; both seeks are checked against the given state
 unfoldable pub refused_set : ℕ → StaticSound → Commands → ℕ
@@ -68,14 +67,14 @@ refused_set len v c =
 
 -- ---- what is done, in the order rate, loop, pause, resume, stop, «seek_by», «seek_to»
 
-abbrev pub or_else : Amount → Float → Float
-or_else amount.Absent x = x
-or_else (amount.Given y) x = y
+abbrev pub or_else : Option Float → Float → Float
+or_else None x = x
+or_else (Some y) x = y
 
-abbrev pub looped : StaticSound → LoopCommand → FrameRange
+abbrev pub looped : StaticSound → LoopCommand → Option (ℕ × ℕ)
 looped v loop.Keep = v.moving.transport.loop_region
-looped v loop.Clear = range.Absent
-looped v (loop.Set r) = region_in_frames v.setup.sample_rate (length_of_slice v.setup) r
+looped v loop.Clear = None
+looped v (loop.Set r) = Some (region_in_frames v.setup.sample_rate (length_of_slice v.setup) r)
 
 abbrev pub woken : ResumeCommand → PlaybackState → PlaybackState
 woken resume.Keep s = s
@@ -129,13 +128,13 @@ sought snd v q =
     moved v v.fractional_position
     (cond (advancing v.moving.state) (refilled snd (slice_of v) (jumped v q)) (jumped v q))
 
-abbrev pub sought_by : List Float → StaticSound → Amount → StaticSound
-sought_by snd v amount.Absent = v
-sought_by snd v (amount.Given x) = sought snd v (cut_off (target_by v x))
+abbrev pub sought_by : List Float → StaticSound → Option Float → StaticSound
+sought_by snd v None = v
+sought_by snd v (Some x) = sought snd v (cut_off (target_by v x))
 
-abbrev pub sought_to : List Float → StaticSound → Amount → StaticSound
-sought_to snd v amount.Absent = v
-sought_to snd v (amount.Given x) = sought snd v (cut_off (target_to v x))
+abbrev pub sought_to : List Float → StaticSound → Option Float → StaticSound
+sought_to snd v None = v
+sought_to snd v (Some x) = sought snd v (cut_off (target_to v x))
 
 -- an accepted command set
 unfoldable pub obeyed : List Float → Commands → StaticSound → StaticSound
@@ -147,8 +146,19 @@ unfoldable pub reported : StaticSound → Float
 reported v = div binary64 (of_int binary64 (pos (current_frame_index v.moving.resampler)))
     (of_int binary64 (pos v.setup.sample_rate))
 
+-- the refusal of a command set, 0 if it is accepted, the voice after it, and the position
+pub record CommandsAnswer : Type 0 where
+  pub refusal : ℕ
+  pub voice : StaticSound
+  pub position : Float
+
+-- the outcome that a result on voice v stands for: a refusal has the same voice, and position 0
+abbrev pub commands_answer : StaticSound → Result Commanded Refusal → CommandsAnswer
+commands_answer v (Ok d) = record { refusal = 0; voice = d.voice; position = d.position }
+commands_answer v (Err r) = record { refusal = number r; voice = v; position = positive_zero }
+
 -- a command set, accepted and refused; the position is read before the commands
-unfoldable pub commanded : List Float → StaticSound → Commands → Commanded
+unfoldable pub commanded : List Float → StaticSound → Commands → CommandsAnswer
 commanded snd v c =
     let k = refused_set (length snd) v c in
     cond (eqb k 0) (record { refusal = 0; voice = obeyed snd c v; position = reported v })

@@ -11,6 +11,7 @@ ghost use Rattle.playback_state_manager.specs.States.{pausing, stopping};
 ghost use Rattle.transport.specs.Moves.{reloop};
 ghost use Rattle.resampler.specs.Windows.{current_frame_index};
 ghost use Rattle.sound_state.specs.WellFormed.{well_formed_for};
+ghost use Rattle.refusals.specs.Numbers.{number_of};
 ghost use Rattle.sound_commands.specs.Commands.{
   loopable,
   rateable,
@@ -18,7 +19,6 @@ ghost use Rattle.sound_commands.specs.Commands.{
   target_to,
   seekable,
   refused_set,
-  or_else,
   looped,
   woken,
   before_seeks,
@@ -27,50 +27,48 @@ ghost use Rattle.sound_commands.specs.Commands.{
   sought_to,
   obeyed,
   reported,
+  commands_answer,
   commanded,
 };
 
-use playback_position::{FrameRange, Region};
+use playback_position::Region;
 use playback_state_manager::PlaybackState;
+use refusals::Refusal;
 use sound_state::StaticSound;
 use sound_update::Moving;
 use transport::Transport;
 
-#[derive(Clone, Copy)]
-pub enum Amount {
-    Absent,
-    Given(f64),
-}
-
-#[derive(Clone, Copy)]
+#[derive(Clone, Copy, Debug)]
 pub enum LoopCommand {
+    // Three commands by name: an Option of an Option of a region would say less.
     Keep,
     Clear,
     Set(Region),
 }
 
-#[derive(Clone, Copy)]
+#[derive(Clone, Copy, Debug, PartialEq, Eq)]
 pub enum ResumeCommand {
+    // Three commands by name: an Option of a bool would say less.
     Keep,
     Now,
     Waiting,
 }
 
 // At most one of each command.
-#[derive(Clone, Copy)]
+#[derive(Clone, Copy, Debug)]
 pub struct Commands {
-    pub playback_rate: Amount,
+    pub playback_rate: Option<f64>,
     pub loop_region: LoopCommand,
     pub pause: bool,
     pub resume: ResumeCommand,
     pub stop: bool,
-    pub seek_by: Amount,
-    pub seek_to: Amount,
+    pub seek_by: Option<f64>,
+    pub seek_to: Option<f64>,
 }
 
-#[derive(Clone, Copy)]
+// An accepted command set: the voice, and the position before it.
+#[derive(Clone, Copy, Debug)]
 pub struct Commanded {
-    pub refusal: u32,
     pub voice: StaticSound,
     pub position: f64,
 }
@@ -78,21 +76,18 @@ pub struct Commanded {
 fn is_loop(voice: StaticSound, command: LoopCommand) -> bool
     ensures { result ≡ loopable voice command }
 {
-    let setup = voice.setup;
     match command {
-        LoopCommand::Keep => true,
-        LoopCommand::Clear => true,
-        LoopCommand::Set(region) => region.is_well_formed(setup.sample_rate, setup.num_frames()),
+        LoopCommand::Keep | LoopCommand::Clear => true,
+        LoopCommand::Set(region) => {
+            region.is_well_formed(voice.setup.sample_rate, voice.setup.num_frames())
+        }
     }
 }
 
-fn is_rate(command: Amount) -> bool
+fn is_rate(command: Option<f64>) -> bool
     ensures { result ≡ rateable command }
 {
-    match command {
-        Amount::Absent => true,
-        Amount::Given(rate) => numbers::is_finite(rate),
-    }
+    command.is_none_or(|rate| numbers::is_finite(rate))
 }
 
 // The target of a seek by the amount, in frames, before it is cut to a whole number.
@@ -100,20 +95,15 @@ fn frames_by(voice: StaticSound, amount: f64) -> f64
     requires { voice.moving.transport.position ≤ most }
     ensures { result ≡ target_by voice amount }
 {
-    let setup = voice.setup;
-    let moving = voice.moving;
-    let transport = moving.transport;
-    let current_position = transport.position as f64 / setup.sample_rate as f64;
-    let position = current_position + amount;
-    position * setup.sample_rate as f64
+    let sample_rate = voice.setup.sample_rate as f64;
+    (voice.moving.transport.position as f64 / sample_rate + amount) * sample_rate
 }
 
 // The target of a seek to the position, in frames, before it is cut to a whole number.
 fn frames_to(voice: StaticSound, position: f64) -> f64
     ensures { result ≡ target_to voice position }
 {
-    let setup = voice.setup;
-    position * setup.sample_rate as f64
+    position * voice.setup.sample_rate as f64
 }
 
 // Whether a seek's amount is finite and its frames are below 2^32.
@@ -123,69 +113,49 @@ fn is_seek(amount: f64, frames: f64) -> bool
     numbers::is_finite(amount) & (frames < 4294967296.0)
 }
 
-fn is_seek_by(voice: StaticSound, command: Amount) -> bool
+// By and to differ in the target alone; one function with the target as a closure would be no shorter than the two.
+fn is_seek_by(voice: StaticSound, command: Option<f64>) -> bool
     requires { voice.moving.transport.position ≤ most }
     ensures { result ≡ seekable (target_by voice) command }
 {
-    match command {
-        Amount::Absent => true,
-        Amount::Given(amount) => is_seek(amount, frames_by(voice, amount)),
-    }
+    command.is_none_or(|amount| is_seek(amount, frames_by(voice, amount)))
 }
 
-fn is_seek_to(voice: StaticSound, command: Amount) -> bool
+fn is_seek_to(voice: StaticSound, command: Option<f64>) -> bool
     ensures { result ≡ seekable (target_to voice) command }
 {
-    match command {
-        Amount::Absent => true,
-        Amount::Given(position) => is_seek(position, frames_to(voice, position)),
-    }
+    command.is_none_or(|position| is_seek(position, frames_to(voice, position)))
 }
 
-// The lowest number that applies to a command set, 0 for none. Both seeks are checked against the given state.
-fn refusal_of(voice: StaticSound, samples: usize, commands: Commands) -> u32
-    ensures { result ≡ refused_set samples voice commands }
+// The lowest refusal that applies to a command set. Both seeks are checked against the given state.
+fn check(voice: StaticSound, samples: usize, commands: Commands) -> Result<(), Refusal>
+    ensures { number_of result ≡ refused_set samples voice commands }
 {
-    let loop_region = commands.loop_region;
-    let playback_rate = commands.playback_rate;
-    let seek_by = commands.seek_by;
-    let seek_to = commands.seek_to;
     if !voice.is_well_formed(samples) {
-        return refusals::STATE;
+        return Err(Refusal::State);
     }
-    if !is_loop(voice, loop_region) {
-        return refusals::LOOP_REGION;
+    if !is_loop(voice, commands.loop_region) {
+        return Err(Refusal::LoopRegion);
     }
-    if !is_rate(playback_rate) {
-        return refusals::PLAYBACK_RATE;
+    if !is_rate(commands.playback_rate) {
+        return Err(Refusal::PlaybackRate);
     }
-    if !(is_seek_by(voice, seek_by) & is_seek_to(voice, seek_to)) {
-        return refusals::SEEK;
+    if !(is_seek_by(voice, commands.seek_by) & is_seek_to(voice, commands.seek_to)) {
+        return Err(Refusal::Seek);
     }
-    0
-}
-
-fn set_playback_rate(playback_rate: f64, command: Amount) -> f64
-    ensures { result ≡ or_else command playback_rate }
-{
-    match command {
-        Amount::Absent => playback_rate,
-        Amount::Given(rate) => rate,
-    }
+    Ok(())
 }
 
 fn set_loop_region(voice: StaticSound, command: LoopCommand) -> Transport
     ensures { result ≡ reloop voice.moving.transport (looped voice command) }
 {
-    let setup = voice.setup;
-    let moving = voice.moving;
-    let transport = moving.transport;
+    let transport = voice.moving.transport;
     match command {
         LoopCommand::Keep => transport,
-        LoopCommand::Clear => transport.set_loop_region(FrameRange::Absent),
+        LoopCommand::Clear => transport.set_loop_region(None),
         LoopCommand::Set(region) => {
-            let frames = region.into_frames(setup.sample_rate, setup.num_frames());
-            transport.set_loop_region(frames)
+            let frames = region.into_frames(voice.setup.sample_rate, voice.setup.num_frames());
+            transport.set_loop_region(Some(frames))
         }
     }
 }
@@ -216,83 +186,67 @@ fn stop(state: PlaybackState, command: bool) -> PlaybackState
 fn before_seeks(voice: StaticSound, commands: Commands) -> StaticSound
     ensures { result ≡ before_seeks commands voice }
 {
-    let moving = voice.moving;
-    let rate = commands.playback_rate;
-    let loop_region = commands.loop_region;
-    let resumed = commands.resume;
-    let state = moving.state;
-    let playback_rate = set_playback_rate(voice.playback_rate, rate);
-    let transport = set_loop_region(voice, loop_region);
-    let state = pause(state, commands.pause);
-    let state = resume(state, resumed);
+    let playback_rate = commands.playback_rate.unwrap_or(voice.playback_rate);
+    let transport = set_loop_region(voice, commands.loop_region);
+    let state = pause(voice.moving.state, commands.pause);
+    let state = resume(state, commands.resume);
     let state = stop(state, commands.stop);
     StaticSound {
         playback_rate,
         moving: Moving {
             state,
             transport,
-            ..moving
+            ..voice.moving
         },
         ..voice
     }
 }
 
 fn seek_to_index(voice: StaticSound, index: usize, sound: &[f32]) -> StaticSound
-    requires t { T (well_formed_for (length sound.now) voice) }
+    requires well_formed { T (well_formed_for (length sound.now) voice) }
     requires index_le_most { index ≤ most }
     ensures { result ≡ sought sound.now voice index }
 {
-    let setup = voice.setup;
-    let moving = voice.moving;
-    let state = moving.state;
-    let before = moving.transport;
-    let transport = before.seek_to(index, setup.num_frames());
     let jumped = Moving {
-        transport,
-        ..moving
+        transport: voice
+            .moving
+            .transport
+            .seek_to(index, voice.setup.num_frames()),
+        ..voice.moving
     };
     // Pushes one frame so that the target frame is not skipped.
-    if state.is_advancing() {
-        let resampler = jumped.push_frame_to_resampler(voice.slice(), sound);
-        return StaticSound {
-            moving: Moving {
-                resampler,
-                ..jumped
-            },
-            ..voice
-        };
-    }
+    let resampler = if jumped.state.is_advancing() {
+        jumped.push_frame_to_resampler(voice.slice(), sound)
+    } else {
+        jumped.resampler
+    };
     StaticSound {
-        moving: jumped,
+        moving: Moving {
+            resampler,
+            ..jumped
+        },
         ..voice
     }
 }
 
-fn seek_by(voice: StaticSound, command: Amount, sound: &[f32]) -> StaticSound
+// Two functions, as for the tests.
+fn seek_by(voice: StaticSound, command: Option<f64>, sound: &[f32]) -> StaticSound
     requires { T (well_formed_for (length sound.now) voice) }
     ensures { result ≡ sought_by sound.now voice command }
 {
     match command {
-        Amount::Absent => voice,
-        Amount::Given(amount) => seek_to_index(
-            voice,
-            numbers::cut(frames_by(voice, amount)),
-            sound,
-        ),
+        None => voice,
+        Some(amount) => seek_to_index(voice, numbers::cut(frames_by(voice, amount)), sound),
     }
 }
 
-fn seek_to(voice: StaticSound, command: Amount, sound: &[f32]) -> StaticSound
+fn seek_to(voice: StaticSound, command: Option<f64>, sound: &[f32]) -> StaticSound
     requires { T (well_formed_for (length sound.now) voice) }
     ensures { result ≡ sought_to sound.now voice command }
 {
     match command {
-        Amount::Absent => voice,
-        Amount::Given(position) => seek_to_index(
-            voice,
-            numbers::cut(frames_to(voice, position)),
-            sound,
-        ),
+        None => voice,
+        Some(position) => seek_to_index(voice, numbers::cut(frames_to(voice, position)), sound),
     }
 }
 
@@ -301,11 +255,9 @@ fn read_commands(voice: StaticSound, sound: &[f32], commands: Commands) -> Stati
     requires { refused_set (length sound.now) voice commands ≡ 0 }
     ensures { result ≡ obeyed sound.now commands voice }
 {
-    let by = commands.seek_by;
-    let to = commands.seek_to;
     let ready = before_seeks(voice, commands);
-    let sought = seek_by(ready, by, sound);
-    seek_to(sought, to, sound)
+    let sought = seek_by(ready, commands.seek_by, sound);
+    seek_to(sought, commands.seek_to, sound)
 }
 
 // The position of the frame that was read last, in seconds.
@@ -313,27 +265,20 @@ fn last_played_position(voice: StaticSound) -> f64
     requires { current_frame_index voice.moving.resampler ≤ most }
     ensures { result ≡ reported voice }
 {
-    let setup = voice.setup;
-    let moving = voice.moving;
-    let resampler = moving.resampler;
-    resampler.current_frame_index() as f64 / setup.sample_rate as f64
+    voice.moving.resampler.current_frame_index() as f64 / voice.setup.sample_rate as f64
 }
 
-pub fn on_start_processing(voice: StaticSound, sound: &[f32], commands: Commands) -> Commanded
-    ensures { result ≡ commanded sound.now voice commands }
+pub fn on_start_processing(
+    voice: StaticSound,
+    sound: &[f32],
+    commands: Commands,
+) -> Result<Commanded, Refusal>
+    ensures { commands_answer voice result ≡ commanded sound.now voice commands }
 {
-    let refusal = refusal_of(voice, sound.len(), commands);
-    if refusal != 0 {
-        return Commanded {
-            refusal,
-            voice,
-            position: 0.0,
-        };
-    }
+    check(voice, sound.len(), commands)?;
     let position = last_played_position(voice);
-    Commanded {
-        refusal: 0,
+    Ok(Commanded {
         voice: read_commands(voice, sound, commands),
         position,
-    }
+    })
 }

@@ -7,7 +7,6 @@ use lib.ListN.{length, get_or, replicate, length-replicate}
 use lib.Ieee.{Float, nan}
 use Rattle.sound_lanes.specs.Lanes.{Lanes, five, sized}
 use Rattle.sound_lanes.proofs.Rows.{sized_parts}
-use Rattle.sound_held.specs.declared.Held.{Held}
 use Rattle.sound_held.specs.Held.{held_lanes}
 use Rattle.sound_constant.specs.Constant.{first, Constant}
 

@@ -1,19 +1,17 @@
 -- Constant lanes: every frame has the first frame's numbers.
-use Rattle.std.specs.Prelude.{◌<◌, ◌≡◌, length, get_or}
+use Rattle.std.specs.Prelude.{◌<◌, ◌≡◌, List, length, get_or, replicate}
 use Rattle.std.specs.Float.{nan}
-use Rattle.sound_lanes.specs.Lanes.{Lanes}
+use Rattle.sound_lanes.specs.Lanes.{Lanes, gains_at}
 use Rattle.sound_held.specs.declared.Held.{Held}
 use Rattle.sound_held.specs.Held.{held_lanes}
 
 -- the numbers of the first frame
 abbrev pub first : Lanes → Held
-first b = record {
-  fade = get_or b.fade 0 nan;
-  volume = get_or b.volume 0 nan;
-  left = get_or b.left 0 nan;
-  right = get_or b.right 0 nan;
-  rate = get_or b.rate 0 nan;
-}
+first b = record { gains = gains_at b.fade b.volume b.left b.right 0; rate = get_or b.rate 0 nan }
+
+-- every number of a lane is its first
+abbrev pub Repeats : {A : Type 0} → List A → Type 0
+Repeats {A} l = (z : A) → l ≡ replicate (length l) (get_or l 0 z)
 
 -- lanes of at least one frame, which all repeat the first frame's numbers
 pub record Constant (b : Lanes) : Type 0 where

@@ -1,5 +1,6 @@
 -- Creation: an accepted one makes a voice that is well formed over its sound, and the blank state of a refused one is not well formed.
 -- The voice before its updates is well formed, and updates keep that. Assumes nothing.
+use Rattle.std.specs.Prelude.{Option, Some, None}
 use mathlib.Core.Path.{◌≡◌, refl}
 use Prim.Native.Nat.{ℕ, ◌*◌, ◌/◌, ◌%◌}
 use native.Mathlib.Omega.{arith}
@@ -24,15 +25,14 @@ use Rattle.sound_update.specs.Updates.{updates}
 use Rattle.sound_state.specs.WellFormed.{well_formed_setup, well_formed, well_formed_for, WellFormed}
 use Rattle.sound_state.proofs.WellFormed.{span_most, well_formed_for_of, kept_of, moved_well_formed}
 use Rattle.sound_update.proofs.Kept.{updates_kept}
-use Rattle.sound_creation.specs.declared.OptionalRegion.{OptionalRegion}
-use Rattle.sound_creation.specs.declared.OptionalRegion.TheVariants as optional
 use Rattle.sound_creation.specs.declared.Settings.{Settings}
 use Rattle.sound_creation.specs.Creation.{ranged, allowed, setup_of, opened, filled, transport_of, made, blank_sound}
 use Rattle.sound_creation.proofs.Refusals.{Creatable}
+use Rattle.playback_position.specs.declared.Region.{Region}
 
-pub allowed_within : (hz n : ℕ) (r : OptionalRegion) → T (allowed hz n r) → T (within n (ranged hz n r))
-allowed_within hz n optional.Absent h = tt
-allowed_within hz n (optional.Present r) h = well_formed_within hz n r h
+pub allowed_within : (hz n : ℕ) (r : Option Region) → T (allowed hz n r) → T (within n (ranged hz n r))
+allowed_within hz n None h = tt
+allowed_within hz n (Some r) h = well_formed_within hz n r h
 
 -- what creation fixes is well formed
 pub setup_of_lem : (len : ℕ) (s : Settings) → Creatable len s → T (well_formed_setup (setup_of len s))

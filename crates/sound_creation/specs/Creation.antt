@@ -1,9 +1,9 @@
 -- Creation (docs/assurance/RULES.md, "Creation, commands, block"), refusals 2 to 7.
-use Rattle.std.specs.Prelude.{ℕ, ◌-◌, ◌*◌, ◌/◌, ◌%◌, Bool, true, false, not, ◌&&◌, cond, List, leb, ltb, eqb, length}
-use Rattle.std.specs.Prelude.{Float}
+use Rattle.std.specs.Prelude.{ℕ, ◌/◌, ◌%◌, Bool, true, false, not, ◌&&◌, cond, List, leb, ltb, eqb, length}
+use Rattle.std.specs.Prelude.{Option, Some, None, Result, Ok, Err, Float}
+use Rattle.refusals.specs.declared.Refusal.{Refusal}
+use Rattle.refusals.specs.Numbers.{number}
 use Rattle.numbers.specs.Words.{positive_zero, finite}
-use Rattle.playback_position.specs.declared.FrameRange.{FrameRange}
-use Rattle.playback_position.specs.declared.FrameRange.TheVariants as range
 use Rattle.playback_position.specs.declared.Region.{Region}
 use Rattle.playback_position.specs.Positions.{finite_position, position_in_frames, region_in_frames, well_formed_region}
 use Rattle.playback_state_manager.specs.declared.PlaybackState.TheVariants as state
@@ -15,19 +15,16 @@ use Rattle.sound_state.specs.declared.StaticSound.{StaticSound}
 use Rattle.sound_state.specs.Refusals.{unless}
 use Rattle.sound_state.specs.Voices.{length_of_slice, slice_of, moved}
 use Rattle.sound_update.specs.Updates.{uncounted, updates}
-use Rattle.sound_creation.specs.declared.OptionalRegion.{OptionalRegion}
-use Rattle.sound_creation.specs.declared.OptionalRegion.TheVariants as optional
 use Rattle.sound_creation.specs.declared.Settings.{Settings}
-use Rattle.sound_creation.specs.declared.Created.{Created}
 
 -- the given region in frames, over n frames
-abbrev pub ranged : ℕ → ℕ → OptionalRegion → FrameRange
-ranged hz n optional.Absent = range.Absent
-ranged hz n (optional.Present r) = region_in_frames hz n r
+abbrev pub ranged : ℕ → ℕ → Option Region → Option (ℕ × ℕ)
+ranged hz n None = None
+ranged hz n (Some r) = Some (region_in_frames hz n r)
 
-abbrev pub allowed : ℕ → ℕ → OptionalRegion → Bool
-allowed hz n optional.Absent = true
-allowed hz n (optional.Present r) = well_formed_region hz n r
+abbrev pub allowed : ℕ → ℕ → Option Region → Bool
+allowed hz n None = true
+allowed hz n (Some r) = well_formed_region hz n r
 
 -- what creation fixes; len is the sound's length in samples
 abbrev pub setup_of : ℕ → Settings → Setup
@@ -87,17 +84,27 @@ made snd s =
 abbrev pub blank_sound : StaticSound
 blank_sound =
     record {
-      setup = record { sample_rate = 0; num_frames = 0; slice = range.Absent; reverse = false };
+      setup = record { sample_rate = 0; num_frames = 0; slice = None; reverse = false };
       playback_rate = positive_zero;
       started = false;
       fractional_position = positive_zero;
       moving = record {
         state = state.Stopped;
-        transport = record { position = 0; loop_region = range.Absent; playing = false };
+        transport = record { position = 0; loop_region = None; playing = false };
         resampler = fresh 0;
         wraps = uncounted;
       };
     }
+
+-- the refusal of a creation, 0 if it is accepted, and its voice
+pub record Created : Type 0 where
+  pub refusal : ℕ
+  pub voice : StaticSound
+
+-- the outcome that a result stands for: a refusal has the blank state
+abbrev pub created_of : Result StaticSound Refusal → Created
+created_of (Ok v) = record { refusal = 0; voice = v }
+created_of (Err r) = record { refusal = number r; voice = blank_sound }
 
 -- creation, accepted and refused
 unfoldable pub created : List Float → Settings → Created

@@ -3,6 +3,7 @@
 #![tactic(auto)]
 
 ghost use Rattle.std.specs.Prelude.{◌≡◌, ◌/◌, ◌%◌, ◌&&◌, leb, ltb, eqb, length};
+ghost use Rattle.refusals.specs.Numbers.{number_of};
 ghost use Rattle.sound_creation.specs.Creation.{
   ranged,
   allowed,
@@ -13,58 +14,45 @@ ghost use Rattle.sound_creation.specs.Creation.{
   transport_of,
   made,
   blank_sound,
+  created_of,
   created,
 };
 
-use playback_position::{FrameRange, PlaybackPosition, Region};
+use playback_position::{PlaybackPosition, Region};
 use playback_state_manager::PlaybackState;
+use refusals::Refusal;
 use resampler::Resampler;
 use sound_state::{Setup, StaticSound};
 use sound_update::{Moving, Wraps};
 use transport::Transport;
 
-// A region, or none: kira's Option<Region>.
-#[derive(Clone, Copy)]
-pub enum OptionalRegion {
-    Absent,
-    Present(Region),
-}
-
 // The settings of a creation.
 #[derive(Clone, Copy)]
 pub struct Settings {
     pub sample_rate: u32,
-    pub slice: OptionalRegion,
+    pub slice: Option<Region>,
     pub start_position: PlaybackPosition,
-    pub loop_region: OptionalRegion,
+    pub loop_region: Option<Region>,
     pub reverse: bool,
     pub playback_rate: f64,
     pub start_waits: bool,
 }
 
-#[derive(Clone, Copy)]
-pub struct Created {
-    pub refusal: u32,
-    pub voice: StaticSound,
-}
-
 // The region in frames, over this many frames.
-fn into_frames(region: OptionalRegion, sample_rate: u32, num_frames: usize) -> FrameRange
+fn into_frames(
+    region: Option<Region>,
+    sample_rate: u32,
+    num_frames: usize,
+) -> Option<(usize, usize)>
     ensures { result ≡ ranged sample_rate num_frames region }
 {
-    match region {
-        OptionalRegion::Absent => FrameRange::Absent,
-        OptionalRegion::Present(region) => region.into_frames(sample_rate, num_frames),
-    }
+    region.map(|region| region.into_frames(sample_rate, num_frames))
 }
 
-fn is_well_formed(region: OptionalRegion, sample_rate: u32, num_frames: usize) -> bool
+fn is_well_formed(region: Option<Region>, sample_rate: u32, num_frames: usize) -> bool
     ensures { result ≡ allowed sample_rate num_frames region }
 {
-    match region {
-        OptionalRegion::Absent => true,
-        OptionalRegion::Present(region) => region.is_well_formed(sample_rate, num_frames),
-    }
+    region.is_none_or(|region| region.is_well_formed(sample_rate, num_frames))
 }
 
 // What creation fixes for a sound of this many samples.
@@ -102,34 +90,32 @@ fn is_start(settings: Settings, num_frames: usize) -> bool
     start.is_finite_position() & (start.into_samples(settings.sample_rate) < num_frames)
 }
 
-// The lowest number that applies to a creation, 0 for none.
-fn refusal_of(settings: Settings, samples: usize) -> u32
-    ensures { result ≡ refused_new samples settings }
+// The lowest refusal that applies to a creation.
+fn check(settings: Settings, samples: usize) -> Result<(), Refusal>
+    ensures { number_of result ≡ refused_new samples settings }
 {
     let sample_rate = settings.sample_rate;
-    let slice = settings.slice;
-    let loop_region = settings.loop_region;
     if !is_sample_rate(sample_rate) {
-        return refusals::SAMPLE_RATE;
+        return Err(Refusal::SampleRate);
     }
     if !is_sound(samples) {
-        return refusals::FRAME_COUNT;
+        return Err(Refusal::FrameCount);
     }
-    if !is_well_formed(slice, sample_rate, samples / 2) {
-        return refusals::SLICE;
+    if !is_well_formed(settings.slice, sample_rate, samples / 2) {
+        return Err(Refusal::Slice);
     }
     let setup = setup_of(settings, samples);
     let num_frames = setup.num_frames();
     if !is_start(settings, num_frames) {
-        return refusals::START_POSITION;
+        return Err(Refusal::StartPosition);
     }
-    if !is_well_formed(loop_region, sample_rate, num_frames) {
-        return refusals::LOOP_REGION;
+    if !is_well_formed(settings.loop_region, sample_rate, num_frames) {
+        return Err(Refusal::LoopRegion);
     }
     if !numbers::is_finite(settings.playback_rate) {
-        return refusals::PLAYBACK_RATE;
+        return Err(Refusal::PlaybackRate);
     }
-    0
+    Ok(())
 }
 
 // An accepted voice before its updates: at its first position, with an empty window.
@@ -167,7 +153,8 @@ fn open(settings: Settings, samples: usize) -> StaticSound
     }
 }
 
-// Makes three updates, which fill the window, so that playback can start at once.
+// Makes three updates, which fill the window, so that playback can start at once. By three calls: with a second caller
+// of `update_positions` clang inlines it nowhere, and a block takes twice the time.
 fn make(settings: Settings, sound: &[f32]) -> StaticSound
     requires { refused_new (length sound.now) settings ≡ 0 }
     ensures { result ≡ made sound.now settings }
@@ -181,19 +168,19 @@ fn make(settings: Settings, sound: &[f32]) -> StaticSound
     StaticSound { moving, ..opened }
 }
 
-// What a refused creation returns: Stopped, and every number 0.
+// The voice that stands where there is none: Stopped, and every number 0.
 pub fn blank() -> StaticSound
     ensures { result ≡ blank_sound }
 {
     let setup = Setup {
         sample_rate: 0,
         num_frames: 0,
-        slice: FrameRange::Absent,
+        slice: None,
         reverse: false,
     };
     let transport = Transport {
         position: 0,
-        loop_region: FrameRange::Absent,
+        loop_region: None,
         playing: false,
     };
     let moving = Moving {
@@ -214,18 +201,9 @@ pub fn blank() -> StaticSound
     }
 }
 
-pub fn new(settings: Settings, sound: &[f32]) -> Created
-    ensures { result ≡ created sound.now settings }
+pub fn new(settings: Settings, sound: &[f32]) -> Result<StaticSound, Refusal>
+    ensures { created_of result ≡ created sound.now settings }
 {
-    let refusal = refusal_of(settings, sound.len());
-    if refusal != 0 {
-        return Created {
-            refusal,
-            voice: blank(),
-        };
-    }
-    Created {
-        refusal: 0,
-        voice: make(settings, sound),
-    }
+    check(settings, sound.len())?;
+    Ok(make(settings, sound))
 }

@@ -1,2 +1,1 @@
--- Laws of a scan in parts.
-pub mod Parts
+-- Nothing: the invariant and the measure stand with their function.

@@ -16,8 +16,7 @@ use Rattle.sound_state.specs.declared.StaticSound.{StaticSound}
 use Rattle.sound_held.specs.declared.Held.{Held}
 use Rattle.sound_held.specs.Held.{held_lanes}
 use Rattle.sound_held.proofs.Once.{rows_more, rows_many, once_sized}
-use Rattle.sound_slow_path.specs.declared.Processed.{Processed}
-use Rattle.sound_slow_path.specs.Plays.{plays, Outcome, accepted_with, accepted_as}
+use Rattle.sound_slow_path.specs.Plays.{BlockAnswer, plays, Outcome, accepted_with, accepted_as}
 use Rattle.sound_slow_path.specs.FrameSteps.{Playable}
 use Rattle.sound_fast_path.specs.Scans.{played_from}
 use Rattle.sound_fast_path.proofs.Joins.{cut, part_is}
@@ -60,7 +59,7 @@ module _ (snd : List Float) (v : StaticSound) (dt : Float) (x : Held) (n : ℕ) 
           near = subst (λ (l : List Lane). T (all (near v.setup.sample_rate dt) l)) (sym rows_rest) (all_drop (near v.setup.sample_rate dt) i (rows (held_lanes x n)) p.near);
         })
 
-    pub played_rest : (r : Processed) (samples : List Float)
+    pub played_rest : (r : BlockAnswer) (samples : List Float)
         → record { answer = r; samples = samples } ≡ accepted_as (plays snd dt (rows (held_lanes x (length (cut (2 * i) out) / 2))) v)
         → record { answer = r; samples = take (2 * i) out ++ (samples ++ drop (length out - 2 * i) (drop (2 * i) out)) } ≡ played_from snd dt (held_lanes x n) i v out
     played_rest r samples e =

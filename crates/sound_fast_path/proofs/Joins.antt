@@ -1,4 +1,5 @@
 -- A scan and the frames after it make the block: the lanes cut, the two joined, the steps few. Assumes nothing.
+use Rattle.std.specs.Prelude.{Option, Some, None}
 use mathlib.Core.Path.{◌≡◌, sym, ap, ap₂, ◌∙◌, subst}
 use mathlib.Core.List.{List, [], ◌++◌, append-nil}
 use Prim.Native.Nat.{ℕ, ◌+◌, ◌-◌, ◌*◌, ◌≤◌, ◌<◌}
@@ -12,8 +13,6 @@ use Rattle.numbers.specs.Lists.{all}
 use Rattle.numbers.proofs.Lists.{all_drop}
 use Rattle.sound_lanes.specs.Lanes.{Lane, Lanes, five, rows, near, rest_lanes}
 use Rattle.sound_lanes.proofs.Rows.{beside_drop, beside_length, rest_sized}
-use Rattle.playback_position.specs.declared.FrameRange.{FrameRange}
-use Rattle.playback_position.specs.declared.FrameRange.TheVariants.{Absent, Frames}
 use Rattle.playback_position.specs.Positions.{within}
 use Rattle.playback_position.proofs.Ranges.{ranged_parts}
 use Rattle.sound_state.specs.declared.Setup.{Setup}
@@ -24,8 +23,7 @@ use Rattle.sound_state.proofs.WellFormed.{setup_parts, updatable_of}
 use Rattle.sound_track.specs.declared.Track.{Track}
 use Rattle.sound_track.specs.Tracks.{track_of}
 use Rattle.sound_track.specs.Contiguous.{InsideSound}
-use Rattle.sound_slow_path.specs.declared.Processed.{Processed}
-use Rattle.sound_slow_path.specs.Plays.{Played, plays, Outcome, accepted_with, accepted_as}
+use Rattle.sound_slow_path.specs.Plays.{BlockAnswer, Played, plays, Outcome, accepted_with, accepted_as}
 use Rattle.sound_slow_path.specs.FrameSteps.{Playable}
 use Rattle.sound_slow_path.proofs.Lowest.{lower_four}
 use Rattle.sound_slow_path.proofs.Plays.{joined, plays_append, plays_length, plays_lowest}
@@ -71,7 +69,7 @@ module _ (snd : List Float) (v : StaticSound) (dt : Float) (b : Lanes) (out : Li
       twice : (m n i : ℕ) → m ≡ 2 * n → m - 2 * i ≡ 2 * (n - i)
       twice m n i e = omega arith
 
-  pub played_from_lem : (i : ℕ) (r : Processed) (samples : List Float)
+  pub played_from_lem : (i : ℕ) (r : BlockAnswer) (samples : List Float)
       → record { answer = r; samples = samples } ≡ accepted_as (plays snd dt (rows (part_lanes i b)) v)
       → record { answer = r; samples = take (2 * i) out ++ (samples ++ drop (length out - 2 * i) (drop (2 * i) out)) } ≡ played_from snd dt b i v out
   played_from_lem i r samples e =
@@ -95,7 +93,7 @@ module _ (snd : List Float) (v : StaticSound) (dt : Float) (b : Lanes) (out : Li
   rows_left i = length-drop i (rows b) ∙ ap (λ (n : ℕ). n - i) (beside_length b.fade b.volume b.left b.right b.rate)
 
   -- the output stays as long
-  pub from_long : (i : ℕ) (r : Processed) (samples : List Float) → i ≤ length b.rate → record { answer = r; samples = samples } ≡ played_from snd dt b i v out → length samples ≡ length out
+  pub from_long : (i : ℕ) (r : BlockAnswer) (samples : List Float) → i ≤ length b.rate → record { answer = r; samples = samples } ≡ played_from snd dt b i v out → length samples ≡ length out
   from_long i r samples h e =
       let q = plays snd dt (drop i (rows b)) v in
       let first : length (take (2 * i) out) ≡ 2 * i = length-take-le (2 * i) out (within (length out) (length b.rate) i p.long h) in
@@ -112,7 +110,7 @@ module _ (snd : List Float) (v : StaticSound) (dt : Float) (b : Lanes) (out : Li
       all_of m n i e h = omega arith
 
   -- the steps from frame i on are few
-  pub from_few : (i : ℕ) (r : Processed) (samples : List Float) → record { answer = r; samples = samples } ≡ played_from snd dt b i v out → r.steps ≤ 257 * (length b.rate - i)
+  pub from_few : (i : ℕ) (r : BlockAnswer) (samples : List Float) → record { answer = r; samples = samples } ≡ played_from snd dt b i v out → r.steps ≤ 257 * (length b.rate - i)
   from_few i r samples e =
       subst (λ (s : ℕ). s ≤ 257 * (length b.rate - i)) (sym (ap (λ (o : Outcome). o.answer.steps) e))
       (subst (λ (m : ℕ). (plays snd dt (drop i (rows b)) v).steps ≤ 257 * m) (rows_left i) (plays_steps snd dt p.is_time_step (drop i (rows b)) v (near_rest i) p.well_formed))
@@ -122,9 +120,9 @@ module _ (snd : List Float) (v : StaticSound) (dt : Float) (b : Lanes) (out : Li
 span_some : (k : Setup) → T (well_formed_setup k) → 0 < length_of_slice k
 span_some k h = let f = setup_parts k h in go k.slice f.slice f.some
   where
-    go : (r : FrameRange) → T (within k.num_frames r) → 0 < k.num_frames → 0 < elim r as (λ (r : FrameRange). ℕ) [ Absent ↦ k.num_frames | Frames s e ↦ e - s ]
-    go Absent w l = l
-    go (Frames s e) w l = less s e (ranged_parts k.num_frames s e w).more
+    go : (r : Option (ℕ × ℕ)) → T (within k.num_frames r) → 0 < k.num_frames → 0 < elim r as (λ (r : Option (ℕ × ℕ)). ℕ) [ None ↦ k.num_frames | Some (s, e) ↦ e - s ]
+    go None w l = l
+    go (Some (s, e)) w l = less s e (ranged_parts k.num_frames s e w).more
       where
         less : (s e : ℕ) → s < e → 0 < e - s
         less s e h = omega arith
@@ -137,16 +135,16 @@ lies_of snd v w len =
     short : (m n : ℕ) → m ≡ 2 * n → n ≤ 16777216 → m ≤ 33554432
     short m n e h = omega arith
 
-    go : (r : FrameRange) → (let c = slice_of v in
+    go : (r : Option (ℕ × ℕ)) → (let c = slice_of v in
         T (within c.num_frames r) → 0 < c.num_frames → c.num_frames ≤ 16777216 → 2 * (c.start + c.num_frames) ≤ length snd → length snd ≤ 33554432 → InsideSound snd (track_of r c))
-    go Absent h some few inside m = record { some = some; inside = le_refl (slice_of v).num_frames; few = few; lent = inside; short = m }
-    go (Frames s e) h some few inside m =
+    go None h some few inside m = record { some = some; inside = le_refl (slice_of v).num_frames; few = few; lent = inside; short = m }
+    go (Some (s, e)) h some few inside m =
         let g = ranged_parts (slice_of v).num_frames s e h in
         record { some = g.more; inside = g.inside; few = few; lent = inside; short = m }
 
 -- ---- together
 
-pub reached_on : (snd : List Float) (dt : Float) (b : Lanes) (v u : StaticSound) (k : Track) (r : Reached) (q : Processed) (out end : List Float) → Heard snd dt b v k r out
+pub reached_on : (snd : List Float) (dt : Float) (b : Lanes) (v u : StaticSound) (k : Track) (r : Reached) (q : BlockAnswer) (out end : List Float) → Heard snd dt b v k r out
     → u ≡ moved v r.fractional_position (scanned_to snd k v r.steps r.at) → record { answer = q; samples = end } ≡ played_from snd dt b r.next u out
     → record { answer = record { refusal = 0; voice = q.voice; steps = r.steps + q.steps; lowest_count = q.lowest_count }; samples = end } ≡ accepted_as (plays snd dt (rows b) v)
 reached_on snd dt b v u k r q out end h eu e =

@@ -1,2 +1,3 @@
 -- A block along a track.
+pub mod BlockLanes
 pub mod Scans

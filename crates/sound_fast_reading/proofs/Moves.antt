@@ -18,8 +18,8 @@ use Rattle.numbers.proofs.Stepping.{sum_proper}
 use Rattle.numbers.specs.Lists.{all}
 use Rattle.sound_lanes.specs.Lanes.{slow}
 use Rattle.sound_track.specs.declared.Track.{Track}
-use Rattle.sound_track.specs.Tracks.{nexts, On, roomy}
-use Rattle.sound_track.proofs.Tracks.{far, on_nexts, nexts_within}
+use Rattle.sound_track.specs.Tracks.{nexts, far, On, roomy}
+use Rattle.sound_track.proofs.Tracks.{on_nexts, nexts_within}
 use Rattle.numbers.proofs.Equal.{first_of, second_of}
 use Rattle.sound_track.proofs.Contiguous.{Inside, inside_of, inside_first, inside_rest}
 use Rattle.sound_fast_reading.specs.Moves.{Slow, Move, number, Same}
@@ -134,7 +134,7 @@ room_far false false s e n q h = let x = h refl in subst T (sym (lt-ltb (q + 4 +
     up : (e n q : ℕ) → 4 + n ≤ e - 1 - q → q + 4 + n < e
     up e n q x = omega arith
 
-roomy_of : (k : Track) (n q : ℕ) → Inside k n q → T (roomy k n q)
+pub roomy_of : (k : Track) (n q : ℕ) → Inside k n q → T (roomy k n q)
 roomy_of k n q i = room_far k.looped k.backwards k.low k.high n q i.ends
 
 module _ (k : Track) (q m n : ℕ) (o : On k q) where

@@ -1,12 +1,14 @@
 // Readings along a track: what the loops of the fast path (straight and wrapping) share.
 #![tactic(auto)]
 
-ghost use Rattle.std.specs.Prelude.{◌≡◌, true, not, ◌+◌, ◌<◌, T, length, set};
+ghost use Rattle.std.specs.Prelude.{◌≡◌, true, not, ◌+◌, ◌<◌, T, List, length, get_or, set, replicate, Float};
+ghost use Rattle.std.specs.Float.{nan};
 ghost use Rattle.std.specs.Float.Ieee.{is_nan, lt};
 ghost use Rattle.numbers.specs.Words.{positive_zero, proper, magnitude, advance};
 ghost use Rattle.numbers.specs.Lists.{all};
 ghost use Rattle.sound_lanes.specs.Lanes.{slow};
 ghost use Rattle.sound_fast_reading.specs.Moves.{Slow, Move, number, Same};
+ghost use Rattle.sound_fast_reading.specs.Scans.{begun};
 
 use frame::Frame;
 use numbers::Stepped;
@@ -22,6 +24,50 @@ pub struct Way {
     pub sample_rate: u32,
 }
 
+// The rates of the frames, in order.
+pub trait Rates: Copy {
+    ghost list: { Self → List Float };
+
+    fn count(self) -> usize
+        ensures { result ≡ length (list self) };
+
+    fn rate(self, i: usize) -> f64
+        requires { i < length (list self) }
+        ensures { result ≡ get_or (list self) i nan };
+}
+
+// A rate for each frame.
+impl Rates for &[f64] {
+    ghost list = { λ s. s.now };
+
+    fn count(self) -> usize {
+        self.len()
+    }
+
+    fn rate(self, i: usize) -> f64 {
+        self[i]
+    }
+}
+
+// One rate for all frames.
+#[derive(Clone, Copy)]
+pub struct OneRate {
+    pub rate: f64,
+    pub frames: usize,
+}
+
+impl Rates for OneRate {
+    ghost list = { λ s. replicate s.frames s.rate };
+
+    fn count(self) -> usize {
+        self.frames
+    }
+
+    fn rate(self, _i: usize) -> f64 {
+        self.rate
+    }
+}
+
 // The state of the fast path: position and fraction, the steps made, and the next frame.
 #[derive(Clone, Copy)]
 pub struct Reached {
@@ -31,7 +77,21 @@ pub struct Reached {
     pub next: usize,
 }
 
-// A rate without its sign. It is not NaN, so its bits need no test.
+impl Way {
+    // The start of a scan.
+    pub fn begin(self) -> Reached
+        ensures { result ≡ begun self }
+    {
+        Reached {
+            at: self.at,
+            fractional_position: self.fractional_position,
+            steps: 0,
+            next: 0,
+        }
+    }
+}
+
+// A rate without its sign. It is not NaN, so its bits need no test; numbers::magnitude has one, for any number.
 fn magnitude_of(rate: f64) -> f64
     requires { T (not (is_nan rate)) }
     ensures { result ≡ magnitude rate }
@@ -89,19 +149,15 @@ pub fn is_steady(rate: &[f64]) -> bool
     requires { T (all number rate.now) }
     ensures { result ≡ true → Same rate.now }
 {
-    if rate.len() == 0 {
+    let (Some(first), Some(last)) = (rate.first(), rate.last()) else {
         return false;
-    }
-    let first = rate[0];
-    let end = rate.len();
-    if !is_same_rate(first, rate[end - 1]) {
+    };
+    if !is_same_rate(*first, *last) {
         return false;
     }
     let mut same = true;
-    let mut i: usize = 0;
-    while i < rate.len() {
-        same = is_same_rate(rate[i], first) & same;
-        i += 1;
+    for r in rate {
+        same = is_same_rate(*r, *first) & same;
     }
     same
 }

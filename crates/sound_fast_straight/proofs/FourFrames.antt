@@ -15,29 +15,14 @@ use Rattle.sound_fast_reading.specs.Moves.{Move}
 use Rattle.sound_fast_reading.specs.Scans.{read_on}
 use Rattle.sound_fast_reading.proofs.Scans.{stored_at, stored_length}
 use Rattle.sound_fast_straight.specs.declared.Moves.{Moves}
-use Rattle.sound_fast_straight.specs.Readings.{read_from}
 
 -- ---- numbers
 
 pub small : (n : ℕ) → n ≤ 4096 → n < 8192
 small n h = omega arith
 
-pub deep : (s k l q : ℕ) → 2 * (s + k) ≤ l → l ≤ 33554432 → q ≤ k → s + q < 2 ^ 64
-deep s k l q a b c = omega arith
-
-pub below : (q k : ℕ) → q < k → q ≤ k
-below q k h = omega arith
-
 pub less : (i n : ℕ) → i + 3 < n → n - (i + 4) < n - i
 less i n h = omega arith
-
--- ---- a reading
-
--- the reading at a place, from the numbers of its four frames
-pub read_from_lem : (snd : List Float) (k : Track) (q b c d p₁ p₂ p₃ p₄ : ℕ) (f : Float) → b ≡ next k q → c ≡ next k b → d ≡ next k c
-    → p₁ ≡ k.start + q → p₂ ≡ k.start + b → p₃ ≡ k.start + c → p₄ ≡ k.start + d → read_from snd p₁ p₂ p₃ p₄ f ≡ read_on snd k q f
-unfolding read_from read_on
-read_from_lem snd k q b c d p₁ p₂ p₃ p₄ f eb ec ed e₁ e₂ e₃ e₄ = rw (e₁, e₂, e₃, e₄, ed, ec, eb)
 
 -- ---- four frames written
 
@@ -85,20 +70,6 @@ FourMoves w rates f i m =
     × (Move m.first.fraction (advance w.sample_rate (get_or rates (i + 1) nan) w.dt) m.second
     × (Move m.second.fraction (advance w.sample_rate (get_or rates (i + 2) nan) w.dt) m.third
     × Move m.third.fraction (advance w.sample_rate (get_or rates (i + 3) nan) w.dt) m.fourth))
-
--- n frames of one rate
-module _ (n : ℕ) (r : Float) where
-  pub counted : {i : ℕ} → i < n → i < length (replicate n r)
-  counted {i} h = subst (λ (m : ℕ). i < m) (sym (length-replicate n r)) h
-
-  -- their steps are those of the rate's advance
-  pub held_moves : (w : Way) (a f : Float) (i : ℕ) (m : Moves) → a ≡ advance w.sample_rate r w.dt → i + 3 < n
-      → Move f a m.first × (Move m.first.fraction a m.second × (Move m.second.fraction a m.third × Move m.third.fraction a m.fourth))
-      → FourMoves w (replicate n r) f i m
-  held_moves w a f i m e l h = (each i (omega (arith, l)) h.0, (each (i + 1) (omega (arith, l)) h.1.0, (each (i + 2) (omega (arith, l)) h.1.1.0, each (i + 3) l h.1.1.1)))
-    where
-      each : (i : ℕ) {f : Float} {s : Stepped} → i < n → Move f a s → Move f (advance w.sample_rate (get_or (replicate n r) i nan) w.dt) s
-      each i {f} {s} h k = subst (λ (a : Float). Move f a s) (e ∙ ap (λ (q : Float). advance w.sample_rate q w.dt) (sym (get_or-replicate n i r nan h))) k
 
 -- ---- four frames more
 

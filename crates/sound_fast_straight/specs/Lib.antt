@@ -1,2 +1,1 @@
--- A reading of four frames.
-pub mod Readings
+-- Nothing: the contracts are in the words of the crates below.

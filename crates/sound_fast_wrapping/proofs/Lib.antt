@@ -1,3 +1,2 @@
 -- Laws of a scan that wraps.
-pub mod Readings
 pub mod TwoFrames

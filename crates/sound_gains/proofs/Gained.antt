@@ -11,8 +11,9 @@ use lib.Ieee.{Float, nan, binary32, mul, fits}
 use Rattle.numbers.specs.Words.{one}
 use Rattle.numbers.proofs.Values.{mul_one_right}
 use Rattle.frame.specs.declared.Frame.{Frame}
-use Rattle.sound_gains.specs.declared.Gains.{Gains}
-use Rattle.sound_gains.specs.Gained.{gains_at, scaled, gained, gained_at}
+use Rattle.sound_lanes.specs.declared.Gains.{Gains}
+use Rattle.sound_lanes.specs.Lanes.{gains_at, scaled}
+use Rattle.sound_gains.specs.Gained.{gained, gained_at, scaled_at}
 
 at_drop : (l : List Float) (i : ℕ) → get_or (drop 1 l) i nan ≡ get_or l (suc i) nan
 at_drop [] i = refl
@@ -93,6 +94,34 @@ module _ (fs vs ls rs : List Float) (out : List Float) where
   -- the readings of a frame that is not yet multiplied
   pub unread : (i m : ℕ) (g : List Float) → g ≡ gained fs vs ls rs i out → 2 * i ≤ m → get_or g m nan ≡ get_or out m nan
   unread i m g e h = ap (λ (l : List Float). get_or l m nan) e ∙ keeps fs vs ls rs i out m h
+
+-- ---- a loop over the frames
+
+-- the first i frames are multiplied, and the rest is unchanged
+pub record Sofar (fs vs ls rs : List Float) (n : ℕ) (out₀ out : List Float) (i : ℕ) : Type 0 where
+  pub within : i ≤ n
+  pub so_far : out ≡ gained fs vs ls rs i out₀
+
+module _ (fs vs ls rs : List Float) (n : ℕ) (out₀ : List Float) where
+  pub sofar_none : Sofar fs vs ls rs n out₀ out₀ 0
+  unfolding gained
+  sofar_none = record { within = omega arith; so_far = refl }
+
+  pub sofar_length : (out : List Float) (i : ℕ) → Sofar fs vs ls rs n out₀ out i → length out ≡ length out₀
+  sofar_length out i s = ap length s.so_far ∙ gained_length fs vs ls rs i out₀
+
+  -- one frame more
+  pub sofar_more : (g o : List Float) (i : ℕ) (z : Gains) → i < n → 2 * n ≤ length out₀ → Sofar fs vs ls rs n out₀ g i → z ≡ gains_at fs vs ls rs i → o ≡ scaled_at z i g g
+      → Sofar fs vs ls rs n out₀ o (i + 1)
+  sofar_more g o i z h k s e eo =
+      let u : (m : ℕ) → 2 * i ≤ m → get_or g m nan ≡ get_or out₀ m nan = λ m l. unread fs vs ls rs out₀ i m g s.so_far l in
+      record {
+        within = omega arith;
+        so_far = eo ∙ ap (λ (z : Gains). scaled_at z i g g) e ∙ gained_one fs vs ls rs out₀ i (i + 1) g g s.so_far (u (2 * i) (omega arith)) (u (2 * i + 1) (omega arith)) (omega arith) refl;
+      }
+
+  pub sofar_all : (out : List Float) (i : ℕ) → Sofar fs vs ls rs n out₀ out i → n ≤ i → out ≡ gained fs vs ls rs n out₀
+  sofar_all out i s h = let w = s.within in let e : i ≡ n = omega arith in s.so_far ∙ ap (λ (k : ℕ). gained fs vs ls rs k out₀) e
 
 -- the first n frames, alone
 first : (fs vs ls rs : List Float) (n m : ℕ) (out : List Float) → m ≡ 2 * n → take m (gained fs vs ls rs n out) ≡ gained fs vs ls rs n (take m out)

@@ -1,28 +1,9 @@
 -- Readings times their gains (docs/assurance/RULES.md, "Creation, commands, block"): fade, then volume, then the
 -- channel's gain.
 use Rattle.std.specs.Prelude.{ℕ, zero, suc, ◌+◌, ◌*◌, List, [], ◌∷◌, get_or, drop, set, Float}
-use Rattle.std.specs.Float.{nan, binary32}
-use Rattle.std.specs.Float.Ieee.{mul}
-use Rattle.frame.specs.declared.Frame.{Frame}
-use Rattle.sound_gains.specs.declared.Gains.{Gains}
-
--- frame i's gains in the lanes
-abbrev pub gains_at : List Float → List Float → List Float → List Float → ℕ → Gains
-gains_at fade volume left right i =
-    record {
-      fade = get_or fade i nan;
-      volume = get_or volume i nan;
-      left = get_or left i nan;
-      right = get_or right i nan;
-    }
-
--- a reading times its gains
-abbrev pub scaled : Float → Float → Gains → Frame
-scaled x y g =
-    record {
-      left = mul binary32 (mul binary32 (mul binary32 x g.fade) g.volume) g.left;
-      right = mul binary32 (mul binary32 (mul binary32 y g.fade) g.volume) g.right;
-    }
+use Rattle.std.specs.Float.{nan}
+use Rattle.sound_lanes.specs.declared.Gains.{Gains}
+use Rattle.sound_lanes.specs.Lanes.{gains_at, scaled}
 
 -- the first n frames of an output times their gains, with the rest of it unchanged
 unfoldable pub gained : List Float → List Float → List Float → List Float → ℕ → List Float → List Float

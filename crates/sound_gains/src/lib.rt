@@ -3,43 +3,11 @@
 
 ghost use Rattle.std.specs.Prelude.{◌≡◌, true, ◌+◌, ◌*◌, ◌≤◌, ◌<◌, length, replicate};
 ghost use Rattle.numbers.specs.Words.{one};
-ghost use Rattle.sound_gains.specs.Gained.{gains_at, scaled, scaled_at, gained_at, gained};
+ghost use Rattle.sound_lanes.specs.Lanes.{lanes_of, Covers};
+ghost use Rattle.sound_gains.specs.Gained.{scaled_at, gained};
 
 use frame::Frame;
-
-// The four numbers that a frame's reading is multiplied by.
-#[derive(Clone, Copy)]
-pub struct Gains {
-    pub fade: f32,
-    pub volume: f32,
-    pub left: f32,
-    pub right: f32,
-}
-
-fn gains_at(fade: &[f32], volume: &[f32], left: &[f32], right: &[f32], i: usize) -> Gains
-    requires i_in_bounds { i < length fade.now }
-    requires i_in_bounds_2 { i < length volume.now }
-    requires i_in_bounds_3 { i < length left.now }
-    requires i_in_bounds_4 { i < length right.now }
-    ensures { result ≡ gains_at fade.now volume.now left.now
-        right.now i }
-{
-    Gains {
-        fade: fade[i],
-        volume: volume[i],
-        left: left[i],
-        right: right[i],
-    }
-}
-
-fn scale(left: f32, right: f32, gains: Gains) -> Frame
-    ensures { result ≡ scaled left right gains }
-{
-    Frame {
-        left: left * gains.fade * gains.volume * gains.left,
-        right: right * gains.fade * gains.volume * gains.right,
-    }
-}
+use sound_lanes::{Gains, Lanes};
 
 // Multiplies frame i of the output by these gains.
 fn gain_by(gains: Gains, i: usize, out: &mut [f32])
@@ -47,49 +15,25 @@ fn gain_by(gains: Gains, i: usize, out: &mut [f32])
     requires i_bound { i < 4096 }
     ensures { out.new ≡ scaled_at gains i out.old out.old }
 {
-    let x = scale(out[2 * i], out[2 * i + 1], gains);
+    let read = Frame {
+        left: out[2 * i],
+        right: out[2 * i + 1],
+    };
+    let x = gains.scale(read);
     sound_fast_reading::store(out, 2 * i, x);
 }
 
-// Multiplies frame i of the output by its gains.
-fn gain_one(fade: &[f32], volume: &[f32], left: &[f32], right: &[f32], i: usize, out: &mut [f32])
-    requires i_in_bounds { i < length fade.now }
-    requires i_in_bounds_2 { i < length volume.now }
-    requires i_in_bounds_3 { i < length left.now }
-    requires i_in_bounds_4 { i < length right.now }
-    requires i_in_bounds_5 { 2 * i + 1 < length out.old }
-    requires i_bound { i < 4096 }
-    ensures { out.new
-        ≡ gained_at fade.now volume.now left.now right.now i
-        out.old out.old }
-{
-    let gains = gains_at(fade, volume, left, right, i);
-    gain_by(gains, i, out);
-}
-
 // Multiplies the first n frames of the output by their gains; clang vectorises it.
-pub fn by_frame(
-    fade: &[f32],
-    volume: &[f32],
-    left: &[f32],
-    right: &[f32],
-    n: usize,
-    out: &mut [f32],
-)
-    requires n_in_bounds { n ≤ length fade.now }
-    requires n_in_bounds_2 { n ≤ length volume.now }
-    requires n_in_bounds_3 { n ≤ length left.now }
-    requires n_in_bounds_4 { n ≤ length right.now }
-    requires n_in_bounds_5 { 2 * n ≤ length out.old }
+pub fn by_frame(lanes: Lanes<'_>, n: usize, out: &mut [f32])
+    requires covers { Covers n (lanes_of lanes) }
+    requires n_in_bounds { 2 * n ≤ length out.old }
     requires n_bound { n ≤ 4096 }
     ensures { out.new
-        ≡ gained fade.now volume.now left.now right.now n
+        ≡ gained lanes.entry.fade.now lanes.entry.volume.now lanes.entry.left.now lanes.entry.right.now n
         out.old }
 {
-    let mut i: usize = 0;
-    while i < n {
-        gain_one(fade, volume, left, right, i, out);
-        i += 1;
+    for i in 0..n {
+        gain_by(lanes.gains(i), i, out);
     }
 }
 
@@ -100,6 +44,7 @@ fn is_one(x: f32) -> bool
 }
 
 // Multiplies the first n frames of the output by the same gains. Gains of 1 change no sample, so nothing is computed.
+// What it shares with by_frame is gain_by: a function of both over a closure would be longer than the two loops.
 pub fn once(gains: Gains, n: usize, out: &mut [f32])
     requires n_in_bounds { 2 * n ≤ length out.old }
     requires n_bound { n ≤ 4096 }
@@ -110,9 +55,7 @@ pub fn once(gains: Gains, n: usize, out: &mut [f32])
     if is_one(gains.fade) & is_one(gains.volume) & is_one(gains.left) & is_one(gains.right) {
         return;
     }
-    let mut i: usize = 0;
-    while i < n {
+    for i in 0..n {
         gain_by(gains, i, out);
-        i += 1;
     }
 }

@@ -13,7 +13,7 @@ use Rattle.sound_held.specs.Held.{held_lanes}
 
 -- one frame's numbers
 abbrev pub lane : Held → Lane
-lane x = record { fade = x.fade; volume = x.volume; left = x.left; right = x.right; rate = x.rate }
+lane x = record { fade = x.gains.fade; volume = x.gains.volume; left = x.gains.left; right = x.gains.right; rate = x.rate }
 
 pub rows_once : (x : Held) (n : ℕ) → rows (held_lanes x n) ≡ replicate n (lane x)
 rows_once x zero = refl
@@ -33,8 +33,8 @@ once_sized x n h =
     sized_of (held_lanes x n)
     (record {
       most = subst (λ (k : ℕ). k ≤ 4096) (sym q) h;
-      fade = length-replicate n x.fade ∙ sym q;
-      volume = length-replicate n x.volume ∙ sym q;
-      left = length-replicate n x.left ∙ sym q;
-      right = length-replicate n x.right ∙ sym q;
+      fade = length-replicate n x.gains.fade ∙ sym q;
+      volume = length-replicate n x.gains.volume ∙ sym q;
+      left = length-replicate n x.gains.left ∙ sym q;
+      right = length-replicate n x.gains.right ∙ sym q;
     })

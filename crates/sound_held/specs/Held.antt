@@ -5,5 +5,6 @@ use Rattle.sound_lanes.specs.Lanes.{Lanes, five}
 use Rattle.sound_held.specs.declared.Held.{Held}
 
 abbrev pub held_lanes : Held → ℕ → Lanes
-held_lanes x n = five (replicate n x.fade) (replicate n x.volume) (replicate n x.left) (replicate n x.right)
-    (replicate n x.rate)
+held_lanes x n =
+    let g = x.gains in
+    five (replicate n g.fade) (replicate n g.volume) (replicate n g.left) (replicate n g.right) (replicate n x.rate)

@@ -6,7 +6,7 @@ use native.Mathlib.Nat.{not-suc-le-zero, le_of_suc-le-suc}
 use native.Mathlib.Numerals.{add-one}
 use native.Mathlib.Omega.{arith}
 use mathlib.Core.Bool.{Bool, true, false, ◌&&◌}
-use mathlib.Core.List.{List, [], ◌∷◌}
+use mathlib.Core.List.{List, [], ◌∷◌, ◌++◌}
 use lib.Dec.{ltb}
 use lib.Bits.{bit_or, bit_and, or_lt, or_add_and, and_le_r, and_comm}
 use lib.ListN.{length, get_or, take}
@@ -68,6 +68,10 @@ module _ {A : Type 0} (p : A → Bool) where
   all_more [] i z h = absurd (not-suc-le-zero h)
   all_more (x ∷ ls) zero z h = both_comm (p x) true
   all_more (x ∷ ls) (suc i) z h = ap (λ (b : Bool). p x && b) (all_more ls i z (le_of_suc-le-suc h)) ∙ sym (both_assoc (p x) (all p (take i ls)) (p (get_or ls i z)))
+
+  pub all_push : (ls : List A) (x : A) → all p (ls ++ (x ∷ [])) ≡ (p x && all p ls)
+  all_push [] x = refl
+  all_push (y ∷ ls) x = ap (λ (b : Bool). p y && b) (all_push ls x) ∙ sym (both_assoc (p y) (p x) (all p ls)) ∙ ap (λ (b : Bool). b && all p ls) (both_comm (p y) (p x)) ∙ both_assoc (p x) (p y) (all p ls)
 
   pub all_turn : (ls : List A) (i : ℕ) (z : A) (ok w : Bool) → i < length ls → ok ≡ all p (take i ls) → w ≡ p (get_or ls i z) → (w && ok) ≡ all p (take (i + 1) ls)
   all_turn ls i z ok w h e f =

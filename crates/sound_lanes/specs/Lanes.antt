@@ -1,13 +1,14 @@
 -- The five lanes of a block, and refusals 9 to 12 (docs/assurance/RULES.md, "What the host supplies", "Numbers and
 -- their refusals").
-use Rattle.std.specs.Prelude.{ℕ, Bool, false, ◌&&◌, cond, List, [], ◌∷◌, leb, ltb, eqb, pos, length, get_or, take}
+use Rattle.std.specs.Prelude.{ℕ, Bool, false, ◌≤◌, ◌&&◌, cond, List, [], ◌∷◌, leb, ltb, eqb, pos, length, get_or, take}
 use Rattle.std.specs.Prelude.{drop, Float}
-use Rattle.std.specs.Float.{nan, fin}
-use Rattle.std.specs.Float.Ieee.{lt, le}
-use Rattle.std.specs.Borrow.{Bor}
-use denote.Triple.Both.{Both}
+use Rattle.std.specs.Float.{nan, fin, binary32}
+use Rattle.std.specs.Float.Ieee.{mul, lt, le}
 use Rattle.numbers.specs.Words.{positive_zero, finite, finite_clear, advance}
 use Rattle.numbers.specs.Lists.{all}
+use Rattle.frame.specs.declared.Frame.{Frame}
+use Rattle.sound_lanes.specs.declared.Gains.{Gains}
+use Rattle.sound_lanes.specs.declared.Lanes.{Lanes as LaneSlices}
 
 -- the five numbers of one output frame
 pub record Lane : Type 0 where
@@ -28,14 +29,34 @@ pub record Lanes : Type 0 where
 abbrev pub five : List Float → List Float → List Float → List Float → List Float → Lanes
 five fade volume left right rate = record { fade = fade; volume = volume; left = left; right = right; rate = rate }
 
--- the lanes that five slices hold now
-abbrev pub lanes_now : (fade volume left right rate : Bor (List Float)) → Lanes
-lanes_now fade volume left right rate = five fade.now volume.now left.now right.now rate.now
+-- the lanes that a call's five slices hold
+abbrev pub lanes_of : LaneSlices → Lanes
+lanes_of lanes = five lanes.fade.now lanes.volume.now lanes.left.now lanes.right.now lanes.rate.now
 
--- the lanes that five slices hold when a function is called
-abbrev pub lanes_at_entry : (fade volume left right rate : Both (Bor (List Float)) (Bor (List Float))) → Lanes
-lanes_at_entry fade volume left right rate =
-    lanes_now fade.entry volume.entry left.entry right.entry rate.entry
+-- frame i's gains in the lanes
+abbrev pub gains_at : List Float → List Float → List Float → List Float → ℕ → Gains
+gains_at fade volume left right i =
+    record {
+      fade = get_or fade i nan;
+      volume = get_or volume i nan;
+      left = get_or left i nan;
+      right = get_or right i nan;
+    }
+
+-- a reading times its gains
+abbrev pub scaled : Float → Float → Gains → Frame
+scaled x y g =
+    record {
+      left = mul binary32 (mul binary32 (mul binary32 x g.fade) g.volume) g.left;
+      right = mul binary32 (mul binary32 (mul binary32 y g.fade) g.volume) g.right;
+    }
+
+-- the lanes of amplitudes and gains have n frames or more
+pub record Covers (n : ℕ) (b : Lanes) : Type 0 where
+  pub fade : n ≤ length b.fade
+  pub volume : n ≤ length b.volume
+  pub left : n ≤ length b.left
+  pub right : n ≤ length b.right
 
 -- the lanes side by side
 abbrev pub beside : List Float → List Float → List Float → List Float → List Float → List Lane

@@ -4,6 +4,7 @@ use Prim.Native.Nat.{ℕ, ◌≤◌, ◌<◌}
 use native.Mathlib.Omega.{arith}
 use mathlib.Core.Bool.{Bool, true, false, cond}
 use lib.Dec.{leb}
+use Rattle.std.proofs.Common.{min}
 use borrow.Author.Tests.{leb-true, leb-false, le-leb, lt-leb}
 use Rattle.sound_slow_path.specs.Plays.{lower}
 
@@ -14,6 +15,14 @@ lower_first a b h = ap (λ (t : Bool). cond t a b) (le-leb a b h)
 pub lower_second : (a b : ℕ) → b < a → lower a b ≡ b
 unfolding lower
 lower_second a b h = ap (λ (t : Bool). cond t a b) (lt-leb a b h)
+
+-- it is std's
+pub min_lower : (a b : ℕ) → min a b ≡ lower a b
+min_lower a b = go (leb a b) refl
+  where
+    go : (t : Bool) → leb a b ≡ t → min a b ≡ lower a b
+    go true e = let h = leb-true a b e in let k = lower_first a b h in omega arith
+    go false e = let h = leb-false a b e in let k = lower_second a b h in omega arith
 
 -- it is at most both
 pub record Lowest (a b : ℕ) : Type 0 where

@@ -9,6 +9,7 @@ use Rattle.frame.specs.Frames.{interpolated}
 use Rattle.resampler.specs.declared.Reading.{Reading}
 use Rattle.resampler.specs.declared.Resampler.{Resampler}
 use Rattle.resampler.specs.Windows.{nth, reading}
+use Rattle.sound_lanes.specs.declared.Gains.{Gains}
 use Rattle.sound_lanes.specs.Lanes.{Lanes, five, rows, sized, near, slow}
 use Rattle.sound_update.specs.declared.Slice.{Slice}
 use Rattle.sound_update.specs.declared.Moving.{Moving}
@@ -26,12 +27,11 @@ frame_at a b c d f fade volume left right =
       right = mul binary32 (mul binary32 (mul binary32 x.right fade) volume) right;
     }
 
--- frame i with its lanes: the window read at a fraction, with the count of the reading
-abbrev pub frame_with_gains_at : Resampler → Float → List Float → List Float → List Float → List Float → ℕ → Reading
-frame_with_gains_at w f fade volume left right i =
+-- a frame with its gains: the window read at a fraction, with the count of the reading
+abbrev pub frame_with_gains_at : Resampler → Float → Gains → Reading
+frame_with_gains_at w f g =
     record {
-      frame = frame_at (nth w 0) (nth w 1) (nth w 2) (nth w 3) f (get_or fade i nan) (get_or volume i nan)
-          (get_or left i nan) (get_or right i nan);
+      frame = frame_at (nth w 0) (nth w 1) (nth w 2) (nth w 3) f g.fade g.volume g.left g.right;
       count = (reading w (narrowed f)).count;
     }
 

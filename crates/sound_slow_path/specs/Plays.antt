@@ -72,9 +72,20 @@ plays snd dt (l ∷ ls) v = then (frame_with_gains v l) (whole (total dt v l))
 
 -- ---- the outcome of a call
 
--- the outcome of a call: its result, and every sample of the buffer
+-- what a call answers: its refusal (0 for none), the voice after it, its steps, and the lowest count that it read
+pub record BlockAnswer : Type 0 where
+  pub refusal : ℕ
+  pub voice : StaticSound
+  pub steps : ℕ
+  pub lowest_count : ℕ
+
+-- the answer of an accepted call
+abbrev pub accepted : Processed → BlockAnswer
+accepted p = record { refusal = 0; voice = p.voice; steps = p.steps; lowest_count = p.lowest_count }
+
+-- the outcome of a call: its answer, and every sample of the buffer
 pub record Outcome : Type 0 where
-  pub answer : Processed
+  pub answer : BlockAnswer
   pub samples : List Float
 
 abbrev pub accepted_with : Played → List Float → Outcome

@@ -1,10 +1,10 @@
 // The slow path: a block of a started, advancing voice, frame by frame (the loop of kira's StaticSound::process).
 #![tactic(auto)]
 
-ghost use Rattle.std.specs.Prelude.{◌≡◌, ◌/◌, ◌<◌, cond, T, eqb, length};
+ghost use Rattle.std.specs.Prelude.{◌≡◌, ◌/◌, cond, T, eqb, length};
 ghost use Rattle.numbers.specs.Words.{proper};
-ghost use Rattle.sound_lanes.specs.Lanes.{lanes_now, lanes_at_entry, rows};
-ghost use Rattle.sound_slow_path.specs.Plays.{lower, plays, accepted_as};
+ghost use Rattle.sound_lanes.specs.Lanes.{lanes_of, rows};
+ghost use Rattle.sound_slow_path.specs.Plays.{plays, accepted, accepted_as};
 ghost use Rattle.sound_slow_path.specs.FrameSteps.{
   frame_with_gains_at,
   frame_steps,
@@ -14,65 +14,35 @@ ghost use Rattle.sound_slow_path.specs.FrameSteps.{
   Playable,
 };
 
-use frame::Frame;
 use resampler::{Reading, Resampler};
+use sound_lanes::{Gains, Lanes};
 use sound_state::StaticSound;
 use sound_update::{Moving, Slice};
 
-// The result of a block: refusal (0 for none), the voice after it, its steps, and the lowest count that it read.
+// The result of a block: the voice after it, its steps, and the lowest count that it read.
 #[derive(Clone, Copy)]
 pub struct Processed {
-    pub refusal: u32,
     pub voice: StaticSound,
     pub steps: usize,
     pub lowest_count: usize,
 }
 
 // The result of one frame: the moving part, the fraction, and its steps.
-#[derive(Clone, Copy)]
+#[derive(Clone, Copy, Debug)]
 pub struct AfterFrame {
     pub moving: Moving,
     pub fractional_position: f64,
     pub steps: usize,
 }
 
-// The lower of two counts.
-fn lower(a: usize, b: usize) -> usize
-    ensures { result ≡ lower a b }
-{
-    if a <= b { a } else { b }
-}
-
-// Frame i: the window's reading times fade, times volume, times each channel's gain; and the count of the reading.
-fn frame_with_gains(
-    window: Resampler,
-    fractional_position: f64,
-    fade: &[f32],
-    volume: &[f32],
-    left: &[f32],
-    right: &[f32],
-    i: usize,
-) -> Reading
-    requires t { T (proper fractional_position) }
-    requires i_in_bounds { i < length fade.now }
-    requires i_in_bounds_2 { i < length volume.now }
-    requires i_in_bounds_3 { i < length left.now }
-    requires i_in_bounds_4 { i < length right.now }
-    ensures { result ≡ frame_with_gains_at window fractional_position fade.now volume.now
-        left.now right.now i }
+// A frame: the window's reading times fade, times volume, times each channel's gain; and the count of the reading.
+fn frame_with_gains(window: Resampler, fractional_position: f64, gains: Gains) -> Reading
+    requires { T (proper fractional_position) }
+    ensures { result ≡ frame_with_gains_at window fractional_position gains }
 {
     let read = window.get(numbers::narrow(fractional_position));
-    let out = read.frame;
-    let fade = fade[i];
-    let volume = volume[i];
-    let left = left[i];
-    let right = right[i];
-    let frame = Frame {
-        left: out.left * fade * volume * left,
-        right: out.right * fade * volume * right,
-    };
     Reading {
-        frame,
+        frame: gains.scale(read.frame),
         count: read.count,
     }
 }
@@ -111,19 +81,15 @@ pub fn play_spread(
     voice: StaticSound,
     dt: f64,
     sound: &[f32],
-    fade: &[f32],
-    volume: &[f32],
-    left: &[f32],
-    right: &[f32],
-    rate: &[f64],
+    lanes: Lanes<'_>,
     out: &mut [f32],
 ) -> Processed
-    requires alike { Alike (lanes_now fade volume left right rate) }
+    requires alike { Alike (lanes_of lanes) }
     requires playable { Playable sound.now voice dt
-        (spread (length out.old / 2) (lanes_now fade volume left right rate)) (length out.old) }
-    ensures { record { answer = result; samples = out.new }
+        (spread (length out.old / 2) (lanes_of lanes)) (length out.old) }
+    ensures { record { answer = accepted result; samples = out.new }
         ≡ accepted_as (plays sound.now dt
-        (rows (spread (length out.old / 2) (lanes_at_entry fade volume left right rate))) voice) }
+        (rows (spread (length out.old / 2) (lanes_of lanes.entry))) voice) }
 {
     let slice = voice.slice();
     let frames = out.len() / 2;
@@ -131,30 +97,27 @@ pub fn play_spread(
     let mut fractional_position = voice.fractional_position;
     let mut steps: usize = 0;
     let mut lowest_count: usize = 4;
-    let mut i: usize = 0;
-    while i < frames {
+    for i in 0..frames {
         let window = moving.resampler;
-        let j = lane_frame(rate.len(), i);
-        let read = frame_with_gains(window, fractional_position, fade, volume, left, right, j);
+        let j = lane_frame(lanes.rate.len(), i);
+        let read = frame_with_gains(window, fractional_position, lanes.gains(j));
         out[2 * i] = read.frame.left;
         out[2 * i + 1] = read.frame.right;
-        lowest_count = lower(lowest_count, read.count);
+        lowest_count = lowest_count.min(read.count);
         let next = frame_steps(
             moving,
             fractional_position,
             slice,
             voice.setup.sample_rate,
-            rate[j],
+            lanes.rate[j],
             dt,
             sound,
         );
         moving = next.moving;
         fractional_position = next.fractional_position;
         steps += next.steps;
-        i += 1;
     }
     Processed {
-        refusal: 0,
         voice: StaticSound {
             fractional_position,
             moving,
@@ -170,16 +133,12 @@ pub fn play(
     voice: StaticSound,
     dt: f64,
     sound: &[f32],
-    fade: &[f32],
-    volume: &[f32],
-    left: &[f32],
-    right: &[f32],
-    rate: &[f64],
+    lanes: Lanes<'_>,
     out: &mut [f32],
 ) -> Processed
-    requires { Playable sound.now voice dt (lanes_now fade volume left right rate) (length out.old) }
-    ensures { record { answer = result; samples = out.new }
-        ≡ accepted_as (plays sound.now dt (rows (lanes_at_entry fade volume left right rate)) voice) }
+    requires { Playable sound.now voice dt (lanes_of lanes) (length out.old) }
+    ensures { record { answer = accepted result; samples = out.new }
+        ≡ accepted_as (plays sound.now dt (rows (lanes_of lanes.entry)) voice) }
 {
-    play_spread(voice, dt, sound, fade, volume, left, right, rate, out)
+    play_spread(voice, dt, sound, lanes, out)
 }

@@ -1,5 +1,6 @@
 -- A well formed voice as a test and as named facts: each implies the other, part by part.
 -- With them N and its bounds, and that an update may be made.
+use Rattle.std.specs.Prelude.{Option, Some, None}
 use mathlib.Core.Path.{◌≡◌, sym, subst}
 use Prim.Native.Nat.{ℕ, ◌+◌, ◌-◌, ◌*◌, ◌≤◌, ◌<◌}
 use native.Mathlib.Nat.{le_trans}
@@ -12,8 +13,6 @@ use lib.Ieee.{Float}
 use lib.Ieee.Fits.{and_i, and_l, and_r, eq→eqb}
 use Rattle.numbers.specs.Words.{finite, proper}
 use Rattle.numbers.specs.Frames.{most}
-use Rattle.playback_position.specs.declared.FrameRange.{FrameRange}
-use Rattle.playback_position.specs.declared.FrameRange.TheVariants.{Absent, Frames}
 use Rattle.playback_position.specs.Positions.{within}
 use Rattle.playback_position.proofs.Ranges.{ranged_parts}
 use Rattle.transport.specs.WellFormed.{well_formed_transport}
@@ -59,10 +58,10 @@ setup_parts k h =
 span_within : (k : Setup) → T (within k.num_frames k.slice) → start_of_slice k + length_of_slice k ≤ k.num_frames
 span_within k h = go k.slice h
   where
-    go : (r : FrameRange) → T (within k.num_frames r)
-        → elim r as (λ (r : FrameRange). ℕ) [ Absent ↦ 0 | Frames s e ↦ s ] + elim r as (λ (r : FrameRange). ℕ) [ Absent ↦ k.num_frames | Frames s e ↦ e - s ] ≤ k.num_frames
-    go Absent h = omega arith
-    go (Frames s e) h = let r = ranged_parts k.num_frames s e h in omega arith
+    go : (r : Option (ℕ × ℕ)) → T (within k.num_frames r)
+        → elim r as (λ (r : Option (ℕ × ℕ)). ℕ) [ None ↦ 0 | Some (s, e) ↦ s ] + elim r as (λ (r : Option (ℕ × ℕ)). ℕ) [ None ↦ k.num_frames | Some (s, e) ↦ e - s ] ≤ k.num_frames
+    go None h = omega arith
+    go (Some (s, e)) h = let r = ranged_parts k.num_frames s e h in omega arith
 
 pub span_inside : (k : Setup) → T (well_formed_setup k) → 2 * (start_of_slice k + length_of_slice k) ≤ 2 * k.num_frames
 span_inside k h = let l = span_within k (setup_parts k h).slice in omega arith

@@ -1,7 +1,6 @@
 -- What an update reads of a voice.
-use Rattle.std.specs.Prelude.{ℕ, ◌-◌, Bool, not, cond, Float}
+use Rattle.std.specs.Prelude.{ℕ, ◌-◌, Bool, not, cond, Float, Some, None}
 use Rattle.numbers.specs.Words.{negative}
-use Rattle.playback_position.specs.declared.FrameRange.TheVariants.{Absent, Frames}
 use Rattle.sound_state.specs.declared.Setup.{Setup}
 use Rattle.sound_update.specs.declared.Moving.{Moving}
 use Rattle.sound_state.specs.declared.StaticSound.{StaticSound}
@@ -9,11 +8,11 @@ use Rattle.sound_update.specs.declared.Slice.{Slice}
 
 -- N: the slice's length, or all frames
 abbrev pub length_of_slice : Setup → ℕ
-length_of_slice k = elim k.slice [ Absent ↦ k.num_frames | Frames s e ↦ e - s ]
+length_of_slice k = elim k.slice [ None ↦ k.num_frames | Some (s, e) ↦ e - s ]
 
 -- the slice's first frame
 abbrev pub start_of_slice : Setup → ℕ
-start_of_slice k = elim k.slice [ Absent ↦ 0 | Frames s e ↦ s ]
+start_of_slice k = elim k.slice [ None ↦ 0 | Some (s, e) ↦ s ]
 
 -- backward if the held rate's sign bit is set, minus zero included; reverse turns it round
 abbrev pub backwards : Float → Bool → Bool

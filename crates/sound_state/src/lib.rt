@@ -2,26 +2,26 @@
 #![tactic(auto)]
 
 ghost use Rattle.std.specs.Prelude.{◌≡◌};
+ghost use Rattle.numbers.specs.Lists.{all};
 ghost use Rattle.transport.specs.WellFormed.{well_formed_transport};
 ghost use Rattle.resampler.specs.Windows.{zero_frame, numbered, windowed};
 ghost use Rattle.sound_state.specs.Voices.{length_of_slice, start_of_slice, backwards, slice_of};
 ghost use Rattle.sound_state.specs.WellFormed.{well_formed_setup, well_formed_for};
 
-use playback_position::FrameRange;
 use resampler::{RecentFrame, Resampler};
 use sound_update::{Moving, Slice};
 use transport::Transport;
 
 // What creation fixes for good.
-#[derive(Clone, Copy)]
+#[derive(Clone, Copy, Debug, PartialEq, Eq)]
 pub struct Setup {
     pub sample_rate: u32,
     pub num_frames: usize,
-    pub slice: FrameRange,
+    pub slice: Option<(usize, usize)>,
     pub reverse: bool,
 }
 
-#[derive(Clone, Copy)]
+#[derive(Clone, Copy, Debug)]
 pub struct StaticSound {
     pub setup: Setup,
     pub playback_rate: f64,
@@ -35,10 +35,9 @@ impl Setup {
     pub fn num_frames(self) -> usize
         ensures { result ≡ length_of_slice self }
     {
-        let slice = self.slice;
-        match slice {
-            FrameRange::Absent => self.num_frames,
-            FrameRange::Frames(start, end) => { if start <= end { end - start } else { 0 } }
+        match self.slice {
+            None => self.num_frames,
+            Some((start, end)) => end.saturating_sub(start),
         }
     }
 
@@ -46,38 +45,28 @@ impl Setup {
     pub fn start(self) -> usize
         ensures { result ≡ start_of_slice self }
     {
-        let slice = self.slice;
-        match slice {
-            FrameRange::Absent => 0,
-            FrameRange::Frames(start, _) => start,
-        }
+        self.slice.map_or(0, |(start, _)| start)
     }
 
     fn is_well_formed_setup(self) -> bool
         ensures { result ≡ well_formed_setup self }
     {
-        let slice = self.slice;
         ((self.sample_rate > 0) & (self.sample_rate <= 768000))
             & ((self.num_frames > 0) & (self.num_frames <= 16777216))
-            & slice.is_within(self.num_frames)
+            & playback_position::is_within(self.slice, self.num_frames)
     }
 }
 
 fn is_playing_backwards(playback_rate: f64, reverse: bool) -> bool
     ensures { result ≡ backwards playback_rate reverse }
 {
-    if numbers::is_negative(playback_rate) {
-        !reverse
-    } else {
-        reverse
-    }
+    numbers::is_negative(playback_rate) != reverse
 }
 
 fn is_well_formed_transport(transport: Transport, num_frames: usize) -> bool
     ensures { result ≡ well_formed_transport num_frames transport }
 {
-    let loop_region = transport.loop_region;
-    loop_region.is_within(num_frames)
+    playback_position::is_within(transport.loop_region, num_frames)
         & (!transport.playing | (transport.position < num_frames))
         & (transport.position <= 4294967296)
 }
@@ -85,8 +74,7 @@ fn is_well_formed_transport(transport: Transport, num_frames: usize) -> bool
 fn is_zero_frame(entry: RecentFrame) -> bool
     ensures { result ≡ zero_frame entry }
 {
-    let frame = entry.frame;
-    numbers::is_positive_zero(frame.left) & numbers::is_positive_zero(frame.right)
+    numbers::is_positive_zero(entry.frame.left) & numbers::is_positive_zero(entry.frame.right)
 }
 
 fn is_numbered(entry: RecentFrame) -> bool
@@ -95,32 +83,34 @@ fn is_numbered(entry: RecentFrame) -> bool
     entry.frame_index <= 4294967296
 }
 
+fn are_silent(entries: &[RecentFrame]) -> bool
+    ensures { result ≡ all zero_frame entries.now }
+{
+    entries.iter().all(|entry| is_zero_frame(*entry))
+}
+
+fn are_numbered(entries: &[RecentFrame]) -> bool
+    ensures { result ≡ all numbered entries.now }
+{
+    entries.iter().all(|entry| is_numbered(*entry))
+}
+
 // The entries from the count on are silent.
 fn is_windowed(resampler: Resampler) -> bool
     ensures { result ≡ windowed resampler }
 {
-    let t = resampler.time_until_empty;
-    let a = resampler.frames[0];
-    let b = resampler.frames[1];
-    let c = resampler.frames[2];
-    let d = resampler.frames[3];
-    (t <= 4)
-        & ((t > 0) | is_zero_frame(a))
-        & ((t > 1) | is_zero_frame(b))
-        & ((t > 2) | is_zero_frame(c))
-        & ((t > 3) | is_zero_frame(d))
-        & (is_numbered(a) & is_numbered(b) & is_numbered(c) & is_numbered(d))
+    let count = resampler.time_until_empty;
+    count <= 4 && are_silent(&resampler.frames[count..]) && are_numbered(&resampler.frames)
 }
 
 impl StaticSound {
     pub fn slice(self) -> Slice
         ensures { result ≡ slice_of self }
     {
-        let setup = self.setup;
         Slice {
-            start: setup.start(),
-            num_frames: setup.num_frames(),
-            backwards: is_playing_backwards(self.playback_rate, setup.reverse),
+            start: self.setup.start(),
+            num_frames: self.setup.num_frames(),
+            backwards: is_playing_backwards(self.playback_rate, self.setup.reverse),
         }
     }
 
@@ -128,15 +118,11 @@ impl StaticSound {
     pub fn is_well_formed(self, len: usize) -> bool
         ensures { result ≡ well_formed_for len self }
     {
-        let setup = self.setup;
-        let moving = self.moving;
-        if !setup.is_well_formed_setup() {
-            return false;
-        }
-        numbers::is_finite(self.playback_rate)
-            & is_well_formed_transport(moving.transport, setup.num_frames())
-            & numbers::is_proper(self.fractional_position)
-            & is_windowed(moving.resampler)
-            & (len == 2 * setup.num_frames)
+        self.setup.is_well_formed_setup()
+            && numbers::is_finite(self.playback_rate)
+            && is_well_formed_transport(self.moving.transport, self.setup.num_frames())
+            && numbers::is_proper(self.fractional_position)
+            && is_windowed(self.moving.resampler)
+            && len == 2 * self.setup.num_frames
     }
 }

@@ -1,5 +1,6 @@
 -- Moving parts whose window is the transport's contiguous window stay so: an update moves the contiguous window by one position, and counts as the track does.
 -- By the direction and the loop, case by case, then by induction on the updates. Assumes nothing.
+use Rattle.std.specs.Prelude.{Option, Some, None}
 use mathlib.Core.Path.{◌≡◌, refl, sym, ap, ap₂, ◌∙◌, subst}
 use Prim.Native.Nat.{ℕ, zero, suc, ◌+◌, ◌-◌, ◌*◌, ◌≤◌, ◌<◌}
 use native.Mathlib.Omega.{arith}
@@ -10,8 +11,6 @@ use lib.ListN.{length}
 use lib.Ieee.{Float}
 use borrow.Author.Tests.{eqb-true, eqb-false, le-leb, lt-leb, leb-true, ltb-true}
 use Rattle.frame.specs.Frames.{frame_of}
-use Rattle.playback_position.specs.declared.FrameRange.{FrameRange}
-use Rattle.playback_position.specs.declared.FrameRange.TheVariants.{Absent, Frames}
 use Rattle.playback_position.specs.Positions.{within}
 use Rattle.playback_position.proofs.Ranges.{ranged_parts}
 use Rattle.playback_state_manager.specs.declared.PlaybackState.TheVariants as state
@@ -26,14 +25,14 @@ use Rattle.sound_update.specs.declared.Moving.{Moving}
 use Rattle.sound_update.specs.declared.Wraps.{Wraps}
 use Rattle.sound_update.specs.Updates.{pushed, stepped, raised, counted, updated, updates}
 use Rattle.sound_track.specs.declared.Track.{Track}
-use Rattle.sound_track.specs.Tracks.{track_of, wraps_at, next, nexts, counted_at, counts, On, roomy}
+use Rattle.sound_track.specs.Tracks.{track_of, wraps_at, next, nexts, counted_at, counts, On, roomy, far}
 use Rattle.sound_track.specs.Contiguous.{seen, ahead, passed, contiguous_of}
-use Rattle.sound_track.proofs.Tracks.{far, on_next, on_nexts, next_far, stays_on, nexts_within}
+use Rattle.sound_track.proofs.Tracks.{on_next, on_nexts, next_far, stays_on, nexts_within}
 
-abbrev on : FrameRange → ℕ → Transport
+abbrev on : Option (ℕ × ℕ) → ℕ → Transport
 on loop p = record { position = p; loop_region = loop; playing = true }
 
-abbrev way : FrameRange → ℕ → ℕ → Bool → Track
+abbrev way : Option (ℕ × ℕ) → ℕ → ℕ → Bool → Track
 way loop o n b = track_of loop (record { start = o; num_frames = n; backwards = b })
 
 -- if the track has no loop, the step does not wrap
@@ -42,44 +41,44 @@ Going k p = k.looped ≡ false → wraps_at k p ≡ false
 
 -- ---- one step
 
-step_by : (b : Bool) (loop : FrameRange) (o n p : ℕ) → T (within n loop) → On (way loop o n b) p → Going (way loop o n b) p
+step_by : (b : Bool) (loop : Option (ℕ × ℕ)) (o n p : ℕ) → T (within n loop) → On (way loop o n b) p → Going (way loop o n b) p
     → cond b (backward (on loop p)) (forward n (on loop p)) ≡ on loop (next (way loop o n b) p)
-step_by true Absent o n p w h r =
+step_by true None o n p w h r =
     let e = r refl in
-    backward_plain (on Absent p) refl refl (eqb-false p 0 e) ∙ ap (λ (t : Bool). on Absent (cond t (n - 1) (p - 1))) (sym e)
-step_by false Absent o n p w h r =
+    backward_plain (on None p) refl refl (eqb-false p 0 e) ∙ ap (λ (t : Bool). on None (cond t (n - 1) (p - 1))) (sym e)
+step_by false None o n p w h r =
     let e = r refl in
-    forward_going n (on Absent p) refl
-    ∙ landed_inside n (on Absent p) (p + 1) (more p n (h.below refl) (eqb-false (p + 1) n e))
-    ∙ ap (λ (t : Bool). on Absent (cond t 0 (p + 1))) (sym e)
+    forward_going n (on None p) refl
+    ∙ landed_inside n (on None p) (p + 1) (more p n (h.below refl) (eqb-false (p + 1) n e))
+    ∙ ap (λ (t : Bool). on None (cond t 0 (p + 1))) (sym e)
   where
     more : (p n : ℕ) → p < n → (p + 1 ≡ n → ⊥) → p + 1 < n
     more p n h d = omega arith
-step_by true (Frames s e) o n p w h r = backward_looped (on (Frames s e) p) s e _ refl refl (go (eqb p s) refl)
+step_by true (Some (s, e)) o n p w h r = backward_looped (on (Some (s, e)) p) s e _ refl refl (go (eqb p s) refl)
   where
     above : (s p : ℕ) → s ≤ p → (p ≡ s → ⊥) → s < p
     above s p h d = omega arith
 
-    go : (t : Bool) → eqb p s ≡ t → back (Frames s e) p ≡ cond t (e - 1) (p - 1)
+    go : (t : Bool) → eqb p s ≡ t → back (Some (s, e)) p ≡ cond t (e - 1) (p - 1)
     go true t = back_start s e p h.some (eqb-true p s t)
     go false t = back_inside s e p (above s p (h.above refl) (eqb-false p s t))
-step_by false (Frames s e) o n p w h r =
-    forward_going n (on (Frames s e) p) refl
-    ∙ ap (landed n (on (Frames s e) p)) (go (eqb (p + 1) e) refl)
-    ∙ landed_inside n (on (Frames s e) p) (next (way (Frames s e) o n false) p) (on_next (way (Frames s e) o n false) p h).here
+step_by false (Some (s, e)) o n p w h r =
+    forward_going n (on (Some (s, e)) p) refl
+    ∙ ap (landed n (on (Some (s, e)) p)) (go (eqb (p + 1) e) refl)
+    ∙ landed_inside n (on (Some (s, e)) p) (next (way (Some (s, e)) o n false) p) (on_next (way (Some (s, e)) o n false) p h).here
   where
     below : (p e : ℕ) → p < e → (p + 1 ≡ e → ⊥) → p + 1 < e
     below p e l d = omega arith
 
-    go : (t : Bool) → eqb (p + 1) e ≡ t → under (Frames s e) (p + 1) ≡ cond t s (p + 1)
-    go true t = ap (under (Frames s e)) (eqb-true (p + 1) e t) ∙ under_end s e h.some
+    go : (t : Bool) → eqb (p + 1) e ≡ t → under (Some (s, e)) (p + 1) ≡ cond t s (p + 1)
+    go true t = ap (under (Some (s, e))) (eqb-true (p + 1) e t) ∙ under_end s e h.some
     go false t = under_inside s e (p + 1) (below p e (h.below refl) (eqb-false (p + 1) e t))
 
-wraps_by : (b : Bool) (loop : FrameRange) (o n p : ℕ) → On (way loop o n b) p → Going (way loop o n b) p → wraps b (on loop p) ≡ wraps_at (way loop o n b) p
+wraps_by : (b : Bool) (loop : Option (ℕ × ℕ)) (o n p : ℕ) → On (way loop o n b) p → Going (way loop o n b) p → wraps b (on loop p) ≡ wraps_at (way loop o n b) p
 unfolding wraps
-wraps_by true Absent o n p h r = sym (r refl)
-wraps_by false Absent o n p h r = sym (r refl)
-wraps_by true (Frames s e) o n p h r = go (eqb p s) refl
+wraps_by true None o n p h r = sym (r refl)
+wraps_by false None o n p h r = sym (r refl)
+wraps_by true (Some (s, e)) o n p h r = go (eqb p s) refl
   where
     above : (s p : ℕ) → s ≤ p → (p ≡ s → ⊥) → s < p
     above s p h d = omega arith
@@ -90,7 +89,7 @@ wraps_by true (Frames s e) o n p h r = go (eqb p s) refl
     go : (t : Bool) → eqb p s ≡ t → leb p s ≡ t
     go true t = le-leb p s (at s p (eqb-true p s t))
     go false t = lt-leb p s (above s p (h.above refl) (eqb-false p s t))
-wraps_by false (Frames s e) o n p h r = go (eqb (p + 1) e) refl
+wraps_by false (Some (s, e)) o n p h r = go (eqb (p + 1) e) refl
   where
     below : (p e : ℕ) → p < e → (p + 1 ≡ e → ⊥) → p + 1 < e
     below p e l d = omega arith
@@ -103,19 +102,19 @@ wraps_by false (Frames s e) o n p h r = go (eqb (p + 1) e) refl
     go false t = lt-leb e (p + 1) (below p e (h.below refl) (eqb-false (p + 1) e t))
 
 -- which parts of a track come from the slice and which from the loop
-pub record Fits (k : Track) (loop : FrameRange) (c : Slice) : Type 0 where
+pub record Fits (k : Track) (loop : Option (ℕ × ℕ)) (c : Slice) : Type 0 where
   pub is : k ≡ track_of loop c
   pub held : T (within c.num_frames loop)
 
-start_is : (loop : FrameRange) (c : Slice) → (track_of loop c).start ≡ c.start
-start_is Absent c = refl
-start_is (Frames s e) c = refl
+start_is : (loop : Option (ℕ × ℕ)) (c : Slice) → (track_of loop c).start ≡ c.start
+start_is None c = refl
+start_is (Some (s, e)) c = refl
 
-way_is : (loop : FrameRange) (c : Slice) → (track_of loop c).backwards ≡ c.backwards
-way_is Absent c = refl
-way_is (Frames s e) c = refl
+way_is : (loop : Option (ℕ × ℕ)) (c : Slice) → (track_of loop c).backwards ≡ c.backwards
+way_is None c = refl
+way_is (Some (s, e)) c = refl
 
-module _ (k : Track) (loop : FrameRange) (c : Slice) (f : Fits k loop c) (p : ℕ) (o : On k p) (r : Going k p) where
+module _ (k : Track) (loop : Option (ℕ × ℕ)) (c : Slice) (f : Fits k loop c) (p : ℕ) (o : On k p) (r : Going k p) where
   stepped_on : stepped c (on loop p) ≡ on loop (next k p)
   unfolding stepped
   stepped_on =

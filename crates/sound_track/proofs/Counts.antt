@@ -1,6 +1,6 @@
 -- Wraps along a track: of one direction only, as many as the steps wrap, and raised at once. By induction on the steps. Assumes nothing.
 use mathlib.Core.Path.{◌≡◌, refl, sym, ap, ap₂, ◌∙◌}
-use Prim.Native.Nat.{ℕ, zero, suc, ◌+◌, ◌≤◌, ◌<◌}
+use Prim.Native.Nat.{ℕ, zero, suc, ◌+◌, ◌≤◌, ◌<◌, min}
 use native.Mathlib.Omega.{arith}
 use mathlib.Core.Bool.{Bool, true, false, not, ◌&&◌, cond, true≢false, false≢true}
 use lib.Dec.{ltb}
@@ -78,7 +78,7 @@ raised_more c h = ap (λ (t : Bool). cond t (c + 1) c) (lt-ltb c 4294967295 h)
 raised_still : (c : ℕ) → 4294967295 ≤ c → raised true c ≡ c
 raised_still c h = ap (λ (t : Bool). cond t (c + 1) c) (le-ltb c 4294967295 h)
 
-pub raised_sum : (n c : ℕ) → c + n < 4294967295 → raised_by n c ≡ c + n
+raised_sum : (n c : ℕ) → c + n < 4294967295 → raised_by n c ≡ c + n
 unfolding raised_by
 raised_sum zero c h = none c
   where
@@ -95,7 +95,7 @@ raised_sum (suc n) c h = ap (raised_by n) (raised_more c (less c n h)) ∙ raise
     same : (c n : ℕ) → c + 1 + n ≡ c + suc n
     same c n = omega arith
 
-pub raised_top : (n c : ℕ) → c ≤ 4294967295 → 4294967295 ≤ c + n → raised_by n c ≡ 4294967295
+raised_top : (n c : ℕ) → c ≤ 4294967295 → 4294967295 ≤ c + n → raised_by n c ≡ 4294967295
 unfolding raised_by
 raised_top zero c l h = same c l h
   where
@@ -112,3 +112,16 @@ raised_top (suc n) c l h = go (ltb c 4294967295) refl (raised_top n)
     go : (t : Bool) → ltb c 4294967295 ≡ t → ((c : ℕ) → c ≤ 4294967295 → 4294967295 ≤ c + n → raised_by n c ≡ 4294967295) → raised_by n (raised true c) ≡ 4294967295
     go true e ih = let k = ltb-true c 4294967295 e in ap (raised_by n) (raised_more c k) ∙ ih (c + 1) (omega arith) (over c n h)
     go false e ih = let k = ltb-false c 4294967295 e in ap (raised_by n) (raised_still c k) ∙ ih c l (still c n k)
+
+pub raised_min : (n c : ℕ) → c ≤ 4294967295 → raised_by n c ≡ min (c + n) 4294967295
+raised_min n c l = go (ltb (c + n) 4294967295) refl
+  where
+    below : (s : ℕ) → s < 4294967295 → s ≡ min s 4294967295
+    below s h = omega arith
+
+    full : (s : ℕ) → 4294967295 ≤ s → 4294967295 ≡ min s 4294967295
+    full s h = omega arith
+
+    go : (t : Bool) → ltb (c + n) 4294967295 ≡ t → raised_by n c ≡ min (c + n) 4294967295
+    go true e = let h = ltb-true (c + n) 4294967295 e in raised_sum n c h ∙ below (c + n) h
+    go false e = let h = ltb-false (c + n) 4294967295 e in raised_top n c l h ∙ full (c + n) h

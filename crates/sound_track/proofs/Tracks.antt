@@ -6,14 +6,10 @@ use native.Mathlib.Nat.{mod-lt, mod-eq_of_lt, mod-eq-sub-mod, div-eq_of_lt, div-
 use native.Mathlib.Numerals.{add-one}
 use native.Mathlib.Omega.{arith}
 use mathlib.Core.Bool.{Bool, true, false, cond, false≢true, true≢false}
-use lib.Dec.{ltb, eqb}
-use borrow.Author.Tests.{eq-eqb, ne_eqb, ltb-true, ltb-false}
+use lib.Dec.{T, leb, ltb, eqb}
+use borrow.Author.Tests.{eq-eqb, ne_eqb, leb-true, ltb-true, ltb-false}
 use Rattle.sound_track.specs.declared.Track.{Track}
-use Rattle.sound_track.specs.Tracks.{wraps_at, next, nexts, wraps_of, On}
-
--- how many steps come before the one that wraps
-abbrev pub far : Track → ℕ → ℕ
-far k q = cond k.backwards (q - k.low) (k.high - 1 - q)
+use Rattle.sound_track.specs.Tracks.{wraps_at, next, nexts, wraps_of, far, straight, On}
 
 -- where a track is entered again
 abbrev pub entry : Track → ℕ
@@ -22,6 +18,10 @@ entry k = cond k.backwards (k.high - 1) k.low
 -- n positions further, with no edge between
 abbrev pub along : Track → ℕ → ℕ → ℕ
 along k q n = cond k.backwards (q - n) (q + n)
+
+is_true : (b : Bool) → T b → b ≡ true
+is_true true t = refl
+is_true false t = elim t [ ]
 
 -- ---- over plain numbers, b for backwards
 
@@ -346,6 +346,14 @@ module _ (n : ℕ) (k : Track) (q : ℕ) (o : On k q) (back : k.backwards ≡ tr
       sym
       (ap (λ (b : Bool). cond (cond b (eqb q k.low) (eqb (q + 1) k.high)) (cond b (k.high - 1) k.low) (cond b (q - 1) (q + 1))) back
       ∙ ap (λ (t : Bool). cond t (k.high - 1) (q - 1)) (ne_eqb q k.low h))
+
+-- n straight steps, which leave the window's four frames before the step that wraps
+pub straight_far : (k : Track) (n q : ℕ) → T (straight k n q) → n + 4 ≤ far k q
+straight_far k n q h = go k.backwards h
+  where
+    go : (b : Bool) → T (cond b (leb (k.low + 4 + n) q) (ltb (q + 4 + n) k.high)) → n + 4 ≤ cond b (q - k.low) (k.high - 1 - q)
+    go true h = let l = leb-true (k.low + 4 + n) q (is_true _ h) in omega arith
+    go false h = let l = ltb-true (q + 4 + n) k.high (is_true _ h) in omega arith
 
 -- a computed position is the right one, and on the track
 pub next_ends : (k : Track) (q : ℕ) → On k q → (r : ℕ) → r ≡ next k q → (r ≡ next k q) × On k r

@@ -1,16 +1,15 @@
 -- The track: the positions that uninterrupted playback passes, n steps along it, and the wraps of these steps.
 use Rattle.std.specs.Prelude.{ℕ, zero, suc, ◌+◌, ◌-◌, ◌≤◌, ◌<◌, ◌≡◌, Bool, true, false, not, ◌&&◌, ◌||◌, cond, T, leb}
+use Rattle.std.specs.Prelude.{Option, Some, None}
 use Rattle.std.specs.Prelude.{ltb, eqb}
-use Rattle.playback_position.specs.declared.FrameRange.{FrameRange}
-use Rattle.playback_position.specs.declared.FrameRange.TheVariants.{Absent, Frames}
 use Rattle.sound_update.specs.declared.Slice.{Slice}
 use Rattle.sound_update.specs.declared.Wraps.{Wraps}
 use Rattle.sound_update.specs.Updates.{raised}
 use Rattle.sound_track.specs.declared.Track.{Track}
 
 -- between the loop's ends, or the sound's
-abbrev pub track_of : FrameRange → Slice → Track
-track_of Absent c = record {
+abbrev pub track_of : Option (ℕ × ℕ) → Slice → Track
+track_of None c = record {
   start = c.start;
   count = c.num_frames;
   low = 0;
@@ -18,7 +17,7 @@ track_of Absent c = record {
   looped = false;
   backwards = c.backwards;
 }
-track_of (Frames s e) c = record {
+track_of (Some (s, e)) c = record {
   start = c.start;
   count = c.num_frames;
   low = s;
@@ -64,6 +63,10 @@ unfoldable pub raised_by : ℕ → ℕ → ℕ
 raised_by zero c = c
 raised_by (suc n) c = raised_by n (raised true c)
 
+-- how many steps come before the one that wraps
+abbrev pub far : Track → ℕ → ℕ
+far k q = cond k.backwards (q - k.low) (k.high - 1 - q)
+
 -- ---- positions
 
 -- q is on the track: forward below its end, backward not below its start
@@ -78,6 +81,10 @@ pub record On (k : Track) (q : ℕ) : Type 0 where
 -- the same as a test, except for what follows from the sound
 abbrev pub on_track : Track → ℕ → Bool
 on_track k q = ltb q k.count && cond k.backwards (leb k.low q) (ltb q k.high)
+
+-- n steps and the window's four frames come before the step that wraps
+abbrev pub straight : Track → ℕ → ℕ → Bool
+straight k n q = cond k.backwards (leb (k.low + 4 + n) q) (ltb (q + 4 + n) k.high)
 
 -- n steps and the window's four frames stay on the track; a loop has no end
 abbrev pub roomy : Track → ℕ → ℕ → Bool

@@ -2,9 +2,21 @@
 // So the fast path reads them in the sound and keeps only the position of the first.
 #![tactic(auto)]
 
-ghost use Rattle.std.specs.Prelude.{◌≡◌, true, false, ◌+◌, ◌*◌, ◌<◌, length};
+ghost use Rattle.std.specs.Prelude.{◌≡◌, Bool, true, false, ◌+◌, ◌*◌, ◌≤◌, ◌<◌, length};
 ghost use Rattle.frame.specs.Frames.{frame_of};
-ghost use Rattle.sound_track.specs.Tracks.{track_of, next, nexts, counts, wraps_of, raised_by, On, on_track, roomy};
+ghost use Rattle.sound_track.specs.Tracks.{
+  track_of,
+  next,
+  nexts,
+  counts,
+  wraps_of,
+  raised_by,
+  On,
+  on_track,
+  far,
+  straight,
+  roomy,
+};
 ghost use Rattle.sound_track.specs.Contiguous.{
   seen,
   passed,
@@ -18,7 +30,6 @@ ghost use Rattle.sound_track.specs.Contiguous.{
 };
 
 use frame::Frame;
-use playback_position::FrameRange;
 use resampler::{RecentFrame, Resampler};
 use sound_update::{Moving, Slice, Wraps};
 use transport::Transport;
@@ -35,11 +46,11 @@ pub struct Track {
     pub backwards: bool,
 }
 
-pub fn track_of(loop_region: FrameRange, slice: Slice) -> Track
+pub fn track_of(loop_region: Option<(usize, usize)>, slice: Slice) -> Track
     ensures { result ≡ track_of loop_region slice }
 {
     match loop_region {
-        FrameRange::Absent => Track {
+        None => Track {
             start: slice.start,
             count: slice.num_frames,
             low: 0,
@@ -47,7 +58,7 @@ pub fn track_of(loop_region: FrameRange, slice: Slice) -> Track
             looped: false,
             backwards: slice.backwards,
         },
-        FrameRange::Frames(start, end) => Track {
+        Some((start, end)) => Track {
             start: slice.start,
             count: slice.num_frames,
             low: start,
@@ -58,249 +69,279 @@ pub fn track_of(loop_region: FrameRange, slice: Slice) -> Track
     }
 }
 
-// ---- forward
+// ---- directions
 
-// The next position forward.
-pub fn after(track: Track, at: usize) -> usize
-    requires on { On track at }
-    requires backwards_value { track.backwards ≡ false }
-    ensures value { result ≡ next track at }
-    ensures on_2 { On track result }
-{
-    let on = at + 1;
-    if on == track.high { track.low } else { on }
-}
+// A direction along a track. Code that takes one is compiled for each.
+pub trait Direction {
+    ghost backwards: { Bool };
 
-// The position n steps forward.
-pub fn after_steps(track: Track, at: usize, n: usize) -> usize
-    requires on { On track at }
-    requires n_bound { n < 1000 }
-    requires backwards_value { track.backwards ≡ false }
-    ensures value { result ≡ nexts n track at }
-    ensures on_2 { On track result }
-{
-    let on = at + n;
-    if on < track.high {
-        return on;
-    }
-    let over = on - track.high;
-    let round = track.high - track.low;
-    if over < round {
-        return track.low + over;
-    }
-    track.low + over % round
-}
+    // The next position.
+    fn next(track: Track, at: usize) -> usize
+        requires on { On track at }
+        requires backwards_value { track.backwards ≡ backwards }
+        ensures value { result ≡ next track at }
+        ensures on_2 { On track result };
 
-// Whether n steps and the window's four frames stay on the track.
-pub fn has_room_after(track: Track, at: usize, n: usize) -> bool
-    requires on { On track at }
-    requires n_bound { n < 1000 }
-    requires backwards_value { track.backwards ≡ false }
-    ensures { result ≡ roomy track n at }
-{
-    track.looped | (at + 4 + n < track.high)
-}
+    // The position n steps on.
+    fn after_steps(track: Track, at: usize, n: usize) -> usize
+        requires on { On track at }
+        requires n_bound { n < 1000 }
+        requires backwards_value { track.backwards ≡ backwards }
+        ensures value { result ≡ nexts n track at }
+        ensures on_2 { On track result };
 
-// ---- backward
+    // Whether n steps and the window's four frames come before the step that wraps.
+    fn is_straight(track: Track, at: usize, n: usize) -> bool
+        requires on { On track at }
+        requires n_bound { n < 2000 }
+        requires backwards_value { track.backwards ≡ backwards }
+        ensures { result ≡ straight track n at };
 
-// The next position backward.
-pub fn before(track: Track, at: usize) -> usize
-    requires on { On track at }
-    requires backwards_value { track.backwards ≡ true }
-    ensures value { result ≡ next track at }
-    ensures on_2 { On track result }
-{
-    if at == track.low {
-        track.high - 1
-    } else {
-        at - 1
+    // The position n steps on, where none of them wraps.
+    fn straight_on(track: Track, at: usize, n: usize) -> usize
+        requires on { On track at }
+        requires far_enough { n ≤ far track at }
+        requires backwards_value { track.backwards ≡ backwards }
+        ensures value { result ≡ nexts n track at }
+        ensures on_2 { On track result };
+
+    // Whether n steps and the window's four frames stay on the track.
+    fn has_room(track: Track, at: usize, n: usize) -> bool
+        requires on { On track at }
+        requires n_bound { n < 2000 }
+        requires backwards_value { track.backwards ≡ backwards }
+        ensures { result ≡ roomy track n at }
+    {
+        track.looped | Self::is_straight(track, at, n)
     }
 }
 
-// The position n steps backward.
-pub fn before_steps(track: Track, at: usize, n: usize) -> usize
-    requires on { On track at }
-    requires n_bound { n < 1000 }
-    requires backwards_value { track.backwards ≡ true }
-    ensures value { result ≡ nexts n track at }
-    ensures on_2 { On track result }
-{
-    let down = track.low + n;
-    if down <= at {
-        return at - n;
+// Up to high and again from low.
+pub struct Forward;
+
+impl Direction for Forward {
+    ghost backwards = { false };
+
+    fn next(track: Track, at: usize) -> usize {
+        let on = at + 1;
+        if on == track.high { track.low } else { on }
     }
-    let short = down - at - 1;
-    let round = track.high - track.low;
-    if short < round {
-        return track.high - 1 - short;
+
+    fn after_steps(track: Track, at: usize, n: usize) -> usize {
+        let on = at + n;
+        if on < track.high {
+            return on;
+        }
+        let over = on - track.high;
+        let round = track.high - track.low;
+        if over < round {
+            return track.low + over;
+        }
+        track.low + over % round
     }
-    track.high - 1 - short % round
+
+    fn is_straight(track: Track, at: usize, n: usize) -> bool {
+        at + n < track.high.saturating_sub(4)
+    }
+
+    fn straight_on(_track: Track, at: usize, n: usize) -> usize {
+        at + n
+    }
 }
 
-// Whether n steps and the window's four frames stay on the track.
-pub fn has_room_before(track: Track, at: usize, n: usize) -> bool
-    requires on { On track at }
-    requires n_bound { n < 1000 }
-    requires backwards_value { track.backwards ≡ true }
-    ensures { result ≡ roomy track n at }
-{
-    track.looped | (track.low + 4 + n <= at)
+// Down to low and again from high - 1.
+pub struct Backward;
+
+impl Direction for Backward {
+    ghost backwards = { true };
+
+    fn next(track: Track, at: usize) -> usize {
+        if at == track.low {
+            track.high - 1
+        } else {
+            at - 1
+        }
+    }
+
+    fn after_steps(track: Track, at: usize, n: usize) -> usize {
+        let down = track.low + n;
+        if down <= at {
+            return at - n;
+        }
+        let short = down - at - 1;
+        let round = track.high - track.low;
+        if short < round {
+            return track.high - 1 - short;
+        }
+        track.high - 1 - short % round
+    }
+
+    fn is_straight(track: Track, at: usize, n: usize) -> bool {
+        track.low + 4 + n <= at
+    }
+
+    fn straight_on(_track: Track, at: usize, n: usize) -> usize {
+        at - n
+    }
 }
 
 // ---- both directions
 
-fn step(track: Track, at: usize) -> usize
-    requires { On track at }
-    ensures value { result ≡ next track at }
-    ensures on { On track result }
-{
-    if track.backwards {
-        before(track, at)
-    } else {
-        after(track, at)
+impl Track {
+    fn step(self, at: usize) -> usize
+        requires { On self at }
+        ensures value { result ≡ next self at }
+        ensures on { On self result }
+    {
+        if self.backwards {
+            Backward::next(self, at)
+        } else {
+            Forward::next(self, at)
+        }
     }
-}
 
-fn is_on(track: Track, at: usize) -> bool
-    ensures { result ≡ on_track track at }
-{
-    if track.backwards {
-        (at < track.count) & (track.low <= at)
-    } else {
-        (at < track.count) & (at < track.high)
+    fn is_on(self, at: usize) -> bool
+        ensures { result ≡ on_track self at }
+    {
+        if self.backwards {
+            (at < self.count) & (self.low <= at)
+        } else {
+            (at < self.count) & (at < self.high)
+        }
     }
-}
 
-fn has_room(track: Track, at: usize) -> bool
-    requires { On track at }
-    ensures { result ≡ roomy track 0 at }
-{
-    if track.backwards {
-        has_room_before(track, at, 0)
-    } else {
-        has_room_after(track, at, 0)
+    fn has_room(self, at: usize) -> bool
+        requires { On self at }
+        ensures { result ≡ roomy self 0 at }
+    {
+        if self.backwards {
+            Backward::has_room(self, at, 0)
+        } else {
+            Forward::has_room(self, at, 0)
+        }
     }
-}
 
-// How often n steps wrap.
-fn wraps_of(track: Track, at: usize, n: usize) -> usize
-    requires on { On track at }
-    requires n_bound { n < 4294967296 }
-    ensures { result ≡ wraps_of n track at }
-{
-    let round = track.high - track.low;
-    if track.backwards {
-        if track.low + n <= at {
+    // How often n steps wrap.
+    fn wraps_of(self, at: usize, n: usize) -> usize
+        requires on { On self at }
+        requires n_bound { n < 4294967296 }
+        ensures { result ≡ wraps_of n self at }
+    {
+        let round = self.high - self.low;
+        if self.backwards {
+            if self.low + n <= at {
+                return 0;
+            }
+            return 1 + (self.low + n - at - 1) / round;
+        }
+        if at + n < self.high {
             return 0;
         }
-        return 1 + (track.low + n - at - 1) / round;
+        1 + (at + n - self.high) / round
     }
-    if at + n < track.high {
-        return 0;
+
+    // The counts of wraps after n steps from a position.
+    pub fn wraps_after(self, at: usize, n: usize, wraps: Wraps) -> Wraps
+        requires on { On self at }
+        requires n_bound { n < 4294967296 }
+        ensures { result ≡ counts n self at wraps }
+    {
+        let more = self.wraps_of(at, n);
+        if self.backwards {
+            Wraps {
+                backward: raise_by(wraps.backward, more),
+                ..wraps
+            }
+        } else {
+            Wraps {
+                forward: raise_by(wraps.forward, more),
+                ..wraps
+            }
+        }
     }
-    1 + (at + n - track.high) / round
+
+    // The frame at a position of the track.
+    pub fn frame_at(self, sound: &[f32], at: usize) -> Frame
+        requires inside_sound { InsideSound sound.now self }
+        requires on { On self at }
+        ensures { result ≡ frame_of sound.now (self.start + at) }
+    {
+        sound_update::frame_in(sound, self.start + at)
+    }
+
+    fn entry_at(self, sound: &[f32], at: usize) -> RecentFrame
+        requires inside_sound { InsideSound sound.now self }
+        requires on { On self at }
+        ensures { result ≡ seen sound.now self.start at }
+    {
+        RecentFrame {
+            frame: self.frame_at(sound, at),
+            frame_index: at,
+        }
+    }
+
+    // The moving part whose window is the contiguous window from a position on, with these counts of wraps.
+    pub fn contiguous_at(self, moving: Moving, sound: &[f32], at: usize, wraps: Wraps) -> Moving
+        requires inside_sound { InsideSound sound.now self }
+        requires on { On self at }
+        ensures { result ≡ contiguous_of sound.now self moving wraps at }
+    {
+        let b = self.step(at);
+        let c = self.step(b);
+        let d = self.step(c);
+        let frames = [
+            self.entry_at(sound, at),
+            self.entry_at(sound, b),
+            self.entry_at(sound, c),
+            self.entry_at(sound, d),
+        ];
+        Moving {
+            transport: Transport {
+                position: self.step(d),
+                playing: true,
+                ..moving.transport
+            },
+            wraps,
+            resampler: Resampler {
+                frames,
+                time_until_empty: 4,
+            },
+            ..moving
+        }
+    }
+
+    // Whether the window is a contiguous window, and the next update pushes a frame.
+    pub fn is_contiguous(self, moving: Moving, sound: &[f32]) -> bool
+        requires inside_sound { InsideSound sound.now self }
+        requires frames_len { length moving.resampler.frames ≡ 4 }
+        ensures value { result ≡ is_contiguous sound.now self moving }
+        ensures contiguous { result ≡ true → Contiguous sound.now self moving }
+    {
+        let transport = moving.transport;
+        let at = moving.resampler.frames[0].frame_index;
+        if !transport.playing {
+            return false;
+        }
+        if !self.is_on(at) {
+            return false;
+        }
+        if !self.has_room(at) {
+            return false;
+        }
+        let there = self.contiguous_at(moving, sound, at, moving.wraps);
+        (transport.position == there.transport.position)
+            & is_same_window(moving.resampler, there.resampler)
+    }
 }
 
 // A count plus this many; it stays at its limit.
 fn raise_by(count: u32, n: usize) -> u32
     ensures { result ≡ raised_by n count }
 {
-    let room = 4294967295 - count;
-    if n < room as usize {
-        count + n as u32
-    } else {
-        4294967295
-    }
+    (count as usize).saturating_add(n).min(u32::MAX as usize) as u32
 }
 
-// The counts of wraps after n steps from a position.
-pub fn wraps_after(track: Track, at: usize, n: usize, wraps: Wraps) -> Wraps
-    requires on { On track at }
-    requires n_bound { n < 4294967296 }
-    ensures { result ≡ counts n track at wraps }
-{
-    let more = wraps_of(track, at, n);
-    if track.backwards {
-        Wraps {
-            forward: wraps.forward,
-            backward: raise_by(wraps.backward, more),
-        }
-    } else {
-        Wraps {
-            forward: raise_by(wraps.forward, more),
-            backward: wraps.backward,
-        }
-    }
-}
-
-// ---- frames
-
-// Frame i of the sound.
-pub fn frame_in(sound: &[f32], i: usize) -> Frame
-    requires { 2 * i + 1 < length sound.now }
-    ensures { result ≡ frame_of sound.now i }
-{
-    Frame {
-        left: sound[2 * i],
-        right: sound[2 * i + 1],
-    }
-}
-
-// The frame at a position of the track.
-pub fn frame_at(sound: &[f32], track: Track, at: usize) -> Frame
-    requires inside_sound { InsideSound sound.now track }
-    requires on { On track at }
-    ensures { result ≡ frame_of sound.now (track.start + at) }
-{
-    frame_in(sound, track.start + at)
-}
-
-fn entry_at(sound: &[f32], track: Track, at: usize) -> RecentFrame
-    requires inside_sound { InsideSound sound.now track }
-    requires on { On track at }
-    ensures { result ≡ seen sound.now track.start at }
-{
-    RecentFrame {
-        frame: frame_at(sound, track, at),
-        frame_index: at,
-    }
-}
-
-// The moving part whose window is the contiguous window from a position on, with these counts of wraps.
-pub fn contiguous_at(moving: Moving, sound: &[f32], track: Track, at: usize, wraps: Wraps) -> Moving
-    requires inside_sound { InsideSound sound.now track }
-    requires on { On track at }
-    ensures { result ≡ contiguous_of sound.now track moving wraps at }
-{
-    let transport = moving.transport;
-    let state = moving.state;
-    let loop_region = transport.loop_region;
-    let b = step(track, at);
-    let c = step(track, b);
-    let d = step(track, c);
-    let ea = entry_at(sound, track, at);
-    let eb = entry_at(sound, track, b);
-    let ec = entry_at(sound, track, c);
-    let ed = entry_at(sound, track, d);
-    let frames = [ea, eb, ec, ed];
-    let resampler = Resampler {
-        frames,
-        time_until_empty: 4,
-    };
-    let transport = Transport {
-        position: step(track, d),
-        loop_region,
-        playing: true,
-    };
-    Moving {
-        state,
-        transport,
-        wraps,
-        resampler,
-    }
-}
-
-// ---- the test
+// ---- the test for a contiguous window. PartialEq would not do: a NaN equals nothing, and zeros of two signs differ.
 
 // Equal bit for bit. A NaN equals nothing, so its window takes the slow path.
 fn is_same(a: f32, b: f32) -> bool
@@ -317,9 +358,9 @@ fn is_same_entry(a: RecentFrame, b: RecentFrame) -> bool
     ensures value { result ≡ same_entry a b }
     ensures a_value { result ≡ true → a ≡ b }
 {
-    let x = a.frame;
-    let y = b.frame;
-    (a.frame_index == b.frame_index) & is_same(x.left, y.left) & is_same(x.right, y.right)
+    (a.frame_index == b.frame_index)
+        & is_same(a.frame.left, b.frame.left)
+        & is_same(a.frame.right, b.frame.right)
 }
 
 fn is_same_window(a: Resampler, b: Resampler) -> bool
@@ -328,43 +369,9 @@ fn is_same_window(a: Resampler, b: Resampler) -> bool
     ensures value { result ≡ same_window a b }
     ensures a_value { result ≡ true → a ≡ b }
 {
-    let a0 = a.frames[0];
-    let a1 = a.frames[1];
-    let a2 = a.frames[2];
-    let a3 = a.frames[3];
-    let b0 = b.frames[0];
-    let b1 = b.frames[1];
-    let b2 = b.frames[2];
-    let b3 = b.frames[3];
     (a.time_until_empty == b.time_until_empty)
-        & is_same_entry(a0, b0)
-        & is_same_entry(a1, b1)
-        & is_same_entry(a2, b2)
-        & is_same_entry(a3, b3)
-}
-
-// Whether the window is a contiguous window, and the next update pushes a frame.
-pub fn is_contiguous(moving: Moving, sound: &[f32], track: Track) -> bool
-    requires inside_sound { InsideSound sound.now track }
-    requires frames_len { length moving.resampler.frames ≡ 4 }
-    ensures value { result ≡ is_contiguous sound.now track moving }
-    ensures contiguous { result ≡ true → Contiguous sound.now track moving }
-{
-    let transport = moving.transport;
-    let window = moving.resampler;
-    let first = window.frames[0];
-    let at = first.frame_index;
-    if !transport.playing {
-        return false;
-    }
-    if !is_on(track, at) {
-        return false;
-    }
-    if !has_room(track, at) {
-        return false;
-    }
-    let there = contiguous_at(moving, sound, track, at, moving.wraps);
-    let landed = there.transport;
-    let contiguous = there.resampler;
-    (transport.position == landed.position) & is_same_window(window, contiguous)
+        & is_same_entry(a.frames[0], b.frames[0])
+        & is_same_entry(a.frames[1], b.frames[1])
+        & is_same_entry(a.frames[2], b.frames[2])
+        & is_same_entry(a.frames[3], b.frames[3])
 }

@@ -62,8 +62,3 @@ pub updated_updatable : (snd : List Float) (c : Slice) (m : Moving) → Updatabl
 unfolding updated
 updated_updatable snd c m h =
     record { transport_well_formed = stepped_well_formed_transport c m.transport (le_trans h.few (lit≤ tt)) h.transport_well_formed; few = h.few; inside = h.inside }
-
-pub updates_updatable : (n : ℕ) (snd : List Float) (c : Slice) (m : Moving) → Updatable snd c m → Updatable snd c (updates n snd c m)
-unfolding updates
-updates_updatable zero snd c m h = h
-updates_updatable (suc n) snd c m h = updates_updatable n snd c (updated snd c m) (updated_updatable snd c m h)

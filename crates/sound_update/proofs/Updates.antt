@@ -1,4 +1,5 @@
 -- Several updates, one at a time; and the moving part, split and assembled with the same loop.
+use Rattle.std.specs.Prelude.{Option}
 use mathlib.Core.Path.{◌≡◌, refl, sym, ap, ap₂, ◌∙◌}
 use mathlib.Core.Bool.{Bool, true, false, not, cond}
 use mathlib.Core.List.{List, [], ◌∷◌}
@@ -6,7 +7,6 @@ use Prim.Native.Nat.{ℕ, suc, ◌+◌, ◌-◌, ◌<◌}
 use native.Mathlib.Omega.{arith}
 use lib.ListN.{length, get_or}
 use lib.Ieee.{Float}
-use Rattle.playback_position.specs.declared.FrameRange.{FrameRange}
 use Rattle.transport.specs.declared.Transport.{Transport}
 use Rattle.transport.specs.Moves.{under, back, first, landed, forward, backward}
 use Rattle.resampler.specs.declared.RecentFrame.{RecentFrame}
@@ -18,12 +18,13 @@ use Rattle.sound_update.specs.declared.window.Numbers.{Numbers}
 use Rattle.sound_update.specs.Windows.{frames_of, numbers_of, window_of}
 use Rattle.sound_update.specs.Updates.{pushed, stepped, updated, updates, moving_of}
 
-pub updates_one : (n : ℕ) (snd : List Float) (c : Slice) (m : Moving) → 0 < n → updates (n - 1) snd c (updated snd c m) ≡ updates n snd c m
+-- of n updates, the one after the first k
+pub updates_one : (n k : ℕ) (snd : List Float) (c : Slice) (m : Moving) → k < n → updates (n - (k + 1)) snd c (updated snd c m) ≡ updates (n - k) snd c m
 unfolding updates
-updates_one n snd c m h = sym (ap (λ (k : ℕ). updates k snd c m) (more n h))
+updates_one n k snd c m h = sym (ap (λ (j : ℕ). updates j snd c m) (more n k h))
   where
-    more : (n : ℕ) → 0 < n → n ≡ suc (n - 1)
-    more n h = omega arith
+    more : (n k : ℕ) → k < n → n - k ≡ suc (n - (k + 1))
+    more n k h = omega arith
 
 pub updates_none : (n : ℕ) (snd : List Float) (c : Slice) (m : Moving) → n ≡ 0 → updates n snd c m ≡ m
 unfolding updates
@@ -50,7 +51,7 @@ abbrev get_d_blank : List RecentFrame → ℕ → RecentFrame
 get_d_blank l i = get_or l i blank
 
 -- the moving part, split and assembled with a loop
-abbrev pub apart : FrameRange → Moving → Moving
+abbrev pub apart : Option (ℕ × ℕ) → Moving → Moving
 apart loop m =
     let w = m.resampler in
     moving_of loop m.state m.transport.position m.transport.playing m.wraps (window_of (frames_of w) (numbers_of w))
@@ -79,9 +80,9 @@ four (a ∷ b ∷ c ∷ d ∷ x ∷ l) e = absurd (bad (length l) e)
     bad n e = omega arith
 
 -- with its own loop it is the same
-pub together : (loop : FrameRange) (m : Moving) → m.transport.loop_region ≡ loop → length m.resampler.frames ≡ 4 → apart loop m ≡ m
+pub together : (loop : Option (ℕ × ℕ)) (m : Moving) → m.transport.loop_region ≡ loop → length m.resampler.frames ≡ 4 → apart loop m ≡ m
 together loop m e f =
-    ap₂ (λ (r : FrameRange) (l : List RecentFrame). record {
+    ap₂ (λ (r : Option (ℕ × ℕ)) (l : List RecentFrame). record {
       state = m.state;
       transport = record { position = m.transport.position; loop_region = r; playing = m.transport.playing };
       resampler = record { frames = l; time_until_empty = m.resampler.time_until_empty };
@@ -89,7 +90,7 @@ together loop m e f =
     }) (sym e) (four m.resampler.frames f)
 
 -- the same, from the pieces that the code has
-pub together_as : (loop : FrameRange) (m x : Moving) (f : Frames) (n : Numbers) → x ≡ m → m.transport.loop_region ≡ loop → length m.resampler.frames ≡ 4
+pub together_as : (loop : Option (ℕ × ℕ)) (m x : Moving) (f : Frames) (n : Numbers) → x ≡ m → m.transport.loop_region ≡ loop → length m.resampler.frames ≡ 4
     → f ≡ frames_of x.resampler → n ≡ numbers_of x.resampler
     → moving_of loop x.state x.transport.position x.transport.playing x.wraps (window_of f n) ≡ m
 together_as loop m x f n e h g ef en =
@@ -97,7 +98,7 @@ together_as loop m x f n e h g ef en =
     ∙ ap (apart loop) e ∙ together loop m h g
 
 -- an update has four frames, and the loop that it had
-pub updated_apart : (snd : List Float) (c : Slice) (loop : FrameRange) (m w x : Moving) (f : Frames) (n : Numbers) → w ≡ m → x ≡ updated snd c w → m.transport.loop_region ≡ loop
+pub updated_apart : (snd : List Float) (c : Slice) (loop : Option (ℕ × ℕ)) (m w x : Moving) (f : Frames) (n : Numbers) → w ≡ m → x ≡ updated snd c w → m.transport.loop_region ≡ loop
     → f ≡ frames_of x.resampler → n ≡ numbers_of x.resampler
     → moving_of loop x.state x.transport.position x.transport.playing x.wraps (window_of f n) ≡ updated snd c m
 unfolding updated pushed push

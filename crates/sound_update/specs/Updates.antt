@@ -1,23 +1,22 @@
 -- One update of the moving part (docs/assurance/RULES.md, "Creation, commands, block"), and what it requires.
 use Rattle.std.specs.Prelude.{ℕ, zero, suc, ◌+◌, ◌*◌, ◌≤◌, Bool, not, ◌&&◌, cond, List, ltb, length, Float}
+use Rattle.std.specs.Prelude.{Option, Some, None}
 use Rattle.frame.specs.Frames.{frame_of}
-use Rattle.playback_position.specs.declared.FrameRange.{FrameRange}
 use Rattle.playback_state_manager.specs.declared.PlaybackState.{PlaybackState}
 use Rattle.playback_state_manager.specs.declared.PlaybackState.TheVariants as state
 use Rattle.transport.specs.declared.Transport.{Transport}
 use Rattle.transport.specs.Moves.{forward, backward, wraps}
 use Rattle.transport.specs.WellFormed.{WellFormedTransport}
 use Rattle.resampler.specs.declared.Resampler.{Resampler}
-use Rattle.resampler.specs.declared.MaybeFrame.{MaybeFrame}
-use Rattle.resampler.specs.declared.MaybeFrame.TheVariants as maybe
 use Rattle.resampler.specs.Windows.{push, is_empty}
 use Rattle.sound_update.specs.declared.Wraps.{Wraps}
 use Rattle.sound_update.specs.declared.Moving.{Moving}
 use Rattle.sound_update.specs.declared.Slice.{Slice}
+use Rattle.frame.specs.declared.Frame.{Frame}
 
 -- frame i of the sound, or no frame if not playing
-abbrev pub sounding : List Float → Bool → ℕ → MaybeFrame
-sounding snd playing i = cond playing (maybe.Present (frame_of snd i)) maybe.Absent
+abbrev pub sounding : List Float → Bool → ℕ → Option Frame
+sounding snd playing i = cond playing (Some (frame_of snd i)) None
 
 -- the window with the frame at the position pushed
 unfoldable pub pushed : List Float → Slice → Moving → Resampler
@@ -69,7 +68,7 @@ updates zero snd c m = m
 updates (suc n) snd c m = updates n snd c (updated snd c m)
 
 -- the moving part from its pieces: loop, state, position, counts and window
-abbrev pub moving_of : FrameRange → PlaybackState → ℕ → Bool → Wraps → Resampler → Moving
+abbrev pub moving_of : Option (ℕ × ℕ) → PlaybackState → ℕ → Bool → Wraps → Resampler → Moving
 moving_of loop s p playing k w =
     record {
       state = s;

@@ -9,7 +9,6 @@ ghost use Rattle.sound_update.specs.Updates.{
   sounding,
   pushed,
   stepped,
-  raised,
   counted,
   updated,
   updates,
@@ -20,21 +19,20 @@ ghost use Rattle.sound_update.specs.Updates.{
 mod window;
 
 use frame::Frame;
-use playback_position::FrameRange;
 use playback_state_manager::PlaybackState;
-use resampler::{MaybeFrame, Resampler};
+use resampler::Resampler;
 use transport::Transport;
 use window::{frames_of, numbers_of, window_of};
 
 // The wraps so far: forward steps that wrapped, and backward ones.
-#[derive(Clone, Copy)]
+#[derive(Clone, Copy, Debug, PartialEq, Eq)]
 pub struct Wraps {
     pub forward: u32,
     pub backward: u32,
 }
 
 // What an update changes.
-#[derive(Clone, Copy)]
+#[derive(Clone, Copy, Debug)]
 pub struct Moving {
     pub state: PlaybackState,
     pub transport: Transport,
@@ -43,7 +41,7 @@ pub struct Moving {
 }
 
 // What an update reads and does not change.
-#[derive(Clone, Copy)]
+#[derive(Clone, Copy, Debug, PartialEq, Eq)]
 pub struct Slice {
     pub start: usize,
     pub num_frames: usize,
@@ -51,7 +49,7 @@ pub struct Slice {
 }
 
 // Frame i of interleaved samples.
-fn frame_at_index(sound: &[f32], i: usize) -> Frame
+pub fn frame_in(sound: &[f32], i: usize) -> Frame
     requires { 2 * i + 1 < length sound.now }
     ensures { result ≡ frame_of sound.now i }
 {
@@ -61,14 +59,14 @@ fn frame_at_index(sound: &[f32], i: usize) -> Frame
     }
 }
 
-fn frame_to_push(sound: &[f32], playing: bool, i: usize) -> MaybeFrame
+fn frame_to_push(sound: &[f32], playing: bool, i: usize) -> Option<Frame>
     requires { playing ≡ true → 2 * i + 1 < length sound.now }
     ensures { result ≡ sounding sound.now playing i }
 {
     if playing {
-        MaybeFrame::Present(frame_at_index(sound, i))
+        Some(frame_in(sound, i))
     } else {
-        MaybeFrame::Absent
+        None
     }
 }
 
@@ -83,31 +81,24 @@ fn step(transport: Transport, slice: Slice) -> Transport
     }
 }
 
-// One more; a count stays at its limit.
-fn raise(count: u32) -> u32
-    ensures { result ≡ raised true count }
-{
-    if count < 4294967295 { count + 1 } else { count }
-}
-
-// The counts after the next step.
+// The counts after the next step. A count stays at its limit.
 fn count(transport: Transport, slice: Slice, wraps: Wraps) -> Wraps
     requires { WellFormedTransport slice.num_frames transport }
     ensures { result ≡ counted slice transport wraps }
 {
-    if transport.wraps(slice.backwards) {
-        if slice.backwards {
-            return Wraps {
-                forward: wraps.forward,
-                backward: raise(wraps.backward),
-            };
+    if !transport.wraps(slice.backwards) {
+        wraps
+    } else if slice.backwards {
+        Wraps {
+            backward: wraps.backward.saturating_add(1),
+            ..wraps
         }
-        return Wraps {
-            forward: raise(wraps.forward),
-            backward: wraps.backward,
-        };
+    } else {
+        Wraps {
+            forward: wraps.forward.saturating_add(1),
+            ..wraps
+        }
     }
-    wraps
 }
 
 impl Moving {
@@ -116,10 +107,9 @@ impl Moving {
         requires { Updatable sound.now slice self }
         ensures { result ≡ pushed sound.now slice self }
     {
-        let transport = self.transport;
-        let resampler = self.resampler;
-        let frame = frame_to_push(sound, transport.playing, slice.start + transport.position);
-        resampler.push_frame(frame, transport.position)
+        let at = self.transport.position;
+        let frame = frame_to_push(sound, self.transport.playing, slice.start + at);
+        self.resampler.push_frame(frame, at)
     }
 
     // Pushes the frame at the position and steps. If it is not playing and the window is empty, the voice becomes
@@ -128,20 +118,14 @@ impl Moving {
         requires { Updatable sound.now slice self }
         ensures { result ≡ updated sound.now slice self }
     {
-        let state = self.state;
-        let transport = self.transport;
-        let before = self.wraps;
         let resampler = self.push_frame_to_resampler(slice, sound);
-        let wraps = count(transport, slice, before);
-        let transport = step(transport, slice);
-        if !transport.playing & resampler.empty() {
-            return Moving {
-                state: PlaybackState::Stopped,
-                transport,
-                resampler,
-                wraps,
-            };
-        }
+        let wraps = count(self.transport, slice, self.wraps);
+        let transport = step(self.transport, slice);
+        let state = if !transport.playing & resampler.empty() {
+            PlaybackState::Stopped
+        } else {
+            self.state
+        };
         Moving {
             state,
             transport,
@@ -165,8 +149,7 @@ impl Moving {
         let mut wraps = self.wraps;
         let mut frames = frames_of(window);
         let mut numbers = numbers_of(window);
-        let mut left = steps;
-        while left > 0 {
+        for _ in 0..steps {
             let window = window_of(frames, numbers);
             let moving = moving_of(loop_region, state, position, playing, wraps, window);
             let next = moving.update_position(slice, sound);
@@ -178,7 +161,6 @@ impl Moving {
             wraps = next.wraps;
             frames = frames_of(pushed);
             numbers = numbers_of(pushed);
-            left -= 1;
         }
         let window = window_of(frames, numbers);
         moving_of(loop_region, state, position, playing, wraps, window)
@@ -187,7 +169,7 @@ impl Moving {
 
 // The moving part from its pieces: loop, state, position, counts and window.
 fn moving_of(
-    loop_region: FrameRange,
+    loop_region: Option<(usize, usize)>,
     state: PlaybackState,
     position: usize,
     playing: bool,

@@ -1,4 +1,5 @@
-// The window split into frames and frame indices, and put together again.
+// The window split into frames and frame indices, and put together again: two structs of scalars for the loop of
+// `update_positions`, so that no frame index is in the same vector as the samples.
 ghost use Rattle.std.specs.Prelude.{◌≡◌};
 ghost use Rattle.sound_update.specs.Windows.{frames_of, numbers_of, window_of};
 
@@ -27,24 +28,19 @@ pub struct Numbers {
 pub(crate) fn frames_of(window: Resampler) -> Frames
     ensures { result ≡ frames_of window }
 {
-    let ea = window.frames[0];
-    let eb = window.frames[1];
-    let ec = window.frames[2];
-    let ed = window.frames[3];
-    let a = ea.frame;
-    let b = eb.frame;
-    let c = ec.frame;
-    let d = ed.frame;
-    Frames { a, b, c, d }
+    let [a, b, c, d] = window.frames;
+    Frames {
+        a: a.frame,
+        b: b.frame,
+        c: c.frame,
+        d: d.frame,
+    }
 }
 
 pub(crate) fn numbers_of(window: Resampler) -> Numbers
     ensures { result ≡ numbers_of window }
 {
-    let a = window.frames[0];
-    let b = window.frames[1];
-    let c = window.frames[2];
-    let d = window.frames[3];
+    let [a, b, c, d] = window.frames;
     Numbers {
         a: a.frame_index,
         b: b.frame_index,
@@ -57,28 +53,25 @@ pub(crate) fn numbers_of(window: Resampler) -> Numbers
 pub(crate) fn window_of(frames: Frames, numbers: Numbers) -> Resampler
     ensures { result ≡ window_of frames numbers }
 {
-    let a = frames.a;
-    let b = frames.b;
-    let c = frames.c;
-    let d = frames.d;
-    let ea = RecentFrame {
-        frame: a,
-        frame_index: numbers.a,
-    };
-    let eb = RecentFrame {
-        frame: b,
-        frame_index: numbers.b,
-    };
-    let ec = RecentFrame {
-        frame: c,
-        frame_index: numbers.c,
-    };
-    let ed = RecentFrame {
-        frame: d,
-        frame_index: numbers.d,
-    };
     Resampler {
-        frames: [ea, eb, ec, ed],
+        frames: [
+            RecentFrame {
+                frame: frames.a,
+                frame_index: numbers.a,
+            },
+            RecentFrame {
+                frame: frames.b,
+                frame_index: numbers.b,
+            },
+            RecentFrame {
+                frame: frames.c,
+                frame_index: numbers.c,
+            },
+            RecentFrame {
+                frame: frames.d,
+                frame_index: numbers.d,
+            },
+        ],
         time_until_empty: numbers.time_until_empty,
     }
 }

@@ -1,11 +1,8 @@
--- Now minus due, wrapped: it is the only number in the range such that due plus it wraps to now. So it is the code's difference, and moving both ticks changes nothing.
+-- Now minus due, wrapped: it is the only number in the range such that due plus it wraps to now. So moving both ticks changes nothing.
 -- Assumes nothing.
-use Rattle.std.proofs.Common.{◌≡◌, ℕ, ◌+◌, ◌-◌, ◌%◌, ◌<◌, ◌≤◌, Bool, true, false, cond, ltb, sym, ap, ◌∙◌, le_of_lt, add_assoc, mod-lt, mod-eq_of_lt, add-sub_of_le, arith}
+use Rattle.std.proofs.Common.{◌≡◌, ℕ, ◌+◌, ◌-◌, ◌%◌, ◌<◌, ◌≤◌, ltb, sym, ap, ◌∙◌, le_of_lt, add_assoc, mod-lt, mod-eq_of_lt, add-sub_of_le, arith}
 use native.Mathlib.Nat.{mod-add-mod, add-mod-mod, add-mod_right}
-use Rattle.playback_state_manager.specs.declared.StartAnswer.TheVariants as answer
-use Rattle.start_time.specs.declared.StartSignal.{StartSignal}
-use Rattle.start_time.specs.declared.StartSignal.TheVariants as start
-use Rattle.start_time.specs.Ticks.{tick_range, half, since, reached, answering}
+use Rattle.start_time.specs.Ticks.{tick_range, half, reached}
 
 module _ (m : ℕ) where
   -- adding the rest of the range undoes an addition with wrapping
@@ -34,18 +31,6 @@ module _ (m : ℕ) where
       (add-mod-mod r (due + k) m ∙ ap (λ (n : ℕ). n % m) (sym (add_assoc r due k)) ∙ sym (mod-add-mod (r + due) m k)
       ∙ ap (λ (n : ℕ). (n + k) % m) (wrapped due now h l)))
 
--- what the code's difference is
-pub since_only : (r due now : ℕ) → r < tick_range → due < tick_range → (r + due) % tick_range ≡ now → r ≡ since due now
-since_only r due now h k e = only tick_range r due now h k e
-
 -- moving both by the same amount, wrapped or not, changes nothing
 pub reached_moved : (due now k : ℕ) → due < tick_range → now < tick_range → reached ((due + k) % tick_range) ((now + k) % tick_range) ≡ reached due now
 reached_moved due now k h l = ap (λ (n : ℕ). ltb n half) (moved tick_range due now k (omega arith) h l)
-
--- ---- the answer of a due tick
-
-pub answering_reached : (s : StartSignal) (due now : ℕ) → s ≡ start.Tick due now → reached due now ≡ true → answer.Now ≡ answering s
-answering_reached s due now e h = sym (ap answering e ∙ ap (λ (b : Bool). cond b answer.Now answer.Waiting) h)
-
-pub answering_waiting : (s : StartSignal) (due now : ℕ) → s ≡ start.Tick due now → reached due now ≡ false → answer.Waiting ≡ answering s
-answering_waiting s due now e h = sym (ap answering e ∙ ap (λ (b : Bool). cond b answer.Now answer.Waiting) h)

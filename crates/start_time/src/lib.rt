@@ -8,7 +8,7 @@ ghost use Rattle.start_time.specs.Ticks.{reached, answering};
 use playback_state_manager::StartAnswer;
 
 // The start signal of a block.
-#[derive(Clone, Copy)]
+#[derive(Clone, Copy, Debug, PartialEq, Eq)]
 pub enum StartSignal {
     Answer(StartAnswer),
     // the tick at which the start is due, and the current tick
@@ -19,7 +19,7 @@ pub enum StartSignal {
 fn is_reached(due: u32, now: u32) -> bool
     ensures { result ≡ reached due now }
 {
-    std::num::wrapping_sub_u32(now, due) < 2147483648
+    now.wrapping_sub(due) < 2147483648
 }
 
 impl StartSignal {
@@ -29,12 +29,8 @@ impl StartSignal {
     {
         match self {
             StartSignal::Answer(answer) => answer,
-            StartSignal::Tick(due, now) => {
-                if is_reached(due, now) {
-                    return StartAnswer::Now;
-                }
-                StartAnswer::Waiting
-            }
+            StartSignal::Tick(due, now) if is_reached(due, now) => StartAnswer::Now,
+            StartSignal::Tick(_, _) => StartAnswer::Waiting,
         }
     }
 }

@@ -1,6 +1,6 @@
 -- A block's call, from its parts: its refusal, and what it plays.
-use mathlib.Core.Path.{◌≡◌, sym, ap, ◌∙◌}
-use mathlib.Core.Bool.{Bool, true, false, cond}
+use mathlib.Core.Path.{◌≡◌, sym, ap, ◌∙◌, subst}
+use mathlib.Core.Bool.{Bool, true, false, ◌&&◌, cond}
 use mathlib.Core.List.{List, ◌++◌}
 use Prim.Native.Nat.{ℕ, ◌+◌, ◌-◌, ◌*◌, ◌/◌, ◌%◌, ◌≤◌}
 use native.Mathlib.Omega.{arith}
@@ -17,11 +17,10 @@ use Rattle.sound_state.specs.declared.StaticSound.{StaticSound}
 use Rattle.sound_state.specs.WellFormed.{well_formed_for}
 use Rattle.sound_state.proofs.WellFormed.{well_formed_for_parts}
 use Rattle.sound_block.specs.declared.Signals.{Signals}
-use Rattle.sound_slow_path.specs.Plays.{Outcome, accepted_with, accepted_as}
+use Rattle.sound_slow_path.specs.Plays.{BlockAnswer, Outcome, accepted_with, accepted_as}
 use Rattle.sound_block.specs.Blocks.{block}
 use Rattle.sound_slow_path.specs.FrameSteps.{Playable}
-use Rattle.sound_slow_path.specs.declared.Processed.{Processed}
-use Rattle.static_sound.specs.Entries.{refused_block, refused_with, holds, room, mixed, processed, processed_into}
+use Rattle.static_sound.specs.Entries.{refused_block, refused_with, room, mixed, processed_into}
 use Rattle.static_sound.proofs.Refusals.{accepted_parts}
 
 -- ---- the number, test by test
@@ -63,19 +62,7 @@ playable snd v dt b placed m h k =
     let o = well_formed_for_parts (length snd) v p.well_formed_for in
     record { well_formed = o.0; lent = o.1; sized = p.sized; long = k; is_time_step = and_r (finite dt) (lt positive_zero dt) p.is_time_step; near = p.near }
 
--- ---- the two entries
-
-module _ (snd : List Float) (v : StaticSound) (dt : Float) (b : Lanes) (g : Signals) (out : List Float) where
-  pub refused_is : (k : ℕ) → k ≡ refused_block (length snd) v dt b (holds b out) → (k ≡ 0 → ⊥) → refused_with k v out ≡ processed snd v dt b g out
-  unfolding processed
-  refused_is k e n = rw (← e) (simp (ne_eqb k 0 n))
-
-  pub processed_is : (o : Outcome) → refused_block (length snd) v dt b (holds b out) ≡ 0 → o ≡ accepted_as (block snd dt (rows b) g v) → o ≡ processed snd v dt b g out
-  unfolding processed
-  processed_is o e h = rw e h
-
-  pub playable_out : refused_block (length snd) v dt b (holds b out) ≡ 0 → Playable snd v dt b (length out)
-  playable_out h = playable snd v dt b (holds b out) (length out) h (eqb→eq (length out) (2 * length b.rate) (accepted_parts (length snd) v dt b (holds b out) h).placed)
+-- ---- into a mix
 
 module _ (snd : List Float) (v : StaticSound) (dt : Float) (b : Lanes) (g : Signals) (mix : List Float) (from : ℕ) where
   abbrev number : ℕ
@@ -98,7 +85,7 @@ module _ (snd : List Float) (v : StaticSound) (dt : Float) (b : Lanes) (g : Sign
   pub playable_part : number ≡ 0 → Playable snd v dt b (length (take (2 * from + 2 * length b.rate - 2 * from) (drop (2 * from) mix)))
   playable_part h = playable snd v dt b (room from (length b.rate) mix) _ h (part_long h)
 
-  pub processed_into_lem : (r : Processed) (samples : List Float) → number ≡ 0 → record { answer = r; samples = samples } ≡ accepted_as (block snd dt (rows b) g v)
+  pub processed_into_lem : (r : BlockAnswer) (samples : List Float) → number ≡ 0 → record { answer = r; samples = samples } ≡ accepted_as (block snd dt (rows b) g v)
       → record { answer = r; samples = take (2 * from) mix ++ (samples ++ drop (2 * from + 2 * length b.rate - 2 * from) (drop (2 * from) mix)) } ≡ processed_into snd v dt b g mix from
   unfolding processed_into
   processed_into_lem r samples e h =
@@ -108,3 +95,27 @@ module _ (snd : List Float) (v : StaticSound) (dt : Float) (b : Lanes) (g : Sign
       ap (λ (l : List Float). record { answer = r; samples = take (2 * from) mix ++ (samples ++ l) }) (drop-drop (2 * from + 2 * n - 2 * from) (2 * from) mix ∙ ap (λ (m : ℕ). drop m mix) k)
       ∙ ap (λ (o : Outcome). record { answer = o.answer; samples = mixed from n mix o.samples }) h
       ∙ sym (ap (λ (m : ℕ). cond (eqb m 0) (accepted_with p (mixed from n mix p.samples)) (refused_with m v mix)) e)
+
+  -- as the code has it: its number of frames n, and whether they have room
+  module _ (n : ℕ) (p : Bool) (e : n ≡ length b.rate) (h : p ≡ (eqb (length mix % 2) 0 && leb (from + n) (length mix / 2))) where
+    as_room : p ≡ room from (length b.rate) mix
+    as_room = h ∙ ap (λ (k : ℕ). room from k mix) e
+
+    pub refused_at : (k : ℕ) → k ≡ refused_block (length snd) v dt b p → (k ≡ 0 → ⊥) → refused_with k v mix ≡ processed_into snd v dt b g mix from
+    refused_at k z = refused_into k (z ∙ ap (refused_block (length snd) v dt b) as_room)
+
+    module _ (z : 0 ≡ refused_block (length snd) v dt b p) where
+      none : number ≡ 0
+      none = sym (z ∙ ap (refused_block (length snd) v dt b) as_room)
+
+      pub inside_at : 2 * (from + n) ≤ length mix
+      inside_at = let l = inside none in omega arith
+
+      pub playable_at : Playable snd v dt b (length (take (2 * from + 2 * n - 2 * from) (drop (2 * from) mix)))
+      playable_at = subst (λ (k : ℕ). Playable snd v dt b (length (take (2 * from + 2 * k - 2 * from) (drop (2 * from) mix)))) (sym e) (playable_part none)
+
+      pub processed_at : (r : BlockAnswer) (samples : List Float) → record { answer = r; samples = samples } ≡ accepted_as (block snd dt (rows b) g v)
+          → record { answer = r; samples = take (2 * from) mix ++ (samples ++ drop (2 * from + 2 * n - 2 * from) (drop (2 * from) mix)) } ≡ processed_into snd v dt b g mix from
+      processed_at r samples k =
+          ap (λ (m : ℕ). record { answer = r; samples = take (2 * from) mix ++ (samples ++ drop (2 * from + 2 * m - 2 * from) (drop (2 * from) mix)) }) e
+          ∙ processed_into_lem r samples none k

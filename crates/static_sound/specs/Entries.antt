@@ -1,9 +1,10 @@
 -- The entries for accepted and refused calls: block, block into a mix, stretch (docs/assurance/RULES.md, refusals 1
 -- and 9 to 12).
 use Rattle.std.specs.Prelude.{ℕ, ◌+◌, ◌-◌, ◌*◌, ◌/◌, ◌%◌, Bool, ◌&&◌, cond, List, [], ◌++◌, leb, eqb, length, take}
+use Rattle.std.specs.Prelude.{Option, Some, None, Result, Ok, Err}
+use Rattle.refusals.specs.declared.Refusal.{Refusal}
+use Rattle.refusals.specs.Numbers.{number}
 use Rattle.std.specs.Prelude.{drop, Float}
-use Rattle.playback_position.specs.declared.FrameRange.{FrameRange}
-use Rattle.playback_position.specs.declared.FrameRange.TheVariants as range
 use Rattle.sound_lanes.specs.Lanes.{Lanes, rows, sized, is_time_step, laned, near}
 use Rattle.numbers.specs.Lists.{all}
 use Rattle.sound_state.specs.declared.StaticSound.{StaticSound}
@@ -13,7 +14,8 @@ use Rattle.sound_held.specs.declared.Held.{Held}
 use Rattle.sound_held.specs.Held.{held_lanes}
 use Rattle.sound_block.specs.declared.Signals.{Signals}
 use Rattle.sound_state.specs.Refusals.{unless}
-use Rattle.sound_slow_path.specs.Plays.{Outcome, accepted_with}
+use Rattle.sound_slow_path.specs.declared.Processed.{Processed}
+use Rattle.sound_slow_path.specs.Plays.{BlockAnswer, Outcome, accepted, accepted_with}
 use Rattle.sound_block.specs.Blocks.{block}
 
 -- the refusal of a block, 0 if it is accepted; `placed` says whether it fits into the output
@@ -24,6 +26,16 @@ refused_block len v dt b placed =
     (unless (is_time_step dt) 10
     (unless (all laned (rows b)) 11
     (unless (all (near v.setup.sample_rate dt) (rows b)) 12 0))))
+
+-- what a call that keeps the voice v answers: on a refusal its number and v itself, 0 steps, and 4 for the count
+abbrev pub block_answer : StaticSound → Result Processed Refusal → BlockAnswer
+block_answer v (Ok r) = accepted r
+block_answer v (Err k) = record {
+  refusal = number k;
+  voice = v;
+  steps = 0;
+  lowest_count = 4;
+}
 
 -- the given state and samples, 0 steps, and 4 for the count
 abbrev pub refused_with : ℕ → StaticSound → List Float → Outcome
@@ -69,9 +81,9 @@ abbrev pub processed_held_into : List Float → StaticSound → Float → Held �
 processed_held_into snd v dt x g mix from n = processed_into snd v dt (held_lanes x n) g mix from
 
 -- the stretch: samples 2 * start to 2 * end of the slice, or all of them
-abbrev pub sliced : FrameRange → List Float → List Float
-sliced range.Absent snd = snd
-sliced (range.Frames s e) snd = take (2 * e - 2 * s) (drop (2 * s) snd)
+abbrev pub sliced : Option (ℕ × ℕ) → List Float → List Float
+sliced None snd = snd
+sliced (Some (s, e)) snd = take (2 * e - 2 * s) (drop (2 * s) snd)
 
 -- the stretch; if refused, the empty part
 unfoldable pub stretch_of : List Float → StaticSound → List Float

@@ -1,18 +1,29 @@
-// A block into an output of its own: checks the whole input, then plays it (kira's StaticSound::process).
+// A block into an output of its own or into a mix: checks the whole input, then plays it (kira's StaticSound::process).
+// Voice, sound, time step and signals are parameters side by side: a struct of them would be built for one call and
+// taken apart in it.
 #![tactic(auto)]
 
-ghost use Rattle.std.specs.Prelude.{◌≡◌, ◌*◌, eqb};
-ghost use Rattle.sound_lanes.specs.Lanes.{lanes_at_entry};
-ghost use Rattle.static_sound.specs.Entries.{refused_block, processed};
+ghost use Rattle.std.specs.Prelude.{◌≡◌, ◌+◌, ◌*◌, ◌/◌, ◌%◌, ◌&&◌, leb, eqb};
+ghost use Rattle.refusals.specs.Numbers.{number_of};
+ghost use Rattle.sound_lanes.specs.Lanes.{lanes_of};
+ghost use Rattle.sound_fast_path.specs.BlockLanes.{block_lanes};
+ghost use Rattle.static_sound.specs.Entries.{
+  processed,
+  processed_into,
+  processed_held,
+  processed_held_into,
+  block_answer,
+};
 
-mod mix;
-mod once;
+mod checks;
 mod stretches;
 
-pub use mix::process_into;
-use mix::process_lanes;
-pub use once::{process_held, process_held_into};
-use sound_block::Signals;
+use checks::check;
+use refusals::Refusal;
+use sound_block::{Signals, block};
+use sound_fast_path::BlockLanes;
+use sound_held::Held;
+use sound_lanes::Lanes;
 use sound_slow_path::Processed;
 use sound_state::StaticSound;
 pub use stretches::stretch;
@@ -24,64 +35,122 @@ fn holds(samples: usize, frames: usize) -> bool
     samples % 2 == 0 && samples / 2 == frames
 }
 
-// The lowest number that applies to a block, 0 for none.
-fn refusal_of(
-    voice: StaticSound,
-    dt: f64,
-    samples: usize,
-    fade: &[f32],
-    volume: &[f32],
-    left: &[f32],
-    right: &[f32],
-    rate: &[f64],
-    placed: bool,
-) -> u32
-    ensures { result ≡ refused_block samples voice dt (lanes_at_entry fade volume left right rate) placed }
+// Whether a mix of this many samples has whole frames, and enough of them from the given frame on.
+fn has_room(from: usize, frames: usize, samples: usize) -> bool
+    ensures { result ≡ (eqb (samples % 2) 0 && leb (from + frames) (samples / 2)) }
 {
-    if !voice.is_well_formed(samples) {
-        return refusals::STATE;
-    }
-    if !sound_lanes::are_sized(fade, volume, left, right, rate) {
-        return refusals::BLOCK;
-    }
-    if !placed {
-        return refusals::BLOCK;
-    }
-    if !sound_lanes::is_time_step(dt) {
-        return refusals::TIME_STEP;
-    }
-    sound_lanes::judge(voice.setup.sample_rate, dt, fade, volume, left, right, rate)
+    samples % 2 == 0 && from <= samples / 2 && frames <= samples / 2 - from
 }
 
-// A block into an output of its own: a block into a mix, from frame 0 on. Constant lanes are numbers given once.
+// The block, from the given frame of a mix on.
+fn process_at(
+    voice: StaticSound,
+    sound: &[f32],
+    lanes: BlockLanes<'_>,
+    dt: f64,
+    signals: Signals,
+    mix: &mut [f32],
+    from: usize,
+) -> Result<Processed, Refusal>
+    ensures { record { answer = block_answer voice result; samples = mix.new }
+        ≡ processed_into sound.now voice dt (block_lanes lanes.entry) signals mix.old from }
+{
+    let frames = lanes.frames();
+    let placed = has_room(from, frames, mix.len());
+    check(voice, dt, sound.len(), lanes, placed)?;
+    let a = 2 * from;
+    let e = a + 2 * frames;
+    Ok(block(voice, dt, signals, sound, lanes, &mut mix[a..e]))
+}
+
+// A block into an output of its own: a block into a mix, from frame 0 on.
 pub fn process(
     voice: StaticSound,
     sound: &[f32],
-    fade: &[f32],
-    volume: &[f32],
-    left: &[f32],
-    right: &[f32],
-    rate: &[f64],
+    lanes: Lanes<'_>,
     dt: f64,
     signals: Signals,
     out: &mut [f32],
-) -> Processed
-    ensures { record { answer = result; samples = out.new }
-        ≡ processed sound.now voice dt (lanes_at_entry fade volume left right rate) signals
-        out.old }
+) -> Result<Processed, Refusal>
+    ensures { record { answer = block_answer voice result; samples = out.new }
+        ≡ processed sound.now voice dt (lanes_of lanes.entry) signals out.old }
 {
-    if !holds(out.len(), rate.len()) {
-        // No frame from the output's end on has room: the block is refused.
-        let end = out.len();
-        return process_lanes(
-            voice, sound, fade, volume, left, right, rate, dt, signals, out, end,
-        );
+    // No frame from the output's end on has room: a block that the output does not hold is refused.
+    let from = if holds(out.len(), lanes.rate.len()) {
+        0
+    } else {
+        out.len()
+    };
+    process_into(voice, sound, lanes, dt, signals, out, from)
+}
+
+// A block into the middle of a longer mix, from the given frame on; no other sample changes. Constant lanes are held
+// lanes.
+pub fn process_into(
+    voice: StaticSound,
+    sound: &[f32],
+    lanes: Lanes<'_>,
+    dt: f64,
+    signals: Signals,
+    mix: &mut [f32],
+    from: usize,
+) -> Result<Processed, Refusal>
+    ensures { record { answer = block_answer voice result; samples = mix.new }
+        ≡ processed_into sound.now voice dt (lanes_of lanes.entry) signals mix.old from }
+{
+    if sound_constant::are_constant(lanes) {
+        let held = sound_constant::first_of(lanes);
+        return process_held_into(voice, sound, held, dt, signals, mix, from, lanes.rate.len());
     }
-    if sound_constant::are_constant(fade, volume, left, right, rate) {
-        let held = sound_constant::first_of(fade, volume, left, right, rate);
-        return process_held_into(voice, sound, held, dt, signals, out, 0, rate.len());
-    }
-    process_lanes(
-        voice, sound, fade, volume, left, right, rate, dt, signals, out, 0,
+    process_at(
+        voice,
+        sound,
+        BlockLanes::Each(lanes),
+        dt,
+        signals,
+        mix,
+        from,
+    )
+}
+
+// A block of held lanes into an output of its own: as many frames as fit, from frame 0 on.
+pub fn process_held(
+    voice: StaticSound,
+    sound: &[f32],
+    held: Held,
+    dt: f64,
+    signals: Signals,
+    out: &mut [f32],
+) -> Result<Processed, Refusal>
+    ensures { record { answer = block_answer voice result; samples = out.new }
+        ≡ processed_held sound.now voice dt held signals out.old }
+{
+    let frames = out.len() / 2;
+    process_held_into(voice, sound, held, dt, signals, out, 0, frames)
+}
+
+// A block of this many frames of held lanes into the middle of a longer mix, from the given frame on; no other sample
+// changes.
+pub fn process_held_into(
+    voice: StaticSound,
+    sound: &[f32],
+    held: Held,
+    dt: f64,
+    signals: Signals,
+    mix: &mut [f32],
+    from: usize,
+    frames: usize,
+) -> Result<Processed, Refusal>
+    ensures { record { answer = block_answer voice result; samples = mix.new }
+        ≡ processed_held_into sound.now voice dt held signals mix.old from frames }
+{
+    process_at(
+        voice,
+        sound,
+        BlockLanes::Held(held, frames),
+        dt,
+        signals,
+        mix,
+        from,
     )
 }

@@ -2,7 +2,6 @@
 ghost use Rattle.std.specs.Prelude.{◌≡◌, length};
 ghost use Rattle.static_sound.specs.Entries.{stretch_of, stretch_at, sample_at};
 
-use playback_position::FrameRange;
 use sound_state::StaticSound;
 
 // The part of the sound's samples, and where it is: the slice's, or all of them; if refused, the empty part at their
@@ -14,10 +13,8 @@ pub fn stretch(voice: StaticSound, sound: &[f32]) -> &[f32]
     if !voice.is_well_formed(sound.len()) {
         return &sound[..0];
     }
-    let setup = voice.setup;
-    let slice = setup.slice;
-    match slice {
-        FrameRange::Absent => sound,
-        FrameRange::Frames(start, end) => &sound[2 * start..2 * end],
+    match voice.setup.slice {
+        None => sound,
+        Some((start, end)) => &sound[2 * start..2 * end],
     }
 }

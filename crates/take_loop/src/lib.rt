@@ -2,11 +2,13 @@
 #![tactic(auto)]
 
 ghost use Rattle.std.specs.Prelude.{◌≡◌};
+ghost use Rattle.sound_commands.specs.Commands.{commands_answer};
 ghost use Rattle.take_loop.specs.Taking.{loop_command_of, taken};
 
 use loop_table::{LoopSlot, LoopTable};
 use playback_position::{EndPosition, PlaybackPosition, Region};
-use sound_commands::{Amount, Commanded, Commands, LoopCommand, ResumeCommand};
+use refusals::Refusal;
+use sound_commands::{Commanded, Commands, LoopCommand, ResumeCommand};
 use sound_state::StaticSound;
 
 // The command set that sets a slot's loop, and nothing else.
@@ -14,7 +16,7 @@ fn loop_command(held: LoopSlot) -> Commands
     ensures { result ≡ loop_command_of held }
 {
     Commands {
-        playback_rate: Amount::Absent,
+        playback_rate: None,
         loop_region: LoopCommand::Set(Region {
             start: PlaybackPosition::Samples(held.start as usize),
             end: EndPosition::Custom(PlaybackPosition::Samples(held.end as usize)),
@@ -22,22 +24,19 @@ fn loop_command(held: LoopSlot) -> Commands
         pause: false,
         resume: ResumeCommand::Keep,
         stop: false,
-        seek_by: Amount::Absent,
-        seek_to: Amount::Absent,
+        seek_by: None,
+        seek_to: None,
     }
 }
 
-pub fn take(table: LoopTable, slot: usize, voice: StaticSound, sound: &[f32]) -> Commanded
-    ensures { result ≡ taken sound.now table slot voice }
+pub fn take(
+    table: LoopTable,
+    slot: usize,
+    voice: StaticSound,
+    sound: &[f32],
+) -> Result<Commanded, Refusal>
+    ensures { commands_answer voice result ≡ taken sound.now table slot voice }
 {
-    let found = table.read(slot);
-    let held = found.slot;
-    if found.refusal != 0 {
-        return Commanded {
-            refusal: found.refusal,
-            voice,
-            position: 0.0,
-        };
-    }
+    let held = table.read(slot)?;
     sound_commands::on_start_processing(voice, sound, loop_command(held))
 }

@@ -1,3 +1,4 @@
 -- Laws of the exports' results.
 pub mod Answers
 pub mod Tested
+pub mod Bits

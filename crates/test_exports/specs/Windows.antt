@@ -1,11 +1,9 @@
 -- Frames, entries and windows from plain numbers, and as plain numbers.
-use Rattle.std.specs.Prelude.{ℕ, cond, [], ◌∷◌, eqb, get_or}
+use Rattle.std.specs.Prelude.{ℕ, cond, [], ◌∷◌, eqb, get_or, Option, Some, None}
 use Rattle.frame.specs.declared.Frame.{Frame}
 use Rattle.resampler.specs.declared.Reading.{Reading}
 use Rattle.resampler.specs.declared.RecentFrame.{RecentFrame}
 use Rattle.resampler.specs.declared.Resampler.{Resampler}
-use Rattle.resampler.specs.declared.MaybeFrame.{MaybeFrame}
-use Rattle.resampler.specs.declared.MaybeFrame.TheVariants.{Absent, Present}
 use Rattle.resampler.specs.Windows.{blank}
 use Rattle.test_exports.specs.declared.window.PlainFrame.{PlainFrame}
 use Rattle.test_exports.specs.declared.window.PlainReading.{PlainReading}
@@ -57,5 +55,5 @@ plain_window w =
     }
 
 -- none if `given` is 0
-abbrev pub frame_given : ℕ → PlainFrame → MaybeFrame
-frame_given given f = cond (eqb given 0) Absent (Present (frame_of f))
+abbrev pub frame_given : ℕ → PlainFrame → Option Frame
+frame_given given f = cond (eqb given 0) None (Some (frame_of f))

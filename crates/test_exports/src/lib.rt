@@ -21,13 +21,6 @@ pub struct Moved {
     pub rest: f64,
 }
 
-// 1 for yes, 0 for no.
-fn number(yes: bool) -> u32
-    ensures { result ≡ bit yes }
-{
-    if yes { 1 } else { 0 }
-}
-
 // 0 is no.
 fn is_yes(n: u32) -> bool
     ensures { result ≡ yes n }
@@ -92,33 +85,33 @@ pub extern "C" fn cableowl_test_magnitude(x: f64) -> f64
 pub extern "C" fn cableowl_test_is_finite(x: f64) -> u32
     ensures { result ≡ bit (finite x) }
 {
-    number(numbers::is_finite(x))
+    u32::from(numbers::is_finite(x))
 }
 
 #[unsafe(no_mangle)]
 pub extern "C" fn cableowl_test_is_negative(x: f64) -> u32
     ensures { result ≡ bit (negative x) }
 {
-    number(numbers::is_negative(x))
+    u32::from(numbers::is_negative(x))
 }
 
 #[unsafe(no_mangle)]
 pub extern "C" fn cableowl_test_is_proper(x: f64) -> u32
     ensures { result ≡ bit (proper x) }
 {
-    number(numbers::is_proper(x))
+    u32::from(numbers::is_proper(x))
 }
 
 #[unsafe(no_mangle)]
 pub extern "C" fn cableowl_test_is_finite_clear(x: f32) -> u32
     ensures { result ≡ bit (finite_clear x) }
 {
-    number(numbers::is_finite_clear(x))
+    u32::from(numbers::is_finite_clear(x))
 }
 
 #[unsafe(no_mangle)]
 pub extern "C" fn cableowl_test_is_positive_zero(x: f32) -> u32
     ensures { result ≡ bit (is_positive_zero x) }
 {
-    number(numbers::is_positive_zero(x))
+    u32::from(numbers::is_positive_zero(x))
 }

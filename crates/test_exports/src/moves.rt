@@ -8,7 +8,6 @@ ghost use Rattle.test_exports.specs.Places.{range_of};
 ghost use Rattle.test_exports.specs.Moves.{transport_of, plain_transport, nowhere};
 
 use super::places::{PlainRange, plain_range, range_of};
-use playback_position::FrameRange;
 use transport::Transport;
 
 // Playing if `playing` is not 0.
@@ -48,17 +47,17 @@ fn plain_transport(t: Transport) -> PlainTransport
     PlainTransport {
         position: t.position as u64,
         loop_region: plain_range(loop_region),
-        playing: super::number(t.playing),
+        playing: u32::from(t.playing),
     }
 }
 
 // What a step back and a seek require.
-fn is_ordered(loop_region: FrameRange) -> bool
+fn is_ordered(loop_region: Option<(usize, usize)>) -> bool
     ensures { result ≡ ordered loop_region }
 {
     match loop_region {
-        FrameRange::Absent => true,
-        FrameRange::Frames(start, end) => start < end,
+        None => true,
+        Some((start, end)) => start < end,
     }
 }
 
@@ -67,7 +66,7 @@ fn is_well_formed_transport(t: Transport, num_frames: usize) -> bool
     ensures { result ≡ well_formed_transport num_frames t }
 {
     let loop_region = t.loop_region;
-    loop_region.is_within(num_frames)
+    playback_position::is_within(loop_region, num_frames)
         & (!t.playing | (t.position < num_frames))
         & (t.position <= 4294967296)
 }

@@ -4,7 +4,7 @@ ghost use Rattle.playback_position.specs.Positions.{position_in_frames, region_i
 ghost use Rattle.test_exports.specs.Answers.{bit};
 ghost use Rattle.test_exports.specs.Places.{position_of, end_of, region_of, range_of, plain_range};
 
-use playback_position::{EndPosition, FrameRange, PlaybackPosition, Region};
+use playback_position::{EndPosition, PlaybackPosition, Region};
 
 // In seconds, or in samples if `in_seconds` is 0.
 #[repr(C)]
@@ -64,26 +64,26 @@ fn region_of(region: PlainRegion) -> Region
     }
 }
 
-pub fn range_of(range: PlainRange) -> FrameRange
+pub fn range_of(range: PlainRange) -> Option<(usize, usize)>
     ensures { result ≡ range_of range }
 {
     if range.given == 0 {
-        FrameRange::Absent
+        None
     } else {
-        FrameRange::Frames(range.start as usize, range.end as usize)
+        Some((range.start as usize, range.end as usize))
     }
 }
 
-pub fn plain_range(range: FrameRange) -> PlainRange
+pub fn plain_range(range: Option<(usize, usize)>) -> PlainRange
     ensures { result ≡ plain_range range }
 {
     match range {
-        FrameRange::Absent => PlainRange {
+        None => PlainRange {
             given: 0,
             start: 0,
             end: 0,
         },
-        FrameRange::Frames(start, end) => PlainRange {
+        Some((start, end)) => PlainRange {
             given: 1,
             start: start as u64,
             end: end as u64,
@@ -104,9 +104,10 @@ pub extern "C" fn cableowl_test_into_frames(
     sample_rate: u32,
     num_frames: u64,
 ) -> PlainRange
-    ensures { result ≡ plain_range (region_in_frames sample_rate num_frames (region_of region)) }
+    ensures { result ≡ plain_range (Some (region_in_frames sample_rate num_frames (region_of region))) }
 {
-    plain_range(region_of(region).into_frames(sample_rate, num_frames as usize))
+    let frames = region_of(region).into_frames(sample_rate, num_frames as usize);
+    plain_range(Some(frames))
 }
 
 #[unsafe(no_mangle)]
@@ -117,5 +118,5 @@ pub extern "C" fn cableowl_test_is_lawful(
 ) -> u32
     ensures { result ≡ bit (well_formed_region sample_rate num_frames (region_of region)) }
 {
-    super::number(region_of(region).is_well_formed(sample_rate, num_frames as usize))
+    u32::from(region_of(region).is_well_formed(sample_rate, num_frames as usize))
 }

@@ -10,17 +10,10 @@ use playback_state_manager::{PlaybackState, StartAnswer};
 fn state_of(n: u32) -> PlaybackState
     ensures { result ≡ state_of n }
 {
-    match n {
-        0 => PlaybackState::Playing,
-        1 => PlaybackState::Pausing,
-        2 => PlaybackState::Paused,
-        3 => PlaybackState::WaitingToResume,
-        4 => PlaybackState::Resuming,
-        5 => PlaybackState::Stopping,
-        _ => PlaybackState::Stopped,
-    }
+    PlaybackState::try_from(n).unwrap_or(PlaybackState::Stopped)
 }
 
+// A start answer has no numbers of its own, so no From in its crate: these three are of these exports only.
 fn answer_of(n: u32) -> StartAnswer
     ensures { result ≡ answer_of n }
 {
@@ -35,42 +28,42 @@ fn answer_of(n: u32) -> StartAnswer
 pub extern "C" fn cableowl_test_number(state: u32) -> u32
     ensures { result ≡ number (state_of state) }
 {
-    state_of(state).number()
+    u32::from(state_of(state))
 }
 
 #[unsafe(no_mangle)]
 pub extern "C" fn cableowl_test_is_advancing(state: u32) -> u32
     ensures { result ≡ bit (advancing (state_of state)) }
 {
-    super::number(state_of(state).is_advancing())
+    u32::from(state_of(state).is_advancing())
 }
 
 #[unsafe(no_mangle)]
 pub extern "C" fn cableowl_test_pause(state: u32) -> u32
     ensures { result ≡ number (pausing (state_of state)) }
 {
-    state_of(state).pause().number()
+    u32::from(state_of(state).pause())
 }
 
 #[unsafe(no_mangle)]
 pub extern "C" fn cableowl_test_resume(state: u32, waits: u32) -> u32
     ensures { result ≡ number (resuming (yes waits) (state_of state)) }
 {
-    state_of(state).resume(super::is_yes(waits)).number()
+    u32::from(state_of(state).resume(super::is_yes(waits)))
 }
 
 #[unsafe(no_mangle)]
 pub extern "C" fn cableowl_test_stop(state: u32) -> u32
     ensures { result ≡ number (stopping (state_of state)) }
 {
-    state_of(state).stop().number()
+    u32::from(state_of(state).stop())
 }
 
 #[unsafe(no_mangle)]
 pub extern "C" fn cableowl_test_mark_as_stopped(state: u32) -> u32
     ensures { result ≡ number Stopped }
 {
-    state_of(state).mark_as_stopped().number()
+    u32::from(state_of(state).mark_as_stopped())
 }
 
 // The answer is 0 for still waiting, 1 for now, 2 for never.
@@ -78,7 +71,6 @@ pub extern "C" fn cableowl_test_mark_as_stopped(state: u32) -> u32
 pub extern "C" fn cableowl_test_update(state: u32, finished: u32, resume: u32) -> u32
     ensures { result ≡ number (settled (yes finished) (answer_of resume) (state_of state)) }
 {
-    state_of(state)
-        .update(super::is_yes(finished), answer_of(resume))
-        .number()
+    let after = state_of(state).update(super::is_yes(finished), answer_of(resume));
+    u32::from(after)
 }

@@ -15,7 +15,7 @@ ghost use Rattle.test_exports.specs.Windows.{
 };
 
 use frame::{Frame, interpolate_frame};
-use resampler::{MaybeFrame, Reading, RecentFrame, Resampler};
+use resampler::{Reading, RecentFrame, Resampler};
 
 #[repr(C)]
 #[derive(Clone, Copy)]
@@ -119,14 +119,10 @@ fn plain_window(w: Resampler) -> PlainWindow
     }
 }
 
-fn given_frame(given: u32, f: PlainFrame) -> MaybeFrame
+fn given_frame(given: u32, f: PlainFrame) -> Option<Frame>
     ensures { result ≡ frame_given given f }
 {
-    if given == 0 {
-        MaybeFrame::Absent
-    } else {
-        MaybeFrame::Present(frame_of(f))
-    }
+    if given == 0 { None } else { Some(frame_of(f)) }
 }
 
 #[unsafe(no_mangle)]
@@ -167,7 +163,7 @@ pub extern "C" fn cableowl_test_current_frame_index(w: PlainWindow) -> u64
 pub extern "C" fn cableowl_test_empty(w: PlainWindow) -> u32
     ensures { result ≡ bit (is_empty (window_of w)) }
 {
-    super::number(window_of(w).empty())
+    u32::from(window_of(w).empty())
 }
 
 #[unsafe(no_mangle)]

@@ -29,10 +29,8 @@ fn field(line: &[u8; 45], from: usize, count: usize) -> u64
     ensures upper_bound { result < 16 ^ count }
 {
     let mut value: u64 = 0;
-    let mut i: usize = 0;
-    while i < count {
+    for i in 0..count {
         value = value * 16 + digit_value(line[from + i]);
-        i += 1;
     }
     value
 }
@@ -64,19 +62,13 @@ fn measures(x: f64, expected: u64) -> bool
 fn is_right(kind: u8, x: f64, rate: u32, expected: u64) -> bool
     ensures { result ≡ right kind x rate expected }
 {
-    if kind == b'n' {
-        return narrows_to(x, expected);
+    match kind {
+        b'n' => narrows_to(x, expected),
+        b'r' => numbers::round_half_away(x * (rate as f64)) as u64 == expected,
+        b'c' => numbers::cut(x * (rate as f64)) as u64 == expected,
+        b'm' => measures(x, expected),
+        _ => false,
     }
-    if kind == b'r' {
-        return numbers::round_half_away(x * (rate as f64)) as u64 == expected;
-    }
-    if kind == b'c' {
-        return numbers::cut(x * (rate as f64)) as u64 == expected;
-    }
-    if kind == b'm' {
-        return measures(x, expected);
-    }
-    false
 }
 
 // Whether a line's result is right. A NaN is not a case.
@@ -103,6 +95,8 @@ enum Line {
 }
 
 // Reads until the line is full or the input ends: how many bytes.
+// By hand, as each read gives as many bytes as it has: no range or iterator counts that, and `read_exact` hides how
+// many bytes of a cut line came.
 fn read_full(from: &mut impl Read, line: &mut [u8; 45]) -> io::Result<usize> {
     let mut n: usize = 0;
     while n < 45 {
@@ -135,24 +129,22 @@ struct Tally {
 }
 
 fn count_all(from: &mut impl Read) -> io::Result<Tally> {
-    let mut cases: u64 = 0;
     let mut differ: u64 = 0;
-    while cases < MOST {
-        let line = next_line(from)?;
-        match line {
+    for cases in 0..MOST {
+        match next_line(from)? {
             Line::End => return Ok(Tally { cases, differ }),
             Line::Agrees => (),
             Line::Differs => differ += 1,
         }
-        cases += 1;
     }
-    Ok(Tally { cases, differ })
+    Ok(Tally {
+        cases: MOST,
+        differ,
+    })
 }
 
 fn main(rt: HostRuntime) -> io::Result<()> {
     let mut from = BufReader::new(rt.alloc(), rt.reader())?;
     let t = count_all(&mut from)?;
-    let cases = t.cases;
-    let differ = t.differ;
-    println!(rt; "{cases} cases, {differ} differ")
+    println!(rt; "{} cases, {} differ", t.cases, t.differ)
 }

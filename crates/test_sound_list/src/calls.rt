@@ -4,9 +4,11 @@ ghost use Rattle.test_sound_list.specs.Counts.{Counts};
 use crate::{input, states};
 use playback_position::{EndPosition, PlaybackPosition, Region};
 use playback_state_manager::StartAnswer;
+use refusals::Refusal;
 use sound_block::Signals;
-use sound_commands::{Amount, Commands, LoopCommand, ResumeCommand};
-use sound_creation::{OptionalRegion, Settings};
+use sound_commands::{Commands, LoopCommand, ResumeCommand};
+use sound_creation::Settings;
+use sound_lanes::Lanes;
 use sound_slow_path::Processed;
 use sound_state::StaticSound;
 use start_time::StartSignal;
@@ -24,19 +26,19 @@ pub struct Answer {
 // 0 is frames, anything else seconds.
 fn next_position(from: &mut impl Read) -> PlaybackPosition {
     let kind = input::next(from);
-    if kind == 0 {
-        return PlaybackPosition::Samples(input::index(from));
+    match kind {
+        0 => PlaybackPosition::Samples(input::index(from)),
+        _ => PlaybackPosition::Seconds(input::double(from)),
     }
-    PlaybackPosition::Seconds(input::double(from))
 }
 
 // 0 is the end of the audio, anything else a position.
 fn next_end(from: &mut impl Read) -> EndPosition {
     let kind = input::next(from);
-    if kind == 0 {
-        return EndPosition::EndOfAudio;
+    match kind {
+        0 => EndPosition::EndOfAudio,
+        _ => EndPosition::Custom(next_position(from)),
     }
-    EndPosition::Custom(next_position(from))
 }
 
 fn next_region(from: &mut impl Read) -> Region {
@@ -46,57 +48,51 @@ fn next_region(from: &mut impl Read) -> Region {
 }
 
 // 0 is none, anything else a region.
-fn next_optional_region(from: &mut impl Read) -> OptionalRegion {
+fn next_optional_region(from: &mut impl Read) -> Option<Region> {
     let kind = input::next(from);
-    if kind == 0 {
-        return OptionalRegion::Absent;
+    match kind {
+        0 => None,
+        _ => Some(next_region(from)),
     }
-    OptionalRegion::Present(next_region(from))
 }
 
 // 0 is none, anything else an amount.
-fn next_amount(from: &mut impl Read) -> Amount {
+fn next_amount(from: &mut impl Read) -> Option<f64> {
     let kind = input::next(from);
-    if kind == 0 {
-        return Amount::Absent;
+    match kind {
+        0 => None,
+        _ => Some(input::double(from)),
     }
-    Amount::Given(input::double(from))
 }
 
 // 0 keeps the loop, 1 clears it, anything else sets it.
 fn next_loop(from: &mut impl Read) -> LoopCommand {
     let kind = input::next(from);
-    if kind == 0 {
-        return LoopCommand::Keep;
+    match kind {
+        0 => LoopCommand::Keep,
+        1 => LoopCommand::Clear,
+        _ => LoopCommand::Set(next_region(from)),
     }
-    if kind == 1 {
-        return LoopCommand::Clear;
-    }
-    LoopCommand::Set(next_region(from))
 }
 
 // 0 is none, 1 at once, anything else one that waits.
 fn next_resume(from: &mut impl Read) -> ResumeCommand {
     let kind = input::next(from);
-    if kind == 0 {
-        return ResumeCommand::Keep;
+    match kind {
+        0 => ResumeCommand::Keep,
+        1 => ResumeCommand::Now,
+        _ => ResumeCommand::Waiting,
     }
-    if kind == 1 {
-        return ResumeCommand::Now;
-    }
-    ResumeCommand::Waiting
 }
 
 // 0 is still waiting, 1 now, anything else never.
 fn next_answer(from: &mut impl Read) -> StartAnswer {
     let kind = input::next(from);
-    if kind == 0 {
-        return StartAnswer::Waiting;
+    match kind {
+        0 => StartAnswer::Waiting,
+        1 => StartAnswer::Now,
+        _ => StartAnswer::Never,
     }
-    if kind == 1 {
-        return StartAnswer::Now;
-    }
-    StartAnswer::Never
 }
 
 fn next_settings(from: &mut impl Read) -> Settings {
@@ -156,11 +152,9 @@ fn prepare(from: &mut impl Read, out: &mut [f32]) -> usize
 {
     let n = input::count(from, out.len());
     let mut untouched: f32 = -1.0;
-    let mut i: usize = 0;
-    while i < out.len() {
-        out[i] = untouched;
+    for sample in out.iter_mut() {
+        *sample = untouched;
         untouched = untouched - 1.0;
-        i += 1;
     }
     n
 }
@@ -169,72 +163,66 @@ fn prepare(from: &mut impl Read, out: &mut [f32]) -> usize
 fn is_output(from: &mut impl Read, out: &[f32; 32], count: usize) -> bool {
     let mut same = true;
     let mut untouched: f32 = -1.0;
-    let mut i: usize = 0;
-    while i < 32 {
+    for (i, sample) in out.iter().enumerate() {
         if i < count {
-            same = input::is_single(from, out[i]) & same;
+            same = input::is_single(from, *sample) & same;
         } else {
-            same = (out[i] == untouched) & same;
+            same = (*sample == untouched) & same;
         }
         untouched = untouched - 1.0;
-        i += 1;
     }
     same
 }
 
-fn is_processed(from: &mut impl Read, made: Processed) -> bool {
-    let voice = made.voice;
-    input::is(from, made.refusal as u64)
-        & input::is(from, made.steps as u64)
-        & input::is(from, made.lowest_count as u64)
-        & states::are(from, voice)
-}
-
 // ---- the calls
-
-// What a refused creation returns: no sample rate.
-pub(crate) fn blank() -> StaticSound {
-    let sound = [0.0f32; 2];
-    let settings = Settings {
-        sample_rate: 0,
-        slice: OptionalRegion::Absent,
-        start_position: PlaybackPosition::Samples(0),
-        loop_region: OptionalRegion::Absent,
-        reverse: false,
-        playback_rate: 0.0,
-        start_waits: false,
-    };
-    let made = sound_creation::new(settings, &sound);
-    made.voice
-}
 
 pub(crate) fn create(from: &mut impl Read, sound: &[f32]) -> Answer {
     let settings = next_settings(from);
-    let made = sound_creation::new(settings, sound);
-    let voice = made.voice;
+    let (voice, refusal) = match sound_creation::new(settings, sound) {
+        Ok(voice) => (voice, 0),
+        Err(refusal) => (sound_creation::blank(), u64::from(refusal)),
+    };
     Answer {
         voice,
-        same: input::is(from, made.refusal as u64) & states::are(from, voice),
+        same: input::is(from, refusal) & states::are(from, voice),
     }
 }
 
 pub(crate) fn command(from: &mut impl Read, voice: StaticSound, sound: &[f32]) -> Answer {
     let commands = next_commands(from);
-    let made = sound_commands::on_start_processing(voice, sound, commands);
-    let voice = made.voice;
+    let (voice, position, refusal) = match sound_commands::on_start_processing(
+        voice, sound, commands,
+    ) {
+        Ok(commanded) => (commanded.voice, commanded.position, 0),
+        Err(refusal) => (voice, 0.0, u64::from(refusal)),
+    };
     Answer {
         voice,
-        same: input::is(from, made.refusal as u64)
-            & input::is_double(from, made.position)
+        same: input::is(from, refusal)
+            & input::is_double(from, position)
             & states::are(from, voice),
     }
 }
 
-fn played(from: &mut impl Read, made: Processed, out: &[f32; 32], samples: usize) -> Answer {
-    let voice = made.voice;
+// After a refused block: the voice before it, no steps, and 4 for the count.
+fn played(
+    from: &mut impl Read,
+    before: StaticSound,
+    made: Result<Processed, Refusal>,
+    out: &[f32; 32],
+    samples: usize,
+) -> Answer {
+    let (voice, steps, lowest_count, refusal) = match made {
+        Ok(made) => (made.voice, made.steps, made.lowest_count, 0),
+        Err(refusal) => (before, 0, 4, u64::from(refusal)),
+    };
     Answer {
         voice,
-        same: is_processed(from, made) & is_output(from, out, samples),
+        same: input::is(from, refusal)
+            & input::is(from, steps as u64)
+            & input::is(from, lowest_count as u64)
+            & states::are(from, voice)
+            & is_output(from, out, samples),
     }
 }
 
@@ -251,44 +239,29 @@ pub(crate) fn block(
     let mut right = [0.0f32; 32];
     let mut rate = [0.0f64; 32];
     let mut out = [0.0f32; 32];
-    let fades = input::singles(from, &mut fade);
-    let volumes = input::singles(from, &mut volume);
-    let lefts = input::singles(from, &mut left);
-    let rights = input::singles(from, &mut right);
-    let rates = input::doubles(from, &mut rate);
+    let fades = input::floats(from, &mut fade);
+    let volumes = input::floats(from, &mut volume);
+    let lefts = input::floats(from, &mut left);
+    let rights = input::floats(from, &mut right);
+    let rates = input::floats(from, &mut rate);
     let dt = input::double(from);
     let signals = next_signals(from);
     let samples = prepare(from, &mut out);
-    if mixes {
+    let lanes = Lanes {
+        fade: &fade[..fades],
+        volume: &volume[..volumes],
+        left: &left[..lefts],
+        right: &right[..rights],
+        rate: &rate[..rates],
+    };
+    let made = if mixes {
         let first = input::index(from);
-        let made = static_sound::process_into(
-            voice,
-            sound,
-            &fade[..fades],
-            &volume[..volumes],
-            &left[..lefts],
-            &right[..rights],
-            &rate[..rates],
-            dt,
-            signals,
-            &mut out[..samples],
-            first,
-        );
-        return played(from, made, &out, samples);
-    }
-    let made = static_sound::process(
-        voice,
-        sound,
-        &fade[..fades],
-        &volume[..volumes],
-        &left[..lefts],
-        &right[..rights],
-        &rate[..rates],
-        dt,
-        signals,
-        &mut out[..samples],
-    );
-    played(from, made, &out, samples)
+        let mix = &mut out[..samples];
+        static_sound::process_into(voice, sound, lanes, dt, signals, mix, first)
+    } else {
+        static_sound::process(voice, sound, lanes, dt, signals, &mut out[..samples])
+    };
+    played(from, voice, made, &out, samples)
 }
 
 // Whether the next numbers of the list are the voice's stretch: its length, then its samples.
@@ -298,10 +271,8 @@ pub(crate) fn stretch(from: &mut impl Read, voice: StaticSound, sound: &[f32]) -
 
 fn is_part(from: &mut impl Read, part: &[f32]) -> bool {
     let mut same = input::is(from, part.len() as u64);
-    let mut i: usize = 0;
-    while i < part.len() {
-        same = input::is_single(from, part[i]) & same;
-        i += 1;
+    for sample in part {
+        same = input::is_single(from, *sample) & same;
     }
     same
 }

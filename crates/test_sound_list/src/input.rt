@@ -20,14 +20,12 @@ fn first(byte: &[u8; 1]) -> u8 {
 // The next number, of at most 16 digits; 0 if the input has ended.
 pub(crate) fn next(from: &mut impl Read) -> u64 {
     let mut value: u64 = 0;
-    let mut left: usize = 16;
-    while left > 0 {
+    for _ in 0..16 {
         let byte = next_byte(from);
         if byte == b'\n' {
             return value;
         }
         value = (value << 4) | float_bits::digit_value(byte);
-        left -= 1;
     }
     next_byte(from);
     value
@@ -36,7 +34,7 @@ pub(crate) fn next(from: &mut impl Read) -> u64 {
 pub(crate) fn least(count: usize, most: usize) -> usize
     ensures { result ≤ most }
 {
-    if count < most { count } else { most }
+    count.min(most)
 }
 
 pub(crate) fn index(from: &mut impl Read) -> usize {
@@ -58,35 +56,38 @@ pub(crate) fn yes(from: &mut impl Read) -> bool {
     next(from) == 1
 }
 
+// A float that the next number's bits spell.
+pub(crate) trait Spelled: Copy {
+    fn next(from: &mut impl Read) -> Self;
+}
+
+impl Spelled for f64 {
+    fn next(from: &mut impl Read) -> f64 {
+        float_bits::f64_of(next(from))
+    }
+}
+
+impl Spelled for f32 {
+    fn next(from: &mut impl Read) -> f32 {
+        float_bits::f32_of(half(from))
+    }
+}
+
 pub(crate) fn double(from: &mut impl Read) -> f64 {
-    float_bits::f64_of(next(from))
+    f64::next(from)
 }
 
 pub(crate) fn single(from: &mut impl Read) -> f32 {
-    float_bits::f32_of(half(from))
+    f32::next(from)
 }
 
 // Samples or amplitudes: a count, then that many numbers, written to the start of `to`.
-pub(crate) fn singles(from: &mut impl Read, to: &mut [f32]) -> usize
+pub(crate) fn floats<F: Spelled>(from: &mut impl Read, to: &mut [F]) -> usize
     ensures { Counts result to.new }
 {
     let n = count(from, to.len());
-    let mut i: usize = 0;
-    while i < n {
-        to[i] = single(from);
-        i += 1;
-    }
-    n
-}
-
-pub(crate) fn doubles(from: &mut impl Read, to: &mut [f64]) -> usize
-    ensures { Counts result to.new }
-{
-    let n = count(from, to.len());
-    let mut i: usize = 0;
-    while i < n {
-        to[i] = double(from);
-        i += 1;
+    for i in 0..n {
+        to[i] = F::next(from);
     }
     n
 }

@@ -6,6 +6,7 @@ mod calls;
 mod input;
 mod states;
 
+use calls::Answer;
 use sound_state::StaticSound;
 use std::io;
 use std::io::{BufReader, Read};
@@ -50,40 +51,40 @@ impl Replay {
 
     fn call(self, from: &mut impl Read, kind: u64, sound: &[f32]) -> Replay {
         let voice = self.voice;
-        if kind == 4 {
-            let made = calls::create(from, sound);
-            return self.answered(made.voice, made.same);
-        }
-        if kind == 5 {
-            let made = calls::command(from, voice, sound);
-            return self.answered(made.voice, made.same);
-        }
-        if (kind == 6) | (kind == 7) {
-            let made = calls::block(from, voice, sound, kind == 7);
-            return self.answered(made.voice, made.same);
-        }
-        if kind == 8 {
-            return self.answered(voice, calls::stretch(from, voice, sound));
-        }
-        self.answered(voice, false)
+        let made = match kind {
+            4 => calls::create(from, sound),
+            5 => calls::command(from, voice, sound),
+            6 => calls::block(from, voice, sound, false),
+            7 => calls::block(from, voice, sound, true),
+            8 => Answer {
+                voice,
+                same: calls::stretch(from, voice, sound),
+            },
+            _ => Answer { voice, same: false },
+        };
+        self.answered(made.voice, made.same)
     }
 
     // Records that set something without a call: a scenario's sound, the state, how much of the sound is passed.
     fn set(self, from: &mut impl Read, kind: u64, sound: &mut [f32]) -> Replay {
-        if kind == 1 {
-            let lent = input::singles(from, sound);
-            return Replay {
-                lent,
-                scenarios: more(self.scenarios),
-                ..self
-            };
+        match kind {
+            1 => {
+                let lent = input::floats(from, sound);
+                Replay {
+                    lent,
+                    scenarios: more(self.scenarios),
+                    ..self
+                }
+            }
+            2 => {
+                let voice = states::next(from);
+                Replay { voice, ..self }
+            }
+            _ => {
+                let lent = input::index(from);
+                Replay { lent, ..self }
+            }
         }
-        if kind == 2 {
-            let voice = states::next(from);
-            return Replay { voice, ..self };
-        }
-        let lent = input::index(from);
-        Replay { lent, ..self }
     }
 
     // One record.
@@ -97,7 +98,7 @@ impl Replay {
 }
 
 fn begin() -> Replay {
-    let voice = calls::blank();
+    let voice = sound_creation::blank();
     Replay {
         voice,
         lent: 0,
@@ -110,14 +111,12 @@ fn begin() -> Replay {
 fn replay_all(from: &mut impl Read) -> Replay {
     let mut sound = [0.0f32; 32];
     let mut replay = begin();
-    let mut left = MOST;
-    while left > 0 {
+    for _ in 0..MOST {
         let kind = input::next(from);
         if kind == 0 {
             return replay;
         }
         replay = replay.take(from, kind, &mut sound);
-        left -= 1;
     }
     replay
 }
@@ -125,8 +124,8 @@ fn replay_all(from: &mut impl Read) -> Replay {
 fn main(rt: HostRuntime) -> io::Result<()> {
     let mut from = BufReader::new(rt.alloc(), rt.reader())?;
     let r = replay_all(&mut from);
-    let scenarios = r.scenarios;
-    let calls = r.calls;
-    let differ = r.differ;
-    println!(rt; "{scenarios} scenarios, {calls} calls, {differ} differ")
+    println!(rt;
+        "{} scenarios, {} calls, {} differ",
+        r.scenarios, r.calls, r.differ
+    )
 }

@@ -1,7 +1,6 @@
 // A whole state in the list: 30 numbers, in the order of the fields.
 use crate::input;
 use frame::Frame;
-use playback_position::FrameRange;
 use playback_state_manager::PlaybackState;
 use resampler::{RecentFrame, Resampler};
 use sound_state::{Setup, StaticSound};
@@ -10,21 +9,17 @@ use std::io::Read;
 use transport::Transport;
 
 // A range, or two zeros for none.
-fn next_range(from: &mut impl Read) -> FrameRange {
+fn next_range(from: &mut impl Read) -> Option<(usize, usize)> {
     let there = input::yes(from);
     let start = input::index(from);
     let end = input::index(from);
-    if there {
-        FrameRange::Frames(start, end)
-    } else {
-        FrameRange::Absent
-    }
+    if there { Some((start, end)) } else { None }
 }
 
-fn is_range(from: &mut impl Read, range: FrameRange) -> bool {
+fn is_range(from: &mut impl Read, range: Option<(usize, usize)>) -> bool {
     match range {
-        FrameRange::Absent => input::is(from, 0) & input::is(from, 0) & input::is(from, 0),
-        FrameRange::Frames(start, end) => {
+        None => input::is(from, 0) & input::is(from, 0) & input::is(from, 0),
+        Some((start, end)) => {
             input::is(from, 1) & input::is(from, start as u64) & input::is(from, end as u64)
         }
     }
@@ -32,25 +27,15 @@ fn is_range(from: &mut impl Read, range: FrameRange) -> bool {
 
 // The state with this number; Stopped for any other.
 fn playback_state(number: u64) -> PlaybackState {
-    if number == 0 {
-        return PlaybackState::Playing;
+    match number {
+        0 => PlaybackState::Playing,
+        1 => PlaybackState::Pausing,
+        2 => PlaybackState::Paused,
+        3 => PlaybackState::WaitingToResume,
+        4 => PlaybackState::Resuming,
+        5 => PlaybackState::Stopping,
+        _ => PlaybackState::Stopped,
     }
-    if number == 1 {
-        return PlaybackState::Pausing;
-    }
-    if number == 2 {
-        return PlaybackState::Paused;
-    }
-    if number == 3 {
-        return PlaybackState::WaitingToResume;
-    }
-    if number == 4 {
-        return PlaybackState::Resuming;
-    }
-    if number == 5 {
-        return PlaybackState::Stopping;
-    }
-    PlaybackState::Stopped
 }
 
 fn next_setup(from: &mut impl Read) -> Setup {
@@ -63,10 +48,9 @@ fn next_setup(from: &mut impl Read) -> Setup {
 }
 
 fn is_setup(from: &mut impl Read, setup: Setup) -> bool {
-    let slice = setup.slice;
     input::is(from, setup.sample_rate as u64)
         & input::is(from, setup.num_frames as u64)
-        & is_range(from, slice)
+        & is_range(from, setup.slice)
         & input::is_yes(from, setup.reverse)
 }
 
@@ -79,9 +63,8 @@ fn next_transport(from: &mut impl Read) -> Transport {
 }
 
 fn is_transport(from: &mut impl Read, transport: Transport) -> bool {
-    let loop_region = transport.loop_region;
     input::is(from, transport.position as u64)
-        & is_range(from, loop_region)
+        & is_range(from, transport.loop_region)
         & input::is_yes(from, transport.playing)
 }
 
@@ -162,14 +145,12 @@ pub(crate) fn next(from: &mut impl Read) -> StaticSound {
 
 // Whether the next numbers of the list are this state.
 pub(crate) fn are(from: &mut impl Read, voice: StaticSound) -> bool {
-    let setup = voice.setup;
     let moving = voice.moving;
-    let state = moving.state;
-    is_setup(from, setup)
+    is_setup(from, voice.setup)
         & input::is_double(from, voice.playback_rate)
         & input::is_yes(from, voice.started)
         & input::is_double(from, voice.fractional_position)
-        & input::is(from, state.number() as u64)
+        & input::is(from, u32::from(moving.state) as u64)
         & is_transport(from, moving.transport)
         & is_resampler(from, moving.resampler)
         & is_wraps(from, moving.wraps)

@@ -1,4 +1,5 @@
 -- The order of steps in a loop does not matter: a step is a remainder, and a remainder behaves like its number. By induction on the steps. Assumes nothing.
+use Rattle.std.specs.Prelude.{Option, Some}
 use mathlib.Core.Path.{◌≡◌, refl, sym, ap, ap₂, ◌∙◌, subst}
 use Prim.Native.Nat.{ℕ, suc, ◌+◌, ◌-◌, ◌*◌, ◌/◌, ◌%◌, ◌≤◌, ◌<◌}
 use native.Mathlib.Nat.{mod-lt, mod-add-mod, add-mul-mod_self_left, mod-eq_of_lt, mod-add-div, add_assoc, sub-zero}
@@ -8,8 +9,6 @@ use mathlib.Core.List.{List, [], ◌∷◌}
 use lib.Dec.{leb}
 use lib.ListN.{take}
 use borrow.Author.Tests.{leb-true, leb-false, lt-ltb}
-use Rattle.playback_position.specs.declared.FrameRange.{FrameRange}
-use Rattle.playback_position.specs.declared.FrameRange.TheVariants.{Frames}
 use Rattle.transport.specs.declared.Transport.{Transport}
 use Rattle.transport.specs.Moves.{cycled, landed, forward, backward}
 use Rattle.transport.specs.WellFormed.{Inside}
@@ -77,13 +76,13 @@ cycled_cycled a b c d l p =
 
 -- a transport at offset x in its loop
 abbrev at : ℕ → ℕ → ℕ → Transport
-at s e x = record { position = s + x; loop_region = Frames s e; playing = true }
+at s e x = record { position = s + x; loop_region = Some (s, e); playing = true }
 
 forward_at : (n s e x : ℕ) → x < e - s → e ≤ n → forward n (at s e x) ≡ at s e (cycled (x + 1) 0 (e - s))
 unfolding forward
 forward_at n s e x h k =
     ap (landed n (at s e x)) (go (leb e (s + x + 1)) refl)
-    ∙ ap (λ (b : Bool). record { position = s + cycled (x + 1) 0 (e - s); loop_region = Frames s e; playing = b })
+    ∙ ap (λ (b : Bool). record { position = s + cycled (x + 1) 0 (e - s); loop_region = Some (s, e); playing = b })
     (lt-ltb (s + cycled (x + 1) 0 (e - s)) n (inside (cycled (x + 1) 0 (e - s)) (cycled_lt (x + 1) 0 (e - s) pos)))
   where
     pos : 0 < e - s
@@ -107,7 +106,7 @@ forward_at n s e x h k =
 
 backward_at : (s e x : ℕ) → x < e - s → backward (at s e x) ≡ at s e (cycled x 1 (e - s))
 unfolding backward
-backward_at s e x h = ap (λ (q : ℕ). record { position = q; loop_region = Frames s e; playing = true }) (go (leb (s + x) s) refl)
+backward_at s e x h = ap (λ (q : ℕ). record { position = q; loop_region = Some (s, e); playing = true }) (go (leb (s + x) s) refl)
   where
     low : s + x ≤ s → s + x < suc s
     low l = omega arith
@@ -176,8 +175,8 @@ located : (s e : ℕ) (t : Transport) → Inside s e t → t ≡ at s e (t.posit
 located s e t h =
     let f : s ≤ t.position = h.from in
     let q : t.position ≡ s + (t.position - s) = omega arith in
-    ap₂ (λ (p : ℕ) (r : FrameRange). record { position = p; loop_region = r; playing = t.playing }) q h.loop
-    ∙ ap (λ (b : Bool). record { position = s + (t.position - s); loop_region = Frames s e; playing = b }) h.going
+    ap₂ (λ (p : ℕ) (r : Option (ℕ × ℕ)). record { position = p; loop_region = r; playing = t.playing }) q h.loop
+    ∙ ap (λ (b : Bool). record { position = s + (t.position - s); loop_region = Some (s, e); playing = b }) h.going
 
 place_lt : (s e : ℕ) (t : Transport) → Inside s e t → t.position - s < e - s
 place_lt s e t h = go h.from h.to
@@ -243,7 +242,7 @@ there_and_back n s e t x = (back_home (Forward ∷ Backward ∷ []) refl refl, b
 -- ---- the loop (3, 6) of ten frames
 
 abbrev three_to_six : ℕ → Transport
-three_to_six p = record { position = p; loop_region = Frames 3 6; playing = true }
+three_to_six p = record { position = p; loop_region = Some (3, 6); playing = true }
 
 pub five_forward : walked 10 (Forward ∷ Forward ∷ Forward ∷ Forward ∷ Forward ∷ []) (three_to_six 4) ≡ three_to_six 3
 unfolding walked forward

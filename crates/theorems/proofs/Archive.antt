@@ -10,7 +10,7 @@ use Rattle.start_time.specs.declared.StartSignal.TheVariants.{Answer, Tick}
 use Rattle.start_time.specs.Ticks.{again}
 use Rattle.sound_lanes.specs.Lanes.{first_lanes, rest_lanes}
 use Rattle.sound_state.specs.declared.StaticSound.{StaticSound}
-use Rattle.sound_slow_path.specs.declared.Processed.{Processed}
+use Rattle.sound_slow_path.specs.Plays.{BlockAnswer}
 use Rattle.sound_block.specs.declared.Signals.{Signals}
 use Rattle.sound_block.specs.Blocks.{quiet}
 use Rattle.sound_slow_path.specs.Plays.{Outcome}
@@ -41,7 +41,7 @@ after_means k v c e = ap decoded (after_is k v c e) ∙ decoded_encoded v
 abbrev pub raw : Outcome → CableowlState → OutcomeC
 raw o c = record { answer = answered o.answer c; samples = o.samples }
 
-parts : (p f r : Processed) (c s : CableowlState) → p.refusal ≡ 0 → Parts p f r → PartsC (answered p c) (answered f c) (answered r s)
+parts : (p f r : BlockAnswer) (c s : CableowlState) → p.refusal ≡ 0 → Parts p f r → PartsC (answered p c) (answered f c) (answered r s)
 parts p f r c s h d =
     record {
       accepted = d.accepted;

@@ -8,7 +8,7 @@ use borrow.Author.Tests.{eqb-true, eqb-false}
 use Rattle.transport.specs.WellFormed.{Inside}
 use Rattle.sound_state.specs.declared.StaticSound.{StaticSound}
 use Rattle.sound_commands.specs.Commands.{commanded}
-use Rattle.sound_commands.specs.declared.Commanded.{Commanded}
+use Rattle.sound_commands.specs.Commands.{CommandsAnswer}
 use Rattle.sound_commands.proofs.Answers.{commanded_refused}
 use Rattle.sound_slow_path.specs.Plays.{Outcome}
 use Rattle.static_sound.specs.Entries.{processed, processed_into}
@@ -51,7 +51,7 @@ after_meant (Mix snd dt b g mix from) c =
     back o.answer.refusal o.answer.voice c (λ n. ap (λ (o : Outcome). o.answer.voice) (into_refused snd (decoded c) dt b (signals_of g) mix from n))
 after_meant (Command snd k) c =
     let r = commanded snd (decoded c) (commands_of k) in
-    back r.refusal r.voice c (λ n. ap (λ (a : Commanded). a.voice) (commanded_refused snd (decoded c) (commands_of k) n))
+    back r.refusal r.voice c (λ n. ap (λ (a : CommandsAnswer). a.voice) (commanded_refused snd (decoded c) (commands_of k) n))
 after_meant (Take snd t k) c =
     let r = taken snd t k (decoded c) in
     back r.refusal r.voice c (taken_refused snd t k (decoded c))

@@ -36,10 +36,10 @@ rest_of : {A : Type 0} (n k : ℕ) (z : A) → k ≤ n → drop k (replicate n z
 rest_of n k z h = ap (drop k) (split n k z h) ∙ drop_at (replicate k z) (replicate (n - k) z) k (length-replicate k z)
 
 first_once : (x : Held) (n k : ℕ) → k ≤ n → first_lanes k (held_lanes x n) ≡ held_lanes x k
-first_once x n k h = rw (first_of n k x.fade h, first_of n k x.volume h, first_of n k x.left h, first_of n k x.right h, first_of n k x.rate h)
+first_once x n k h = rw (first_of n k x.gains.fade h, first_of n k x.gains.volume h, first_of n k x.gains.left h, first_of n k x.gains.right h, first_of n k x.rate h)
 
 rest_once : (x : Held) (n k : ℕ) → k ≤ n → rest_lanes k (held_lanes x n) ≡ held_lanes x (n - k)
-rest_once x n k h = rw (rest_of n k x.fade h, rest_of n k x.volume h, rest_of n k x.left h, rest_of n k x.right h, rest_of n k x.rate h)
+rest_once x n k h = rw (rest_of n k x.gains.fade h, rest_of n k x.gains.volume h, rest_of n k x.gains.left h, rest_of n k x.gains.right h, rest_of n k x.rate h)
 
 -- ---- cut in two
 

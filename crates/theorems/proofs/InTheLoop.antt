@@ -1,4 +1,5 @@
 -- Once in the loop, always in the loop: steps and seeks stay inside, so no update ends the voice, and a sequence of calls is one call after the other. Assumes nothing.
+use Rattle.std.specs.Prelude.{Option, Some, None}
 use mathlib.Core.Path.{◌≡◌, refl, sym, ap, ap₂, ◌∙◌, subst}
 use Prim.Native.Nat.{ℕ, zero, suc, ◌+◌, ◌-◌, ◌≤◌, ◌<◌}
 use native.Mathlib.Nat.{lt_of_lt_of_le}
@@ -10,8 +11,6 @@ use lib.Ieee.{Float}
 use borrow.Author.Tests.{leb-false, ltb-true, ltb-false, lt-ltb, eqb-true, eqb-false}
 use Rattle.numbers.specs.Words.{whole, positive_zero}
 use Rattle.numbers.specs.Frames.{cut_off}
-use Rattle.playback_position.specs.declared.FrameRange.{FrameRange}
-use Rattle.playback_position.specs.declared.FrameRange.TheVariants.{Frames}
 use Rattle.playback_position.specs.Positions.{within}
 use Rattle.playback_position.proofs.Ranges.{ranged_parts}
 use Rattle.playback_state_manager.specs.declared.PlaybackState.{PlaybackState}
@@ -34,19 +33,17 @@ use Rattle.sound_state.specs.declared.StaticSound.{StaticSound}
 use Rattle.sound_state.specs.Voices.{length_of_slice, slice_of}
 use Rattle.sound_update.specs.Updates.{pushed, stepped, updated, updates}
 use Rattle.sound_state.proofs.WellFormed.{well_formed_parts}
-use Rattle.sound_commands.specs.declared.Amount.{Amount}
-use Rattle.sound_commands.specs.declared.Amount.TheVariants as amount
 use Rattle.sound_commands.specs.declared.LoopCommand.{LoopCommand}
 use Rattle.sound_commands.specs.declared.LoopCommand.TheVariants as loop
 use Rattle.sound_commands.specs.declared.ResumeCommand.{ResumeCommand}
 use Rattle.sound_commands.specs.declared.ResumeCommand.TheVariants as resume
 use Rattle.sound_commands.specs.declared.Commands.{Commands}
-use Rattle.sound_commands.specs.declared.Commanded.{Commanded}
+use Rattle.sound_commands.specs.Commands.{CommandsAnswer}
 use Rattle.sound_commands.specs.Commands.{target_by, target_to, looped, woken, ordered, before_seeks, jumped, refilled, sought, sought_by, sought_to, obeyed, commanded}
 use Rattle.sound_commands.proofs.Orders.{by_setup, obeyed_setup}
 use Rattle.sound_commands.proofs.Answers.{commanded_passed, commanded_done, commanded_refused}
 use Rattle.loop_table.specs.declared.LoopTable.{LoopTable}
-use Rattle.loop_table.specs.declared.LoopFound.{LoopFound}
+use Rattle.loop_table.specs.Tables.{LoopFound}
 use Rattle.loop_table.specs.Tables.{found}
 use Rattle.take_loop.specs.Taking.{loop_command_of, taken}
 use Rattle.sound_block.specs.declared.Signals.{Signals}
@@ -67,7 +64,7 @@ module _ (s e : ℕ) where
   wrapped a b h = (omega arith, wrapped_lt s e a b h)
 
   -- where a seek from inside the loop leads
-  sought_range : (p q : ℕ) → Range p → Range (cond (ltb p q) (under (Frames s e) q) (over (Frames s e) q))
+  sought_range : (p q : ℕ) → Range p → Range (cond (ltb p q) (under (Some (s, e)) q) (over (Some (s, e)) q))
   sought_range p q h = go (ltb p q) refl
     where
       more : s < e
@@ -81,7 +78,7 @@ module _ (s e : ℕ) where
       down true k l = wrapped q s more
       down false k l = let m = ltb-false q s k in let a = h.1 in (omega arith, omega arith)
 
-      go : (b : Bool) → ltb p q ≡ b → Range (cond b (under (Frames s e) q) (over (Frames s e) q))
+      go : (b : Bool) → ltb p q ≡ b → Range (cond b (under (Some (s, e)) q) (over (Some (s, e)) q))
       go true k = up (leb e q) refl (ltb-true p q k)
       go false k = down (ltb q s) refl (ltb-false p q k)
 
@@ -89,7 +86,7 @@ module _ (s e : ℕ) where
   unfolding seek
   seek_inside n t q k h =
       let x = cond (ltb t.position q) (under t.loop_region q) (over t.loop_region q) in
-      let r : Range x = subst (λ (g : FrameRange). Range (cond (ltb t.position q) (under g q) (over g q))) (sym h.loop) (sought_range t.position q (h.from, h.to)) in
+      let r : Range x = subst (λ (g : Option (ℕ × ℕ)). Range (cond (ltb t.position q) (under g q) (over g q))) (sym h.loop) (sought_range t.position q (h.from, h.to)) in
       record { loop = h.loop; going = ap₂ (λ (a b : Bool). a && b) h.going (lt-ltb x n (lt_of_lt_of_le r.1 k)); from = r.0; to = r.1 }
 
   -- ---- the moving part: in the loop, and in the same playback state
@@ -160,13 +157,13 @@ module _ (s e : ℕ) where
       go true = record { inside = j; state = refl }
       go false = record { inside = j; state = refl }
 
-  by_holds : (snd : List Float) (v : StaticSound) (a : Amount) → In v → Holds v.moving (sought_by snd v a).moving
-  by_holds snd v amount.Absent h = stayed v.moving h.inside
-  by_holds snd v (amount.Given x) h = sought_holds snd v (cut_off (target_by v x)) h
+  by_holds : (snd : List Float) (v : StaticSound) (a : Option Float) → In v → Holds v.moving (sought_by snd v a).moving
+  by_holds snd v None h = stayed v.moving h.inside
+  by_holds snd v (Some x) h = sought_holds snd v (cut_off (target_by v x)) h
 
-  to_holds : (snd : List Float) (v : StaticSound) (a : Amount) → In v → Holds v.moving (sought_to snd v a).moving
-  to_holds snd v amount.Absent h = stayed v.moving h.inside
-  to_holds snd v (amount.Given x) h = sought_holds snd v (cut_off (target_to v x)) h
+  to_holds : (snd : List Float) (v : StaticSound) (a : Option Float) → In v → Holds v.moving (sought_to snd v a).moving
+  to_holds snd v None h = stayed v.moving h.inside
+  to_holds snd v (Some x) h = sought_holds snd v (cut_off (target_to v x)) h
 
   kept_loop : (v : StaticSound) (l : LoopCommand) → T (not (changes_loop l)) → looped v l ≡ v.moving.transport.loop_region
   kept_loop v loop.Keep h = refl
@@ -252,9 +249,9 @@ taken_refused snd t k v = go (eqb f.refusal 0)
     c = loop_command_of f.slot
 
     go : (b : Bool)
-        → let r = cond {A = Commanded} b (commanded snd v (loop_command_of f.slot)) (record { refusal = f.refusal; voice = v; position = positive_zero }) in
+        → let r = cond {A = CommandsAnswer} b (commanded snd v (loop_command_of f.slot)) (record { refusal = f.refusal; voice = v; position = positive_zero }) in
         (r.refusal ≡ 0 → ⊥) → r.voice ≡ v
-    go true n = ap (λ (a : Commanded). a.voice) (commanded_refused snd v c n)
+    go true n = ap (λ (a : CommandsAnswer). a.voice) (commanded_refused snd v c n)
     go false n = refl
 
 -- ---- one call
@@ -381,7 +378,7 @@ in_the_loop s e cs v x =
     record { inside = row_inside s e cs v i x.no_loop_command; stopped = λ q. ends (some_accepted stops cs v) (ending v.moving.state) (λ a b. subst alive q (row_alive s e cs v i x.no_loop_command a b)) }
   where
     fits : e ≤ length_of_slice v.setup
-    fits = (ranged_parts (length_of_slice v.setup) s e (subst (λ (r : FrameRange). T (within (length_of_slice v.setup) r)) x.inside.loop (well_formed_parts v x.well_formed).transport_well_formed.loop)).inside
+    fits = (ranged_parts (length_of_slice v.setup) s e (subst (λ (r : Option (ℕ × ℕ)). T (within (length_of_slice v.setup) r)) x.inside.loop (well_formed_parts v x.well_formed).transport_well_formed.loop)).inside
 
     i : In s e v
     i = record { fits = fits; inside = x.inside }

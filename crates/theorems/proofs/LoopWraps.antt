@@ -1,5 +1,6 @@
 -- What the counts of wraps mean: a step inside the loop either moves by one and counts nothing, or wraps at the edge, by L, and counts one.
 -- By induction on the updates, with both sides kept as sums; a block's updates are as many as its steps. Assumes nothing.
+use Rattle.std.specs.Prelude.{Option, Some}
 use mathlib.Core.Path.{◌≡◌, refl, sym, ap, ap₂, ◌∙◌, subst}
 use Prim.Native.Nat.{ℕ, zero, suc, ◌+◌, ◌-◌, ◌*◌, ◌≤◌, ◌<◌}
 use native.Mathlib.Nat.{le_refl, le_trans, lt_of_le_of_lt, add-zero}
@@ -10,8 +11,6 @@ use lib.Dec.{T, leb, ltb}
 use lib.ListN.{length}
 use lib.Ieee.{Float}
 use borrow.Author.Tests.{leb-true, leb-false, ltb-false}
-use Rattle.playback_position.specs.declared.FrameRange.{FrameRange}
-use Rattle.playback_position.specs.declared.FrameRange.TheVariants.{Frames}
 use Rattle.playback_position.specs.Positions.{within}
 use Rattle.playback_position.proofs.Ranges.{ranged_parts}
 use Rattle.transport.specs.declared.Transport.{Transport}
@@ -127,16 +126,16 @@ module _ (s e : ℕ) where
   length_of h = omega arith
 
   edge_on : (p a : ℕ) → s ≤ p → p < e → (b : Bool) → leb e (p + 1) ≡ b → raised b a < 4294967295
-      → under (Frames s e) (p + 1) + (e - s) * raised b a ≡ p + 1 + (e - s) * a
+      → under (Some (s, e)) (p + 1) + (e - s) * raised b a ≡ p + 1 + (e - s) * a
   edge_on p a f t true k h =
       let l = leb-true e (p + 1) k in
       let met : p + 1 ≡ e = omega arith in
-      ap₂ (λ (x y : ℕ). x + (e - s) * y) (ap (under (Frames s e)) met ∙ under_end s e (more_of p f t)) (raised_more a h)
+      ap₂ (λ (x y : ℕ). x + (e - s) * y) (ap (under (Some (s, e))) met ∙ under_end s e (more_of p f t)) (raised_more a h)
       ∙ turn_on s e (e - s) p a (length_of (more_of p f t)) met
   edge_on p a f t false k h = ap (λ (x : ℕ). x + (e - s) * a) (under_inside s e (p + 1) (leb-false e (p + 1) k))
 
   edge_back : (p a : ℕ) → s ≤ p → p < e → (b : Bool) → leb p s ≡ b → raised b a < 4294967295
-      → back (Frames s e) p + 1 + (e - s) * a ≡ p + (e - s) * raised b a
+      → back (Some (s, e)) p + 1 + (e - s) * a ≡ p + (e - s) * raised b a
   edge_back p a f t true k h =
       let l = leb-true p s k in
       let met : p ≡ s = omega arith in
@@ -188,11 +187,11 @@ module _ (s e : ℕ) where
             ap (λ (b : Bool). raised (wraps b t && b) m.wraps.backward) d
             ∙ ap (λ (b : Bool). raised b m.wraps.backward) (and-false (wraps false t))
 
-        place : (cond c.backwards (backward t) (forward c.num_frames t)).position ≡ under (Frames s e) (p + 1)
+        place : (cond c.backwards (backward t) (forward c.num_frames t)).position ≡ under (Some (s, e)) (p + 1)
         place =
             ap (λ (b : Bool). (cond b (backward t) (forward c.num_frames t)).position) d
             ∙ ap (λ (t : Transport). t.position) (forward_going c.num_frames t h.going)
-            ∙ ap (λ (r : FrameRange). under r (p + 1)) h.loop
+            ∙ ap (λ (r : Option (ℕ × ℕ)). under r (p + 1)) h.loop
 
     ahead : c.backwards ≡ false → (n : ℕ) (m : Moving) → Inside s e m.transport → Ahead n m (updates n snd c m)
     unfolding updates
@@ -241,10 +240,10 @@ module _ (s e : ℕ) where
             ap (λ (b : Bool). raised (wraps b t && not b) m.wraps.forward) d
             ∙ ap (λ (b : Bool). raised b m.wraps.forward) (and-false (wraps true t))
 
-        place : (cond c.backwards (backward t) (forward c.num_frames t)).position ≡ back (Frames s e) p
+        place : (cond c.backwards (backward t) (forward c.num_frames t)).position ≡ back (Some (s, e)) p
         place =
             ap (λ (b : Bool). (cond b (backward t) (forward c.num_frames t)).position) d
-            ∙ ap (λ (t : Transport). t.position) (backward_looped t s e (back (Frames s e) p) h.going h.loop refl)
+            ∙ ap (λ (t : Transport). t.position) (backward_looped t s e (back (Some (s, e)) p) h.going h.loop refl)
 
     astern : c.backwards ≡ true → (n : ℕ) (m : Moving) → Inside s e m.transport → Astern n m (updates n snd c m)
     unfolding updates
@@ -278,7 +277,7 @@ updates_fit snd c s e n m x =
 -- a loop of a well formed voice ends in its N frames
 loop_fits : (len : ℕ) (v : StaticSound) (s e : ℕ) → T (well_formed_for len v) → Inside s e v.moving.transport → e ≤ length_of_slice v.setup
 loop_fits len v s e o h =
-    (ranged_parts (length_of_slice v.setup) s e (subst (λ (r : FrameRange). T (within (length_of_slice v.setup) r)) h.loop (well_formed_for_parts len v o).0.transport_well_formed.loop)).inside
+    (ranged_parts (length_of_slice v.setup) s e (subst (λ (r : Option (ℕ × ℕ)). T (within (length_of_slice v.setup) r)) h.loop (well_formed_for_parts len v o).0.transport_well_formed.loop)).inside
 
 -- the signals change neither the transport nor the counts
 begun_fits : (g : Signals) (v : StaticSound) (s e n : ℕ) (b : Bool) (w : Moving) → Fits s e b n (begun g v).moving w → Fits s e b n v.moving w

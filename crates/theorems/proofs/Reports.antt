@@ -1,5 +1,6 @@
 -- What a lowest count means: a push with a frame fills the count and one without lowers it, a transport that has ended stays ended, and the lowest count is one that was read.
 -- By cases on a push, and by induction on updates and lanes. Assumes nothing.
+use Rattle.std.specs.Prelude.{Option, Some, None}
 use mathlib.Core.Path.{◌≡◌, refl, sym, ap, ap₂, ◌∙◌, subst}
 use Prim.Native.Nat.{ℕ, zero, suc, ◌+◌, ◌-◌, ◌≤◌, ◌<◌}
 use native.Mathlib.Nat.{not-suc-le-zero, le_of_suc-le-suc}
@@ -16,7 +17,6 @@ use Rattle.transport.specs.declared.Transport.{Transport}
 use Rattle.transport.specs.Moves.{seek}
 use Rattle.resampler.specs.declared.RecentFrame.{RecentFrame}
 use Rattle.resampler.specs.declared.Resampler.{Resampler}
-use Rattle.resampler.specs.declared.MaybeFrame.TheVariants.{Present}
 use Rattle.resampler.specs.Windows.{blank, push, reading}
 use Rattle.playback_state_manager.specs.States.{advancing}
 use Rattle.sound_lanes.specs.Lanes.{Lane, rows}
@@ -27,10 +27,8 @@ use Rattle.sound_state.specs.declared.StaticSound.{StaticSound}
 use Rattle.sound_state.specs.Voices.{start_of_slice, slice_of}
 use Rattle.sound_creation.specs.Creation.{setup_of, opened, transport_of, made}
 use Rattle.sound_creation.proofs.Answers.{created_passed, created_done}
-use Rattle.sound_commands.specs.declared.Amount.{Amount}
-use Rattle.sound_commands.specs.declared.Amount.TheVariants as amount
 use Rattle.sound_commands.specs.declared.Commands.{Commands}
-use Rattle.sound_commands.specs.declared.Commanded.{Commanded}
+use Rattle.sound_commands.specs.Commands.{CommandsAnswer}
 use Rattle.sound_commands.specs.Commands.{refused_set, before_seeks, jumped, refilled, sought, sought_by, sought_to, obeyed, reported, commanded}
 use Rattle.sound_block.specs.declared.Signals.{Signals}
 use Rattle.sound_block.specs.Blocks.{begun, live, silent, block}
@@ -117,13 +115,13 @@ module _ (snd : List Float) where
       go true = pushed_fed snd (slice_of v) (jumped v q) jump
       go false = jump
 
-  by_fed : (v : StaticSound) (a : Amount) → FedVoice snd v → FedVoice snd (sought_by snd v a)
-  by_fed v amount.Absent h = h
-  by_fed v (amount.Given x) h = sought_fed v _ h
+  by_fed : (v : StaticSound) (a : Option Float) → FedVoice snd v → FedVoice snd (sought_by snd v a)
+  by_fed v None h = h
+  by_fed v (Some x) h = sought_fed v _ h
 
-  to_fed : (v : StaticSound) (a : Amount) → FedVoice snd v → FedVoice snd (sought_to snd v a)
-  to_fed v amount.Absent h = h
-  to_fed v (amount.Given x) h = sought_fed v _ h
+  to_fed : (v : StaticSound) (a : Option Float) → FedVoice snd v → FedVoice snd (sought_to snd v a)
+  to_fed v None h = h
+  to_fed v (Some x) h = sought_fed v _ h
 
   obeyed_fed : (v : StaticSound) (c : Commands) → FedVoice snd v → FedVoice snd (obeyed snd c v)
   unfolding obeyed before_seeks
@@ -159,7 +157,7 @@ commands_feed snd v c h = go (eqb (refused_set (length snd) v c) 0)
   where
     go : (b : Bool)
         → FedVoice snd
-        (cond {A = Commanded} b (record { refusal = 0; voice = obeyed snd c v; position = reported v }) (record { refusal = refused_set (length snd) v c; voice = v; position = positive_zero })).voice
+        (cond {A = CommandsAnswer} b (record { refusal = 0; voice = obeyed snd c v; position = reported v }) (record { refusal = refused_set (length snd) v c; voice = v; position = positive_zero })).voice
     go true = obeyed_fed snd v c h
     go false = h
 
@@ -204,7 +202,7 @@ module _ (snd : List Float) (v : StaticSound) (h : FedVoice snd v) where
   unfolding push
   fed_count =
       ap (λ (w : Resampler). w.time_until_empty) h.pushed
-      ∙ nones_count h.since (push h.before (Present (frame_of snd (start_of_slice v.setup + h.number))) h.number) refl
+      ∙ nones_count h.since (push h.before (Some (frame_of snd (start_of_slice v.setup + h.number))) h.number) refl
 
   fed_ended : count_of v < 4 → v.moving.transport.playing ≡ false
   fed_ended k = let e = fed_count in h.ended (omega arith)
@@ -213,7 +211,7 @@ module _ (snd : List Float) (v : StaticSound) (h : FedVoice snd v) where
   unfolding nones push
   fed_newest e = go h.since h.pushed (sym fed_count ∙ e)
     where
-      go : (ns : List ℕ) → v.moving.resampler ≡ nones ns (push h.before (Present (frame_of snd (start_of_slice v.setup + h.number))) h.number) → 4 - length ns ≡ 4 → Sounding snd v
+      go : (ns : List ℕ) → v.moving.resampler ≡ nones ns (push h.before (Some (frame_of snd (start_of_slice v.setup + h.number))) h.number) → 4 - length ns ≡ 4 → Sounding snd v
       go [] p k =
           let q = ap (λ (w : Resampler). get_or w.frames 3 blank) p in
           ap (λ (r : RecentFrame). r.frame) q ∙ ap (λ (n : ℕ). frame_of snd (start_of_slice v.setup + n)) (sym (ap (λ (r : RecentFrame). r.frame_index) q))

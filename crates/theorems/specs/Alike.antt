@@ -7,7 +7,7 @@ use Rattle.resampler.specs.declared.RecentFrame.{RecentFrame}
 use Rattle.resampler.specs.declared.Resampler.{Resampler}
 use Rattle.playback_state_manager.specs.States.{number}
 use Rattle.sound_state.specs.declared.StaticSound.{StaticSound}
-use Rattle.sound_slow_path.specs.declared.Processed.{Processed}
+use Rattle.sound_slow_path.specs.Plays.{BlockAnswer}
 use Rattle.sound_slow_path.specs.Plays.{lower}
 
 -- the entry without its frame index
@@ -41,7 +41,7 @@ abbrev pub Awake : StaticSound → Type 0
 Awake v = T (awake v)
 
 -- the results of the two parts against the result of the whole
-pub record Parts (uncut first rest : Processed) : Type 0 where
+pub record Parts (uncut first rest : BlockAnswer) : Type 0 where
   -- both parts are accepted
   pub accepted : (first.refusal ≡ 0) × (rest.refusal ≡ 0)
   -- unless the voice has stopped by the cut, the state after and the steps are the same

@@ -10,7 +10,7 @@ use Rattle.numbers.specs.Lists.{all}
 use Rattle.sound_lanes.specs.Lanes.{Lane, Lanes, rows}
 use Rattle.sound_state.specs.declared.StaticSound.{StaticSound}
 use Rattle.sound_block.specs.declared.Signals.{Signals}
-use Rattle.sound_slow_path.specs.declared.Processed.{Processed}
+use Rattle.sound_slow_path.specs.Plays.{BlockAnswer}
 use Rattle.sound_block.specs.Blocks.{begun, live}
 use Rattle.static_sound.specs.Entries.{processed, processed_into}
 use Rattle.theorems.specs.Sums.{sum}
@@ -28,7 +28,7 @@ Slow k v dt b = T (all (at_most k v.setup.sample_rate dt) (rows b))
 
 -- for an accepted block's result
 pub record Within (k : ℕ) (snd : List Float) (v : StaticSound) (dt : Float) (b : Lanes) (g : Signals)
-    (a : Processed) : Type 0 where
+    (a : BlockAnswer) : Type 0 where
   -- the reported steps are those of the frames, each at most k + 1
   pub reported : a.steps ≡ cond (live (begun g v)) (sum (steps_of snd dt (rows b) (begun g v))) 0
   pub frames : T (all (λ (n : ℕ). leb n (k + 1)) (steps_of snd dt (rows b) (begun g v)))

@@ -2,7 +2,7 @@
 -- coincide. There is a line for each public function, over its contract itself: `Post` is everything that the function
 -- ensures about its input, its result and the final contents of the borrowed buffers. The functions that replay a trace
 -- are above this crate: crates/theorems_replay/specs/Coincide.antt has their lines.
-use Rattle.std.specs.Prelude.{◌≡◌, List, Float}
+use Rattle.std.specs.Prelude.{◌≡◌, List, Float, length}
 use Rattle.std.specs.Borrow.{Bor}
 use Rattle.byte_layout.specs.Reads.{view}
 use base.Logic.{SProp, emp}
@@ -27,11 +27,13 @@ use Rattle.numbers.specs.contracts.is_proper as NumbersIsProper
 use Rattle.numbers.specs.contracts.is_finite_clear as NumbersIsFiniteClear
 use Rattle.numbers.specs.contracts.is_positive_zero as NumbersIsPositiveZero
 use Rattle.frame.specs.contracts.interpolate_frame as FrameInterpolateFrame
+use Rattle.refusals.specs.contracts.U32FromRefusal.from as U32FromRefusal
+use Rattle.refusals.specs.contracts.U64FromRefusal.from as U64FromRefusal
 use Rattle.playback_position.specs.contracts.PlaybackPosition.into_samples as PlaybackPositionIntoSamples
 use Rattle.playback_position.specs.contracts.PlaybackPosition.is_finite_position as PlaybackPositionIsFinitePosition
 use Rattle.playback_position.specs.contracts.EndPosition.into_samples as EndPositionIntoSamples
 use Rattle.playback_position.specs.contracts.EndPosition.is_finite_end as EndPositionIsFiniteEnd
-use Rattle.playback_position.specs.contracts.FrameRange.is_within as PlaybackPositionFrameRangeIsWithin
+use Rattle.playback_position.specs.contracts.is_within as PlaybackPositionIsWithin
 use Rattle.playback_position.specs.contracts.Region.into_frames as PlaybackPositionRegionIntoFrames
 use Rattle.playback_position.specs.contracts.Region.is_well_formed as PlaybackPositionRegionIsWellFormed
 use Rattle.transport.specs.contracts.Transport.new as TransportNew
@@ -45,7 +47,8 @@ use Rattle.resampler.specs.contracts.Resampler.push_frame as ResamplerPushFrame
 use Rattle.resampler.specs.contracts.Resampler.get as ResamplerGet
 use Rattle.resampler.specs.contracts.Resampler.current_frame_index as ResamplerCurrentFrameIndex
 use Rattle.resampler.specs.contracts.Resampler.empty as ResamplerEmpty
-use Rattle.playback_state_manager.specs.contracts.PlaybackState.number as PlaybackStateNumber
+use Rattle.playback_state_manager.specs.contracts.U32FromPlaybackState.from as U32FromPlaybackState
+use Rattle.playback_state_manager.specs.contracts.PlaybackStateTryFromU32.try_from as PlaybackStateTryFromU32
 use Rattle.playback_state_manager.specs.contracts.PlaybackState.is_advancing as PlaybackStateIsAdvancing
 use Rattle.playback_state_manager.specs.contracts.PlaybackState.pause as PlaybackStatePause
 use Rattle.playback_state_manager.specs.contracts.PlaybackState.resume as PlaybackStateResume
@@ -53,9 +56,11 @@ use Rattle.playback_state_manager.specs.contracts.PlaybackState.stop as Playback
 use Rattle.playback_state_manager.specs.contracts.PlaybackState.mark_as_stopped as PlaybackStateMarkAsStopped
 use Rattle.playback_state_manager.specs.contracts.PlaybackState.update as PlaybackStateUpdate
 use Rattle.start_time.specs.contracts.StartSignal.answer as StartTimeStartSignalAnswer
-use Rattle.sound_lanes.specs.contracts.are_sized as SoundLanesAreSized
+use Rattle.sound_lanes.specs.contracts.Lanes.are_sized as LanesAreSized
+use Rattle.sound_lanes.specs.contracts.Lanes.gains as LanesGains
+use Rattle.sound_lanes.specs.contracts.Gains.scale as GainsScale
 use Rattle.sound_lanes.specs.contracts.is_time_step as SoundLanesIsTimeStep
-use Rattle.sound_lanes.specs.contracts.judge as SoundLanesJudge
+use Rattle.sound_lanes.specs.contracts.Lanes.judge as LanesJudge
 use Rattle.sound_state.specs.contracts.Setup.num_frames as SoundStateSetupNumFrames
 use Rattle.sound_state.specs.contracts.Setup.start as SoundStateSetupStart
 use Rattle.sound_state.specs.contracts.StaticSound.slice as SoundStateStaticSoundSlice
@@ -63,18 +68,22 @@ use Rattle.sound_state.specs.contracts.StaticSound.is_well_formed as SoundStateS
 use Rattle.sound_update.specs.contracts.Moving.push_frame_to_resampler as SoundUpdateMovingPushFrameToResampler
 use Rattle.sound_update.specs.contracts.Moving.update_position as SoundUpdateMovingUpdatePosition
 use Rattle.sound_update.specs.contracts.Moving.update_positions as SoundUpdateMovingUpdatePositions
+use Rattle.sound_update.specs.contracts.frame_in as SoundUpdateFrameIn
 use Rattle.sound_track.specs.contracts.track_of as SoundTrackTrackOf
-use Rattle.sound_track.specs.contracts.after as SoundTrackAfter
-use Rattle.sound_track.specs.contracts.after_steps as SoundTrackAfterSteps
-use Rattle.sound_track.specs.contracts.has_room_after as SoundTrackHasRoomAfter
-use Rattle.sound_track.specs.contracts.before as SoundTrackBefore
-use Rattle.sound_track.specs.contracts.before_steps as SoundTrackBeforeSteps
-use Rattle.sound_track.specs.contracts.has_room_before as SoundTrackHasRoomBefore
-use Rattle.sound_track.specs.contracts.wraps_after as SoundTrackWrapsAfter
-use Rattle.sound_track.specs.contracts.frame_in as SoundTrackFrameIn
-use Rattle.sound_track.specs.contracts.frame_at as SoundTrackFrameAt
-use Rattle.sound_track.specs.contracts.contiguous_at as SoundTrackContiguousAt
-use Rattle.sound_track.specs.contracts.is_contiguous as SoundTrackIsContiguous
+use Rattle.sound_track.specs.contracts.ForwardDirection.next as ForwardNext
+use Rattle.sound_track.specs.contracts.ForwardDirection.after_steps as ForwardAfterSteps
+use Rattle.sound_track.specs.contracts.ForwardDirection.straight_on as ForwardStraightOn
+use Rattle.sound_track.specs.contracts.ForwardDirection.is_straight as ForwardIsStraight
+use Rattle.sound_track.specs.contracts.ForwardDirection.has_room as ForwardHasRoom
+use Rattle.sound_track.specs.contracts.BackwardDirection.next as BackwardNext
+use Rattle.sound_track.specs.contracts.BackwardDirection.after_steps as BackwardAfterSteps
+use Rattle.sound_track.specs.contracts.BackwardDirection.straight_on as BackwardStraightOn
+use Rattle.sound_track.specs.contracts.BackwardDirection.is_straight as BackwardIsStraight
+use Rattle.sound_track.specs.contracts.BackwardDirection.has_room as BackwardHasRoom
+use Rattle.sound_track.specs.contracts.Track.wraps_after as TrackWrapsAfter
+use Rattle.sound_track.specs.contracts.Track.frame_at as TrackFrameAt
+use Rattle.sound_track.specs.contracts.Track.contiguous_at as TrackContiguousAt
+use Rattle.sound_track.specs.contracts.Track.is_contiguous as TrackIsContiguous
 use Rattle.sound_creation.specs.contracts.blank as SoundCreationBlank
 use Rattle.sound_creation.specs.contracts.new as SoundCreationNew
 use Rattle.sound_commands.specs.contracts.on_start_processing as SoundCommandsOnStartProcessing
@@ -84,12 +93,16 @@ use Rattle.sound_fast_reading.specs.contracts.advance_of as SoundFastReadingAdva
 use Rattle.sound_fast_reading.specs.contracts.stepped_by as SoundFastReadingSteppedBy
 use Rattle.sound_fast_reading.specs.contracts.moved as SoundFastReadingMoved
 use Rattle.sound_fast_reading.specs.contracts.store as SoundFastReadingStore
+use Rattle.sound_fast_reading.specs.contracts.Way.begin as WayBegin
+use Rattle.sound_fast_reading.specs.contracts.OneRateRates.count as OneRateCount
+use Rattle.sound_fast_reading.specs.contracts.OneRateRates.rate as OneRateRate
+use Rattle.sound_fast_reading.specs.contracts.RefSliceF64Rates.count as RefSliceF64Count
+use Rattle.sound_fast_reading.specs.contracts.RefSliceF64Rates.rate as RefSliceF64Rate
 use Rattle.sound_gains.specs.contracts.by_frame as SoundGainsByFrame
 use Rattle.sound_gains.specs.contracts.once as SoundGainsOnce
 use Rattle.sound_fast_path.specs.contracts.play as SoundFastPathPlay
-use Rattle.sound_fast_path.specs.contracts.play_held as SoundFastPathPlayHeld
+use Rattle.sound_fast_path.specs.contracts.BlockLanes.frames as BlockLanesFrames
 use Rattle.sound_held.specs.contracts.play as SoundHeldPlay
-use Rattle.sound_block.specs.contracts.block_held as SoundBlockBlockHeld
 use Rattle.sound_block.specs.contracts.block as SoundBlockBlock
 use Rattle.sound_constant.specs.contracts.first_of as SoundConstantFirstOf
 use Rattle.static_sound.specs.contracts.process as StaticSoundProcess
@@ -127,13 +140,19 @@ use Rattle.saved_loops.specs.contracts.load as SavedLoopsLoad
 use Rattle.saved_loops.specs.contracts.store as SavedLoopsStore
 use Rattle.trace_records.specs.contracts.read as TraceRecordsRead
 use Rattle.trace_records.specs.contracts.write as TraceRecordsWrite
+use Rattle.trace_records.specs.contracts.is_in_steps as IsInSteps
+use Rattle.trace_records.specs.contracts.put_head as PutHead
 use Rattle.trace_salvage.specs.contracts.salvage as TraceSalvageSalvage
 use Rattle.trace_salvage.specs.contracts.salvage_by as TraceSalvageSalvageBy
-use Rattle.c_state.specs.contracts.decode as CStateDecode
+use Rattle.c_state.specs.contracts.StaticSoundFromCableowlState.from as StaticSoundFromCableowlState
+use Rattle.c_state.specs.contracts.RecentFrameFromCableowlEntry.from as RecentFrameFromCableowlEntry
+use Rattle.c_state.specs.contracts.CableowlEntryFromRecentFrame.from as CableowlEntryFromRecentFrame
 use Rattle.c_state.specs.contracts.encode as CStateEncode
-use Rattle.c_inputs.specs.contracts.settings_of as CInputsSettingsOf
-use Rattle.c_inputs.specs.contracts.commands_of as CInputsCommandsOf
-use Rattle.c_inputs.specs.contracts.signals_of as CInputsSignalsOf
+use Rattle.c_inputs.specs.contracts.SettingsFromCableowlSettings.from as SettingsFromC
+use Rattle.c_inputs.specs.contracts.PlaybackPositionFromCableowlPlace.from as PlaybackPositionFromC
+use Rattle.c_inputs.specs.contracts.EndPositionFromCableowlPlace.from as EndPositionFromC
+use Rattle.c_inputs.specs.contracts.CommandsFromCableowlCommands.from as CommandsFromC
+use Rattle.c_inputs.specs.contracts.SignalsFromCableowlSignals.from as SignalsFromC
 use Rattle.cableowl.specs.contracts.cableowl_version as CableowlVersion
 use Rattle.cableowl.specs.contracts.cableowl_new as CableowlNew
 use Rattle.cableowl.specs.contracts.cableowl_on_start_processing as CableowlOnStartProcessing
@@ -222,6 +241,11 @@ pub record Coincide : Type 0 where
   -- frame
   pub frame_interpolate_frame :
       Decides (Post FrameInterpolateFrame.ended FrameInterpolateFrame.clauses (λ k a. (tt, λ r s. r_last _)))
+  -- refusals
+  pub refusals_u32_from :
+      Decides (Post U32FromRefusal.ended U32FromRefusal.clauses (λ k a. (tt, λ r s. r_last _)))
+  pub refusals_u64_from :
+      Decides (Post U64FromRefusal.ended U64FromRefusal.clauses (λ k a. (tt, λ r s. r_last _)))
   -- playback_position
   pub playback_position_playbackposition_into_samples :
       Decides (Post PlaybackPositionIntoSamples.ended PlaybackPositionIntoSamples.clauses
@@ -235,8 +259,8 @@ pub record Coincide : Type 0 where
   pub playback_position_endposition_is_finite_end :
       Decides (Post EndPositionIsFiniteEnd.ended EndPositionIsFiniteEnd.clauses
       (λ k a. (tt, λ r s. r_last _)))
-  pub playback_position_framerange_is_within :
-      Decides (Post PlaybackPositionFrameRangeIsWithin.ended PlaybackPositionFrameRangeIsWithin.clauses
+  pub playback_position_is_within :
+      Decides (Post PlaybackPositionIsWithin.ended PlaybackPositionIsWithin.clauses
       (λ k a. (tt, λ r s. r_last _)))
   pub playback_position_region_into_frames :
       Decides (Post PlaybackPositionRegionIntoFrames.ended PlaybackPositionRegionIntoFrames.clauses
@@ -274,9 +298,11 @@ pub record Coincide : Type 0 where
   pub resampler_resampler_empty :
       Decides (Post ResamplerEmpty.ended ResamplerEmpty.clauses (λ k a. (tt, λ r s. r_last _)))
   -- playback_state_manager
-  pub playback_state_manager_playbackstate_number :
-      Decides (Post PlaybackStateNumber.ended PlaybackStateNumber.clauses
+  pub playback_state_manager_u32_from :
+      Decides (Post U32FromPlaybackState.ended U32FromPlaybackState.clauses
       (λ k a. (tt, λ r s. r_last _)))
+  pub playback_state_manager_playbackstate_try_from :
+      Decides (Post PlaybackStateTryFromU32.ended PlaybackStateTryFromU32.clauses (λ k a. (tt, λ r s. r_last _)))
   pub playback_state_manager_playbackstate_is_advancing :
       Decides (Post PlaybackStateIsAdvancing.ended PlaybackStateIsAdvancing.clauses
       (λ k a. (tt, λ r s. r_last _)))
@@ -299,11 +325,15 @@ pub record Coincide : Type 0 where
   pub start_time_startsignal_answer :
       Decides (Post StartTimeStartSignalAnswer.ended StartTimeStartSignalAnswer.clauses (λ k a. (tt, λ r s. r_last _)))
   -- sound_lanes
-  pub sound_lanes_are_sized :
-      Decides (Post SoundLanesAreSized.ended SoundLanesAreSized.clauses (λ k a. (tt, λ r s. r_last _)))
+  pub sound_lanes_lanes_are_sized :
+      Decides (Post LanesAreSized.ended LanesAreSized.clauses (λ k a. (tt, λ r s. r_last _)))
+  pub sound_lanes_lanes_gains :
+      Decides (Post LanesGains.ended LanesGains.clauses (λ k a. (tt, λ r s. r_last _)))
+  pub sound_lanes_gains_scale :
+      Decides (Post GainsScale.ended GainsScale.clauses (λ k a. (tt, λ r s. r_last _)))
   pub sound_lanes_is_time_step :
       Decides (Post SoundLanesIsTimeStep.ended SoundLanesIsTimeStep.clauses (λ k a. (tt, λ r s. r_last _)))
-  pub sound_lanes_judge : Decides (Post SoundLanesJudge.ended SoundLanesJudge.clauses (λ k a. (tt, λ r s. r_last _)))
+  pub sound_lanes_lanes_judge : Decides (Post LanesJudge.ended LanesJudge.clauses (λ k a. (tt, λ r s. r_last _)))
   -- sound_state
   pub sound_state_setup_num_frames :
       Decides (Post SoundStateSetupNumFrames.ended SoundStateSetupNumFrames.clauses (λ k a. (tt, λ r s. r_last _)))
@@ -324,32 +354,40 @@ pub record Coincide : Type 0 where
   pub sound_update_moving_update_positions :
       Decides (Post SoundUpdateMovingUpdatePositions.ended SoundUpdateMovingUpdatePositions.clauses
       (λ k a. (tt, λ r s. r_last _)))
+  pub sound_update_frame_in :
+      Decides (Post SoundUpdateFrameIn.ended SoundUpdateFrameIn.clauses (λ k a. (tt, λ r s. r_last _)))
   -- sound_track
   pub sound_track_track_of :
       Decides (Post SoundTrackTrackOf.ended SoundTrackTrackOf.clauses (λ k a. (tt, λ r s. r_last _)))
-  pub sound_track_after :
-      Decides (Post SoundTrackAfter.ended SoundTrackAfter.clauses (λ k a. (tt, λ r s. r_fact _ _ (r_last _))))
-  pub sound_track_after_steps :
-      Decides (Post SoundTrackAfterSteps.ended SoundTrackAfterSteps.clauses (λ k a. (tt, λ r s. r_fact _ _ (r_last _))))
-  pub sound_track_has_room_after :
-      Decides (Post SoundTrackHasRoomAfter.ended SoundTrackHasRoomAfter.clauses (λ k a. (tt, λ r s. r_last _)))
-  pub sound_track_before :
-      Decides (Post SoundTrackBefore.ended SoundTrackBefore.clauses (λ k a. (tt, λ r s. r_fact _ _ (r_last _))))
-  pub sound_track_before_steps :
-      Decides (Post SoundTrackBeforeSteps.ended SoundTrackBeforeSteps.clauses
+  pub sound_track_forward_next :
+      Decides (Post ForwardNext.ended ForwardNext.clauses (λ k a. (tt, λ r s. r_fact _ _ (r_last _))))
+  pub sound_track_forward_after_steps :
+      Decides (Post ForwardAfterSteps.ended ForwardAfterSteps.clauses (λ k a. (tt, λ r s. r_fact _ _ (r_last _))))
+  pub sound_track_forward_straight_on :
+      Decides (Post ForwardStraightOn.ended ForwardStraightOn.clauses (λ k a. (tt, λ r s. r_fact _ _ (r_last _))))
+  pub sound_track_forward_is_straight :
+      Decides (Post ForwardIsStraight.ended ForwardIsStraight.clauses (λ k a. (tt, λ r s. r_last _)))
+  pub sound_track_forward_has_room :
+      Decides (Post ForwardHasRoom.ended ForwardHasRoom.clauses (λ k a. (tt, λ r s. r_last _)))
+  pub sound_track_backward_next :
+      Decides (Post BackwardNext.ended BackwardNext.clauses (λ k a. (tt, λ r s. r_fact _ _ (r_last _))))
+  pub sound_track_backward_after_steps :
+      Decides (Post BackwardAfterSteps.ended BackwardAfterSteps.clauses
       (λ k a. (tt, λ r s. r_fact _ _ (r_last _))))
-  pub sound_track_has_room_before :
-      Decides (Post SoundTrackHasRoomBefore.ended SoundTrackHasRoomBefore.clauses (λ k a. (tt, λ r s. r_last _)))
-  pub sound_track_wraps_after :
-      Decides (Post SoundTrackWrapsAfter.ended SoundTrackWrapsAfter.clauses (λ k a. (tt, λ r s. r_last _)))
-  pub sound_track_frame_in :
-      Decides (Post SoundTrackFrameIn.ended SoundTrackFrameIn.clauses (λ k a. (tt, λ r s. r_last _)))
-  pub sound_track_frame_at :
-      Decides (Post SoundTrackFrameAt.ended SoundTrackFrameAt.clauses (λ k a. (tt, λ r s. r_last _)))
-  pub sound_track_contiguous_at :
-      Decides (Post SoundTrackContiguousAt.ended SoundTrackContiguousAt.clauses (λ k a. (tt, λ r s. r_last _)))
-  pub sound_track_is_contiguous :
-      Decides (Post SoundTrackIsContiguous.ended SoundTrackIsContiguous.clauses
+  pub sound_track_backward_straight_on :
+      Decides (Post BackwardStraightOn.ended BackwardStraightOn.clauses (λ k a. (tt, λ r s. r_fact _ _ (r_last _))))
+  pub sound_track_backward_is_straight :
+      Decides (Post BackwardIsStraight.ended BackwardIsStraight.clauses (λ k a. (tt, λ r s. r_last _)))
+  pub sound_track_backward_has_room :
+      Decides (Post BackwardHasRoom.ended BackwardHasRoom.clauses (λ k a. (tt, λ r s. r_last _)))
+  pub sound_track_track_wraps_after :
+      Decides (Post TrackWrapsAfter.ended TrackWrapsAfter.clauses (λ k a. (tt, λ r s. r_last _)))
+  pub sound_track_track_frame_at :
+      Decides (Post TrackFrameAt.ended TrackFrameAt.clauses (λ k a. (tt, λ r s. r_last _)))
+  pub sound_track_track_contiguous_at :
+      Decides (Post TrackContiguousAt.ended TrackContiguousAt.clauses (λ k a. (tt, λ r s. r_last _)))
+  pub sound_track_track_is_contiguous :
+      Decides (Post TrackIsContiguous.ended TrackIsContiguous.clauses
       (λ k a. (tt, λ r s. r_fact _ _ (r_last _))))
   -- sound_creation
   pub sound_creation_blank :
@@ -361,9 +399,9 @@ pub record Coincide : Type 0 where
       (λ k a. (tt, λ r s. r_last _)))
   -- sound_slow_path, sound_fast_path, sound_held and sound_block
   pub sound_slow_path_play :
-      DecidesWith (λ k r s. s.1.1.1.1.1.1.1.1.0.now) (Post SoundSlowPathPlay.ended SoundSlowPathPlay.clauses
+      DecidesWith (λ k r s. s.1.1.1.1.0.now) (Post SoundSlowPathPlay.ended SoundSlowPathPlay.clauses
       (λ k a. (tt, λ r s. r_last _)))
-  pub sound_slow_path_play_spread : DecidesWith (λ k r s. s.1.1.1.1.1.1.1.1.0.now)
+  pub sound_slow_path_play_spread : DecidesWith (λ k r s. s.1.1.1.1.0.now)
       (Post SoundSlowPathPlaySpread.ended SoundSlowPathPlaySpread.clauses (λ k a. (tt, λ r s. r_last _)))
   pub sound_fast_reading_advance_of :
       Decides (Post SoundFastReadingAdvanceOf.ended SoundFastReadingAdvanceOf.clauses (λ k a. (tt, λ r s. r_last _)))
@@ -374,35 +412,41 @@ pub record Coincide : Type 0 where
   pub sound_fast_reading_store :
       DecidesWith (λ k r s. s.0.now) (Post SoundFastReadingStore.ended SoundFastReadingStore.clauses
       (λ k a. (tt, λ r s. r_last _)))
+  pub sound_fast_reading_way_begin :
+      Decides (Post WayBegin.ended WayBegin.clauses (λ k a. (tt, λ r s. r_last _)))
+  pub sound_fast_reading_onerate_count :
+      Decides (Post OneRateCount.ended OneRateCount.clauses (λ k a. (tt, λ r s. r_last _)))
+  pub sound_fast_reading_onerate_rate :
+      Decides (Post OneRateRate.ended OneRateRate.clauses (λ k a. (tt, λ r s. r_last _)))
+  pub sound_fast_reading_refslicef64_count :
+      Decides (Post RefSliceF64Count.ended RefSliceF64Count.clauses (λ k a. (tt, λ r s. r_last _)))
+  pub sound_fast_reading_refslicef64_rate :
+      Decides (Post RefSliceF64Rate.ended RefSliceF64Rate.clauses (λ k a. (tt, λ r s. r_last _)))
   pub sound_gains_by_frame :
-      DecidesWith (λ k r s. s.1.1.1.1.1.0.now) (Post SoundGainsByFrame.ended SoundGainsByFrame.clauses
+      DecidesWith (λ k r s. s.1.1.0.now) (Post SoundGainsByFrame.ended SoundGainsByFrame.clauses
       (λ k a. (tt, λ r s. r_last _)))
   pub sound_gains_once :
       DecidesWith (λ k r s. s.1.1.0.now) (Post SoundGainsOnce.ended SoundGainsOnce.clauses
       (λ k a. (tt, λ r s. r_last _)))
   pub sound_fast_path_play :
-      DecidesWith (λ k r s. s.1.1.1.1.1.1.1.1.0.now) (Post SoundFastPathPlay.ended SoundFastPathPlay.clauses
+      DecidesWith (λ k r s. s.1.1.1.1.0.now) (Post SoundFastPathPlay.ended SoundFastPathPlay.clauses
       (λ k a. (tt, λ r s. r_last _)))
-  pub sound_fast_path_play_held :
-      DecidesWith (λ k r s. s.1.1.1.1.0.now) (Post SoundFastPathPlayHeld.ended SoundFastPathPlayHeld.clauses
-      (λ k a. (tt, λ r s. r_last _)))
+  pub sound_fast_path_blocklanes_frames :
+      Decides (Post BlockLanesFrames.ended BlockLanesFrames.clauses (λ k a. (tt, λ r s. r_last _)))
   pub sound_held_play :
       DecidesWith (λ k r s. s.1.1.1.1.0.now) (Post SoundHeldPlay.ended SoundHeldPlay.clauses
       (λ k a. (tt, λ r s. r_last _)))
-  pub sound_block_block_held :
-      DecidesWith (λ k r s. s.1.1.1.1.1.0.now) (Post SoundBlockBlockHeld.ended SoundBlockBlockHeld.clauses
-      (λ k a. (tt, λ r s. r_last _)))
   pub sound_block_block :
-      DecidesWith (λ k r s. s.1.1.1.1.1.1.1.1.1.0.now) (Post SoundBlockBlock.ended SoundBlockBlock.clauses
+      DecidesWith (λ k r s. s.1.1.1.1.1.0.now) (Post SoundBlockBlock.ended SoundBlockBlock.clauses
       (λ k a. (tt, λ r s. r_last _)))
   pub sound_constant_first_of :
       Decides (Post SoundConstantFirstOf.ended SoundConstantFirstOf.clauses (λ k a. (tt, λ r s. r_last _)))
   -- static_sound
   pub static_sound_process : DecidesWith
-      (λ k r s. s.1.1.1.1.1.1.1.1.1.0.now) (Post StaticSoundProcess.ended StaticSoundProcess.clauses
+      (λ k r s. s.1.1.1.1.1.0.now) (Post StaticSoundProcess.ended StaticSoundProcess.clauses
       (λ k a. (tt, λ r s. r_last _)))
   pub static_sound_process_into : DecidesWith
-      (λ k r s. s.1.1.1.1.1.1.1.1.1.0.now) (Post StaticSoundProcessInto.ended StaticSoundProcessInto.clauses
+      (λ k r s. s.1.1.1.1.1.0.now) (Post StaticSoundProcessInto.ended StaticSoundProcessInto.clauses
       (λ k a. (tt, λ r s. r_last _)))
   pub static_sound_process_held :
       DecidesWith (λ k r s. s.1.1.1.1.1.0.now) (Post StaticSoundProcessHeld.ended StaticSoundProcessHeld.clauses
@@ -435,8 +479,7 @@ pub record Coincide : Type 0 where
   pub take_loop_take : Decides (Post TakeLoopTake.ended TakeLoopTake.clauses (λ k a. (tt, λ r s. r_last _)))
   -- decibels and semitones
   pub decibels_as_amplitude :
-      DecidesWith (λ k r s. s.1.0.now) (Post DecibelsAsAmplitude.ended DecibelsAsAmplitude.clauses
-      (λ k a. (tt, λ r s. r_last _)))
+      Decides (Post DecibelsAsAmplitude.ended DecibelsAsAmplitude.clauses (λ k a. (tt, λ r s. r_last _)))
   pub decibels_fade_ramp :
       DecidesWith (λ k r s. s.1.1.1.0.now) (Post DecibelsFadeRamp.ended DecibelsFadeRamp.clauses
       (λ k a. (tt, λ r s. r_last _)))
@@ -450,7 +493,7 @@ pub record Coincide : Type 0 where
       (λ k a. (tt, λ r s. r_last _)))
   pub byte_layout_begin : Decides (Post ByteLayoutBegin.ended ByteLayoutBegin.clauses (λ k a. (tt, λ r s. r_last _)))
   pub byte_layout_read_rows : DecidesAs
-      (λ k a r. view a.0.now a.1.1.1.0 r) (Post ByteLayoutReadRows.ended ByteLayoutReadRows.clauses
+      (λ k a r. view a.0.now (length a.1.1.0.now) r) (Post ByteLayoutReadRows.ended ByteLayoutReadRows.clauses
       (λ k a. (tt, λ r s. r_last _)))
   pub byte_layout_put_rows :
       DecidesWith (λ k r s. s.0.now) (Post ByteLayoutPutRows.ended ByteLayoutPutRows.clauses
@@ -483,6 +526,11 @@ pub record Coincide : Type 0 where
   pub trace_records_write :
       DecidesWith (λ k r s. s.0.now) (Post TraceRecordsWrite.ended TraceRecordsWrite.clauses
       (λ k a. (tt, λ r s. r_last _)))
+  pub trace_records_is_in_steps :
+      Decides (Post IsInSteps.ended IsInSteps.clauses (λ k a. (tt, λ r s. r_last _)))
+  pub trace_records_put_head :
+      DecidesWith (λ k r s. s.0.now) (Post PutHead.ended PutHead.clauses
+      (λ k a. (tt, λ r s. r_last _)))
   pub trace_salvage_salvage :
       DecidesWith (λ k r s. s.1.0.now) (Post TraceSalvageSalvage.ended TraceSalvageSalvage.clauses
       (λ k a. (tt, λ r s. r_last _)))
@@ -490,14 +538,25 @@ pub record Coincide : Type 0 where
       DecidesWith (λ k r s. s.1.1.0.now) (Post TraceSalvageSalvageBy.ended TraceSalvageSalvageBy.clauses
       (λ k a. (tt, λ r s. r_last _)))
   -- c_state and c_inputs
-  pub c_state_decode : Decides (Post CStateDecode.ended CStateDecode.clauses (λ k a. (tt, λ r s. r_last _)))
+  pub c_state_staticsound_from : Decides (Post StaticSoundFromCableowlState.ended StaticSoundFromCableowlState.clauses
+      (λ k a. (tt, λ r s. r_last _)))
+  pub c_state_recentframe_from :
+      Decides (Post RecentFrameFromCableowlEntry.ended RecentFrameFromCableowlEntry.clauses
+      (λ k a. (tt, λ r s. r_last _)))
+  pub c_state_cableowlentry_from :
+      Decides (Post CableowlEntryFromRecentFrame.ended CableowlEntryFromRecentFrame.clauses
+      (λ k a. (tt, λ r s. r_last _)))
   pub c_state_encode : Decides (Post CStateEncode.ended CStateEncode.clauses (λ k a. (tt, λ r s. r_last _)))
-  pub c_inputs_settings_of :
-      Decides (Post CInputsSettingsOf.ended CInputsSettingsOf.clauses (λ k a. (tt, λ r s. r_last _)))
-  pub c_inputs_commands_of :
-      Decides (Post CInputsCommandsOf.ended CInputsCommandsOf.clauses (λ k a. (tt, λ r s. r_last _)))
-  pub c_inputs_signals_of :
-      Decides (Post CInputsSignalsOf.ended CInputsSignalsOf.clauses (λ k a. (tt, λ r s. r_last _)))
+  pub c_inputs_settings_from :
+      Decides (Post SettingsFromC.ended SettingsFromC.clauses (λ k a. (tt, λ r s. r_last _)))
+  pub c_inputs_playbackposition_from :
+      Decides (Post PlaybackPositionFromC.ended PlaybackPositionFromC.clauses (λ k a. (tt, λ r s. r_last _)))
+  pub c_inputs_endposition_from :
+      Decides (Post EndPositionFromC.ended EndPositionFromC.clauses (λ k a. (tt, λ r s. r_last _)))
+  pub c_inputs_commands_from :
+      Decides (Post CommandsFromC.ended CommandsFromC.clauses (λ k a. (tt, λ r s. r_last _)))
+  pub c_inputs_signals_from :
+      Decides (Post SignalsFromC.ended SignalsFromC.clauses (λ k a. (tt, λ r s. r_last _)))
   -- cableowl
   pub cableowl_cableowl_version :
       Decides (Post CableowlVersion.ended CableowlVersion.clauses (λ k a. (tt, λ r s. r_last _)))

@@ -1,22 +1,21 @@
 -- docs/assurance/RULES.md, "Marked examples": all that are marked [P], in one table and one statement. N = 10 and loop
 -- (3, 6) unless stated otherwise.
 use Rattle.std.specs.Prelude.{ℕ, ◌≡◌, Bool, true, false, List, [], ◌∷◌, map, pos, negsuc, replicate, Float}
+use Rattle.std.specs.Prelude.{Some, None}
 use Rattle.std.specs.Float.{fin}
 use Rattle.numbers.specs.Words.{positive_zero, one}
 use Rattle.numbers.specs.Frames.{cut_off}
 use Rattle.frame.specs.declared.Frame.{Frame}
 use Rattle.playback_position.specs.declared.PlaybackPosition.TheVariants.{Seconds, Samples}
 use Rattle.playback_position.specs.declared.EndPosition.TheVariants.{Custom}
-use Rattle.playback_position.specs.declared.FrameRange.TheVariants.{Absent, Frames}
 use Rattle.playback_position.specs.Positions.{position_in_frames}
 use Rattle.transport.specs.declared.Transport.{Transport}
 use Rattle.transport.specs.Moves.{forward, backward, seek}
 use Rattle.resampler.specs.declared.RecentFrame.{RecentFrame}
 use Rattle.resampler.specs.declared.Resampler.{Resampler}
 use Rattle.resampler.specs.Windows.{reading}
-use Rattle.sound_creation.specs.declared.OptionalRegion.TheVariants as optional
 use Rattle.sound_creation.specs.declared.Settings.{Settings}
-use Rattle.sound_creation.specs.declared.Created.{Created}
+use Rattle.sound_creation.specs.Creation.{Created}
 use Rattle.sound_creation.specs.Creation.{created}
 use Rattle.sound_commands.specs.Commands.{target_to}
 
@@ -32,10 +31,10 @@ pub data Shown : Type 0 where
 
 -- playing at p: in the loop (3, 6), and with no loop
 abbrev pub looped : ℕ → Transport
-looped p = record { position = p; loop_region = Frames 3 6; playing = true }
+looped p = record { position = p; loop_region = Some (3, 6); playing = true }
 
 abbrev plain : ℕ → Transport
-plain p = record { position = p; loop_region = Absent; playing = true }
+plain p = record { position = p; loop_region = None; playing = true }
 
 abbrev shown : Transport → Shown
 shown t = moved t.position t.playing
@@ -56,9 +55,9 @@ abbrev pub from : ℕ → Bool → Settings
 from start reverse =
     record {
       sample_rate = 1;
-      slice = optional.Absent;
+      slice = None;
       start_position = Samples start;
-      loop_region = optional.Present (record { start = Samples 3; end = Custom (Samples 6) });
+      loop_region = Some (record { start = Samples 3; end = Custom (Samples 6) });
       reverse = reverse;
       playback_rate = one;
       start_waits = false;

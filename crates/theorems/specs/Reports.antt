@@ -3,10 +3,10 @@
 -- ended. This holds for every voice that comes from creation by calls with its own sound; such a voice is "fed" by
 -- its sound. A count of 4 does not mean four real entries: after creation the oldest entry is a zero frame.
 use Rattle.std.specs.Prelude.{ℕ, ◌+◌, ◌-◌, ◌<◌, ◌≡◌, true, false, List, [], ◌∷◌, length, get_or, take, Float}
+use Rattle.std.specs.Prelude.{Some, None}
 use Rattle.frame.specs.Frames.{frame_of}
 use Rattle.resampler.specs.declared.RecentFrame.{RecentFrame}
 use Rattle.resampler.specs.declared.Resampler.{Resampler}
-use Rattle.resampler.specs.declared.MaybeFrame.TheVariants.{Absent, Present}
 use Rattle.resampler.specs.Windows.{blank, push}
 use Rattle.sound_lanes.specs.Lanes.{Lane, Lanes, rows}
 use Rattle.sound_update.specs.declared.Moving.{Moving}
@@ -27,7 +27,7 @@ use Rattle.theorems.specs.Accepted.{AcceptedBlock, AcceptedMix, Silent}
 -- pushes without a frame, the last one first
 unfoldable pub nones : List ℕ → Resampler → Resampler
 nones [] w = w
-nones (n ∷ ns) w = push (nones ns w) Absent n
+nones (n ∷ ns) w = push (nones ns w) None n
 
 -- the last frame that was pushed is a frame of the sound; `since` are the indices of the pushes after it without a
 -- frame, after the transport had ended
@@ -35,7 +35,7 @@ pub record Fed (snd : List Float) (start : ℕ) (m : Moving) : Type 0 where
   pub before : Resampler
   pub number : ℕ
   pub since : List ℕ
-  pub pushed : m.resampler ≡ nones since (push before (Present (frame_of snd (start + number))) number)
+  pub pushed : m.resampler ≡ nones since (push before (Some (frame_of snd (start + number))) number)
   pub ended : 0 < length since → m.transport.playing ≡ false
 
 abbrev pub FedVoice : List Float → StaticSound → Type 0

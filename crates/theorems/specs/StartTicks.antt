@@ -9,7 +9,7 @@ use Rattle.start_time.specs.declared.StartSignal.TheVariants.{Tick}
 use Rattle.start_time.specs.Ticks.{tick_range, half, reached}
 use Rattle.sound_block.specs.declared.Signals.{Signals}
 use Rattle.static_sound.specs.Entries.{processed, processed_into}
-use Rattle.sound_slow_path.specs.declared.Processed.{Processed}
+use Rattle.sound_slow_path.specs.Plays.{BlockAnswer}
 use Rattle.theorems.specs.Accepted.{AcceptedBlock, AcceptedMix}
 
 -- how many numbers below n pass a test
@@ -42,7 +42,7 @@ pub record DueMix (snd : List Float) (v : StaticSound) (dt : Float) (b : Lanes) 
   pub tick : g.start ≡ Tick due now
 
 -- whether the returned voice has started
-abbrev pub StartsBy : StaticSound → ℕ → ℕ → Processed → Type 0
+abbrev pub StartsBy : StaticSound → ℕ → ℕ → BlockAnswer → Type 0
 StartsBy v due now a = a.voice.started ≡ (v.started || reached due now)
 
 abbrev pub TickStarts : Type 0

@@ -2,7 +2,7 @@
 -- field has its theorem's name in Promises. Its type is the theorem's hypothesis at that input, and each condition of
 -- its conclusion at one. The input is the examples' creation: ten frames at 1 Hz in the loop (3, 6), at rate 1. Its
 -- blocks have two frames, one step each.
-use Rattle.std.specs.Prelude.{true, false, List, [], ◌∷◌, take, replicate, Float}
+use Rattle.std.specs.Prelude.{true, false, List, [], ◌∷◌, take, replicate, Float, None}
 use Rattle.numbers.specs.Words.{positive_zero, one}
 use Rattle.frame.specs.declared.Frame.{Frame}
 use Rattle.playback_state_manager.specs.declared.StartAnswer.TheVariants.{Waiting}
@@ -12,11 +12,9 @@ use Rattle.sound_state.specs.declared.StaticSound.{StaticSound}
 use Rattle.sound_state.specs.Voices.{slice_of}
 use Rattle.playback_position.specs.declared.PlaybackPosition.TheVariants.{Samples}
 use Rattle.sound_update.specs.Updates.{updates}
-use Rattle.sound_creation.specs.declared.OptionalRegion.TheVariants as optional
 use Rattle.sound_creation.specs.Creation.{created}
 use Rattle.static_sound.specs.Entries.{processed, processed_into}
 use Rattle.cableowl.specs.Entries.{processed_c, processed_into_c}
-use Rattle.sound_commands.specs.declared.Amount.TheVariants.{Absent}
 use Rattle.sound_commands.specs.declared.LoopCommand.TheVariants as loop
 use Rattle.sound_commands.specs.declared.ResumeCommand.TheVariants as resume
 use Rattle.sound_commands.specs.declared.Commands.{Commands}
@@ -78,9 +76,9 @@ ending =
     (created single
     (record {
       sample_rate = 1;
-      slice = optional.Absent;
+      slice = None;
       start_position = Samples 0;
-      loop_region = optional.Absent;
+      loop_region = None;
       reverse = false;
       playback_rate = one;
       start_waits = false;
@@ -93,7 +91,7 @@ lanes = let ones = one ∷ one ∷ [] in five ones ones ones ones ones
 
 -- the same numbers as held lanes
 abbrev pub ones : Held
-ones = record { fade = one; volume = one; left = one; right = one; rate = one }
+ones = record { gains = record { fade = one; volume = one; left = one; right = one }; rate = one }
 
 -- the start is due at tick 4,294,967,295, and the current tick is 0, after the wrap
 abbrev pub due : Signals
@@ -116,13 +114,13 @@ mix = replicate 6 positive_zero
 abbrev pub stop : Commands
 stop =
     record {
-      playback_rate = Absent;
+      playback_rate = None;
       loop_region = loop.Keep;
       pause = false;
       resume = resume.Keep;
       stop = true;
-      seek_by = Absent;
-      seek_to = Absent;
+      seek_by = None;
+      seek_to = None;
     }
 
 -- a stop, and a block in which its fade has finished

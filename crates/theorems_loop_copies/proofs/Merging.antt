@@ -4,8 +4,7 @@ use Prim.Native.Nat.{◌≤◌}
 use native.Mathlib.Omega.{arith}
 use Rattle.loop_table.specs.declared.Hall.{Hall}
 use Rattle.loop_copies.specs.declared.LoopCopy.{LoopCopy}
-use Rattle.loop_copies.specs.declared.CopyChanged.{CopyChanged}
-use Rattle.loop_copies.specs.Copies.{merged, merged_copy}
+use Rattle.loop_copies.specs.Copies.{CopyChanged, merged, merged_copy}
 use Rattle.theorems_loop_copies.specs.Merging.{Sixteen, NeverBack, AnyOrder, AnyTimes, AnyGrouping}
 use Rattle.theorems_loop_copies.proofs.Views.{View, view, pick, picked, pick_order, pick_older, pick_grouping, OneView, copy_ext, view_merged, sixteen_merged, well_formed_merged, Fit, fit_of, accepted_of, merged_of, merged_either}
 

@@ -14,8 +14,7 @@ use Rattle.loop_table.specs.declared.Hall.{Hall}
 use Rattle.loop_table.specs.declared.Hall.TheVariants as hall
 use Rattle.loop_table.specs.declared.LoopSlot.{LoopSlot}
 use Rattle.loop_table.specs.declared.LoopTable.{LoopTable}
-use Rattle.loop_table.specs.declared.LoopFound.{LoopFound}
-use Rattle.loop_table.specs.Tables.{unless, slot_of, empty, is_empty, looping, well_formed_table, same, half, owns, refused_slot, held_in, changed, refused_write, written, refused_clear, cleared, refused_read, found}
+use Rattle.loop_table.specs.Tables.{LoopFound, unless, slot_of, empty, is_empty, looping, well_formed_table, same, half, owns, refused_slot, held_in, changed, refused_write, written, refused_clear, cleared, refused_read, found}
 use Rattle.take_loop.specs.Taking.{taken_from, taken}
 use Rattle.theorems_loop_table.specs.Calls.{Call, Write, Clear, Read, Play, New, Take, Command, Block, Mix, Event, ByHall, ByVoice, Numbered, Looked, Obeyed, Played, World, hall_answer, table_after, voice_answer, voice_after, answer_to, next}
 use Rattle.theorems_loop_table.specs.Apart.{concerns, takes_from, HallsApart, of_voice, takes_none, TakenStays}

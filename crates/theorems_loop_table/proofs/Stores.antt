@@ -15,8 +15,7 @@ use Rattle.loop_table.specs.declared.Hall.{Hall}
 use Rattle.loop_table.specs.declared.Hall.TheVariants as hall
 use Rattle.loop_table.specs.declared.LoopSlot.{LoopSlot}
 use Rattle.loop_table.specs.declared.LoopTable.{LoopTable}
-use Rattle.loop_table.specs.declared.LoopChanged.{LoopChanged}
-use Rattle.loop_table.specs.Tables.{slot_of, empty, is_empty, looping, well_formed_slot, well_formed_table, same, half, owns, held_in, stored, changed, refused_write, refused_clear}
+use Rattle.loop_table.specs.Tables.{LoopChanged, slot_of, empty, is_empty, looping, well_formed_slot, well_formed_table, same, half, owns, held_in, stored, changed, refused_write, refused_clear}
 use Rattle.loop_table.proofs.Accepted.{Own, write_accepted, clear_accepted}
 
 pub never : true ≡ false → ⊥

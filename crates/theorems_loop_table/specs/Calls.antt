@@ -4,18 +4,15 @@ use Rattle.std.specs.Prelude.{ℕ, Bool, cond, List, [], ◌∷◌, eqb, Float}
 use Rattle.sound_lanes.specs.Lanes.{Lanes}
 use Rattle.sound_state.specs.declared.StaticSound.{StaticSound}
 use Rattle.sound_creation.specs.declared.Settings.{Settings}
-use Rattle.sound_creation.specs.declared.Created.{Created}
-use Rattle.sound_creation.specs.Creation.{created}
+use Rattle.sound_creation.specs.Creation.{Created, created}
 use Rattle.sound_commands.specs.declared.Commands.{Commands}
-use Rattle.sound_commands.specs.declared.Commanded.{Commanded}
-use Rattle.sound_commands.specs.Commands.{commanded}
+use Rattle.sound_commands.specs.Commands.{CommandsAnswer, commanded}
 use Rattle.sound_block.specs.declared.Signals.{Signals}
 use Rattle.sound_slow_path.specs.Plays.{Outcome}
 use Rattle.static_sound.specs.Entries.{processed, processed_into}
 use Rattle.loop_table.specs.declared.Hall.{Hall}
 use Rattle.loop_table.specs.declared.LoopTable.{LoopTable}
-use Rattle.loop_table.specs.declared.LoopFound.{LoopFound}
-use Rattle.loop_table.specs.Tables.{written, cleared, found}
+use Rattle.loop_table.specs.Tables.{LoopFound, written, cleared, found}
 use Rattle.take_loop.specs.Taking.{taken}
 
 -- a hall's call of the table
@@ -45,7 +42,7 @@ pub data Answer : Type 0 where
   Numbered : ℕ → Answer
   Looked : LoopFound → Answer
   Made : Created → Answer
-  Obeyed : Commanded → Answer
+  Obeyed : CommandsAnswer → Answer
   Played : Outcome → Answer
 
 pub record World : Type 0 where

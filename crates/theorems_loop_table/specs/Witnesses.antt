@@ -1,7 +1,6 @@
 -- Sequences of calls that meet each hypothesis: two halls at an empty table over ten frames.
-use Rattle.std.specs.Prelude.{true, false, List, [], ◌∷◌}
+use Rattle.std.specs.Prelude.{true, false, List, [], ◌∷◌, None}
 use Rattle.sound_creation.specs.Creation.{blank_sound}
-use Rattle.sound_commands.specs.declared.Amount.TheVariants.{Absent}
 use Rattle.sound_commands.specs.declared.LoopCommand.TheVariants as loop
 use Rattle.sound_commands.specs.declared.ResumeCommand.TheVariants as resume
 use Rattle.loop_table.specs.declared.Hall.TheVariants.{A, B}
@@ -30,13 +29,13 @@ pause =
     ByVoice 0
     (Command
     (record {
-      playback_rate = Absent;
+      playback_rate = None;
       loop_region = loop.Keep;
       pause = true;
       resume = resume.Keep;
       stop = false;
-      seek_by = Absent;
-      seek_to = Absent;
+      seek_by = None;
+      seek_to = None;
     }))
 
 pub record Witnesses : Type 0 where

@@ -15,18 +15,14 @@ use Rattle.sound_lanes.proofs.Rows.{beside_length}
 use Rattle.sound_state.specs.declared.StaticSound.{StaticSound}
 use Rattle.sound_state.specs.Refusals.{unless}
 use Rattle.sound_state.specs.WellFormed.{well_formed_for}
-use Rattle.sound_creation.specs.declared.Created.{Created}
-use Rattle.sound_creation.specs.Creation.{created}
-use Rattle.sound_commands.specs.declared.Commanded.{Commanded}
-use Rattle.sound_commands.specs.Commands.{commanded}
+use Rattle.sound_creation.specs.Creation.{Created, created}
+use Rattle.sound_commands.specs.Commands.{CommandsAnswer, commanded}
 use Rattle.sound_block.specs.declared.Signals.{Signals}
 use Rattle.sound_block.specs.Blocks.{block}
 use Rattle.sound_block.proofs.Blocks.{block_length}
-use Rattle.sound_slow_path.specs.declared.Processed.{Processed}
-use Rattle.sound_slow_path.specs.Plays.{Played, accepted_with}
+use Rattle.sound_slow_path.specs.Plays.{BlockAnswer, Played, accepted_with}
 use Rattle.static_sound.specs.Entries.{refused_block, refused_with, holds, processed}
 use Rattle.trace_inputs.specs.Inputs.{settings_of, samples_of, commands_of, block_of, given_samples, laned_block_of}
-use Rattle.trace_records.specs.declared.Record.{Record}
 use Rattle.trace_sealed.specs.Records.{any_at}
 use Rattle.c_state.specs.declared.CableowlState.{CableowlState}
 use Rattle.c_state.specs.Records.{decoded, encoded}
@@ -75,6 +71,7 @@ use Rattle.theorems_sound_length.proofs.Calls.{creation_alike, commands_alike, b
 use Rattle.theorems_sound_length.proofs.Archive.{encoded_muted, after_muted, means_alike}
 use Rattle.theorems_replay.specs.Archive.{block_line_c}
 use Rattle.theorems_replay.specs.ArchiveV2.{Offer, line_v2, printed_v2, muted_replay, muted_replayed, StepsAlike, LinesAlikeV2}
+use Rattle.trace_records.specs.Records.{Record}
 
 none : {A : Type 0} → ⊥ → A
 none e = elim e [ ]
@@ -250,29 +247,29 @@ module _ (r : CableowlReplay) (w : CableowlState) (f : muted_state r.voice ≡ m
     unfolding commands_c
     commands_same n vs =
         ap (λ (v : CableowlState). answers v mine.refusal) (after_muted mine.refusal mine.voice r.voice)
-        ∙ ap₂ (λ (a : Commanded) (v : CableowlState). answers (after a.refusal a.voice v) a.refusal)
+        ∙ ap₂ (λ (a : CommandsAnswer) (v : CableowlState). answers (after a.refusal a.voice v) a.refusal)
         (commands_alike (take r.samples snd) (take r.samples tnd) (decoded r.voice) (decoded w) (commands_of vs) (alike r.samples)) f
         ∙ ap (λ (v : CableowlState). answers v theirs.refusal) (sym (after_muted theirs.refusal theirs.voice w))
       where
         answers : CableowlState → ℕ → CableowlReplayed
         answers v k = played_as (behind r n v r.samples r.blocks) n 2 k 0 0 4
 
-        mine : Commanded
+        mine : CommandsAnswer
         mine = commanded (take r.samples snd) (decoded r.voice) (commands_of vs)
 
-        theirs : Commanded
+        theirs : CommandsAnswer
         theirs = commanded (take r.samples tnd) (decoded w) (commands_of vs)
 
     -- the player's result for a block, as a record of the kind k
-    counted_same : (k n frames : ℕ) (mine theirs : Processed) → muted_processed mine ≡ muted_processed theirs
+    counted_same : (k n frames : ℕ) (mine theirs : BlockAnswer) → muted_processed mine ≡ muted_processed theirs
         → muted_replayed (of_kind k (block_c r n frames mine)) ≡ muted_replayed (of_kind k (block_c q n frames theirs))
     unfolding block_c
     counted_same k n frames mine theirs e =
         ap (λ (v : CableowlState). answers v mine) (after_muted mine.refusal mine.voice r.voice)
-        ∙ ap₂ (λ (a : Processed) (v : CableowlState). answers (after a.refusal a.voice v) a) e f
+        ∙ ap₂ (λ (a : BlockAnswer) (v : CableowlState). answers (after a.refusal a.voice v) a) e f
         ∙ ap (λ (v : CableowlState). answers v theirs) (sym (after_muted theirs.refusal theirs.voice w))
       where
-        answers : CableowlState → Processed → CableowlReplayed
+        answers : CableowlState → BlockAnswer → CableowlReplayed
         answers v p = played_as (behind r n v r.samples (more r.blocks)) n k p.refusal frames p.steps p.lowest_count
 
     module _ (out into : List Float) (m : SameLength out into) where

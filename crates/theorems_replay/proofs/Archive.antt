@@ -11,8 +11,7 @@ use lib.Ieee.{Float}
 use borrow.Author.Tests.{eq-eqb, ne_eqb, eqb-true, eqb-false, le-leb}
 use Rattle.numbers.specs.Words.{positive_zero}
 use Rattle.byte_layout.specs.Numbers.{num}
-use Rattle.byte_layout.specs.Rows as layout
-use Rattle.byte_layout.specs.Rows.{row_at, stands}
+use Rattle.byte_layout.specs.Rows.{stands}
 use Rattle.byte_layout.specs.Reads.{taken, step, steps}
 use Rattle.byte_layout.proofs.Numbers.{Small}
 use Rattle.sound_lanes.specs.Lanes.{Lanes, rows}
@@ -20,23 +19,20 @@ use Rattle.sound_lanes.proofs.Rows.{beside_length}
 use Rattle.sound_state.specs.declared.StaticSound.{StaticSound}
 use Rattle.sound_creation.specs.Creation.{blank_sound, created}
 use Rattle.sound_commands.specs.declared.Commands.{Commands}
-use Rattle.sound_commands.specs.declared.Commanded.{Commanded}
-use Rattle.sound_commands.specs.Commands.{commanded}
+use Rattle.sound_commands.specs.Commands.{CommandsAnswer, commanded}
 use Rattle.sound_commands.proofs.Answers.{commanded_refused}
 use Rattle.sound_block.specs.declared.Signals.{Signals}
 use Rattle.sound_block.specs.Blocks.{block}
 use Rattle.sound_block.proofs.Blocks.{block_length}
-use Rattle.sound_slow_path.specs.declared.Processed.{Processed}
-use Rattle.sound_slow_path.specs.Plays.{Played, Outcome, accepted_with}
+use Rattle.sound_slow_path.specs.Plays.{BlockAnswer, Played, Outcome, accepted_with}
 use Rattle.static_sound.specs.Entries.{refused_block, refused_with, processed}
 use Rattle.static_sound.proofs.Entries.{processed_refused}
 use Rattle.trace_inputs.specs.declared.Block.{Block}
 use Rattle.trace_inputs.specs.Inputs.{settings_of, stereo, samples_of, commands_of, block_of, at_most}
 use Rattle.trace_inputs.proofs.Samples.{at_most_le}
 use Rattle.trace_lines.specs.Lines.{block_line, refused_block_line, refused_line}
-use Rattle.trace_records.specs.declared.Record.{Record}
-use Rattle.trace_records.specs.Tables.{head_table, head_rows}
-use Rattle.trace_records.specs.Records.{bodied, read_record, valued, record_at}
+use Rattle.trace_records.specs.Tables.{head_rows}
+use Rattle.trace_records.specs.Records.{Record, bodied, read_record, valued, record_at}
 use Rattle.trace_replay.specs.Runs as below
 use Rattle.trace_replay.specs.Runs.{Replay, AfterRecord, answered, line_of, step_of, printed}
 use Rattle.c_state.specs.declared.CableowlState.{CableowlState}
@@ -113,7 +109,7 @@ commands_mean : (x : List Float) (c : CableowlState) (u : Commands) → let q = 
 commands_mean x c u =
     let q = commanded x (decoded c) u in
     stays q.refusal q.voice c
-    (λ e. sym (ap (λ (a : Commanded). a.voice) (commanded_refused x (decoded c) u (eqb-false q.refusal 0 e))))
+    (λ e. sym (ap (λ (a : CommandsAnswer). a.voice) (commanded_refused x (decoded c) u (eqb-false q.refusal 0 e))))
 
 block_means : (x : List Float) (c : CableowlState) (b : Block) (out : List Float)
     → let q = (block_outcome x c b out).answer in decoded (after q.refusal q.voice c) ≡ q.voice
@@ -196,7 +192,7 @@ rows_long f v l r p n =
     beside_length (replicate n f) (replicate n v) (replicate n l) (replicate n r) (replicate n p) ∙ length-replicate n p
 
 -- the line of a block's answer is that of the player's
-line_is : (r : CableowlReplay) (n frames : ℕ) (q : Processed) → line_c (block_c r n frames q) ≡ line_of (more r.blocks) frames q
+line_is : (r : CableowlReplay) (n frames : ℕ) (q : BlockAnswer) → line_c (block_c r n frames q) ≡ line_of (more r.blocks) frames q
 unfolding line_c block_c block_line_c line_of after encoded
 line_is r n frames q = go (eqb q.refusal 0)
   where
@@ -255,7 +251,7 @@ module _ (r : CableowlReplay) (snd out : List Float) (f : Fit r snd out) (n : �
         done = refl;
         size = refl;
         line = line_is r n b.frames o.answer ∙ ap (line_of (more r.blocks) b.frames) same;
-        replay = ap (λ (z : StaticSound). run (more r.blocks) z x) (block_means x r.voice b (take (2 * b.frames) out) ∙ ap (λ (p : Processed). p.voice) same);
+        replay = ap (λ (z : StaticSound). run (more r.blocks) z x) (block_means x r.voice b (take (2 * b.frames) out) ∙ ap (λ (p : BlockAnswer). p.voice) same);
         offset = refl;
         fit = record { reads = f.reads; alone = f.alone; inside = f.inside; room = f.room; output = longer };
       }
@@ -563,7 +559,7 @@ archive_streams r snd out ended (suc w) (b ∷ bs) x =
 
 -- no bytes begin with a block
 no_bytes : (vs : List ℕ) → BlockAt [] vs → ⊥
-unfolding record_at valued read_record bodied steps step taken stands num head_rows layout.rows row_at head_table
+unfolding record_at valued read_record bodied steps step taken stands num head_rows
 no_bytes vs e = let z : ◌≡◌ {A = ℕ} 18 0 = ap (λ (d : Record). d.refusal) e in omega (arith, z)
 
 abbrev block_record : List ℕ → Record
@@ -582,7 +578,7 @@ module _ (r : CableowlReplay) (snd out : List Float) (f : Fit r snd out) (ended 
       → (stepped_c r bs ended snd out).answer.refusal ≡ (answered (take r.samples snd) (decoded r.voice) (block_of vs)).refusal
   unfolding played_record block_step block_c
   step_refusal bs vs e =
-      ap (λ (o : StepC). o.answer.refusal) (step_is bs vs e) ∙ ap (λ (p : Processed). p.refusal) (same r snd out f 42 vs)
+      ap (λ (o : StepC). o.answer.refusal) (step_is bs vs e) ∙ ap (λ (p : BlockAnswer). p.refusal) (same r snd out f 42 vs)
 
 lines_as : (i k m : ℕ) (a b c x y z : List ℕ) → a ≡ x → b ≡ y → c ≡ z → Lines i k m x y z → Lines i k m a b c
 lines_as i k m a b c x y z e f g h = rw (e, f, g) h

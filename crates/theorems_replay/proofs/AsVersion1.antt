@@ -12,8 +12,7 @@ use borrow.Author.Tests.{ne_eqb, eqb-true, leb-true}
 use Rattle.byte_layout.proofs.Numbers.{Small}
 use Rattle.sound_state.specs.Refusals.{unless}
 use Rattle.trace_inputs.specs.Inputs.{samples_of}
-use Rattle.trace_records.specs.declared.Record.{Record}
-use Rattle.trace_records.specs.Records.{Found, refused, found, read_record, valued, record_at}
+use Rattle.trace_records.specs.Records.{Record, Found, refused, found, read_record, valued, record_at}
 use Rattle.trace_records.specs.Writes.{known}
 use Rattle.trace_records.proofs.Rounds.{written_record}
 use Rattle.trace_records.proofs.Windows.{refusal_numbered}

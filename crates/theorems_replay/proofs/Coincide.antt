@@ -1,8 +1,8 @@
 -- Any two outcomes that a contract allows coincide: each contract names its outcome, and a length that is not named follows from the part it measures. Assumes nothing.
-use mathlib.Core.Path.{◌≡◌, sym, ap, ◌∙◌}
+use mathlib.Core.Path.{◌≡◌, refl, sym, ap, ◌∙◌}
+use Rattle.std.specs.Prelude.{Option, Some, None, unwrap_or, is_none}
 use Prim.Native.Nat.{ℕ, ◌-◌, ◌≤◌}
 use native.Mathlib.Omega.{arith}
-use mathlib.Core.Bool.{Bool}
 use mathlib.Core.List.{List, []}
 use lib.ListN.{length, take}
 use lib.Seq.{length-take-le}
@@ -42,19 +42,25 @@ turned_same r u x y l m e f h k i j = (
   ap (λ (z : List Float). (z, take r.written l)) (ap (λ (c : Replay). c.sound) e) ∙ ap (λ (z : List ℕ). (take u.run.samples y, z)) f,
 )
 
+-- the same offset, or none
+next_same : (at : ℕ) (m n : Option ℕ) → is_none m ≡ is_none n → unwrap_or m at ≡ unwrap_or n at → m ≡ n
+next_same at None None e f = refl
+next_same at None (Some n) e f = cc
+next_same at (Some m) None e f = cc
+next_same at (Some m) (Some n) e f = ap Some f
+
 advanced_same : (r u : Advanced) (at : ℕ) (x y : List Float) (l m : List ℕ)
     → advanced_of r at x l ≡ advanced_of u at y m
-    → r.run.samples ≤ length x → u.run.samples ≤ length y → r.written ≤ length l → u.written ≤ length m → at ≤ r.next → at ≤ u.next
+    → r.run.samples ≤ length x → u.run.samples ≤ length y → r.written ≤ length l → u.written ≤ length m → at ≤ unwrap_or r.next at → at ≤ unwrap_or u.next at
     → (r ≡ u) × (◌≡◌ {A = InUse} (take r.run.samples x, take r.written l) (take u.run.samples y, take u.written m))
 advanced_same r u at x y l m e h k i j a b =
     let c : replay_of r.run x ≡ replay_of u.run y = ap (λ (z : Step). z.replay) e in
     let f : take r.written l ≡ take u.written m = ap (λ (z : Step). z.line) e in
-    let d : r.next - at ≡ u.next - at = ap (λ (z : Step). z.size) e in
-    let n : r.next ≡ u.next = omega (arith, d, a, b) in (
-      ap (λ (z : Run). record { run = z; next = r.next; written = r.written; over = r.over }) (runs_same r.run u.run x y c h k)
-          ∙ ap (λ (z : ℕ). record { run = u.run; next = z; written = r.written; over = r.over }) n
-          ∙ ap (λ (z : ℕ). record { run = u.run; next = u.next; written = z; over = r.over }) (as_long r.written u.written l m f i j)
-          ∙ ap (λ (z : Bool). record { run = u.run; next = u.next; written = u.written; over = z }) (ap (λ (z : Step). z.over) e),
+    let d : unwrap_or r.next at - at ≡ unwrap_or u.next at - at = ap (λ (z : Step). z.size) e in
+    let n : r.next ≡ u.next = next_same at r.next u.next (ap (λ (z : Step). z.over) e) (omega (arith, d, a, b)) in (
+      ap (λ (z : Run). record { run = z; next = r.next; written = r.written }) (runs_same r.run u.run x y c h k)
+          ∙ ap (λ (z : Option ℕ). record { run = u.run; next = z; written = r.written }) n
+          ∙ ap (λ (z : ℕ). record { run = u.run; next = u.next; written = z }) (as_long r.written u.written l m f i j),
       ap (λ (z : List Float). (z, take r.written l)) (ap (λ (z : Replay). z.sound) c) ∙ ap (λ (z : List ℕ). (take u.run.samples y, z)) f,
     )
 

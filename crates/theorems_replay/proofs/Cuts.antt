@@ -12,7 +12,7 @@ use Rattle.sound_lanes.specs.Lanes.{Lanes, five, first_lanes, rest_lanes}
 use Rattle.sound_state.specs.declared.StaticSound.{StaticSound}
 use Rattle.sound_block.specs.declared.Signals.{Signals}
 use Rattle.sound_block.specs.Blocks.{quiet}
-use Rattle.sound_slow_path.specs.declared.Processed.{Processed}
+use Rattle.sound_slow_path.specs.Plays.{BlockAnswer}
 use Rattle.static_sound.specs.Entries.{processed}
 use Rattle.trace_inputs.specs.declared.Block.{Block}
 use Rattle.trace_inputs.specs.Inputs.{single, double, signals_of, block_of}
@@ -54,7 +54,7 @@ rest_out : (k m : ℕ) → drop (2 * k) (replicate (2 * (k + m)) positive_zero) 
 rest_out k m = let e : 2 * (k + m) - 2 * k ≡ 2 * m = omega arith in drops (2 * k) (2 * (k + m)) positive_zero (omega arith) ∙ ap (λ (z : ℕ). replicate z positive_zero) e
 
 -- the parts of the answers, whatever the parts' lanes and outputs are called
-parts_of : (snd : List Float) (v : StaticSound) (dt : Float) (g : Signals) (x : Processed) (b1 b2 c1 c2 : Lanes) (o1 o2 p1 p2 : List Float) → b1 ≡ c1 → o1 ≡ p1 → b2 ≡ c2 → o2 ≡ p2
+parts_of : (snd : List Float) (v : StaticSound) (dt : Float) (g : Signals) (x : BlockAnswer) (b1 b2 c1 c2 : Lanes) (o1 o2 p1 p2 : List Float) → b1 ≡ c1 → o1 ≡ p1 → b2 ≡ c2 → o2 ≡ p2
     → Parts x (processed snd v dt b1 g o1).answer (processed snd (processed snd v dt b1 g o1).answer.voice dt b2 (quiet g) o2).answer
     → Parts x (processed snd v dt c1 g p1).answer (processed snd (processed snd v dt c1 g p1).answer.voice dt c2 (quiet g) p2).answer
 parts_of snd v dt g x b1 b2 c1 c2 o1 o2 p1 p2 e1 e2 e3 e4 h = rw (← e1, ← e2, ← e3, ← e4) h
@@ -78,7 +78,7 @@ block_is : (n a v l r p t f s u : ℕ) → n ≤ 1024 → block_of (block_number
 unfolding block_of
 block_is n a v l r p t f s u h = rw (le-leb n 1024 h) refl
 
-accepted_line : (i n : ℕ) (x : Processed) → x.refusal ≡ 0 → line_of i n x ≡ block_line i n x.steps (number x.voice.moving.state) x.voice.moving.transport.position
+accepted_line : (i n : ℕ) (x : BlockAnswer) → x.refusal ≡ 0 → line_of i n x ≡ block_line i n x.steps (number x.voice.moving.state) x.voice.moving.transport.position
 accepted_line i n x e = sym (line_played i n x (number x.voice.moving.state) (block_line i n x.steps (number x.voice.moving.state) x.voice.moving.transport.position) e refl refl)
 
 -- the line of a block record whose block is known

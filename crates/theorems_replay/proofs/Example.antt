@@ -6,14 +6,13 @@ use mathlib.Core.List.{List, [], ◌∷◌, ◌++◌, append-nil}
 use lib.ListN.{length, drop}
 use native.Mathlib.Omega.{arith}
 use Rattle.byte_layout.specs.Numbers.{num}
-use Rattle.byte_layout.specs.Rows.{row_at, rows, stands, within}
+use Rattle.byte_layout.specs.Rows.{stands, within}
 use Rattle.byte_layout.specs.Reads.{taken, step, steps}
-use Rattle.trace_records.specs.declared.Record.{Record}
-use Rattle.trace_records.specs.Tables.{head_table, frame_table, creation_table, block_table, head_rows, creation_rows, block_rows}
-use Rattle.trace_records.specs.Records.{possible, ended, bodied, read_record, valued, record_at}
+use Rattle.trace_records.specs.Tables.{head_rows, creation_rows, frame_rows, block_rows}
+use Rattle.trace_records.specs.Records.{Record, possible, ended, bodied, read_record, valued, record_at}
 use Rattle.trace_inputs.specs.Inputs.{settings_of, samples_of, block_of}
 use Rattle.sound_creation.specs.Creation.{created}
-use Rattle.sound_slow_path.specs.declared.Processed.{Processed}
+use Rattle.sound_slow_path.specs.Plays.{BlockAnswer}
 use Rattle.trace_replay.specs.Runs.{Replay, Step, blank, more, answered, line_of, after, judged, step_of, printed}
 use Rattle.theorems_replay.specs.Example.{bytes_of_three_frames, ThreeFrames}
 use Rattle.theorems_replay.proofs.Streams.{run_on}
@@ -24,11 +23,11 @@ abbrev pub read : ℕ → ℕ → List ℕ → Record
 read k n vs = record { refusal = 0; kind = k; next = n; values = vs }
 
 pub creation_read : record_at bytes_of_three_frames 0 ≡ read 1 55 creation_numbers
-unfolding record_at valued read_record bodied ended possible steps step taken stands within num head_rows creation_rows rows row_at head_table creation_table frame_table
+unfolding record_at valued read_record bodied ended possible steps step taken stands within num head_rows creation_rows frame_rows
 creation_read = refl
 
 pub six_read : record_at (165 ∷ drop 56 bytes_of_three_frames) 0 ≡ read 3 42 six_numbers
-unfolding record_at valued read_record bodied ended possible steps step taken stands within num head_rows block_rows rows row_at head_table block_table
+unfolding record_at valued read_record bodied ended possible steps step taken stands within num head_rows block_rows
 six_read = refl
 
 -- a step's line, and what is printed after it
@@ -49,7 +48,7 @@ creation_made : (vs : List ℕ) (n : ℕ) → judged blank 0 (read 1 n vs) ≡ p
 unfolding judged after
 creation_made vs n = refl
 
-abbrev answer : Replay → List ℕ → Processed
+abbrev answer : Replay → List ℕ → BlockAnswer
 answer c vs = answered c.sound c.voice (block_of vs)
 
 abbrev heard : Replay → List ℕ → Replay

@@ -8,15 +8,13 @@ use mathlib.Core.List.{List, [], ◌∷◌, ◌++◌, map}
 use lib.Dec.{eqb}
 use lib.ListN.{length, get_or, take, drop, replicate}
 use Rattle.numbers.specs.Words.{positive_zero}
-use Rattle.sound_creation.specs.declared.Created.{Created}
 use Rattle.sound_creation.specs.declared.Settings.{Settings}
-use Rattle.sound_creation.specs.Creation.{created}
-use Rattle.sound_commands.specs.declared.Commanded.{Commanded}
-use Rattle.sound_slow_path.specs.declared.Processed.{Processed}
+use Rattle.sound_creation.specs.Creation.{Created, created}
+use Rattle.sound_commands.specs.Commands.{CommandsAnswer}
+use Rattle.sound_slow_path.specs.Plays.{BlockAnswer}
 use Rattle.trace_inputs.specs.Inputs.{at_most, settings_of, stereo, samples_of, commands_of, block_of}
 use Rattle.trace_lines.specs.Lines.{refused_line}
-use Rattle.trace_records.specs.declared.Record.{Record}
-use Rattle.trace_records.specs.Records.{record_at}
+use Rattle.trace_records.specs.Records.{Record, record_at}
 use Rattle.trace_replay.specs.Runs.{Replay, blank, more, lanes_of, answered, line_of, AfterRecord, after_creation, after_commands, after_block, after, Step, judged, step_of, printed}
 use Rattle.theorems_sound_length.specs.Muted.{muted, muted_created}
 use Rattle.theorems_sound_length.specs.Lengths.{OtherSound}
@@ -86,7 +84,7 @@ creation_turn c d vs h =
 commands_turn : (c d : Replay) (vs : List ℕ) → Alike c d → TurnAlike (after_commands c vs) (after_commands d vs)
 commands_turn c d vs h =
     let e = commands_alike c.sound d.sound c.voice d.voice (commands_of vs) (other_sound_lem c d h) in
-    record { replay = record { voices = ap (λ (a : Commanded). a.voice) e; sounds = h.sounds; blocks = h.blocks }; line = refl }
+    record { replay = record { voices = ap (λ (a : CommandsAnswer). a.voice) e; sounds = h.sounds; blocks = h.blocks }; line = refl }
 
 block_turn : (c d : Replay) (vs : List ℕ) → Alike c d → TurnAlike (after_block c vs) (after_block d vs)
 unfolding answered line_of
@@ -95,8 +93,8 @@ block_turn c d vs h =
     let out = replicate (2 * b.frames) positive_zero in
     let e = blocks_alike c.sound d.sound c.voice d.voice b.time_step (lanes_of b) b.signals out out (record { sound = other_sound_lem c d h; output = refl }) in
     record {
-      replay = record { voices = ap (λ (a : Processed). a.voice) e; sounds = h.sounds; blocks = ap more h.blocks };
-      line = ap₂ (λ (n : ℕ) (a : Processed). line_of (more n) b.frames a) h.blocks e;
+      replay = record { voices = ap (λ (a : BlockAnswer). a.voice) e; sounds = h.sounds; blocks = ap more h.blocks };
+      line = ap₂ (λ (n : ℕ) (a : BlockAnswer). line_of (more n) b.frames a) h.blocks e;
     }
 
 turn_alike : (c d : Replay) (k : ℕ) (vs : List ℕ) → Alike c d → TurnAlike (after c k vs) (after d k (cond (eqb k 1) (zero_after 13 vs) vs))

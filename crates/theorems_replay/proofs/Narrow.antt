@@ -8,13 +8,13 @@ use lib.Dec.{leb, eqb}
 use lib.ListN.{length, get_or, take, drop, length-append, take-append-drop}
 use lib.Seq.{take-append-le, drop-append-le}
 use borrow.Author.Tests.{le-leb, leb-true}
+use Rattle.refusals.specs.Numbers.{number}
 use Rattle.byte_layout.specs.declared.Row.{Row}
 use Rattle.byte_layout.specs.Numbers.{num}
 use Rattle.byte_layout.specs.Rows.{stands, within}
 use Rattle.byte_layout.specs.Reads.{Reading, bad, good, taken, step, steps}
-use Rattle.trace_records.specs.declared.Record.{Record}
 use Rattle.trace_records.specs.Tables.{head_rows, body}
-use Rattle.trace_records.specs.Records.{possible, Found, refused, found, ended, bodied, read_record, valued, record_at}
+use Rattle.trace_records.specs.Records.{Record, possible, Found, refused, found, ended, bodied, read_record, valued, record_at}
 
 -- a reading of the whole compared with the reading of a window, with m bytes after the window
 data Beside (m : List ℕ) : Reading → Reading → Type 0 where
@@ -32,17 +32,17 @@ one_row r left vs win m = go (stands r vs)
     n : ℕ
     n = num (take w win)
 
-    fits : (b : Bool) → Beside m (cond b (good (left - w) (vs ++ (n ∷ [])) (drop w win ++ m)) (bad r.refusal))
-        (cond b (good (left - w) (vs ++ (n ∷ [])) (drop w win)) (bad r.refusal))
+    fits : (b : Bool) → Beside m (cond b (good (left - w) (vs ++ (n ∷ [])) (drop w win ++ m)) (bad (number r.refusal)))
+        (cond b (good (left - w) (vs ++ (n ∷ [])) (drop w win)) (bad (number r.refusal)))
     fits true = onwards (left - w) (vs ++ (n ∷ [])) (drop w win)
-    fits false = alike r.refusal
+    fits false = alike (number r.refusal)
 
     inside : (b : Bool) → leb w (length win) ≡ b
         → Beside m
         (cond (leb w (length (win ++ m)))
-        (cond (within r (num (take w (win ++ m)))) (good (left - w) (vs ++ (num (take w (win ++ m)) ∷ [])) (drop w (win ++ m))) (bad r.refusal))
+        (cond (within r (num (take w (win ++ m)))) (good (left - w) (vs ++ (num (take w (win ++ m)) ∷ [])) (drop w (win ++ m))) (bad (number r.refusal)))
         (bad 18))
-        (cond b (cond (within r n) (good (left - w) (vs ++ (n ∷ [])) (drop w win)) (bad r.refusal)) (bad 18))
+        (cond b (cond (within r n) (good (left - w) (vs ++ (n ∷ [])) (drop w win)) (bad (number r.refusal))) (bad 18))
     inside true e =
         let a = leb-true w (length win) e in
         let b : w ≤ length (win ++ m) = omega (arith, length-append win m) in
@@ -60,11 +60,11 @@ one_row r left vs win m = go (stands r vs)
     room : (b : Bool) → Beside m
         (cond b
         (cond (leb w (length (win ++ m)))
-        (cond (within r (num (take w (win ++ m)))) (good (left - w) (vs ++ (num (take w (win ++ m)) ∷ [])) (drop w (win ++ m))) (bad r.refusal))
+        (cond (within r (num (take w (win ++ m)))) (good (left - w) (vs ++ (num (take w (win ++ m)) ∷ [])) (drop w (win ++ m))) (bad (number r.refusal)))
         (bad 18))
         (cond (leb left (length (win ++ m))) (bad 17) (bad 18)))
         (cond b
-        (cond (leb w (length win)) (cond (within r n) (good (left - w) (vs ++ (n ∷ [])) (drop w win)) (bad r.refusal)) (bad 18))
+        (cond (leb w (length win)) (cond (within r n) (good (left - w) (vs ++ (n ∷ [])) (drop w win)) (bad (number r.refusal))) (bad 18))
         (cond (leb left (length win)) (bad 17) (bad 18)))
     room true = inside (leb w (length win)) refl
     room false = past (leb left (length win)) refl

@@ -6,11 +6,10 @@ use mathlib.Core.List.{List, [], ◌∷◌, ◌++◌, map}
 use lib.Dec.{eqb}
 use lib.ListN.{take, drop, replicate}
 use Rattle.byte_layout.specs.Numbers.{num}
-use Rattle.byte_layout.specs.Rows.{row_at, rows, stands, within}
+use Rattle.byte_layout.specs.Rows.{stands, within}
 use Rattle.byte_layout.specs.Reads.{taken, step, steps}
-use Rattle.trace_records.specs.declared.Record.{Record}
-use Rattle.trace_records.specs.Tables.{head_table, frame_table, creation_table, head_rows, creation_rows}
-use Rattle.trace_records.specs.Records.{possible, ended, bodied, read_record, valued, record_at}
+use Rattle.trace_records.specs.Tables.{head_rows, creation_rows, frame_rows}
+use Rattle.trace_records.specs.Records.{Record, possible, ended, bodied, read_record, valued, record_at}
 use Rattle.theorems_replay.specs.Example.{bytes_of_three_frames}
 use Rattle.theorems_replay.specs.Lengths.{records, muted_record, SameButForSamples}
 use Rattle.theorems_replay.specs.Witnesses.{three_nans}
@@ -39,7 +38,7 @@ abbrev nan_numbers : List ℕ
 nan_numbers = take 13 creation_numbers ++ (replicate 3 18446744073709551615 ++ replicate 64 0)
 
 nans_read : record_at three_nans 0 ≡ read 1 55 nan_numbers
-unfolding record_at valued read_record bodied ended possible steps step taken stands within num head_rows creation_rows rows row_at head_table creation_table frame_table
+unfolding record_at valued read_record bodied ended possible steps step taken stands within num head_rows creation_rows frame_rows
 nans_read = refl
 
 pub same_but_for_samples : SameButForSamples bytes_of_three_frames three_nans

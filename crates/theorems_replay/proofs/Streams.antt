@@ -8,8 +8,7 @@ use lib.ListN.{length, drop, length-append}
 use borrow.Author.Tests.{ne_eqb}
 use Rattle.byte_layout.proofs.Numbers.{Small}
 use Rattle.byte_layout.proofs.Codec.{never}
-use Rattle.trace_records.specs.declared.Record.{Record}
-use Rattle.trace_records.specs.Records.{Found, refused, found, read_record, valued, record_at}
+use Rattle.trace_records.specs.Records.{Record, Found, refused, found, read_record, valued, record_at}
 use Rattle.trace_records.specs.Writes.{record_of}
 use Rattle.trace_records.proofs.Rounds.{written_record}
 use Rattle.trace_records.proofs.Traces.{record_some}

@@ -12,7 +12,6 @@ use Rattle.byte_layout.specs.Numbers.{num}
 use Rattle.sound_lanes.specs.Lanes.{Lanes}
 use Rattle.static_sound.specs.Entries.{processed}
 use Rattle.trace_inputs.specs.Inputs.{single, double, samples_of, lane_of, laned_block_of}
-use Rattle.trace_records.specs.declared.Record.{Record}
 use Rattle.trace_sealed.specs.Records.{any_at}
 use Rattle.trace_sealed.proofs.Windows.{window}
 use Rattle.c_state.specs.Records.{decoded}
@@ -22,6 +21,7 @@ use Rattle.cableowl.specs.Replays.{StepC, unplayed, creation_c, commands_c, bloc
 use Rattle.cableowl.specs.ReplaysV2.{playing, buffer_of, given_c, lanes_in, of_kind, laned_step, obeyed, played_record_v2, lacking, judged_v2, begun_v2, refused_step_v2, stepped_v2}
 use Rattle.cableowl.proofs.ReplayStepsV2.{few_laned}
 use Rattle.theorems_replay.specs.ArchiveV2.{StreamsV2}
+use Rattle.trace_records.specs.Records.{Record}
 
 none : {A : Type 0} → ⊥ → A
 none e = elim e [ ]

@@ -9,12 +9,11 @@ use lib.ListN.{length, drop, replicate, length-replicate}
 use lib.Ieee.{mul, lt, le, eq, of_int, of_bits, nan_bits}
 use Rattle.float_bits.specs.Patterns.{float_of}
 use Rattle.byte_layout.specs.Numbers.{num}
-use Rattle.byte_layout.specs.Rows.{row_at, rows, stands, within}
+use Rattle.byte_layout.specs.Rows.{stands, within}
 use Rattle.byte_layout.specs.Reads.{taken, step, steps}
 use Rattle.byte_layout.proofs.Numbers.{are_small, small_of}
-use Rattle.trace_records.specs.declared.Record.{Record}
-use Rattle.trace_records.specs.Tables.{head_table, block_table, head_rows, block_rows}
-use Rattle.trace_records.specs.Records.{possible, bodied, read_record, valued, record_at}
+use Rattle.trace_records.specs.Tables.{head_rows, block_rows}
+use Rattle.trace_records.specs.Records.{Record, possible, bodied, read_record, valued, record_at}
 use Rattle.trace_records.specs.Records as records
 use Rattle.trace_inputs.specs.Inputs.{lane_of, block_of}
 use Rattle.numbers.specs.Frames.{rounded}
@@ -69,11 +68,11 @@ creation_shown =
     ∙ ap (λ (d : Record). judged blank_replay 0 d lent_sound lent_output) creation_read)
 
 two_read : BlockAt (plain_block 2) (plain_numbers 2)
-unfolding record_at valued read_record bodied records.ended possible steps step taken stands within num head_rows block_rows rows row_at head_table block_table
+unfolding record_at valued read_record bodied records.ended possible steps step taken stands within num head_rows block_rows
 two_read = refl
 
 one_read : BlockAt (plain_block 1) (plain_numbers 1)
-unfolding record_at valued read_record bodied records.ended possible steps step taken stands within num head_rows block_rows rows row_at head_table block_table
+unfolding record_at valued read_record bodied records.ended possible steps step taken stands within num head_rows block_rows
 one_read = refl
 
 going_fit : Fit going lent_sound lent_output

@@ -1,8 +1,7 @@
 -- What is printed for a trace depends on a sound only through its frame count: two traces whose records differ only in
 -- the samples of their creations print the same lines. So a trace can be replayed and audited without its sound.
 use Rattle.std.specs.Prelude.{ℕ, zero, suc, ◌-◌, ◌≡◌, cond, List, [], ◌∷◌, map, eqb}
-use Rattle.trace_records.specs.declared.Record.{Record}
-use Rattle.trace_records.specs.Records.{record_at}
+use Rattle.trace_records.specs.Records.{Record, record_at}
 use Rattle.trace_replay.specs.Runs.{replayed}
 
 -- the records that a replay reads, with k bytes of the current record still left; a refused record is the last

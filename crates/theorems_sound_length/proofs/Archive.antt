@@ -7,11 +7,9 @@ use lib.Dec.{eqb}
 use Rattle.resampler.specs.declared.RecentFrame.{RecentFrame}
 use Rattle.sound_state.specs.declared.StaticSound.{StaticSound}
 use Rattle.sound_state.specs.Voices.{moved}
-use Rattle.sound_creation.specs.declared.Created.{Created}
-use Rattle.sound_creation.specs.Creation.{blank_sound, created}
-use Rattle.sound_commands.specs.declared.Commanded.{Commanded}
-use Rattle.sound_commands.specs.Commands.{commanded}
-use Rattle.sound_slow_path.specs.declared.Processed.{Processed}
+use Rattle.sound_creation.specs.Creation.{Created, blank_sound, created}
+use Rattle.sound_commands.specs.Commands.{CommandsAnswer, commanded}
+use Rattle.sound_slow_path.specs.Plays.{BlockAnswer}
 use Rattle.static_sound.specs.Entries.{processed, processed_into}
 use Rattle.take_loop.specs.Taking.{taken}
 use Rattle.c_state.specs.declared.CableowlEntry.{CableowlEntry}
@@ -63,17 +61,17 @@ means_alike c d e = sym (decoded_muted c) ∙ ap decoded e ∙ decoded_muted d
 
 -- ---- answers
 
-abbrev ordered : Commanded → CableowlState → CableowlCommanded
+abbrev ordered : CommandsAnswer → CableowlState → CableowlCommanded
 ordered r c = record { state = after r.refusal r.voice c; position = r.position; refusal = r.refusal }
 
-answered_alike : (p q : Processed) (c d : CableowlState) → muted_processed p ≡ muted_processed q → muted_state c ≡ muted_state d
+answered_alike : (p q : BlockAnswer) (c d : CableowlState) → muted_processed p ≡ muted_processed q → muted_state c ≡ muted_state d
     → muted_processed_c (answered p c) ≡ muted_processed_c (answered q d)
 answered_alike p q c d e f =
     ap (λ (s : CableowlState). record { state = s; steps = p.steps; refusal = p.refusal; lowest_count = p.lowest_count }) (after_muted p.refusal p.voice c)
     ∙ ap₂ answered e f
     ∙ ap (λ (s : CableowlState). record { state = s; steps = q.steps; refusal = q.refusal; lowest_count = q.lowest_count }) (sym (after_muted q.refusal q.voice d))
 
-ordered_alike : (p q : Commanded) (c d : CableowlState) → muted_commanded p ≡ muted_commanded q → muted_state c ≡ muted_state d
+ordered_alike : (p q : CommandsAnswer) (c d : CableowlState) → muted_commanded p ≡ muted_commanded q → muted_state c ≡ muted_state d
     → muted_commanded_c (ordered p c) ≡ muted_commanded_c (ordered q d)
 ordered_alike p q c d e f =
     ap (λ (s : CableowlState). record { state = s; position = p.position; refusal = p.refusal }) (after_muted p.refusal p.voice c)

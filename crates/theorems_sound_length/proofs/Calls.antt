@@ -1,5 +1,6 @@
 -- Each call over two sounds of equal length. A refusal depends on the sound's length and the muted voice; what an accepted call returns besides samples depends on the muted voice.
 -- Assumes nothing.
+use Rattle.std.specs.Prelude.{Option, Some, None}
 use mathlib.Core.Path.{◌≡◌, refl, sym, ap, ap₂, ◌∙◌}
 use Prim.Native.Nat.{ℕ, ◌+◌, ◌*◌, ◌/◌, ◌%◌}
 use mathlib.Core.Bool.{Bool, true, false, ◌&&◌, cond}
@@ -11,7 +12,6 @@ use lib.Ieee.{Float, binary64, div, of_int}
 use Rattle.numbers.specs.Words.{positive_zero}
 use Rattle.numbers.specs.Frames.{cut_off}
 use Rattle.numbers.specs.Lists.{all}
-use Rattle.playback_position.specs.declared.FrameRange.{FrameRange}
 use Rattle.playback_state_manager.specs.States.{advancing}
 use Rattle.transport.specs.Moves.{seek}
 use Rattle.resampler.specs.declared.Resampler.{Resampler}
@@ -20,23 +20,17 @@ use Rattle.sound_state.specs.declared.StaticSound.{StaticSound}
 use Rattle.sound_state.specs.Voices.{length_of_slice, slice_of, moved}
 use Rattle.sound_state.specs.Refusals.{unless}
 use Rattle.sound_creation.specs.declared.Settings.{Settings}
-use Rattle.sound_creation.specs.declared.Created.{Created}
-use Rattle.sound_creation.specs.Creation.{setup_of, transport_of, opened, filled, refused_new, made, blank_sound, created}
-use Rattle.sound_commands.specs.declared.Amount.{Amount}
-use Rattle.sound_commands.specs.declared.Amount.TheVariants as amount
+use Rattle.sound_creation.specs.Creation.{Created, setup_of, transport_of, opened, filled, refused_new, made, blank_sound, created}
 use Rattle.sound_commands.specs.declared.Commands.{Commands}
-use Rattle.sound_commands.specs.declared.Commanded.{Commanded}
 use Rattle.sound_commands.specs.declared.LoopCommand.{LoopCommand}
 use Rattle.sound_commands.specs.declared.LoopCommand.TheVariants as loop
-use Rattle.sound_commands.specs.Commands.{or_else, ordered, looped, loopable, rateable, target_by, target_to, seekable, refused_set, before_seeks, jumped, refilled, sought, sought_by, sought_to, obeyed, reported, commanded}
+use Rattle.sound_commands.specs.Commands.{CommandsAnswer, or_else, ordered, looped, loopable, rateable, target_by, target_to, seekable, refused_set, before_seeks, jumped, refilled, sought, sought_by, sought_to, obeyed, reported, commanded}
 use Rattle.sound_held.specs.Held.{held_lanes}
 use Rattle.sound_block.specs.declared.Signals.{Signals}
 use Rattle.sound_block.specs.Blocks.{block}
-use Rattle.sound_slow_path.specs.declared.Processed.{Processed}
-use Rattle.sound_slow_path.specs.Plays.{Played, accepted_with}
+use Rattle.sound_slow_path.specs.Plays.{BlockAnswer, Played, accepted_with}
 use Rattle.static_sound.specs.Entries.{refused_block, refused_with, holds, room, mixed, processed, processed_into}
-use Rattle.loop_table.specs.declared.LoopFound.{LoopFound}
-use Rattle.loop_table.specs.Tables.{found}
+use Rattle.loop_table.specs.Tables.{LoopFound, found}
 use Rattle.take_loop.specs.Taking.{loop_command_of, taken}
 use Rattle.theorems_sound_length.specs.Muted.{muted_window, muted, muted_commanded, muted_processed}
 use Rattle.theorems_sound_length.specs.Lengths.{CreationAlike, CommandsAlike, TakesAlike, BlocksAlike, MixesAlike, HeldAlike, HeldMixesAlike}
@@ -67,7 +61,7 @@ refused_alike len more v w dt b placed put l e p =
     ∙ ap₂ (λ (n : ℕ) (o : Bool). refused_block n w dt b o) l p
 
 -- the result of a block with the refusal k, from what is given besides samples
-abbrev answer_of : ℕ → Rest → StaticSound → Processed
+abbrev answer_of : ℕ → Rest → StaticSound → BlockAnswer
 answer_of k r u =
     cond (eqb k 0)
     (record { refusal = 0; voice = r.voice; steps = r.steps; lowest_count = r.lowest_count })
@@ -169,21 +163,21 @@ sought_muted snd other v q = go (advancing v.moving.state)
         (pushed_muted snd other (slice_of v) (jumped v q))
     go false = sym (muted_twice (moved v f (jumped v q)))
 
-by_muted : (snd other : List Float) (v : StaticSound) (a : Amount) → muted (sought_by snd v a) ≡ muted (sought_by other (muted v) a)
+by_muted : (snd other : List Float) (v : StaticSound) (a : Option Float) → muted (sought_by snd v a) ≡ muted (sought_by other (muted v) a)
 unfolding target_by
-by_muted snd other v amount.Absent = sym (muted_twice v)
-by_muted snd other v (amount.Given x) = sought_muted snd other v (cut_off (target_by v x))
+by_muted snd other v None = sym (muted_twice v)
+by_muted snd other v (Some x) = sought_muted snd other v (cut_off (target_by v x))
 
-to_muted : (snd other : List Float) (v : StaticSound) (a : Amount) → muted (sought_to snd v a) ≡ muted (sought_to other (muted v) a)
+to_muted : (snd other : List Float) (v : StaticSound) (a : Option Float) → muted (sought_to snd v a) ≡ muted (sought_to other (muted v) a)
 unfolding target_to
-to_muted snd other v amount.Absent = sym (muted_twice v)
-to_muted snd other v (amount.Given x) = sought_muted snd other v (cut_off (target_to v x))
+to_muted snd other v None = sym (muted_twice v)
+to_muted snd other v (Some x) = sought_muted snd other v (cut_off (target_to v x))
 
 told_muted : (c : Commands) (v : StaticSound) → muted (before_seeks c v) ≡ before_seeks c (muted v)
 unfolding before_seeks
 told_muted c v =
     ap
-    (λ (r : FrameRange).
+    (λ (r : Option (ℕ × ℕ)).
     record {
       setup = v.setup;
       playback_rate = or_else c.playback_rate v.playback_rate;
@@ -210,7 +204,7 @@ obeyed_muted snd other c v =
     ∙ sym (to_muted other other (sought_by other w by) to)
 
 -- the result of a command set with the refusal k
-abbrev set_answer : ℕ → StaticSound → Float → StaticSound → Commanded
+abbrev set_answer : ℕ → StaticSound → Float → StaticSound → CommandsAnswer
 set_answer k done x u = cond (eqb k 0) (record { refusal = 0; voice = done; position = x }) (record { refusal = k; voice = u; position = positive_zero })
 
 set_answer_lem : (snd : List Float) (v : StaticSound) (c : Commands)

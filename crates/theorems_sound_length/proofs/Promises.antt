@@ -1,7 +1,7 @@
 -- All theorems about two sounds of equal length, in one record. Assumes nothing.
 use mathlib.Core.Path.{refl, sym, ap, ◌∙◌}
 use mathlib.Core.Bool.{false}
-use Rattle.sound_creation.specs.declared.Created.{Created}
+use Rattle.sound_creation.specs.Creation.{Created}
 use Rattle.c_state.specs.Records.{encoded}
 use Rattle.theorems.specs.Examples.{ten, from}
 use Rattle.theorems.specs.Witnesses.{voice, state}

@@ -1,4 +1,5 @@
 -- A sequence of calls compared with the sequence over silence: one call after the other. Assumes nothing.
+use Rattle.std.specs.Prelude.{Option, Some, None}
 use mathlib.Core.Path.{◌≡◌, refl, sym, ap, ap₂, ◌∙◌}
 use Prim.Native.Nat.{ℕ, zero, suc, ◌*◌, ◌-◌}
 use mathlib.Core.Bool.{Bool, true, false, cond}
@@ -6,13 +7,11 @@ use mathlib.Core.List.{List, [], ◌∷◌, map}
 use lib.ListN.{length, length-map, take, drop}
 use lib.Ieee.{Float}
 use Rattle.numbers.specs.Words.{positive_zero}
-use Rattle.playback_position.specs.declared.FrameRange.{FrameRange}
-use Rattle.playback_position.specs.declared.FrameRange.TheVariants as range
 use Rattle.sound_state.specs.declared.StaticSound.{StaticSound}
 use Rattle.sound_state.specs.Voices.{start_of_slice}
 use Rattle.sound_state.specs.WellFormed.{well_formed_for}
-use Rattle.sound_commands.specs.declared.Commanded.{Commanded}
-use Rattle.sound_slow_path.specs.declared.Processed.{Processed}
+use Rattle.sound_commands.specs.Commands.{CommandsAnswer}
+use Rattle.sound_slow_path.specs.Plays.{BlockAnswer}
 use Rattle.static_sound.specs.Entries.{sliced, stretch_of, stretch_at}
 use Rattle.theorems.specs.InTheLoop.{Call, Block, Mix, Command, Take, Stretch, after, after_all}
 use Rattle.theorems_sound_length.specs.Muted.{muted, silence}
@@ -44,9 +43,9 @@ silent_take zero xs = refl
 silent_take (suc n) [] = refl
 silent_take (suc n) (x ∷ xs) = ap suc (silent_take n xs)
 
-silent_sliced : (r : FrameRange) (xs : List Float) → length (sliced r (silence xs)) ≡ length (sliced r xs)
-silent_sliced range.Absent xs = sym (as_long xs)
-silent_sliced (range.Frames s e) xs =
+silent_sliced : (r : Option (ℕ × ℕ)) (xs : List Float) → length (sliced r (silence xs)) ≡ length (sliced r xs)
+silent_sliced None xs = sym (as_long xs)
+silent_sliced (Some (s, e)) xs =
     ap (λ (l : List Float). length (take (2 * e - 2 * s) l)) (silent_drop (2 * s) xs) ∙ silent_take (2 * e - 2 * s) (drop (2 * s) xs)
 
 well_formed_for_alike : (snd : List Float) (v w : StaticSound) → muted v ≡ muted w → well_formed_for (length snd) v ≡ well_formed_for (length (silence snd)) w
@@ -59,10 +58,10 @@ stretch_begins snd v w e =
     ap₂ (λ (o : Bool) (u : StaticSound). cond o (2 * start_of_slice u.setup) 0) (well_formed_for_alike snd v w e) e
 
 -- the length of a slice, where there is one
-abbrev long_of : Bool → FrameRange → List Float → ℕ
+abbrev long_of : Bool → Option (ℕ × ℕ) → List Float → ℕ
 long_of o r xs = length (cond o (sliced r xs) [])
 
-silent_long : (o : Bool) (r : FrameRange) (xs : List Float) → long_of o r (silence xs) ≡ long_of o r xs
+silent_long : (o : Bool) (r : Option (ℕ × ℕ)) (xs : List Float) → long_of o r (silence xs) ≡ long_of o r xs
 silent_long true r xs = silent_sliced r xs
 silent_long false r xs = refl
 
@@ -77,16 +76,16 @@ stretch_long snd v w e =
 call_alike : (c : Call) (v w : StaticSound) → muted v ≡ muted w → (answer c v ≡ answer (muted_call c) w) × (muted (after c v) ≡ muted (after (muted_call c) w))
 call_alike (Block snd dt b g out) v w e =
     let a = blocks_alike snd (silence snd) v w dt b g out (silence out) (block_over_silence snd v w out e) in
-    (ap OfBlock a, ap (λ (p : Processed). p.voice) a)
+    (ap OfBlock a, ap (λ (p : BlockAnswer). p.voice) a)
 call_alike (Mix snd dt b g mix from) v w e =
     let a = mixes_alike snd (silence snd) v w dt b g mix (silence mix) from (block_over_silence snd v w mix e) in
-    (ap OfBlock a, ap (λ (p : Processed). p.voice) a)
+    (ap OfBlock a, ap (λ (p : BlockAnswer). p.voice) a)
 call_alike (Command snd c) v w e =
     let a = commands_alike snd (silence snd) v w c (over_silence snd v w e) in
-    (ap OfCommands a, ap (λ (p : Commanded). p.voice) a)
+    (ap OfCommands a, ap (λ (p : CommandsAnswer). p.voice) a)
 call_alike (Take snd t k) v w e =
     let a = takes_alike snd (silence snd) v w t k (over_silence snd v w e) in
-    (ap OfCommands a, ap (λ (p : Commanded). p.voice) a)
+    (ap OfCommands a, ap (λ (p : CommandsAnswer). p.voice) a)
 call_alike (Stretch snd) v w e = (ap₂ OfStretch (stretch_begins snd v w e) (stretch_long snd v w e), e)
 
 row_alike : (cs : List Call) (v w : StaticSound) → muted v ≡ muted w

@@ -1,5 +1,6 @@
 -- A muted window: it is well formed if the window is, and a push of a frame or of none has the same result as a push into the muted one.
 -- By cases on the count and the entries. Assumes nothing.
+use Rattle.std.specs.Prelude.{Some, None}
 use mathlib.Core.Path.{◌≡◌, refl, sym, ap, ap₂, ◌∙◌, subst}
 use Prim.Native.Nat.{ℕ, zero, suc, ◌+◌, ◌-◌}
 use native.Mathlib.Omega.{arith}
@@ -11,7 +12,6 @@ use lib.Ieee.{Float}
 use Rattle.numbers.specs.Lists.{all}
 use Rattle.resampler.specs.declared.RecentFrame.{RecentFrame}
 use Rattle.resampler.specs.declared.Resampler.{Resampler}
-use Rattle.resampler.specs.declared.MaybeFrame.TheVariants.{Absent, Present}
 use Rattle.resampler.specs.Windows.{blank, given_entry, push, zero_frame, numbered, windowed, current_frame_index}
 use Rattle.frame.specs.declared.Frame.{Frame}
 use Rattle.frame.specs.Frames.{frame_of}
@@ -119,14 +119,14 @@ some_pushed t rs e =
     rw (← i 1, ← i 2, ← i 3) refl
 
 -- any frame, or none
-push_none : (w : Resampler) (n : ℕ) → muted_window (push w Absent n) ≡ muted_window (push (muted_window w) Absent n)
+push_none : (w : Resampler) (n : ℕ) → muted_window (push w None n) ≡ muted_window (push (muted_window w) None n)
 unfolding push
 push_none w n =
-    ap (λ (l : List RecentFrame). record { frames = l; time_until_empty = w.time_until_empty - 1 }) (none_pushed w.time_until_empty w.frames (given_entry Absent n))
+    ap (λ (l : List RecentFrame). record { frames = l; time_until_empty = w.time_until_empty - 1 }) (none_pushed w.time_until_empty w.frames (given_entry None n))
 
-push_some : (w : Resampler) (f g : Frame) (n : ℕ) → muted_window (push w (Present f) n) ≡ muted_window (push (muted_window w) (Present g) n)
+push_some : (w : Resampler) (f g : Frame) (n : ℕ) → muted_window (push w (Some f) n) ≡ muted_window (push (muted_window w) (Some g) n)
 unfolding push
-push_some w f g n = ap (λ (l : List RecentFrame). record { frames = l; time_until_empty = 4 }) (some_pushed w.time_until_empty w.frames (given_entry (Present f) n))
+push_some w f g n = ap (λ (l : List RecentFrame). record { frames = l; time_until_empty = 4 }) (some_pushed w.time_until_empty w.frames (given_entry (Some f) n))
 
 -- ---- updates: over any sound as over any other
 

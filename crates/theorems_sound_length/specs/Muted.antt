@@ -8,9 +8,9 @@ use Rattle.resampler.specs.declared.RecentFrame.{RecentFrame}
 use Rattle.resampler.specs.declared.Resampler.{Resampler}
 use Rattle.sound_update.specs.declared.Moving.{Moving}
 use Rattle.sound_state.specs.declared.StaticSound.{StaticSound}
-use Rattle.sound_creation.specs.declared.Created.{Created}
-use Rattle.sound_commands.specs.declared.Commanded.{Commanded}
-use Rattle.sound_slow_path.specs.declared.Processed.{Processed}
+use Rattle.sound_creation.specs.Creation.{Created}
+use Rattle.sound_commands.specs.Commands.{CommandsAnswer}
+use Rattle.sound_slow_path.specs.Plays.{BlockAnswer}
 
 -- ---- a voice
 
@@ -59,10 +59,10 @@ AlikeButForSamples v w = muted v ≡ muted w
 abbrev pub muted_created : Created → Created
 muted_created a = record { refusal = a.refusal; voice = muted a.voice }
 
-abbrev pub muted_commanded : Commanded → Commanded
+abbrev pub muted_commanded : CommandsAnswer → CommandsAnswer
 muted_commanded a = record { refusal = a.refusal; voice = muted a.voice; position = a.position }
 
-abbrev pub muted_processed : Processed → Processed
+abbrev pub muted_processed : BlockAnswer → BlockAnswer
 muted_processed a =
     record {
       refusal = a.refusal;

@@ -3,9 +3,8 @@
 -- voices differ only in samples.
 use Rattle.std.specs.Prelude.{ℕ, ◌≡◌, List, [], ◌∷◌, map, length}
 use Rattle.sound_state.specs.declared.StaticSound.{StaticSound}
-use Rattle.sound_commands.specs.declared.Commanded.{Commanded}
-use Rattle.sound_commands.specs.Commands.{commanded}
-use Rattle.sound_slow_path.specs.declared.Processed.{Processed}
+use Rattle.sound_commands.specs.Commands.{CommandsAnswer, commanded}
+use Rattle.sound_slow_path.specs.Plays.{BlockAnswer}
 use Rattle.static_sound.specs.Entries.{processed, processed_into, stretch_of, stretch_at}
 use Rattle.take_loop.specs.Taking.{taken}
 use Rattle.theorems.specs.InTheLoop.{Call, Block, Mix, Command, Take, Stretch, after, after_all}
@@ -13,8 +12,8 @@ use Rattle.theorems_sound_length.specs.Muted.{AlikeButForSamples, muted_commande
 
 -- the result of a call, without samples; for a stretch, where it begins in the sound and its length
 pub data Answer : Type 0 where
-  OfBlock : Processed → Answer
-  OfCommands : Commanded → Answer
+  OfBlock : BlockAnswer → Answer
+  OfCommands : CommandsAnswer → Answer
   OfStretch : ℕ → ℕ → Answer
 
 abbrev pub answer : Call → StaticSound → Answer

@@ -1,5 +1,6 @@
 -- Settings, a sound, commands or a block from a record's numbers, in the order of docs/formats/TRACE.md.
 use Rattle.std.specs.Prelude.{ℕ, zero, suc, ◌+◌, ◌-◌, ◌*◌, ◌/◌, ◌%◌, Bool, cond, not, ◌&&◌, List, [], ◌∷◌, eqb, ltb}
+use Rattle.std.specs.Prelude.{Option, Some, None}
 use Rattle.std.specs.Prelude.{leb, get_or, take, drop, Float}
 use Rattle.std.specs.Float.{binary32, binary64}
 use Rattle.byte_layout.specs.Numbers.{num}
@@ -11,11 +12,7 @@ use Rattle.playback_position.specs.declared.EndPosition.TheVariants.{EndOfAudio,
 use Rattle.playback_position.specs.declared.Region.{Region}
 use Rattle.playback_state_manager.specs.declared.StartAnswer.{StartAnswer}
 use Rattle.playback_state_manager.specs.declared.StartAnswer.TheVariants as answer
-use Rattle.sound_creation.specs.declared.OptionalRegion.{OptionalRegion}
-use Rattle.sound_creation.specs.declared.OptionalRegion.TheVariants as optional
 use Rattle.sound_creation.specs.declared.Settings.{Settings}
-use Rattle.sound_commands.specs.declared.Amount.{Amount}
-use Rattle.sound_commands.specs.declared.Amount.TheVariants as amount
 use Rattle.sound_commands.specs.declared.LoopCommand.{LoopCommand}
 use Rattle.sound_commands.specs.declared.LoopCommand.TheVariants as loop
 use Rattle.sound_commands.specs.declared.ResumeCommand.{ResumeCommand}
@@ -61,8 +58,8 @@ region_of tag start end = record { start = position_of (1 - tag % 2) start; end 
 
 -- ---- creation
 
-abbrev pub optional_of : ℕ → ℕ → ℕ → OptionalRegion
-optional_of tag start end = cond (eqb tag 0) optional.Absent (optional.Present (region_of tag start end))
+abbrev pub optional_of : ℕ → ℕ → ℕ → Option Region
+optional_of tag start end = cond (eqb tag 0) None (Some (region_of tag start end))
 
 unfoldable pub settings_of : List ℕ → Settings
 settings_of vs =
@@ -95,8 +92,8 @@ given_samples vs = cond (leb (given_frames vs) 16777216) (2 * given_frames vs) 0
 
 -- ---- commands
 
-abbrev pub amount_of : ℕ → ℕ → Amount
-amount_of tag n = cond (eqb tag 0) amount.Absent (amount.Given (double n))
+abbrev pub amount_of : ℕ → ℕ → Option Float
+amount_of tag n = cond (eqb tag 0) None (Some (double n))
 
 -- 0 keep, 1 clear, else a region: its tag plus 1
 abbrev pub loop_of : ℕ → ℕ → ℕ → LoopCommand
@@ -156,7 +153,7 @@ laned_block_of vs =
     }
 
 -- n values of a lane, each from the first w bytes of its frame's 24
-unfoldable pub lane_of : ℕ → (ℕ → Float) → ℕ → List ℕ → List Float
+unfoldable pub lane_of : {A : Type 0} → ℕ → (ℕ → A) → ℕ → List ℕ → List A
 lane_of w value zero bs = []
 lane_of w value (suc n) bs = value (num (take w bs)) ∷ lane_of w value n (drop 24 bs)
 

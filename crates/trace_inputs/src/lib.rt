@@ -26,15 +26,18 @@ ghost use Rattle.trace_inputs.specs.Inputs.{
   signals_of,
   block_of,
   laned_block_of,
+  lane_of,
   singles,
   doubles,
 };
+ghost use Rattle.std.specs.Prelude.{ℕ};
+ghost use Rattle.std.proofs.Common.{rules};
 
 use playback_position::{EndPosition, PlaybackPosition, Region};
 use playback_state_manager::StartAnswer;
 use sound_block::Signals;
-use sound_commands::{Amount, Commands, LoopCommand, ResumeCommand};
-use sound_creation::{OptionalRegion, Settings};
+use sound_commands::{Commands, LoopCommand, ResumeCommand};
+use sound_creation::Settings;
 use start_time::StartSignal;
 
 // A block whose frames all have the same numbers.
@@ -81,10 +84,7 @@ fn yes_of(n: u64) -> bool
 fn at_most(most: u64, n: u64) -> usize
     ensures { result ≡ at_most most n }
 {
-    if n <= most {
-        return n as usize;
-    }
-    most as usize
+    n.min(most) as usize
 }
 
 // ---- positions and regions
@@ -92,22 +92,20 @@ fn at_most(most: u64, n: u64) -> usize
 fn position_of(unit: u64, n: u64) -> PlaybackPosition
     ensures { result ≡ position_of unit n }
 {
-    if unit == 0 {
-        return PlaybackPosition::Samples(n as usize);
+    match unit {
+        0 => PlaybackPosition::Samples(n as usize),
+        _ => PlaybackPosition::Seconds(float_bits::f64_of(n)),
     }
-    PlaybackPosition::Seconds(float_bits::f64_of(n))
 }
 
 fn end_of(tag: u64, n: u64) -> EndPosition
     ensures { result ≡ end_of tag n }
 {
-    if tag < 3 {
-        return EndPosition::EndOfAudio;
+    match tag {
+        0..=2 => EndPosition::EndOfAudio,
+        3 | 4 => EndPosition::Custom(position_of(0, n)),
+        _ => EndPosition::Custom(position_of(1, n)),
     }
-    if tag < 5 {
-        return EndPosition::Custom(position_of(0, n));
-    }
-    EndPosition::Custom(position_of(1, n))
 }
 
 fn region_of(tag: u64, start: u64, end: u64) -> Region
@@ -122,13 +120,13 @@ fn region_of(tag: u64, start: u64, end: u64) -> Region
 
 // ---- creation
 
-fn optional_of(tag: u64, start: u64, end: u64) -> OptionalRegion
+fn optional_of(tag: u64, start: u64, end: u64) -> Option<Region>
     ensures { result ≡ optional_of tag start end }
 {
-    if tag == 0 {
-        return OptionalRegion::Absent;
+    match tag {
+        0 => None,
+        _ => Some(region_of(tag, start, end)),
     }
-    OptionalRegion::Present(region_of(tag, start, end))
 }
 
 pub fn settings_of(values: [u64; 80]) -> Settings
@@ -152,12 +150,10 @@ pub fn put_samples(values: [u64; 80], out: &mut [f32]) -> usize
         × (result ≡ length (samples_of values)) }
 {
     let n = at_most(64, values[12]);
-    let mut k: usize = 0;
-    while k < n {
+    for k in 0..n {
         let x = values[13 + k];
         out[2 * k] = single_of(x);
         out[2 * k + 1] = single_of(x / 4294967296);
-        k += 1;
     }
     2 * n
 }
@@ -168,44 +164,41 @@ pub fn given_samples_of(values: [u64; 80]) -> usize
 {
     let frames = values[12];
     if frames <= 16777216 {
-        return 2 * (frames as usize);
+        2 * (frames as usize)
+    } else {
+        0
     }
-    0
 }
 
 // ---- commands
 
-fn amount_of(tag: u64, n: u64) -> Amount
+fn amount_of(tag: u64, n: u64) -> Option<f64>
     ensures { result ≡ amount_of tag n }
 {
-    if tag == 0 {
-        return Amount::Absent;
+    match tag {
+        0 => None,
+        _ => Some(float_bits::f64_of(n)),
     }
-    Amount::Given(float_bits::f64_of(n))
 }
 
 fn loop_of(tag: u64, start: u64, end: u64) -> LoopCommand
     ensures { result ≡ loop_of tag start end }
 {
-    if tag == 0 {
-        return LoopCommand::Keep;
+    match tag {
+        0 => LoopCommand::Keep,
+        1 => LoopCommand::Clear,
+        _ => LoopCommand::Set(region_of(tag - 1, start, end)),
     }
-    if tag == 1 {
-        return LoopCommand::Clear;
-    }
-    LoopCommand::Set(region_of(tag - 1, start, end))
 }
 
 fn resume_of(n: u64) -> ResumeCommand
     ensures { result ≡ resume_of n }
 {
-    if n == 0 {
-        return ResumeCommand::Keep;
+    match n {
+        0 => ResumeCommand::Keep,
+        1 => ResumeCommand::Now,
+        _ => ResumeCommand::Waiting,
     }
-    if n == 1 {
-        return ResumeCommand::Now;
-    }
-    ResumeCommand::Waiting
 }
 
 pub fn commands_of(values: [u64; 80]) -> Commands
@@ -227,13 +220,11 @@ pub fn commands_of(values: [u64; 80]) -> Commands
 fn answer_of(n: u64) -> StartAnswer
     ensures { result ≡ answer_of n }
 {
-    if n == 0 {
-        return StartAnswer::Waiting;
+    match n {
+        0 => StartAnswer::Waiting,
+        1 => StartAnswer::Now,
+        _ => StartAnswer::Never,
     }
-    if n == 1 {
-        return StartAnswer::Now;
-    }
-    StartAnswer::Never
 }
 
 fn signals_of(finished: u64, start: u64, resume: u64) -> Signals
@@ -283,36 +274,75 @@ fn number_of(bytes: &[u8], at: usize, width: usize) -> u64
         return 0;
     }
     let left = bytes.len() - at;
-    if left < width {
-        return byte_layout::number(bytes, at, left);
-    }
-    byte_layout::number(bytes, at, width)
+    byte_layout::number(bytes, at, width.min(left))
 }
 
-// A lane of f32 values from the bytes of its frames, with the first value at this offset. Zeros follow it.
+// A value of a lane: the first bytes of its frame are its bits.
+trait LaneValue: Copy {
+    ghost WIDTH: { ℕ };
+
+    ghost value: { ℕ → Self };
+
+    const WIDTH: usize;
+
+    fn of_bits(bits: u64) -> Self
+        ensures { result ≡ value bits };
+
+    ghost narrow: { WIDTH ≤ 8 };
+}
+
+impl LaneValue for f32 {
+    ghost WIDTH = { 4 };
+
+    ghost value = { λ bits. single bits };
+
+    ghost narrow = { Prim.search rules };
+
+    const WIDTH: usize = 4;
+
+    fn of_bits(bits: u64) -> f32 {
+        single_of(bits)
+    }
+}
+
+impl LaneValue for f64 {
+    ghost WIDTH = { 8 };
+
+    ghost value = { λ bits. double bits };
+
+    ghost narrow = { Prim.search rules };
+
+    const WIDTH: usize = 8;
+
+    fn of_bits(bits: u64) -> f64 {
+        float_bits::f64_of(bits)
+    }
+}
+
+// A lane from the bytes of its frames, with the first value at this offset. Zeros follow it.
+fn lane_of<T: LaneValue>(bytes: &[u8], at: usize, frames: usize) -> [T; 1024]
+    requires { (at ≤ 64) × (frames ≤ 1024) }
+    ensures { result ≡ sets (replicate 1024 (T.value 0)) 0
+        (lane_of T.WIDTH T.value frames (drop at bytes.now)) }
+{
+    let mut lane = [T::of_bits(0); 1024];
+    for i in 0..frames {
+        lane[i] = T::of_bits(number_of(bytes, at + 24 * i, T::WIDTH));
+    }
+    lane
+}
+
+// The lane at each of its two types. They have names of their own because their contracts do: the lanes' definitions.
 pub fn singles_of(bytes: &[u8], at: usize, frames: usize) -> [f32; 1024]
     requires { (at ≤ 64) × (frames ≤ 1024) }
     ensures { result ≡ sets (replicate 1024 positive_zero) 0 (singles frames (drop at bytes.now)) }
 {
-    let mut lane = [0.0; 1024];
-    let mut i: usize = 0;
-    while i < frames {
-        lane[i] = single_of(number_of(bytes, at + 24 * i, 4));
-        i += 1;
-    }
-    lane
+    lane_of(bytes, at, frames)
 }
 
-// The same for f64 values.
 pub fn doubles_of(bytes: &[u8], at: usize, frames: usize) -> [f64; 1024]
     requires { (at ≤ 64) × (frames ≤ 1024) }
     ensures { result ≡ sets (replicate 1024 positive_zero) 0 (doubles frames (drop at bytes.now)) }
 {
-    let mut lane = [0.0; 1024];
-    let mut i: usize = 0;
-    while i < frames {
-        lane[i] = float_bits::f64_of(number_of(bytes, at + 24 * i, 8));
-        i += 1;
-    }
-    lane
+    lane_of(bytes, at, frames)
 }

@@ -15,7 +15,8 @@ fn put(line: &mut [u8], at: usize, text: &[u8]) -> usize
     at + text.len()
 }
 
-// Writes a number in decimal.
+// Writes a number in decimal, from its last digit on. How many digits there are shows only at the end, so the loop is a
+// `while` and no `for`.
 fn put_decimal(line: &mut [u8], at: usize, n: u64) -> usize
     requires { at + 20 ≤ length line.old }
     ensures { (line.new ≡ sets line.old at (decimal n)) × (result ≡ at + length (decimal n))
@@ -33,7 +34,7 @@ fn put_decimal(line: &mut [u8], at: usize, n: u64) -> usize
     put(line, at, &digits[i..20])
 }
 
-// Writes a word and a number.
+// Writes a word and a number. `write!` would need a writer over the buffer, whose contract says nothing of the bytes.
 fn put_labelled(line: &mut [u8], at: usize, word: &[u8], n: u64) -> usize
     requires { at + length word.now + 20 ≤ length line.old }
     ensures { (line.new ≡ sets line.old at (labelled word.now n))

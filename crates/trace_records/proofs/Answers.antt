@@ -8,15 +8,15 @@ use lib.Dec.{leb, eqb}
 use lib.ListN.{length, take, drop, replicate, length-append, length-drop}
 use lib.Seq.{take_at, drop_at, length-take-le}
 use Rattle.byte_layout.specs.declared.Row.{Row}
-use Rattle.byte_layout.specs.Rows.{rows, stands}
+use Rattle.byte_layout.specs.Rows.{stands}
 use Rattle.byte_layout.specs.Writes.{fits, fine}
 use Rattle.byte_layout.proofs.Numbers.{Small, small_drop}
 use Rattle.byte_layout.proofs.Codec.{never, both, ands}
-use Rattle.trace_records.specs.Tables.{creation_table, command_table, block_table, creation_rows, command_rows, block_rows, body, fields}
+use Rattle.trace_records.specs.Tables.{body, fields}
 use Rattle.trace_records.specs.Records.{Found, refused, found, read_record, valued, record_at}
 use Rattle.trace_records.specs.Writes.{record_of, known, Written, write_record}
 use Rattle.trace_records.specs.Promises.{copied}
-use Rattle.trace_records.proofs.Rounds.{read_record_lem, written_record}
+use Rattle.trace_records.proofs.Rounds.{body_long, read_record_lem, written_record}
 use Rattle.trace_records.proofs.Traces.{record_some, written_one, put_length}
 use Rattle.trace_records.proofs.Windows.{refusal_numbered}
 
@@ -31,20 +31,6 @@ fine_long [] vs [] e = refl
 fine_long [] vs (x ∷ ws) e = never e
 fine_long (r ∷ rs) vs [] e = never e
 fine_long (r ∷ rs) vs (x ∷ ws) e = ap suc (fine_long rs (vs ++ (x ∷ [])) ws (both (fits (stands r vs) r x) (fine rs (vs ++ (x ∷ [])) ws) e).1)
-
-rows_long : (t : List ℕ) (j n : ℕ) → length (rows t j n) ≡ n
-unfolding rows
-rows_long t j zero = refl
-rows_long t j (suc n) = ap suc (rows_long t (suc j) n)
-
-body_long : (k : ℕ) → length (body k) ≡ fields k
-unfolding creation_rows command_rows block_rows
-body_long k = go (eqb k 1) (eqb k 2)
-  where
-    go : (a b : Bool) → length (cond a (rows creation_table 0 77) (cond b (rows command_table 0 12) (rows block_table 0 10))) ≡ cond a 77 (cond b 12 10)
-    go true b = rows_long creation_table 0 77
-    go false true = rows_long command_table 0 12
-    go false false = rows_long block_table 0 10
 
 numbers_long : (k : ℕ) (ws : List ℕ) → fine (body k) [] ws ≡ true → length ws ≡ fields k
 numbers_long k ws e = fine_long (body k) [] ws e ∙ body_long k

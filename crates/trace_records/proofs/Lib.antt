@@ -1,7 +1,6 @@
 -- Laws of a trace's records.
-pub mod Ways
-pub mod CreationTable
 pub mod Rounds
+pub mod Ways
 pub mod Sends
 pub mod Marks
 pub mod Traces

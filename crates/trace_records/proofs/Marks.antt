@@ -8,10 +8,10 @@ use lib.Dec.{leb, ltb}
 use lib.ListN.{length, get_or}
 use borrow.Author.Tests.{ltb-true, ltb-false, leb-true, le-leb, lt-leb}
 use Rattle.byte_layout.specs.Numbers.{num, bytes}
-use Rattle.byte_layout.specs.Rows.{row_at, rows, stands, within}
+use Rattle.byte_layout.specs.Rows.{stands, within}
 use Rattle.byte_layout.specs.Reads.{steps, step, taken}
 use Rattle.byte_layout.specs.Writes.{field, payload}
-use Rattle.trace_records.specs.Tables.{head_table, head_rows}
+use Rattle.trace_records.specs.Tables.{head_rows}
 use Rattle.trace_records.specs.Records.{refused, read_record, bodied}
 use Rattle.trace_records.specs.Writes.{record_of}
 
@@ -30,9 +30,9 @@ not_a5 x h = go (leb 165 x) refl
     go false e = refl
 
 pub unmarked : (b : ℕ) (bs : List ℕ) → (b ≡ 165 → ⊥) → read_record (b ∷ bs) ≡ refused 15
-unfolding read_record bodied steps step taken stands within num head_rows rows row_at head_table
+unfolding read_record bodied steps step taken stands within num head_rows
 unmarked b bs h = let x : b + 0 ≡ b = omega arith in rw (x, not_a5 b h, le-leb 1 (length (b ∷ bs)) (omega arith)) refl
 
 pub third : (k : ℕ) (ws rest : List ℕ) → get_or (record_of k ws ++ rest) 2 0 ≡ k % 256
-unfolding record_of payload head_rows rows row_at head_table stands field bytes
+unfolding record_of payload head_rows stands field bytes
 third k ws rest = refl

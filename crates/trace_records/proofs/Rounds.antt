@@ -10,30 +10,30 @@ use lib.ListN.{length, get_or, length-append}
 use borrow.Author.Tests.{le-leb, leb-true, eqb-true, eq-eqb}
 use Rattle.byte_layout.specs.declared.Row.{Row}
 use Rattle.byte_layout.specs.Numbers.{bytes}
-use Rattle.byte_layout.specs.Rows.{row_at, rows, stands, within, sound}
+use Rattle.refusals.specs.declared.Refusal.TheVariants.{Mark, Kind, Record}
+use Rattle.byte_layout.specs.Rows.{row, stands, within, sound}
 use Rattle.byte_layout.specs.Reads.{Reading, bad, good, steps}
 use Rattle.byte_layout.specs.Writes.{field, payload, fits, fine}
 use Rattle.byte_layout.proofs.Numbers.{Small}
 use Rattle.byte_layout.proofs.Codec.{never, both, ands, read_written, written_read, bad_good}
 use Rattle.byte_layout.proofs.Lengths.{always, most, least, eights, at_most, at_least, apart}
-use Rattle.trace_records.specs.Tables.{head_table, creation_table, frame_table, command_table, block_table, head_rows, creation_rows, command_rows, block_rows, body}
+use Rattle.trace_records.specs.Tables.{head_rows, creation_rows, frame_rows, command_rows, block_rows, body, fields}
 use Rattle.trace_records.specs.Records.{shortest, longest, possible, Found, refused, found, ended, bodied, read_record}
 use Rattle.trace_records.specs.Writes.{head_of, record_of, known}
 use Rattle.trace_records.specs.Promises.{Kept}
-use Rattle.trace_records.proofs.Ways.{head_sound, creation_sound, command_sound, block_sound}
 
 -- ---- the kinds' rows
 
 creation_rows_lem : (least creation_rows ≡ 26) × (most creation_rows ≡ 570) × (eights creation_rows ≡ true)
-unfolding least most eights creation_rows rows row_at creation_table frame_table
+unfolding least most eights creation_rows frame_rows
 creation_rows_lem = (refl, refl, refl)
 
 command_rows_lem : (least command_rows ≡ 7) × (most command_rows ≡ 47) × (eights command_rows ≡ true)
-unfolding least most eights command_rows rows row_at command_table
+unfolding least most eights command_rows
 command_rows_lem = (refl, refl, refl)
 
 block_rows_lem : (least block_rows ≡ 37) × (most block_rows ≡ 37) × (eights block_rows ≡ true)
-unfolding least most eights block_rows rows row_at block_table
+unfolding least most eights block_rows
 block_rows_lem = (refl, refl, refl)
 
 lengths : (k : ℕ) → (least (body k) ≡ shortest k) × (most (body k) ≡ longest k) × (eights (body k) ≡ true)
@@ -45,13 +45,30 @@ lengths k = go (eqb k 1) (eqb k 2)
     go false false = block_rows_lem
 
 pub body_sound : (k : ℕ) → sound (body k) ≡ true
-unfolding creation_rows command_rows block_rows
+unfolding sound creation_rows frame_rows command_rows block_rows
 body_sound k = go (eqb k 1) (eqb k 2)
   where
     go : (a b : Bool) → sound (cond a creation_rows (cond b command_rows block_rows)) ≡ true
-    go true b = creation_sound creation_table refl
-    go false true = command_sound
-    go false false = block_sound
+    go true b = refl
+    go false true = refl
+    go false false = refl
+
+pub body_long : (k : ℕ) → length (body k) ≡ fields k
+unfolding creation_rows frame_rows command_rows block_rows
+body_long k = go (eqb k 1) (eqb k 2)
+  where
+    go : (a b : Bool) → length (cond a creation_rows (cond b command_rows block_rows)) ≡ cond a 77 (cond b 12 10)
+    go true b = refl
+    go false true = refl
+    go false false = refl
+
+pub fields_few : (k : ℕ) → fields k < 80
+fields_few k = go (eqb k 1) (eqb k 2)
+  where
+    go : (a b : Bool) → cond a 77 (cond b 12 10) < 80
+    go true b = omega arith
+    go false true = omega arith
+    go false false = omega arith
 
 pub longest_few : (k : ℕ) → longest k ≤ 570
 longest_few k = go (eqb k 1) (eqb k 2)
@@ -82,18 +99,18 @@ fields_possible k ws e =
 -- ---- the head
 
 pub head_length : (k n : ℕ) → length (payload head_rows [] (head_of k n)) ≡ 5
-unfolding payload head_rows rows row_at head_table stands field bytes
+unfolding payload head_rows stands field bytes
 head_length k n = refl
 
 pub head_rows_sound : sound head_rows ≡ true
-unfolding head_rows
-head_rows_sound = head_sound
+unfolding sound head_rows
+head_rows_sound = refl
 
 known_true : (k : ℕ) → known k ≡ true → (1 ≤ k) × (k ≤ 3)
 known_true k e = let h = ands (leb 1 k) (leb k 3) e in (leb-true 1 k h.0, leb-true k 3 h.1)
 
 head_fine : (k n : ℕ) → known k ≡ true → n ≤ 65535 → fine head_rows [] (head_of k n) ≡ true
-unfolding head_rows rows row_at head_table stands fine fits within
+unfolding head_rows stands fine fits within
 head_fine k n e h = let q = known_true k e in rw (le-leb 1 k q.0, le-leb k 3 q.1, leb-zero n, le-leb n 65535 h) refl
 
 -- ---- whatever is written is read back as the same fields
@@ -118,45 +135,66 @@ read_record_lem k ws rest y e = go (payload (body k) [] ws) refl
 
 -- ---- what the reader accepts, the writer writes again byte for byte
 
-row_always : (r : Row) (rs : List Row) (vs ws : List ℕ) (x : ℕ) → r.low ≡ 0 → fine (r ∷ rs) vs (x ∷ ws) ≡ true → (within r x ≡ true) × (fine rs (vs ++ (x ∷ [])) ws ≡ true)
+pub row_always : (r : Row) (rs : List Row) (vs ws : List ℕ) (x : ℕ) → r.low ≡ 0 → fine (r ∷ rs) vs (x ∷ ws) ≡ true → (within r x ≡ true) × (fine rs (vs ++ (x ∷ [])) ws ≡ true)
 unfolding fine fits
 row_always r rs vs ws x l e = both (within r x) (fine rs (vs ++ (x ∷ [])) ws) (rw (always r vs l) at e)
 
-one : (r : Row) (x : ℕ) → within r x ≡ true → (r.least ≤ x) × (x ≤ r.most)
+pub one : (r : Row) (x : ℕ) → within r x ≡ true → (r.least ≤ x) × (x ≤ r.most)
 unfolding within
 one r x e = let h = ands (leb r.least x) (leb x r.most) e in (leb-true r.least x h.0, leb-true x r.most h.1)
 
--- an accepted head: mark, a kind, a length
-record Head (hs : List ℕ) : Type 0 where
-  is : hs ≡ head_of (get_or hs 2 0) (get_or hs 3 0)
-  kind : known (get_or hs 2 0) ≡ true
+-- the rows of a head with a kind from lo to hi
+abbrev pub heads : ℕ → ℕ → List Row
+heads lo hi = row 1 0 0 165 165 Mark ∷ row 1 0 0 29 29 Mark ∷ row 1 0 0 lo hi Kind ∷ row 2 0 0 0 65535 Record ∷ []
 
-head_is : (hs : List ℕ) → fine head_rows [] hs ≡ true → Head hs
-unfolding head_rows rows row_at head_table fine
-head_is [] e = never e
-head_is (a ∷ []) e = never (row_always (row_at head_table 0) (rows head_table 1 3) [] [] a refl e).1
-head_is (a ∷ b ∷ []) e = never (row_always (row_at head_table 1) (rows head_table 2 2) (a ∷ []) [] b refl (row_always (row_at head_table 0) (rows head_table 1 3) [] (b ∷ []) a refl e).1).1
-head_is (a ∷ b ∷ c ∷ []) e =
-    never (row_always (row_at head_table 2) (rows head_table 3 1) (a ∷ b ∷ []) [] c refl (row_always (row_at head_table 1) (rows head_table 2 2) (a ∷ []) (c ∷ []) b refl (row_always (row_at head_table 0) (rows head_table 1 3) [] (b ∷ c ∷ []) a refl e).1).1).1
-head_is (a ∷ b ∷ c ∷ d ∷ ws) e =
-    let h0 = row_always (row_at head_table 0) (rows head_table 1 3) [] (b ∷ c ∷ d ∷ ws) a refl e in
-    let h1 = row_always (row_at head_table 1) (rows head_table 2 2) (a ∷ []) (c ∷ d ∷ ws) b refl h0.1 in
-    let h2 = row_always (row_at head_table 2) (rows head_table 3 1) (a ∷ b ∷ []) (d ∷ ws) c refl h1.1 in
-    let h3 = row_always (row_at head_table 3) [] (a ∷ b ∷ c ∷ []) ws d refl h2.1 in
-    let ea : a ≡ 165 = omega (arith, one (row_at head_table 0) a h0.0) in
-    let eb : b ≡ 29 = omega (arith, one (row_at head_table 1) b h1.0) in
-    let ec = one (row_at head_table 2) c h2.0 in
-    record { is = rw (ea, eb, no_more (a ∷ b ∷ c ∷ d ∷ []) ws h3.1) refl; kind = rw (le-leb 1 c (omega (arith, ec)), le-leb c 3 (omega (arith, ec))) refl }
-  where
-    no_more : (vs ws : List ℕ) → fine [] vs ws ≡ true → ws ≡ []
-    no_more vs [] f = refl
-    no_more vs (x ∷ ws) f = never f
+-- an accepted head: mark, a kind, a length
+pub record Head (lo hi : ℕ) (hs : List ℕ) : Type 0 where
+  pub is : hs ≡ head_of (get_or hs 2 0) (get_or hs 3 0)
+  pub kind : (leb lo (get_or hs 2 0) && leb (get_or hs 2 0) hi) ≡ true
+
+module _ (lo hi : ℕ) where
+  abbrev first : List Row
+  first = row 1 0 0 29 29 Mark ∷ row 1 0 0 lo hi Kind ∷ row 2 0 0 0 65535 Record ∷ []
+
+  abbrev second : List Row
+  second = row 1 0 0 lo hi Kind ∷ row 2 0 0 0 65535 Record ∷ []
+
+  abbrev size_row : Row
+  size_row = row 2 0 0 0 65535 Record
+
+  pub head_is : (hs : List ℕ) → fine (heads lo hi) [] hs ≡ true → Head lo hi hs
+  unfolding fine
+  head_is [] e = never e
+  head_is (a ∷ []) e = never (row_always (row 1 0 0 165 165 Mark) first [] [] a refl e).1
+  head_is (a ∷ b ∷ []) e = never (row_always (row 1 0 0 29 29 Mark) second (a ∷ []) [] b refl (row_always (row 1 0 0 165 165 Mark) first [] (b ∷ []) a refl e).1).1
+  head_is (a ∷ b ∷ c ∷ []) e =
+      never (row_always (row 1 0 0 lo hi Kind) (size_row ∷ []) (a ∷ b ∷ []) [] c refl (row_always (row 1 0 0 29 29 Mark) second (a ∷ []) (c ∷ []) b refl (row_always (row 1 0 0 165 165 Mark) first [] (b ∷ c ∷ []) a refl e).1).1).1
+  head_is (a ∷ b ∷ c ∷ d ∷ ws) e =
+      let h0 = row_always (row 1 0 0 165 165 Mark) first [] (b ∷ c ∷ d ∷ ws) a refl e in
+      let h1 = row_always (row 1 0 0 29 29 Mark) second (a ∷ []) (c ∷ d ∷ ws) b refl h0.1 in
+      let h2 = row_always (row 1 0 0 lo hi Kind) (size_row ∷ []) (a ∷ b ∷ []) (d ∷ ws) c refl h1.1 in
+      let h3 = row_always size_row [] (a ∷ b ∷ c ∷ []) ws d refl h2.1 in
+      let ea : a ≡ 165 = omega (arith, one (row 1 0 0 165 165 Mark) a h0.0) in
+      let eb : b ≡ 29 = omega (arith, one (row 1 0 0 29 29 Mark) b h1.0) in
+      let ec = one (row 1 0 0 lo hi Kind) c h2.0 in
+      record { is = rw (ea, eb, no_more (a ∷ b ∷ c ∷ d ∷ []) ws h3.1) refl; kind = rw (le-leb lo c ec.0, le-leb c hi ec.1) refl }
+    where
+      no_more : (vs ws : List ℕ) → fine [] vs ws ≡ true → ws ≡ []
+      no_more vs [] f = refl
+      no_more vs (x ∷ ws) f = never f
+
+  -- a head that is read has a kind in the range
+  pub head_known : (bs : List ℕ) (l : ℕ) (hs rest : List ℕ) → Small bs → steps (heads lo hi) (good 5 [] bs) ≡ good l hs rest → (leb lo (get_or hs 2 0) && leb (get_or hs 2 0) hi) ≡ true
+  head_known bs l hs rest s e =
+      let w = written_read (heads lo hi) 5 [] bs l hs rest s e in
+      let y : w.more ≡ hs = sym w.same in
+      (head_is hs (rw y at w.takes)).kind
 
 pub small_after : (xs ys : List ℕ) → Small (xs ++ ys) → Small ys
 small_after [] ys h = h
 small_after (x ∷ xs) ys h = small_after xs ys (λ i. h (suc i))
 
-refused_found : {A : Type 0} (n k : ℕ) (ws rest : List ℕ) → refused n ≡ found k ws rest → A
+pub refused_found : {A : Type 0} (n k : ℕ) (ws rest : List ℕ) → refused n ≡ found k ws rest → A
 refused_found n k ws rest e = let z : ◌≡◌ {A = ℕ} 0 1 = cc in none (omega arith)
   where
     none : {A : Type 0} → ⊥ → A
@@ -185,10 +223,10 @@ body_good k n j bs ws rest e = go (possible k n) (steps (body k) (good n [] bs))
     go true (good l us r) f = left l us r (eqb l 0) refl f
 
 pub written_record : (bs : List ℕ) (k : ℕ) (ws rest : List ℕ) → Small bs → read_record bs ≡ found k ws rest → Kept bs k ws rest
-unfolding read_record bodied record_of
+unfolding read_record bodied record_of head_rows
 written_record bs k ws rest s e = go (steps head_rows (good 5 [] bs)) refl e
   where
-    both_parts : (hs b1 : List ℕ) → bs ≡ payload head_rows [] hs ++ b1 → Head hs → get_or hs 2 0 ≡ k → steps (body k) (good (get_or hs 3 0) [] b1) ≡ good 0 ws rest → Kept bs k ws rest
+    both_parts : (hs b1 : List ℕ) → bs ≡ payload head_rows [] hs ++ b1 → Head 1 3 hs → get_or hs 2 0 ≡ k → steps (body k) (good (get_or hs 3 0) [] b1) ≡ good 0 ws rest → Kept bs k ws rest
     both_parts hs b1 a f y g =
         let n = get_or hs 3 0 in
         let w = written_read (body k) n [] b1 0 ws rest (small_after (payload head_rows [] hs) b1 (rw a at s)) g in
@@ -211,4 +249,4 @@ written_record bs k ws rest s e = go (steps head_rows (good 5 [] bs)) refl e
         let y : w.more ≡ hs = sym w.same in
         let g = body_good (get_or hs 2 0) (get_or hs 3 0) k b1 ws rest f in
         let i : steps (body k) (good (get_or hs 3 0) [] b1) ≡ good 0 ws rest = ap (λ (z : ℕ). steps (body z) (good (get_or hs 3 0) [] b1)) (sym g.same) ∙ g.all in
-        both_parts hs b1 (w.from ∙ ap (λ (z : List ℕ). payload head_rows [] z ++ b1) y) (head_is hs (rw y at w.takes)) g.same i
+        both_parts hs b1 (w.from ∙ ap (λ (z : List ℕ). payload head_rows [] z ++ b1) y) (head_is 1 3 hs (rw y at w.takes)) g.same i

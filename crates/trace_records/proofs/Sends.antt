@@ -9,40 +9,33 @@ use lib.ListN.{length, get_or, take, drop, length-append}
 use lib.Seq.{sets, sets-eq}
 use borrow.Author.Tests.{le-leb, lt-leb, eq-eqb, ne_eqb}
 use Rattle.byte_layout.specs.declared.Row.{Row}
-use Rattle.byte_layout.specs.Rows.{rows}
 use Rattle.byte_layout.specs.Writes.{payload, fine}
 use Rattle.byte_layout.proofs.Puts.{sets_append}
-use Rattle.trace_records.specs.Tables.{creation_table, command_table, block_table, head_rows, creation_rows, command_rows, block_rows, body, fields}
+use Rattle.trace_records.specs.declared.tables.Kind.{Kind}
+use Rattle.trace_records.specs.declared.tables.Kind.TheVariants.{Creation, Commands, Block}
+use Rattle.trace_records.specs.Tables.{head_rows, body, fields, kind_number}
 use Rattle.trace_records.specs.Writes.{head_of, record_of, known, Written, write_record}
-use Rattle.trace_records.proofs.Rounds.{head_length, payload_few}
+use Rattle.trace_records.proofs.Rounds.{body_long, head_length, payload_few}
 
--- ---- by the kind
+-- by the kind's rows
+pub by_kind : {A : Type 0} (f : List Row → List ℕ → A) (t : List Row) (k : ℕ) (vs : List ℕ) → t ≡ body k → f t (take (length t) vs) ≡ f (body k) (take (fields k) vs)
+by_kind f t k vs e = ap (λ z. f z (take (length z) vs)) e ∙ ap (λ n. f (body k) (take n vs)) (body_long k)
 
-module _ {A : Type 0} (f : List Row → ℕ → A) (k : ℕ) where
-  pub of_creation : (t : List ℕ) → t ≡ creation_table → k ≡ 1 → f (rows t 0 77) 77 ≡ f (body k) (fields k)
-  unfolding creation_rows
-  of_creation t e h = ap (λ (z : List ℕ). f (rows z 0 77) 77) e ∙ rw (eq-eqb k 1 h) refl
+pub kind_known : (k : Kind) → true ≡ known (kind_number k)
+kind_known Creation = refl
+kind_known Commands = refl
+kind_known Block = refl
 
-  pub of_commands : (k ≡ 1 → ⊥) → k ≡ 2 → f (rows command_table 0 12) 12 ≡ f (body k) (fields k)
-  unfolding command_rows
-  of_commands g h = rw (ne_eqb k 1 g, eq-eqb k 2 h) refl
-
-  pub of_block : (k ≡ 1 → ⊥) → (k ≡ 2 → ⊥) → f (rows block_table 0 10) 10 ≡ f (body k) (fields k)
-  unfolding block_rows
-  of_block g h = rw (ne_eqb k 1 g, ne_eqb k 2 h) refl
-
--- ---- the write
-
-abbrev pub sent : ℕ → ℕ → List ℕ → Written
-sent k a b = record { number = k; next = a; buffer = b }
+abbrev outcome : ℕ → ℕ → List ℕ → Written
+outcome k a b = record { number = k; next = a; buffer = b }
 
 module _ (buf : List ℕ) (at k : ℕ) (ws : List ℕ) where
-  pub no_kind : false ≡ known k → sent 16 at buf ≡ write_record buf at k ws
+  pub no_kind : false ≡ known k → outcome 16 at buf ≡ write_record buf at k ws
   unfolding write_record
   no_kind e = rw (← e) refl
 
   module _ (y : true ≡ known k) where
-    pub unfit : false ≡ fine (body k) [] ws → sent 17 at buf ≡ write_record buf at k ws
+    pub unfit : false ≡ fine (body k) [] ws → outcome 17 at buf ≡ write_record buf at k ws
     unfolding write_record
     unfit e = rw (← y, ← e) refl
 
@@ -54,7 +47,7 @@ module _ (buf : List ℕ) (at k : ℕ) (ws : List ℕ) where
       unfolding record_of
       size = length-append (payload head_rows [] (head_of k (length (payload (body k) [] ws)))) (payload (body k) [] ws) ∙ omega (arith, head_length k (length (payload (body k) [] ws)), e)
 
-      pub no_room : length buf - at < 5 + n → sent 19 at buf ≡ write_record buf at k ws
+      pub no_room : length buf - at < 5 + n → outcome 19 at buf ≡ write_record buf at k ws
       unfolding write_record
       no_room h = rw (← y, ← f, lt-leb (length (record_of k ws)) (length buf - at) (omega (arith, size))) refl
 
@@ -63,11 +56,11 @@ module _ (buf : List ℕ) (at k : ℕ) (ws : List ℕ) where
       joined = ap (λ (z : ℕ). payload head_rows [] (head_of k z) ++ payload (body k) [] ws) e
 
       pub written : 5 + n ≤ length buf - at → at ≤ length buf → (one two : List ℕ) (a b : ℕ) → one ≡ sets buf at (payload head_rows [] (head_of k n)) → a ≡ at + 5
-          → two ≡ sets one a (payload (body k) [] ws) → b ≡ a + length (payload (body k) [] ws) → sent 0 b two ≡ write_record buf at k ws
+          → two ≡ sets one a (payload (body k) [] ws) → b ≡ a + length (payload (body k) [] ws) → outcome 0 b two ≡ write_record buf at k ws
       unfolding write_record
       written h z one two a b p q r s =
           rw (← y, ← f, le-leb (length (record_of k ws)) (length buf - at) (omega (arith, size)))
-          (ap (λ (x : ℕ). sent 0 x two) (omega (arith, size, s, q, e)) ∙ ap (λ (x : List ℕ). sent 0 (at + length (record_of k ws)) x) stored)
+          (ap (λ (x : ℕ). outcome 0 x two) (omega (arith, size, s, q, e)) ∙ ap (λ (x : List ℕ). outcome 0 (at + length (record_of k ws)) x) stored)
         where
           place : a ≡ at + length (payload head_rows [] (head_of k n))
           place = omega (arith, q, head_length k n)

@@ -9,15 +9,16 @@ use lib.Dec.{leb, eqb}
 use lib.ListN.{length, get_or, take, drop, length-append, length-drop, take-append-drop, replicate}
 use lib.Seq.{length-take-le}
 use borrow.Author.Tests.{le-leb, leb-true, leb-false}
+use Rattle.refusals.specs.Numbers.{number}
 use Rattle.byte_layout.specs.declared.Row.{Row}
 use Rattle.byte_layout.specs.Numbers.{num}
-use Rattle.byte_layout.specs.Rows.{stands, within, sound}
+use Rattle.byte_layout.specs.Rows.{stands, within}
 use Rattle.byte_layout.specs.Reads.{Reading, bad, good, taken, step, steps}
-use Rattle.byte_layout.proofs.Codec.{ands, sound_cons}
-use Rattle.trace_records.specs.declared.Record.{Record}
+use Rattle.byte_layout.proofs.Codec.{ands}
+use Rattle.byte_layout.proofs.Low.{some_refusal}
 use Rattle.trace_records.specs.Tables.{head_rows, body}
 use Rattle.trace_records.specs.Records.{shortest, longest, possible, Found, refused, found, ended, bodied, read_record, valued, record_at}
-use Rattle.trace_records.proofs.Rounds.{longest_few, head_rows_sound, body_sound}
+use Rattle.trace_records.proofs.Rounds.{longest_few}
 
 none : {A : Type 0} → ⊥ → A
 none e = elim e [ ]
@@ -56,13 +57,13 @@ one_row r d left vs win m h = go (stands r vs)
     n : ℕ
     n = num (take w win)
 
-    fits : w ≤ left → (b : Bool) → Same d m (cond b (good (left - w) (vs ++ (n ∷ [])) (drop w win ++ m)) (bad r.refusal)) (cond b (good (left - w) (vs ++ (n ∷ [])) (drop w win)) (bad r.refusal))
+    fits : w ≤ left → (b : Bool) → Same d m (cond b (good (left - w) (vs ++ (n ∷ [])) (drop w win ++ m)) (bad (number r.refusal))) (cond b (good (left - w) (vs ++ (n ∷ [])) (drop w win)) (bad (number r.refusal)))
     fits p true = record { equal = refl; holds = input (left - w) (vs ++ (n ∷ [])) (drop w win) (omega (arith, length-drop w win)) }
-    fits p false = record { equal = refl; holds = refusal r.refusal }
+    fits p false = record { equal = refl; holds = refusal (number r.refusal) }
 
     room : (b : Bool) → leb w left ≡ b → Same d m
-        (cond b (cond (leb w (length (win ++ m))) (cond (within r (num (take w (win ++ m)))) (good (left - w) (vs ++ (num (take w (win ++ m)) ∷ [])) (drop w (win ++ m))) (bad r.refusal)) (bad 18)) (cond (leb left (length (win ++ m))) (bad 17) (bad 18)))
-        (cond b (cond (leb w (length win)) (cond (within r n) (good (left - w) (vs ++ (n ∷ [])) (drop w win)) (bad r.refusal)) (bad 18)) (cond (leb left (length win)) (bad 17) (bad 18)))
+        (cond b (cond (leb w (length (win ++ m))) (cond (within r (num (take w (win ++ m)))) (good (left - w) (vs ++ (num (take w (win ++ m)) ∷ [])) (drop w (win ++ m))) (bad (number r.refusal))) (bad 18)) (cond (leb left (length (win ++ m))) (bad 17) (bad 18)))
+        (cond b (cond (leb w (length win)) (cond (within r n) (good (left - w) (vs ++ (n ∷ [])) (drop w win)) (bad (number r.refusal))) (bad 18)) (cond (leb left (length win)) (bad 17) (bad 18)))
     room true e =
         let p = leb-true w left e in
         let a : w ≤ length win = omega arith in
@@ -161,64 +162,34 @@ window bs at end h = go (leb end (length bs)) refl
 
 -- ---- a refusal is a number
 
--- a reading's refusal, 1 for none
-unfoldable said : Reading → ℕ
-said (bad k) = k
-said (good l us rest) = 1
-
-row_said : (r : Row) (d : Reading) → 0 < r.refusal → 0 < said d → 0 < said (step r d)
-unfolding said step taken
-row_said r (bad k) p h = h
-row_said r (good left vs bs) p h = go (stands r vs) (leb w left) (leb w (length bs)) (within r n) (leb left (length bs))
-  where
-    w : ℕ
-    w = r.width
-
-    n : ℕ
-    n = num (take w bs)
-
-    go : (a b c d e : Bool) → 0 < said (cond a (cond b (cond c (cond d (good (left - w) (vs ++ (n ∷ [])) (drop w bs)) (bad r.refusal)) (bad 18)) (cond e (bad 17) (bad 18))) (good left (vs ++ (0 ∷ [])) bs))
-    go true true true true e = omega arith
-    go true true true false e = p
-    go true true false d e = omega arith
-    go true false c d true = omega arith
-    go true false c d false = omega arith
-    go false b c d e = omega arith
-
-rows_said : (rs : List Row) (d : Reading) → sound rs ≡ true → 0 < said d → 0 < said (steps rs d)
-unfolding steps
-rows_said [] d o h = h
-rows_said (r ∷ rs) d o h = let g = sound_cons r rs o in rows_said rs (step r d) g.1 (row_said r d g.0.numbered h)
-
 -- what is found: its refusal, 1 for none
 unfoldable answered : Found → ℕ
 answered (refused k) = k
 answered (found k ws rest) = 1
 
-ended_answered : (k : ℕ) (d : Reading) → 0 < said d → 0 < answered (ended k d)
-unfolding said answered ended
-ended_answered k (bad n) h = h
-ended_answered k (good l ws rest) h = go (eqb l 0)
+ended_answered : (k n : ℕ) (rs : List Row) (bs : List ℕ) → 0 < answered (ended k (steps rs (good n [] bs)))
+unfolding answered ended
+ended_answered k n rs bs = go (steps rs (good n [] bs)) refl
   where
-    go : (b : Bool) → 0 < answered (cond b (found k ws rest) (refused 17))
-    go true = omega arith
-    go false = omega arith
+    whole : (b : Bool) (ws rest : List ℕ) → 0 < answered (cond b (found k ws rest) (refused 17))
+    whole true ws rest = omega arith
+    whole false ws rest = omega arith
 
-bodied_answered : (d : Reading) → 0 < said d → 0 < answered (bodied d)
-unfolding said answered bodied
-bodied_answered (bad n) h = h
-bodied_answered (good l hs bs) h = go (possible (get_or hs 2 0) (get_or hs 3 0))
-  where
-    k : ℕ
-    k = get_or hs 2 0
-
-    go : (b : Bool) → 0 < answered (cond b (ended k (steps (body k) (good (get_or hs 3 0) [] bs))) (refused 17))
-    go true = ended_answered k (steps (body k) (good (get_or hs 3 0) [] bs)) (rows_said (body k) (good (get_or hs 3 0) [] bs) (body_sound k) h)
-    go false = omega arith
+    go : (d : Reading) → steps rs (good n [] bs) ≡ d → 0 < answered (ended k d)
+    go (bad j) e = some_refusal rs bs n j e
+    go (good l ws rest) e = whole (eqb l 0) ws rest
 
 pub refusal_numbered : (bs : List ℕ) (n : ℕ) → read_record bs ≡ refused n → 0 < n
-unfolding read_record answered said
-refusal_numbered bs n e = omega (arith, ap answered e, bodied_answered (steps head_rows (good 5 [] bs)) (rows_said head_rows (good 5 [] bs) head_rows_sound (omega arith)))
+unfolding read_record bodied answered
+refusal_numbered bs n e = omega (arith, ap answered e, go (steps head_rows (good 5 [] bs)) refl)
+  where
+    possibly : (b : Bool) (k m : ℕ) (rest : List ℕ) → 0 < answered (cond b (ended k (steps (body k) (good m [] rest))) (refused 17))
+    possibly true k m rest = ended_answered k m (body k) rest
+    possibly false k m rest = omega arith
+
+    go : (d : Reading) → steps head_rows (good 5 [] bs) ≡ d → 0 < answered (bodied d)
+    go (bad j) q = some_refusal head_rows bs 5 j q
+    go (good l hs rest) q = possibly (possible (get_or hs 2 0) (get_or hs 3 0)) (get_or hs 2 0) (get_or hs 3 0) rest
 
 -- ---- reading leaves no more input than there was
 
@@ -237,7 +208,7 @@ row_behind r (good left vs bs) = go (stands r vs) (leb w left) (leb w (length bs
     n : ℕ
     n = num (take w bs)
 
-    go : (a b c d e : Bool) → behind (cond a (cond b (cond c (cond d (good (left - w) (vs ++ (n ∷ [])) (drop w bs)) (bad r.refusal)) (bad 18)) (cond e (bad 17) (bad 18))) (good left (vs ++ (0 ∷ [])) bs)) ≤ length bs
+    go : (a b c d e : Bool) → behind (cond a (cond b (cond c (cond d (good (left - w) (vs ++ (n ∷ [])) (drop w bs)) (bad (number r.refusal))) (bad 18)) (cond e (bad 17) (bad 18))) (good left (vs ++ (0 ∷ [])) bs)) ≤ length bs
     go true true true true e = omega (arith, length-drop w bs)
     go true true true false e = omega arith
     go true true false d e = omega arith

@@ -1,6 +1,6 @@
 -- The run after each kind of record, from the results of the calls.
-use mathlib.Core.Path.{◌≡◌, refl, sym, ap, ◌∙◌}
-use Prim.Native.Nat.{ℕ, ◌*◌, ◌≤◌}
+use mathlib.Core.Path.{◌≡◌, refl, ap, ◌∙◌}
+use Prim.Native.Nat.{ℕ, ◌≤◌}
 use native.Mathlib.Omega.{arith}
 use mathlib.Core.List.{List, []}
 use lib.ListN.{length, get_or}
@@ -8,16 +8,14 @@ use lib.Ieee.{Float}
 use borrow.Author.Tests.{eq-eqb, ne_eqb}
 use Rattle.sound_state.specs.declared.StaticSound.{StaticSound}
 use Rattle.sound_creation.specs.declared.Settings.{Settings}
-use Rattle.sound_creation.specs.declared.Created.{Created}
-use Rattle.sound_creation.specs.Creation.{created}
+use Rattle.sound_creation.specs.Creation.{Created, created}
 use Rattle.sound_commands.specs.declared.Commands.{Commands}
-use Rattle.sound_commands.specs.declared.Commanded.{Commanded}
-use Rattle.sound_commands.specs.Commands.{commanded}
-use Rattle.sound_slow_path.specs.declared.Processed.{Processed}
+use Rattle.sound_commands.specs.Commands.{CommandsAnswer, commanded}
+use Rattle.sound_slow_path.specs.Plays.{BlockAnswer}
 use Rattle.trace_inputs.specs.declared.Block.{Block}
-use Rattle.trace_inputs.specs.Inputs.{samples_of, block_of, at_most}
+use Rattle.trace_inputs.specs.Inputs.{samples_of, block_of}
 use Rattle.trace_inputs.proofs.Samples.{at_most_le, all_samples}
-use Rattle.trace_replay.specs.Runs.{Replay, AfterRecord, more, answered, line_of, after_creation, after_commands, after_block, after}
+use Rattle.trace_replay.specs.Runs.{Replay, more, answered, line_of, after_creation, after_commands, after_block, after}
 
 abbrev pub replay : StaticSound → List Float → ℕ → Replay
 replay v snd n = record { voice = v; sound = snd; blocks = n }
@@ -33,15 +31,15 @@ pub creation_replay : (v : Created) (x y : List Float) (s t : Settings) (n : ℕ
 creation_replay v x y s t n p q r =
     ap (λ (z : Created). replay z.voice x n) p ∙ ap (λ (z : List Float). replay (created z s).voice z n) q ∙ ap (λ (z : Settings). replay (created y z).voice y n) r
 
-pub command_replay : (w : Commanded) (x : List Float) (v : StaticSound) (s t : Commands) (n : ℕ) → w ≡ commanded x v s → s ≡ t → replay w.voice x n ≡ replay (commanded x v t).voice x n
-command_replay w x v s t n p q = ap (λ (z : Commanded). replay z.voice x n) p ∙ ap (λ (z : Commands). replay (commanded x v z).voice x n) q
+pub command_replay : (w : CommandsAnswer) (x : List Float) (v : StaticSound) (s t : Commands) (n : ℕ) → w ≡ commanded x v s → s ≡ t → replay w.voice x n ≡ replay (commanded x v t).voice x n
+command_replay w x v s t n p q = ap (λ (z : CommandsAnswer). replay z.voice x n) p ∙ ap (λ (z : Commands). replay (commanded x v z).voice x n) q
 
-module _ (x : List Float) (v : StaticSound) (vs : List ℕ) (b : Block) (p : Processed) (k n : ℕ) (e : b ≡ block_of vs) (f : p ≡ answered x v b) (g : k ≡ more n) where
+module _ (x : List Float) (v : StaticSound) (vs : List ℕ) (b : Block) (p : BlockAnswer) (k n : ℕ) (e : b ≡ block_of vs) (f : p ≡ answered x v b) (g : k ≡ more n) where
   is_answer : p ≡ answered x v (block_of vs)
   is_answer = f ∙ ap (answered x v) e
 
   pub block_replay : replay p.voice x k ≡ replay (answered x v (block_of vs)).voice x (more n)
-  block_replay = ap (λ (z : Processed). replay z.voice x k) is_answer ∙ ap (replay (answered x v (block_of vs)).voice x) g
+  block_replay = ap (λ (z : BlockAnswer). replay z.voice x k) is_answer ∙ ap (replay (answered x v (block_of vs)).voice x) g
 
   pub block_line_lem : (t : List ℕ) → t ≡ line_of k b.frames p → t ≡ line_of (more n) (block_of vs).frames (answered x v (block_of vs))
   block_line_lem t h =

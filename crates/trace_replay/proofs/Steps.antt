@@ -1,17 +1,16 @@
 -- One record of the bytes: the end, a refused record, a record played.
 use mathlib.Core.Path.{◌≡◌, refl, sym, ap, ◌∙◌, subst}
-use Prim.Native.Nat.{ℕ, ◌-◌, ◌≤◌, ◌<◌}
+use Prim.Native.Nat.{ℕ, ◌-◌, ◌≤◌}
 use native.Mathlib.Nat.{le_refl}
 use native.Mathlib.Omega.{arith}
 use mathlib.Core.Bool.{Bool, true, false}
 use mathlib.Core.List.{List, [], ◌∷◌}
 use lib.ListN.{length, drop, length-drop, drop_of_length-le}
 use borrow.Author.Tests.{eq-eqb, ne_eqb}
-use Rattle.trace_records.specs.declared.Record.{Record}
-use Rattle.trace_records.specs.Records.{Found, refused, found, read_record, valued, record_at}
+use Rattle.trace_records.specs.Records.{Record, Found, refused, found, read_record, valued, record_at}
 use Rattle.trace_records.proofs.Windows.{unread, unread_few}
 use Rattle.trace_lines.specs.Lines.{refused_line}
-use Rattle.trace_replay.specs.Runs.{Replay, AfterRecord, after, Step, judged, step_of}
+use Rattle.trace_replay.specs.Runs.{Replay, after, Step, judged, step_of}
 
 none : {A : Type 0} → ⊥ → A
 none e = elim e [ ]

@@ -1,19 +1,18 @@
 -- The replay of a trace: docs/formats/TRACE.md, "What is printed". The whole run is a function of the bytes.
 use Rattle.std.specs.Prelude.{ℕ, zero, suc, ◌+◌, ◌-◌, ◌*◌, Bool, true, false, cond, List, [], ◌∷◌, ◌++◌, eqb, ltb}
-use Rattle.std.specs.Prelude.{take, replicate, Float}
+use Rattle.std.specs.Prelude.{take, replicate, Float, unwrap_or, is_none}
 use Rattle.numbers.specs.Words.{positive_zero}
 use Rattle.playback_state_manager.specs.States.{number}
 use Rattle.sound_lanes.specs.Lanes.{Lanes, five}
 use Rattle.sound_state.specs.declared.StaticSound.{StaticSound}
 use Rattle.sound_creation.specs.Creation.{blank_sound, created}
 use Rattle.sound_commands.specs.Commands.{commanded}
-use Rattle.sound_slow_path.specs.declared.Processed.{Processed}
+use Rattle.sound_slow_path.specs.Plays.{BlockAnswer}
 use Rattle.static_sound.specs.Entries.{processed}
 use Rattle.trace_inputs.specs.declared.Block.{Block}
 use Rattle.trace_inputs.specs.Inputs.{settings_of, samples_of, commands_of, block_of}
 use Rattle.trace_lines.specs.Lines.{block_line, refused_block_line, refused_line}
-use Rattle.trace_records.specs.declared.Record.{Record}
-use Rattle.trace_records.specs.Records.{record_at}
+use Rattle.trace_records.specs.Records.{Record, record_at}
 use Rattle.trace_replay.specs.declared.Run.{Run}
 use Rattle.trace_replay.specs.declared.Advanced.{Advanced}
 
@@ -41,12 +40,12 @@ lanes_of b = five (replicate b.frames b.fade) (replicate b.frames b.volume)
     (replicate b.frames b.left) (replicate b.frames b.right) (replicate b.frames b.rate)
 
 -- the player's result for a block
-unfoldable pub answered : List Float → StaticSound → Block → Processed
+unfoldable pub answered : List Float → StaticSound → Block → BlockAnswer
 answered snd v b = (processed snd v b.time_step (lanes_of b) b.signals
     (replicate (2 * b.frames) positive_zero)).answer
 
 -- the line of a block, from its number, its frames and the player's result
-unfoldable pub line_of : ℕ → ℕ → Processed → List ℕ
+unfoldable pub line_of : ℕ → ℕ → BlockAnswer → List ℕ
 line_of k n p = cond (eqb p.refusal 0)
     (block_line k n p.steps (number p.voice.moving.state)
     p.voice.moving.transport.position) (refused_block_line k p.refusal)
@@ -117,8 +116,8 @@ abbrev pub advanced_of : Advanced → ℕ → List Float → List ℕ → Step
 advanced_of r at snd line = record {
   replay = replay_of r.run snd;
   line = take r.written line;
-  size = r.next - at;
-  over = r.over;
+  size = unwrap_or r.next at - at;
+  over = is_none r.next;
 }
 
 -- everything that is printed from the offset `at` on, with k bytes of the current record left: each record's line,

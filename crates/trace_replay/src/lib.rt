@@ -1,8 +1,9 @@
 // Plays one record: from a record and the run so far to the run after it and its line.
 #![tactic(auto)]
 
-ghost use Rattle.std.specs.Prelude.{◌≡◌, ◌≤◌, [], length, take, drop, replicate};
-ghost use Rattle.numbers.specs.Words.{positive_zero};
+ghost use Rattle.std.specs.Prelude.{◌≡◌, ◌≤◌, [], length, take, drop, unwrap_or};
+ghost use Rattle.sound_state.specs.declared.StaticSound.{StaticSound};
+ghost use Rattle.static_sound.specs.Entries.{block_answer};
 ghost use Rattle.trace_replay.specs.Runs.{
   blank,
   replay_of,
@@ -17,6 +18,9 @@ ghost use Rattle.trace_replay.specs.Runs.{
   step_of,
 };
 
+use refusals::Refusal;
+use sound_held::Held;
+use sound_lanes::Gains;
 use sound_slow_path::Processed;
 use sound_state::StaticSound;
 use trace_inputs::Block;
@@ -36,93 +40,68 @@ pub struct PlayedRecord {
     pub written: usize,
 }
 
-// A run after the record at an offset: the offset after it, the length of its line, and whether the run is over.
+// A run after the record at an offset, the offset after it, none if the run is over, and the length of its line.
 #[derive(Clone, Copy)]
 pub struct Advanced {
     pub run: Run,
-    pub next: usize,
+    pub next: Option<usize>,
     pub written: usize,
-    pub over: bool,
 }
 
 fn more_of(n: u64) -> u64
     ensures { result ≡ more n }
 {
-    if n < 18446744073709551615 {
-        return n + 1;
-    }
-    n
-}
-
-// A lane whose values are all the same.
-fn singles(x: f32) -> [f32; 1024]
-    ensures { result ≡ replicate 1024 x }
-{
-    [x; 1024]
-}
-
-fn doubles(x: f64) -> [f64; 1024]
-    ensures { result ≡ replicate 1024 x }
-{
-    [x; 1024]
-}
-
-// The output of a block, before it is played.
-fn silence() -> [f32; 2048]
-    ensures { result ≡ replicate 2048 positive_zero }
-{
-    [0.0; 2048]
+    n.saturating_add(1)
 }
 
 // The player's result for a block whose frames all have the same numbers.
-fn answer(voice: StaticSound, sound: &[f32], block: Block) -> Processed
+fn answer(voice: StaticSound, sound: &[f32], block: Block) -> Result<Processed, Refusal>
     requires { block.frames ≤ 1024 }
-    ensures { result ≡ answered sound.now voice block }
+    ensures { block_answer voice result ≡ answered sound.now voice block }
 {
-    let fade = singles(block.fade);
-    let volume = singles(block.volume);
-    let left = singles(block.left);
-    let right = singles(block.right);
-    let rate = doubles(block.rate);
-    let mut out = silence();
-    let signals = block.signals;
-    let n = block.frames;
-    let m = 2 * n;
-    static_sound::process(
+    let mut out = [0.0; 2048];
+    let n = 2 * block.frames;
+    let held = Held {
+        gains: Gains {
+            fade: block.fade,
+            volume: block.volume,
+            left: block.left,
+            right: block.right,
+        },
+        rate: block.rate,
+    };
+    static_sound::process_held(
         voice,
         sound,
-        &fade[..n],
-        &volume[..n],
-        &left[..n],
-        &right[..n],
-        &rate[..n],
+        held,
         block.time_step,
-        signals,
-        &mut out[..m],
+        block.signals,
+        &mut out[..n],
     )
 }
 
 // The line of a block, and its length.
-fn put_line(line: &mut [u8], number: u64, frames: usize, processed: Processed) -> usize
+fn put_line(
+    line: &mut [u8],
+    number: u64,
+    frames: usize,
+    answer: Result<Processed, Refusal>,
+) -> usize
     requires { 139 ≤ length line.old }
-    ensures { (take result line.new ≡ line_of number frames processed)
+    ensures { ((voice : StaticSound) → take result line.new ≡ line_of number frames (block_answer voice answer))
         × (result ≤ length line.new) }
 {
-    if processed.refusal == 0 {
-        let voice = processed.voice;
-        let moving = voice.moving;
-        let state = moving.state;
-        let transport = moving.transport;
-        return trace_lines::put_block(
+    match answer {
+        Ok(processed) => trace_lines::put_block(
             line,
             number,
             frames as u64,
             processed.steps as u64,
-            state.number() as u64,
-            transport.position as u64,
-        );
+            u32::from(processed.voice.moving.state) as u64,
+            processed.voice.moving.transport.position as u64,
+        ),
+        Err(refusal) => trace_lines::put_refused_block(line, number, u64::from(refusal)),
     }
-    trace_lines::put_refused_block(line, number, processed.refusal as u64)
 }
 
 fn create(run: Run, values: [u64; 80], sound: &mut [f32]) -> Run
@@ -132,12 +111,17 @@ fn create(run: Run, values: [u64; 80], sound: &mut [f32]) -> Run
         × (result.samples ≤ length sound.new) }
 {
     let samples = trace_inputs::put_samples(values, sound);
-    let created = sound_creation::new(trace_inputs::settings_of(values), &sound[..samples]);
-    let voice = created.voice;
-    Run {
-        voice,
-        samples,
-        blocks: run.blocks,
+    match sound_creation::new(trace_inputs::settings_of(values), &sound[..samples]) {
+        Ok(voice) => Run {
+            voice,
+            samples,
+            ..run
+        },
+        Err(_) => Run {
+            voice: sound_creation::blank(),
+            samples,
+            ..run
+        },
     }
 }
 
@@ -147,15 +131,15 @@ fn command(run: Run, values: [u64; 80], sound: &[f32]) -> Run
         ≡ (after_commands (replay_of run sound.now) values).replay)
         × (result.samples ≤ length sound.now) }
 {
-    let before = run.voice;
     let samples = run.samples;
-    let made = sound_commands::on_start_processing(
-        before,
-        &sound[..samples],
-        trace_inputs::commands_of(values),
-    );
-    let voice = made.voice;
-    Run { voice, ..run }
+    let commands = trace_inputs::commands_of(values);
+    match sound_commands::on_start_processing(run.voice, &sound[..samples], commands) {
+        Ok(commanded) => Run {
+            voice: commanded.voice,
+            ..run
+        },
+        Err(_) => run,
+    }
 }
 
 fn play(run: Run, values: [u64; 80], sound: &[f32], line: &mut [u8]) -> PlayedRecord
@@ -165,20 +149,24 @@ fn play(run: Run, values: [u64; 80], sound: &[f32], line: &mut [u8]) -> PlayedRe
         × (take result.written line.new ≡ (after_block (replay_of run sound.now) values).line)
         × (result.run.samples ≤ length sound.now) × (result.written ≤ length line.new) }
 {
-    let before = run.voice;
     let samples = run.samples;
     let block = trace_inputs::block_of(values);
-    let processed = answer(before, &sound[..samples], block);
+    let answer = answer(run.voice, &sound[..samples], block);
     let blocks = more_of(run.blocks);
-    let written = put_line(line, blocks, block.frames, processed);
-    let voice = processed.voice;
-    PlayedRecord {
-        run: Run {
-            voice,
-            samples,
-            blocks,
+    let written = put_line(line, blocks, block.frames, answer);
+    match answer {
+        Ok(processed) => PlayedRecord {
+            run: Run {
+                voice: processed.voice,
+                blocks,
+                ..run
+            },
+            written,
         },
-        written,
+        Err(_) => PlayedRecord {
+            run: Run { blocks, ..run },
+            written,
+        },
     }
 }
 
@@ -196,19 +184,17 @@ pub fn play_record(
         × (take result.written line.new ≡ (after (replay_of run sound.old) kind values).line)
         × (result.run.samples ≤ length sound.new) × (result.written ≤ length line.new) }
 {
-    if kind == 1 {
-        return PlayedRecord {
+    match kind {
+        1 => PlayedRecord {
             run: create(run, values, sound),
             written: 0,
-        };
-    }
-    if kind == 2 {
-        return PlayedRecord {
+        },
+        2 => PlayedRecord {
             run: command(run, values, sound),
             written: 0,
-        };
+        },
+        _ => play(run, values, sound, line),
     }
-    play(run, values, sound, line)
 }
 
 // The record at an offset of the bytes, which is `place` in the whole trace: the run after it, and its line.
@@ -224,35 +210,31 @@ pub fn advance(
         × (139 ≤ length line.old) }
     ensures { (advanced_of result at sound.new line.new
         ≡ step_of (replay_of run sound.old) place (drop at bytes.now))
-        × (result.next ≤ length bytes.now) × (result.run.samples ≤ length sound.new)
-        × (result.written ≤ length line.new) × (at ≤ result.next) }
+        × (unwrap_or result.next at ≤ length bytes.now) × (result.run.samples ≤ length sound.new)
+        × (result.written ≤ length line.new) × (at ≤ unwrap_or result.next at) }
 {
     if at == bytes.len() {
         return Advanced {
             run,
-            next: at,
+            next: None,
             written: 0,
-            over: true,
         };
     }
-    let record = trace_records::read(bytes, at);
-    if record.refusal != 0 {
-        let written = trace_lines::put_refused(line, record.refusal, place);
-        return Advanced {
+    match trace_records::read(bytes, at) {
+        Ok(record) => {
+            let values = record.values;
+            let played = play_record(run, record.kind, values, sound, line);
+            Advanced {
+                run: played.run,
+                next: Some(record.next),
+                written: played.written,
+            }
+        }
+        Err(refusal) => Advanced {
             run,
-            next: at,
-            written,
-            over: true,
-        };
-    }
-    let values = record.values;
-    let played = play_record(run, record.kind, values, sound, line);
-    let run = played.run;
-    Advanced {
-        run,
-        next: record.next,
-        written: played.written,
-        over: false,
+            next: None,
+            written: trace_lines::put_refused(line, u64::from(refusal), place),
+        },
     }
 }
 

@@ -1,5 +1,5 @@
 -- Kept and skipped bytes are all bytes; the effect of one iteration on the rest.
-use mathlib.Core.Path.{◌≡◌, refl, sym, ap, ◌∙◌}
+use mathlib.Core.Path.{◌≡◌, refl, sym, ap, subst, ◌∙◌}
 use Prim.Native.Nat.{ℕ, zero, suc, ◌+◌, ◌-◌, ◌*◌, ◌≤◌, ◌<◌}
 use native.Mathlib.Omega.{arith}
 use mathlib.Core.Bool.{Bool, true, false, ◌&&◌, cond}
@@ -11,8 +11,9 @@ use lib.Seq.{take_at, drop_at, drop-cons, drop-drop, sets, length-sets, length-t
 use Rattle.byte_layout.proofs.Puts.{sets_append}
 use Rattle.trace_salvage.specs.declared.Salvaging.{Salvaging}
 use borrow.Author.Tests.{eqb-true, eqb-false, ne_eqb, eq-eqb, lt-ltb, le-ltb, ltb-true, ltb-false, leb-true, le-leb, lt-leb}
-use Rattle.trace_records.specs.declared.Record.{Record}
-use Rattle.trace_records.specs.Records.{Found, refused, found, read_record, valued, record_at}
+use Rattle.std.specs.Prelude.{Some, unwrap_or, Err}
+use Rattle.refusals.specs.declared.Refusal.{Refusal}
+use Rattle.trace_records.specs.Records.{Record, record_read, Found, refused, found, read_record, valued, record_at}
 use Rattle.trace_sealed.specs.Records as sealed
 use Rattle.trace_sealed.specs.Records.{is_sealed, read_sealed, read_any, read_by, sealed_at, any_at}
 use Rattle.trace_sealed.proofs.Readers.{by_1, by_2, unmarked_by}
@@ -136,14 +137,17 @@ size_2 s at = go (is_sealed (drop at s))
     go true = sealed_found (length s) at (length (drop at s)) (read_sealed (drop at s)) (length-drop at s)
     go false = size_1 s at
 
--- what each reader read at an offset
-pub read_1 : (v : ℕ) (s : List ℕ) (at n : ℕ) (r : Record) → v ≡ 1 → r ≡ record_at s at → n ≡ taken_up at r → n ≡ size_by v (drop at s)
+-- the size of the record that a reader found at an offset
+pub read_1 : (v : ℕ) (s : List ℕ) (at : ℕ) (r : Record) → v ≡ 1 → r ≡ record_at s at → taken_up at r ≡ size_by v (drop at s)
 unfolding size_by
-read_1 v s at n r h e f = f ∙ ap (taken_up at) e ∙ size_1 s at ∙ ap (size_in (length (drop at s))) (sym (by_1 v (drop at s) (eq-eqb v 1 h)))
+read_1 v s at r h e = ap (taken_up at) e ∙ size_1 s at ∙ ap (size_in (length (drop at s))) (sym (by_1 v (drop at s) (eq-eqb v 1 h)))
 
-pub read_2 : (v : ℕ) (s : List ℕ) (at n : ℕ) (r : Record) → (v ≡ 1 → ⊥) → r ≡ any_at s at → n ≡ taken_up at r → n ≡ size_by v (drop at s)
+pub read_2 : (v : ℕ) (s : List ℕ) (at : ℕ) (r : Record) → (v ≡ 1 → ⊥) → r ≡ any_at s at → taken_up at r ≡ size_by v (drop at s)
 unfolding size_by
-read_2 v s at n r h e f = f ∙ ap (taken_up at) e ∙ size_2 s at ∙ ap (size_in (length (drop at s))) (sym (by_2 v (drop at s) (ne_eqb v 1 h)))
+read_2 v s at r h e = ap (taken_up at) e ∙ size_2 s at ∙ ap (size_in (length (drop at s))) (sym (by_2 v (drop at s) (ne_eqb v 1 h)))
+
+pub none_read : (v : ℕ) (s : List ℕ) (at : ℕ) (e : Refusal) → taken_up at (record_read at (Err e)) ≡ size_by v (drop at s) → 0 ≡ size_by v (drop at s)
+none_read v s at e h = sym (nothing_taken at _) ∙ h
 
 -- no record begins past the end, or with another byte than A5
 pub size_past : (v : ℕ) (s : List ℕ) (at : ℕ) → length s ≤ at → 0 ≡ size_by v (drop at s)
@@ -154,37 +158,36 @@ unfolding size_by size_in
 size_unmarked v s at l h = rw (drop-cons s at 0 l, unmarked_by v (get_or s at 0) (drop (suc at) s) h) refl
 
 module _ (v : ℕ) (s out : List ℕ) (t : Salvaging) (a : t.at < length s) (b : t.w ≤ t.at) (c : t.skip ≤ t.at) (g : t.records ≤ t.at) where
-  pub keeps : (new : List ℕ) (n : ℕ) → n ≡ size_by v (drop t.at s) → 0 < n → new ≡ sets out t.w (take (t.at + n - t.at) (drop t.at s))
-      → Salvages v s out new t (record { at = t.at + n; w = t.w + n; skip = t.skip; records = t.records + 1; first = t.first })
-  keeps new n e p q =
+  pub keeps : (new : List ℕ) (end n : ℕ) → t.at + n ≡ end → n ≡ size_by v (drop t.at s) → 0 < n → new ≡ sets out t.w (take n (drop t.at s))
+      → Salvages v s out new t (record { at = end; w = t.w + n; skip = t.skip; records = t.records + 1; first = t.first })
+  keeps new end n i e p x =
       let bs = drop t.at s in
       let l : length bs ≡ length s - t.at = length-drop t.at s in
       let h = size_le v s t.at in
-      let m : t.at + n - t.at ≡ n = omega arith in
       let k = turn_keep (size_by v) t.at bs (omega (arith, e)) (omega (arith, h, l)) in
       let d : drop (size_by v bs) bs ≡ drop (t.at + n) s = drop-drop (size_by v bs) t.at s ∙ ap (λ (z : ℕ). drop (t.at + z) s) (sym e) in
-      let x : new ≡ sets out t.w (take n bs) = q ∙ ap (λ (z : ℕ). sets out t.w (take z bs)) m in
       let y : length (take n bs) ≡ n = length-take-le n bs (omega (arith, e, h, l)) in
       let z : kept (size_by v) bs 0 ≡ take n bs ++ kept (size_by v) (drop (t.at + n) s) 0 = k.bytes ∙ ap (λ (u : ℕ). take u bs ++ kept (size_by v) (drop (size_by v bs) bs) 0) (sym e) ∙ ap (λ (u : List ℕ). take n bs ++ kept (size_by v) u 0) d in
       let o : records (size_by v) bs 0 ≡ suc (records (size_by v) (drop (t.at + n) s) 0) = k.count ∙ ap (λ (u : List ℕ). suc (records (size_by v) u 0)) d in
       let f : first (size_by v) t.at bs 0 ≡ first (size_by v) (t.at + n) (drop (t.at + n) s) 0 = k.place ∙ ap (λ (u : ℕ). first (size_by v) (t.at + u) (drop (size_by v bs) bs) 0) (sym e) ∙ ap (λ (u : List ℕ). first (size_by v) (t.at + n) u 0) d in
-      record {
+      subst (λ (z : ℕ). Salvages v s out new t (record { at = z; w = t.w + n; skip = t.skip; records = t.records + 1; first = t.first })) i
+      (record {
         inside = omega (arith, e, h);
         on = omega arith;
         room = omega arith;
         few = omega arith;
         some = omega arith;
-        long = ap length q ∙ simp length-sets;
+        long = ap length x ∙ simp length-sets;
         same = rw (x, z) (ap (λ (u : ℕ). sets (sets out t.w (take n bs)) (t.w + u) (kept (size_by v) (drop (t.at + n) s) 0)) (sym y) ∙ sym (sets_append out t.w (take n bs) (kept (size_by v) (drop (t.at + n) s) 0)));
         count = ap (λ (u : ℕ). t.skip + u) (sym (k.skips ∙ ap (λ (u : List ℕ). skipped (size_by v) u 0) d));
         whole = omega (arith, o);
-        place = ap (λ (u : ℕ). cond (eqb t.skip 0) u t.first) (sym f);
-      }
+        place = ap (unwrap_or t.first) (sym f);
+      })
 
-  pub skips : (n f : ℕ) → n ≡ size_by v (drop t.at s) → n ≤ 0 → f ≡ cond (eqb t.skip 0) t.at t.first → Salvages v s out out t (record { at = t.at + 1; w = t.w; skip = t.skip + 1; records = t.records; first = f })
-  skips n f e p y =
+  pub skips : (f : ℕ) → size_by v (drop t.at s) ≤ 0 → f ≡ unwrap_or t.first t.at → Salvages v s out out t (record { at = t.at + 1; w = t.w; skip = t.skip + 1; records = t.records; first = Some f })
+  skips f p y =
       let bs = drop t.at s in
-      let k = turn_skip (size_by v) t.at bs (omega (arith, length-drop t.at s)) (omega (arith, e)) in
+      let k = turn_skip (size_by v) t.at bs (omega (arith, length-drop t.at s)) p in
       let d : drop 1 bs ≡ drop (t.at + 1) s = drop-drop 1 t.at s in
       let j : skipped (size_by v) bs 0 ≡ suc (skipped (size_by v) (drop (t.at + 1) s) 0) = k.skips ∙ ap (λ (u : List ℕ). suc (skipped (size_by v) u 0)) d in
       let o : records (size_by v) bs 0 ≡ records (size_by v) (drop (t.at + 1) s) 0 = k.count ∙ ap (λ (u : List ℕ). records (size_by v) u 0) d in
@@ -198,7 +201,7 @@ module _ (v : ℕ) (s out : List ℕ) (t : Salvaging) (a : t.at < length s) (b :
         same = ap (λ (u : List ℕ). sets out t.w u) (sym (k.bytes ∙ ap (λ (u : List ℕ). kept (size_by v) u 0) d));
         count = omega (arith, j);
         whole = ap (λ (u : ℕ). t.records + u) (sym o);
-        place = ap (λ (u : Bool). cond u (first (size_by v) (t.at + 1) (drop (t.at + 1) s) 0) f) (ne_eqb (t.skip + 1) 0 (λ z. omega arith)) ∙ y ∙ ap (λ (u : ℕ). cond (eqb t.skip 0) u t.first) (sym k.place);
+        place = y ∙ ap (unwrap_or t.first) (sym k.place);
       }
 
 -- the whole loop
@@ -211,7 +214,7 @@ refused_short v s out h = rw (lt-ltb (length out) (length s) h) refl
 
 pub saved : (v : ℕ) (s out new : List ℕ) (t : Salvaging) (f : ℕ) → length s ≤ length out → length s ≤ t.at → sets new t.w (kept (size_by v) (drop t.at s) 0) ≡ sets out 0 (kept (size_by v) s 0)
     → t.skip + skipped (size_by v) (drop t.at s) 0 ≡ skipped (size_by v) s 0 → t.records + records (size_by v) (drop t.at s) 0 ≡ records (size_by v) s 0 → placed v t s ≡ first (size_by v) 0 s 0
-    → f ≡ cond (eqb t.skip 0) t.at t.first → done 0 t.records t.skip f new ≡ salvage_by v s out
+    → f ≡ unwrap_or t.first t.at → done 0 t.records t.skip f new ≡ salvage_by v s out
 unfolding salvage_by kept skipped records first
 saved v s out new t f h e p q r w y =
     let d : drop t.at s ≡ [] = drop_of_length-le s e in
@@ -220,6 +223,6 @@ saved v s out new t f h e p q r w y =
     let n : t.skip ≡ skipped (size_by v) s 0 = omega arith in
     let i : t.records + 0 ≡ records (size_by v) s 0 = rw d at r in
     let j : t.records ≡ records (size_by v) s 0 = omega arith in
-    let u : cond (eqb t.skip 0) t.at t.first ≡ first (size_by v) 0 s 0 = rw d at w in
+    let u : unwrap_or t.first t.at ≡ first (size_by v) 0 s 0 = rw d at w in
     rw (le-ltb (length out) (length s) h)
     (ap (λ (z : ℕ). done 0 z t.skip f new) j ∙ ap (λ (z : ℕ). done 0 (records (size_by v) s 0) z f new) n ∙ ap (λ (z : ℕ). done 0 (records (size_by v) s 0) (skipped (size_by v) s 0) z new) (y ∙ u) ∙ ap (λ (z : List ℕ). done 0 (records (size_by v) s 0) (skipped (size_by v) s 0) (first (size_by v) 0 s 0) z) x)

@@ -1,11 +1,13 @@
 -- Salvage of a damaged trace. `size` is the length of the complete record at the beginning of a list, 0 if there is
 -- none; k bytes of the current record are left to copy.
 use Rattle.std.specs.Prelude.{ℕ, zero, suc, ◌+◌, ◌-◌, ◌≤◌, ◌<◌, Bool, true, false, cond, List, [], ◌∷◌, ◌++◌, ◌≡◌}
-use Rattle.std.specs.Prelude.{eqb, ltb, length, drop}
+use Rattle.std.specs.Prelude.{eqb, ltb, length, drop, Option, Some, None, unwrap_or, Result, Ok, Err}
 use Rattle.std.proofs.lemmas.List.Edits.{sets}
 use Rattle.trace_records.specs.Records.{Found, refused, found}
 use Rattle.trace_sealed.specs.Records.{read_by}
-use Rattle.trace_salvage.specs.declared.Saved.{Saved}
+use Rattle.refusals.specs.declared.Refusal.{Refusal}
+use Rattle.refusals.specs.Numbers as numbers
+use Rattle.trace_salvage.specs.declared.Saved as Answer
 use Rattle.trace_salvage.specs.declared.Salvaging.{Salvaging}
 
 -- the bytes kept
@@ -50,6 +52,18 @@ pub record Salvaged : Type 0 where
   pub place : ℕ
   pub output : List ℕ
 
+-- the same without the output: 0 or a refusal, the records kept, the bytes skipped, and the offset of the first of them
+pub record Saved : Type 0 where
+  pub refusal : ℕ
+  pub records : ℕ
+  pub skipped : ℕ
+  pub first : ℕ
+
+-- what a salvage returns
+abbrev pub saved : Result Answer.Saved Refusal → Saved
+saved (Ok r) = record { refusal = 0; records = r.records; skipped = r.skipped; first = r.first }
+saved (Err e) = record { refusal = numbers.number e; records = 0; skipped = 0; first = 0 }
+
 abbrev pub saved_of : Saved → List ℕ → Salvaged
 saved_of r out = record { number = r.refusal; count = r.records; skip = r.skipped; place = r.first; output = out }
 
@@ -71,9 +85,14 @@ salvage_by v s out =
 abbrev pub salvage_of : List ℕ → List ℕ → Salvaged
 salvage_of = salvage_by 1
 
+-- the offset after the complete record at an offset
+abbrev pub Ends : ℕ → List ℕ → ℕ → Option ℕ → Type 0
+Ends v s at (Some end) = end - at ≡ size_by v (drop at s)
+Ends v s at None = 0 ≡ size_by v (drop at s)
+
 -- the first skipped offset, once something was skipped
 abbrev pub placed : ℕ → Salvaging → List ℕ → ℕ
-placed v t s = cond (eqb t.skip 0) (first (size_by v) t.at (drop t.at s) 0) t.first
+placed v t s = unwrap_or t.first (first (size_by v) t.at (drop t.at s) 0)
 
 -- one iteration: what is left to do decreases, and the final outcome does not change
 pub record Salvages (v : ℕ) (s out new : List ℕ) (t r : Salvaging) : Type 0 where

@@ -8,22 +8,22 @@ use lib.Dec.{leb, eqb}
 use lib.ListN.{get_or, take, drop, length, replicate}
 use borrow.Author.Tests.{le-leb, leb-true}
 use Rattle.byte_layout.specs.Numbers.{num, bytes}
-use Rattle.byte_layout.specs.Rows.{row_at, rows, stands, within}
+use Rattle.byte_layout.specs.Rows.{stands, within}
 use Rattle.byte_layout.specs.Reads.{taken, step, steps}
 use Rattle.byte_layout.specs.Writes.{field, payload, fits, fine}
 use Rattle.byte_layout.proofs.Numbers.{small_of}
 use Rattle.byte_layout.proofs.Codec.{ands}
 use Rattle.crc32.specs.Checksums.{bit, bits, byte, register, checksum_of}
-use Rattle.trace_records.specs.Records.{found, read_record}
-use Rattle.trace_sealed.specs.Tables.{head_table, given_table, laned_table, head_rows, given_rows, laned_rows}
-use Rattle.trace_sealed.specs.Records.{in_steps, possible, tail, closed, bodied, read_sealed, is_sealed, read_any, any_at}
+use Rattle.trace_records.specs.Records.{found, in_steps, read_record}
+use Rattle.trace_sealed.specs.Tables.{head_rows, given_rows, laned_rows}
+use Rattle.trace_sealed.specs.Records.{possible, tail, closed, bodied, read_sealed, is_sealed, read_any, any_at}
 use Rattle.trace_sealed.specs.Writes.{unsealed, sealed_of, sealed_kind, Sealable}
 use Rattle.trace_sealed.specs.Promises.{Begins, Kept, Old, Witnesses, Promises, silent_numbers, silent_record}
 use Rattle.trace_sealed.proofs.Readers.{read_any_lem, again, as_reader_1}
 use Rattle.trace_sealed.proofs.Windows.{window}
 
 witnesses : Witnesses
-unfolding fine fits within stands field payload rows row_at laned_table laned_rows head_table head_rows num bytes taken step steps bit bits byte register checksum_of in_steps possible tail closed bodied read_sealed read_any
+unfolding fine fits within stands field payload laned_rows head_rows num bytes taken step steps bit bits byte register checksum_of in_steps possible tail closed bodied read_sealed read_any
 witnesses =
     record {
       read_back = record { kind = refl; takes = refl; whole = refl; bytes = small_of (replicate 24 0) tt };

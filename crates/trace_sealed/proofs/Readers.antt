@@ -8,7 +8,7 @@ use lib.Dec.{leb, eqb}
 use lib.ListN.{length, get_or, drop, length-append}
 use borrow.Author.Tests.{leb-true, le-leb, lt-leb}
 use Rattle.byte_layout.specs.Numbers.{num, bytes}
-use Rattle.byte_layout.specs.Rows.{row_at, rows, stands, within}
+use Rattle.byte_layout.specs.Rows.{stands, within}
 use Rattle.byte_layout.specs.Reads.{taken, step, steps}
 use Rattle.byte_layout.specs.Writes.{field, payload}
 use Rattle.byte_layout.proofs.Numbers.{Small}
@@ -19,14 +19,14 @@ use Rattle.trace_records.specs.Writes.{head_of, record_of, known}
 use Rattle.trace_records.proofs.Marks as marks
 use Rattle.trace_records.proofs.Rounds.{read_record_lem, written_record}
 use Rattle.trace_records.proofs.Traces.{Opens, record_some, opens}
-use Rattle.trace_sealed.specs.Tables.{head_table, head_rows}
+use Rattle.trace_sealed.specs.Tables.{head_rows}
 use Rattle.trace_sealed.specs.Records.{bodied, read_sealed, is_sealed, read_any, read_by}
 use Rattle.trace_sealed.specs.Writes.{body_of, unsealed, sealed_of, sealed_kind, Sealable}
 use Rattle.trace_sealed.specs.Promises.{Begins, Kept, Old}
 use Rattle.trace_sealed.proofs.Rounds.{read_back, written_again, head_length}
 
 third : (k : ℕ) (vs lanes rest : List ℕ) → get_or (sealed_of k vs lanes ++ rest) 2 0 ≡ k % 256
-unfolding sealed_of unsealed payload head_rows rows row_at head_table stands field bytes
+unfolding sealed_of unsealed payload head_rows stands field bytes
 third k vs lanes rest = refl
 
 is_sealed_lem : (k : ℕ) (vs lanes rest : List ℕ) → sealed_kind k ≡ true → is_sealed (sealed_of k vs lanes ++ rest) ≡ true
@@ -111,7 +111,7 @@ opens_by v bs k ws rest s e = go (eqb v 1) refl
 -- ---- bytes that do not begin with A5
 
 sealed_unmarked : (b : ℕ) (bs : List ℕ) → (b ≡ 165 → ⊥) → read_sealed (b ∷ bs) ≡ refused 15
-unfolding read_sealed bodied steps step taken stands within num head_rows rows row_at head_table
+unfolding read_sealed bodied steps step taken stands within num head_rows
 sealed_unmarked b bs h = let x : b + 0 ≡ b = omega arith in rw (x, marks.not_a5 b h, le-leb 1 (length (b ∷ bs)) (omega arith)) refl
 
 any_unmarked : (b : ℕ) (bs : List ℕ) → (b ≡ 165 → ⊥) → read_any (b ∷ bs) ≡ refused 15

@@ -9,61 +9,55 @@ use lib.Dec.{leb, eqb, leb-zero}
 use lib.ListN.{length, get_or, take, drop, length-append, length-drop, take-append-drop}
 use lib.Seq.{take_at, drop_at, drop-append-le, drop-drop, length-take-le}
 use borrow.Author.Tests.{le-leb, leb-true, eqb-true, eq-eqb}
-use Rattle.byte_layout.specs.declared.Row.{Row}
+use Rattle.refusals.specs.declared.Refusal.TheVariants.{Record}
 use Rattle.byte_layout.specs.Numbers.{num, bytes}
-use Rattle.byte_layout.specs.Rows.{row_at, rows, stands, within, sound}
+use Rattle.byte_layout.specs.Rows.{row, stands, within, sound}
 use Rattle.byte_layout.specs.Reads.{Reading, bad, good, steps}
 use Rattle.byte_layout.specs.Writes.{field, payload, fits, fine}
 use Rattle.byte_layout.proofs.Numbers.{Small, small_drop, num_bytes, bytes_num, length_bytes}
 use Rattle.byte_layout.proofs.Codec.{never, both, ands, read_written, written_read}
 use Rattle.byte_layout.proofs.Lengths.{always, most, least, eights, at_most, at_least, apart}
 use Rattle.crc32.specs.Checksums.{checksum_of}
-use Rattle.trace_records.specs.Records.{Found, refused, found}
+use Rattle.trace_records.specs.Records.{Found, refused, found, in_steps}
 use Rattle.trace_records.specs.Writes.{head_of}
-use Rattle.trace_sealed.specs.Tables.{head_table, given_table, laned_table, head_rows, given_rows, laned_rows, field_rows, field_count, lane_bytes}
-use Rattle.trace_sealed.specs.Records.{in_steps, possible, tail, closed, bodied, read_sealed}
+use Rattle.trace_records.proofs.Ways.{between}
+use Rattle.trace_records.proofs.Rounds.{row_always, one, refused_found, Head, head_is, head_known, small_after}
+use Rattle.trace_sealed.specs.Tables.{head_rows, given_rows, laned_rows, field_rows, field_count, lane_bytes}
+use Rattle.trace_sealed.specs.Records.{possible, tail, closed, bodied, read_sealed}
 use Rattle.trace_sealed.specs.Writes.{body_of, unsealed, sealed_of, sealed_kind, Sealable}
 use Rattle.trace_sealed.specs.Promises.{Kept}
 use Rattle.trace_sealed.proofs.Sums.{checksum_low, small_append, small_payload, small_take}
-use Rattle.trace_sealed.proofs.Ways.{some, head_sound, given_sound, laned_sound, in_steps_lem, tail_there, closed_found}
+use Rattle.trace_sealed.proofs.Ways.{some, rows_sound, head_rows_sound, tail_there, closed_found}
 
 -- ---- lengths
 
 given_rows_lem : (least given_rows ≡ 61) × (most given_rows ≡ 93) × (eights given_rows ≡ true)
-unfolding least most eights given_rows rows row_at given_table
+unfolding least most eights given_rows
 given_rows_lem = (refl, refl, refl)
 
 laned_rows_lem : (least laned_rows ≡ 13) × (most laned_rows ≡ 13)
-unfolding least most laned_rows rows row_at laned_table
+unfolding least most laned_rows
 laned_rows_lem = (refl, refl)
-
-pub rows_sound : (k : ℕ) → sound (field_rows k) ≡ true
-unfolding given_rows laned_rows
-rows_sound k = go (eqb k 4)
-  where
-    go : (b : Bool) → sound (cond b given_rows laned_rows) ≡ true
-    go true = given_sound
-    go false = laned_sound
 
 -- the frames of a block
 frames : (vs : List ℕ) → fine laned_rows [] vs ≡ true → (1 ≤ get_or vs 0 0) × (get_or vs 0 0 ≤ 1024)
-unfolding laned_rows rows row_at laned_table fine fits within
+unfolding laned_rows fine fits within
 frames [] e = never e
 frames (x ∷ ws) e =
-    let r = row_at laned_table 0 in
-    let f = both (within r x) (fine (rows laned_table 1 4) ([] ++ (x ∷ [])) ws) (rw (always r [] refl) at e) in
+    let r = row 2 0 0 1 1024 Record in
+    let f = both (within r x) (fine (drop 1 laned_rows) ([] ++ (x ∷ [])) ws) (rw (always r [] refl) at e) in
     let g = ands (leb 1 x) (leb x 1024) f.0 in
     (leb-true 1 x g.0, leb-true x 1024 g.1)
 
 in_eights : (n t : ℕ) → n ≡ 61 + 8 * t → n ≤ 93 → in_steps (n + 0 + 4) 65 97 8 ≡ true
 in_eights n t e h =
     let d : n + 0 + 4 - 65 ≡ 0 + 8 * t = omega arith in
-    sym (in_steps_lem (n + 0 + 4) 65 97 8 (omega arith) (omega arith)) ∙ eq-eqb ((n + 0 + 4 - 65) % 8) 0 (ap (λ (z : ℕ). z % 8) d ∙ add-mul-mod_self_left 0 8 t)
+    sym (between (n + 0 + 4) 65 97 8 (omega arith) (omega arith)) ∙ eq-eqb ((n + 0 + 4 - 65) % 8) 0 (ap (λ (z : ℕ). z % 8) d ∙ add-mul-mod_self_left 0 8 t)
 
 in_frames : (n l f : ℕ) → n ≡ 13 → l ≡ 24 * f → 1 ≤ f → f ≤ 1024 → in_steps (n + l + 4) 41 24593 24 ≡ true
 in_frames n l f e g a b =
     let d : n + l + 4 - 41 ≡ 0 + 24 * (f - 1) = omega arith in
-    sym (in_steps_lem (n + l + 4) 41 24593 24 (omega arith) (omega arith)) ∙ eq-eqb ((n + l + 4 - 41) % 24) 0 (ap (λ (z : ℕ). z % 24) d ∙ add-mul-mod_self_left 0 24 (f - 1))
+    sym (between (n + l + 4) 41 24593 24 (omega arith) (omega arith)) ∙ eq-eqb ((n + l + 4 - 41) % 24) 0 (ap (λ (z : ℕ). z % 24) d ∙ add-mul-mod_self_left 0 24 (f - 1))
 
 -- a length that fields and lanes have is possible
 pub body_possible : (k : ℕ) (vs lanes : List ℕ) → fine (field_rows k) [] vs ≡ true → length lanes ≡ lane_bytes k vs → possible k (length (payload (field_rows k) [] vs) + length lanes + 4) ≡ true
@@ -93,18 +87,14 @@ possible_few k n e = go (eqb k 4) e
 -- ---- the head
 
 pub head_length : (k n : ℕ) → length (payload head_rows [] (head_of k n)) ≡ 5
-unfolding payload head_rows rows row_at head_table stands field bytes
+unfolding payload head_rows stands field bytes
 head_length k n = refl
-
-pub head_rows_sound : sound head_rows ≡ true
-unfolding head_rows
-head_rows_sound = head_sound
 
 kind_true : (k : ℕ) → sealed_kind k ≡ true → (4 ≤ k) × (k ≤ 5)
 kind_true k e = let h = ands (leb 4 k) (leb k 5) e in (leb-true 4 k h.0, leb-true k 5 h.1)
 
 head_fine : (k n : ℕ) → sealed_kind k ≡ true → n ≤ 65535 → fine head_rows [] (head_of k n) ≡ true
-unfolding head_rows rows row_at head_table stands fine fits within
+unfolding head_rows stands fine fits within
 head_fine k n e h = let q = kind_true k e in rw (le-leb 4 k q.0, le-leb k 5 q.1, leb-zero n, le-leb n 65535 h) refl
 
 -- what the checksum covers
@@ -165,46 +155,10 @@ read_back k vs lanes rest x = go (payload (field_rows k) [] vs) refl
 none : {A : Type 0} → ⊥ → A
 none e = elim e [ ]
 
-refused_found : {A : Type 0} (n k : ℕ) (ws rest : List ℕ) → refused n ≡ found k ws rest → A
-refused_found n k ws rest e = let z : ◌≡◌ {A = ℕ} 0 1 = cc in none (omega arith)
-
-pub row_always : (r : Row) (rs : List Row) (vs ws : List ℕ) (x : ℕ) → r.low ≡ 0 → fine (r ∷ rs) vs (x ∷ ws) ≡ true → (within r x ≡ true) × (fine rs (vs ++ (x ∷ [])) ws ≡ true)
-unfolding fine fits
-row_always r rs vs ws x l e = both (within r x) (fine rs (vs ++ (x ∷ [])) ws) (rw (always r vs l) at e)
-
-pub one : (r : Row) (x : ℕ) → within r x ≡ true → (r.least ≤ x) × (x ≤ r.most)
-unfolding within
-one r x e = let h = ands (leb r.least x) (leb x r.most) e in (leb-true r.least x h.0, leb-true x r.most h.1)
-
--- an accepted head: mark, a kind, a length
-record Head (hs : List ℕ) : Type 0 where
-  is : hs ≡ head_of (get_or hs 2 0) (get_or hs 3 0)
-  kind : sealed_kind (get_or hs 2 0) ≡ true
-
-head_is : (hs : List ℕ) → fine head_rows [] hs ≡ true → Head hs
-unfolding head_rows rows row_at head_table fine
-head_is [] e = never e
-head_is (a ∷ []) e = never (row_always (row_at head_table 0) (rows head_table 1 3) [] [] a refl e).1
-head_is (a ∷ b ∷ []) e = never (row_always (row_at head_table 1) (rows head_table 2 2) (a ∷ []) [] b refl (row_always (row_at head_table 0) (rows head_table 1 3) [] (b ∷ []) a refl e).1).1
-head_is (a ∷ b ∷ c ∷ []) e =
-    never (row_always (row_at head_table 2) (rows head_table 3 1) (a ∷ b ∷ []) [] c refl (row_always (row_at head_table 1) (rows head_table 2 2) (a ∷ []) (c ∷ []) b refl (row_always (row_at head_table 0) (rows head_table 1 3) [] (b ∷ c ∷ []) a refl e).1).1).1
-head_is (a ∷ b ∷ c ∷ d ∷ ws) e =
-    let h0 = row_always (row_at head_table 0) (rows head_table 1 3) [] (b ∷ c ∷ d ∷ ws) a refl e in
-    let h1 = row_always (row_at head_table 1) (rows head_table 2 2) (a ∷ []) (c ∷ d ∷ ws) b refl h0.1 in
-    let h2 = row_always (row_at head_table 2) (rows head_table 3 1) (a ∷ b ∷ []) (d ∷ ws) c refl h1.1 in
-    let h3 = row_always (row_at head_table 3) [] (a ∷ b ∷ c ∷ []) ws d refl h2.1 in
-    let ea : a ≡ 165 = omega (arith, one (row_at head_table 0) a h0.0) in
-    let eb : b ≡ 29 = omega (arith, one (row_at head_table 1) b h1.0) in
-    let ec = one (row_at head_table 2) c h2.0 in
-    record { is = rw (ea, eb, no_more (a ∷ b ∷ c ∷ d ∷ []) ws h3.1) refl; kind = rw (le-leb 4 c (omega (arith, ec)), le-leb c 5 (omega (arith, ec))) refl }
-  where
-    no_more : (vs ws : List ℕ) → fine [] vs ws ≡ true → ws ≡ []
-    no_more vs [] f = refl
-    no_more vs (x ∷ ws) f = never f
-
-small_after : (xs ys : List ℕ) → Small (xs ++ ys) → Small ys
-small_after [] ys h = h
-small_after (x ∷ xs) ys h = small_after xs ys (λ i. h (suc i))
+-- a head that is read has the kind of a sealed record
+pub kind_read : (bs : List ℕ) (l : ℕ) (hs rest : List ℕ) → Small bs → steps head_rows (good 5 [] bs) ≡ good l hs rest → sealed_kind (get_or hs 2 0) ≡ true
+unfolding head_rows
+kind_read = head_known 4 5
 
 pub tail_facts : (w left input : ℕ) → tail w left input ≡ 0 → (w ≡ left) × (w + 4 ≤ input)
 unfolding tail
@@ -265,10 +219,10 @@ unfolding unsealed
 unsealed_is k vs lanes = refl
 
 pub written_again : (bs : List ℕ) (k : ℕ) (ws rest : List ℕ) → Small bs → read_sealed bs ≡ found k ws rest → Kept bs k ws rest
-unfolding read_sealed bodied
+unfolding read_sealed bodied head_rows
 written_again bs k ws rest s e = go (steps head_rows (good 5 [] bs)) refl e
   where
-    parts : (hs b1 : List ℕ) → bs ≡ payload head_rows [] hs ++ b1 → Head hs → (j n : ℕ) → j ≡ get_or hs 2 0 → n ≡ get_or hs 3 0 → Opened bs j n b1 k ws rest → Kept bs k ws rest
+    parts : (hs b1 : List ℕ) → bs ≡ payload head_rows [] hs ++ b1 → Head 4 5 hs → (j n : ℕ) → j ≡ get_or hs 2 0 → n ≡ get_or hs 3 0 → Opened bs j n b1 k ws rest → Kept bs k ws rest
     parts hs b1 a f j n ej en o =
         let x = o.closing in
         let vs = x.vs in
@@ -311,4 +265,4 @@ written_again bs k ws rest s e = go (steps head_rows (good 5 [] bs)) refl e
     go (good l hs b1) q f =
         let w = written_read head_rows 5 [] bs l hs b1 s q in
         let y : w.more ≡ hs = sym w.same in
-        parts hs b1 (w.from ∙ ap (λ (z : List ℕ). payload head_rows [] z ++ b1) y) (head_is hs (rw y at w.takes)) (get_or hs 2 0) (get_or hs 3 0) refl refl (open_good bs (get_or hs 2 0) (get_or hs 3 0) b1 k ws rest f)
+        parts hs b1 (w.from ∙ ap (λ (z : List ℕ). payload head_rows [] z ++ b1) y) (head_is 4 5 hs (rw y at w.takes)) (get_or hs 2 0) (get_or hs 3 0) refl refl (open_good bs (get_or hs 2 0) (get_or hs 3 0) b1 k ws rest f)

@@ -10,39 +10,46 @@ use lib.Seq.{sets, sets-eq, take_all, drop_at, drop-drop, length-take-le, get_or
 use borrow.Author.Tests.{le-leb, lt-leb, eq-eqb, ne_eqb}
 use Rattle.byte_layout.specs.declared.Row.{Row}
 use Rattle.byte_layout.specs.Numbers.{bytes}
-use Rattle.byte_layout.specs.Rows.{row_at, rows}
-use Rattle.byte_layout.specs.Writes.{payload, fine}
+use Rattle.refusals.specs.declared.Refusal.TheVariants.{Record}
+use Rattle.byte_layout.specs.Rows.{row, stands}
+use Rattle.byte_layout.specs.Writes.{field, payload, fine}
 use Rattle.byte_layout.proofs.Numbers.{length_bytes}
 use Rattle.byte_layout.proofs.Puts.{sets_append}
 use Rattle.crc32.specs.Checksums.{checksum_of}
+use Rattle.trace_records.specs.Tables as of-version-1
 use Rattle.trace_records.specs.Tables.{fields}
 use Rattle.trace_records.specs.Writes.{head_of, Written, write_record}
-use Rattle.trace_sealed.specs.Tables.{given_table, laned_table, head_rows, given_rows, laned_rows, field_rows, field_count, lane_bytes}
+use Rattle.trace_sealed.specs.declared.layouts.Kind.{Kind}
+use Rattle.trace_sealed.specs.declared.layouts.Kind.TheVariants.{Given, Laned}
+use Rattle.trace_sealed.specs.Tables.{kind_number, head_rows, given_rows, laned_rows, field_rows, field_count, lane_bytes}
 use Rattle.trace_sealed.specs.Writes.{body_of, unsealed, sealed_of, sealed_kind, write_sealed, write_any}
-use Rattle.trace_sealed.proofs.Ways.{lanes_are}
-use Rattle.trace_sealed.proofs.Rounds.{head_length, covers, body_possible, possible_few, row_always, one}
+use Rattle.trace_records.proofs.Rounds.{row_always, one}
+use Rattle.trace_sealed.proofs.Ways.{rows_long, lanes_are}
+use Rattle.trace_sealed.proofs.Rounds.{head_length, covers, body_possible, possible_few}
 
--- ---- by the kind
+-- by the kind's rows
+pub by_kind : {A : Type 0} (f : List Row → List ℕ → A) (t : List Row) (k : ℕ) (vals : List ℕ) → t ≡ field_rows k → f t (take (length t) vals) ≡ f (field_rows k) (take (field_count k) vals)
+by_kind f t k vals e = ap (λ z. f z (take (length z) vals)) e ∙ ap (λ n. f (field_rows k) (take n vals)) (rows_long k)
 
-module _ {A : Type 0} (f : List Row → ℕ → A) (k : ℕ) where
-  pub of_given_rows : k ≡ 4 → f (rows given_table 0 17) 17 ≡ f (field_rows k) (field_count k)
-  unfolding given_rows
-  of_given_rows h = rw (eq-eqb k 4 h) refl
+pub kind_sealed : (k : Kind) → true ≡ sealed_kind (kind_number k)
+kind_sealed Given = refl
+kind_sealed Laned = refl
 
-  pub of_laned_rows : (k ≡ 4 → ⊥) → f (rows laned_table 0 5) 5 ≡ f (field_rows k) (field_count k)
-  unfolding laned_rows
-  of_laned_rows h = rw (ne_eqb k 4 h) refl
+-- the head's bytes do not depend on the kinds that a head may have
+pub head_same : (k n : ℕ) → payload of-version-1.head_rows [] (head_of k n) ≡ payload head_rows [] (head_of k n)
+unfolding payload field stands head_rows of-version-1.head_rows
+head_same k n = refl
 
 -- ---- the first number
 
 fine_low : (k : ℕ) (vs : List ℕ) → fine (field_rows k) [] vs ≡ true → get_or vs 0 0 ≤ 4294967295
-unfolding given_rows laned_rows rows row_at given_table laned_table
+unfolding given_rows laned_rows
 fine_low k [] e = omega arith
 fine_low k (x ∷ ws) e = go (eqb k 4) e
   where
     go : (b : Bool) → fine (cond b given_rows laned_rows) [] (x ∷ ws) ≡ true → x ≤ 4294967295
-    go true q = omega (arith, one (row_at given_table 0) x (row_always (row_at given_table 0) (rows given_table 1 16) [] ws x refl q).0)
-    go false q = omega (arith, one (row_at laned_table 0) x (row_always (row_at laned_table 0) (rows laned_table 1 4) [] ws x refl q).0)
+    go true q = omega (arith, one (row 4 0 0 0 4294967295 Record) x (row_always (row 4 0 0 0 4294967295 Record) (drop 1 given_rows) [] ws x refl q).0)
+    go false q = omega (arith, one (row 2 0 0 1 1024 Record) x (row_always (row 2 0 0 1 1024 Record) (drop 1 laned_rows) [] ws x refl q).0)
 
 pub first_fits : (k : ℕ) (vals : List ℕ) → true ≡ fine (field_rows k) [] (take (field_count k) vals) → get_or vals 0 0 ≤ 4294967295
 first_fits k vals e = omega (arith, fine_low k (take (field_count k) vals) (sym e), get_or-take (field_count k) vals 0 0 (positive (eqb k 4)))
@@ -90,14 +97,14 @@ sealing buf at k n vs lanes room e head two three four a b sum p q r s t u v =
 
 -- ---- the write
 
-abbrev sent : ℕ → ℕ → List ℕ → Written
-sent k a b = record { number = k; next = a; buffer = b }
+abbrev outcome : ℕ → ℕ → List ℕ → Written
+outcome k a b = record { number = k; next = a; buffer = b }
 
 module _ (buf : List ℕ) (at k : ℕ) (vals lanes : List ℕ) where
   abbrev vs : List ℕ
   vs = take (field_count k) vals
 
-  pub unfit : false ≡ fine (field_rows k) [] vs → sent 17 at buf ≡ write_sealed buf at k vs lanes
+  pub unfit : false ≡ fine (field_rows k) [] vs → outcome 17 at buf ≡ write_sealed buf at k vs lanes
   unfolding write_sealed
   unfit e = rw (← e) refl
 
@@ -105,7 +112,7 @@ module _ (buf : List ℕ) (at k : ℕ) (vals lanes : List ℕ) where
     lanes_w : lane_bytes k vs ≡ w
     lanes_w = lanes_are k vals ∙ sym e
 
-    pub not_whole : (length lanes ≡ w → ⊥) → sent 17 at buf ≡ write_sealed buf at k vs lanes
+    pub not_whole : (length lanes ≡ w → ⊥) → outcome 17 at buf ≡ write_sealed buf at k vs lanes
     unfolding write_sealed
     not_whole h = rw (← f, lanes_w, ne_eqb (length lanes) w h) refl
 
@@ -125,16 +132,16 @@ module _ (buf : List ℕ) (at k : ℕ) (vals lanes : List ℕ) where
           let d = head_length k (length (body_of k vs lanes) + 4) in
           omega (arith, a, b, c, d))
 
-      pub no_room : length buf - at < 5 + (m + w + 4) → sent 19 at buf ≡ write_sealed buf at k vs lanes
+      pub no_room : length buf - at < 5 + (m + w + 4) → outcome 19 at buf ≡ write_sealed buf at k vs lanes
       unfolding write_sealed
       no_room h = rw (← f, lanes_w, eq-eqb (length lanes) w g, lt-leb (length (sealed_of k vs lanes)) (length buf - at) (omega (arith, size))) refl
 
       pub written : 5 + (m + w + 4) ≤ length buf - at → at ≤ length buf → (new : List ℕ) (next : ℕ) → new ≡ sets buf at (sealed_of k vs lanes) → next ≡ at + 5 + (m + w + 4)
-          → sent 0 next new ≡ write_sealed buf at k vs lanes
+          → outcome 0 next new ≡ write_sealed buf at k vs lanes
       unfolding write_sealed
       written h z new next p q =
           rw (← f, lanes_w, eq-eqb (length lanes) w g, le-leb (length (sealed_of k vs lanes)) (length buf - at) (omega (arith, size)))
-          (ap (λ (x : ℕ). sent 0 x new) (omega (arith, size)) ∙ ap (λ (x : List ℕ). sent 0 (at + length (sealed_of k vs lanes)) x) (p ∙ sets-eq (sealed_of k vs lanes) buf at (omega (arith, size))))
+          (ap (λ (x : ℕ). outcome 0 x new) (omega (arith, size)) ∙ ap (λ (x : List ℕ). outcome 0 (at + length (sealed_of k vs lanes)) x) (p ∙ sets-eq (sealed_of k vs lanes) buf at (omega (arith, size))))
 
   pub sealed_way : (x : Written) → true ≡ sealed_kind k → x ≡ write_sealed buf at k vs lanes → x ≡ write_any buf at k vals lanes
   unfolding write_any

@@ -7,61 +7,63 @@ use mathlib.Core.List.{List, [], ◌∷◌, ◌++◌}
 use lib.Dec.{eqb, leb}
 use lib.ListN.{length, get_or, take, drop, replicate, length-replicate, length-drop, take-append-drop, drop_of_length-le}
 use lib.Seq.{get_or-take, get_or-drop, length-take-le, drop-drop, take_at, drop-cons}
+use Rattle.std.proofs.lemmas.List.{drop-replicate}
 use borrow.Author.Tests.{eq-eqb, ne_eqb, le-leb, lt-leb, leb-true}
+use Rattle.std.specs.Prelude.{Ok, Err}
+use Rattle.refusals.specs.declared.Refusal.{Refusal}
+use Rattle.refusals.specs.declared.Refusal.TheVariants as refusal
+use Rattle.refusals.specs.Numbers.{number}
 use Rattle.byte_layout.specs.declared.Row.{Row}
 use Rattle.byte_layout.specs.declared.Parsed.{Parsed}
 use Rattle.byte_layout.specs.Numbers.{num}
-use Rattle.byte_layout.specs.Rows.{row_at, rows, sound}
+use Rattle.byte_layout.specs.Rows.{sound}
 use Rattle.byte_layout.specs.Reads.{Reading, bad, good, steps, view}
 use Rattle.byte_layout.proofs.Codec.{never, ands}
-use Rattle.byte_layout.proofs.Ways.{opened, shut, begun}
+use Rattle.byte_layout.proofs.Low.{numbered}
+use Rattle.byte_layout.proofs.Ways.{begun}
 use Rattle.crc32.specs.Checksums.{checksum_of}
-use Rattle.trace_records.specs.declared.Record.{Record}
-use Rattle.trace_records.specs.Records.{Found, refused, found, record_at}
-use Rattle.trace_sealed.specs.Tables.{head_table, given_table, laned_table, head_rows, given_rows, laned_rows, field_rows, field_count, lane_bytes}
-use Rattle.trace_sealed.specs.Records.{Fields, in_steps, possible, tail, closed, bodied, read_sealed, is_sealed, valued, sealed_at, any_at}
+use Rattle.trace_records.specs.declared.Record as Answer
+use Rattle.trace_records.specs.Records.{Record, record_read, Found, refused, found, in_steps, record_at}
+use Rattle.trace_records.proofs.Ways.{Start, between}
+use Rattle.trace_sealed.specs.Tables.{head_rows, given_rows, laned_rows, field_rows, field_count, lane_bytes}
+use Rattle.trace_sealed.specs.Records.{Fields, possible, tail, closed, bodied, read_sealed, is_sealed, valued, sealed_at, any_at}
 use Rattle.trace_sealed.proofs.Firsts.{first_low}
 
 -- ---- the tables
 
-pub head_sound : sound (rows head_table 0 4) ≡ true
-unfolding sound rows row_at head_table
-head_sound = refl
+pub head_rows_sound : sound head_rows ≡ true
+unfolding sound head_rows
+head_rows_sound = refl
 
-pub given_sound : sound (rows given_table 0 17) ≡ true
-unfolding sound rows row_at given_table
-given_sound = refl
+pub rows_sound : (k : ℕ) → sound (field_rows k) ≡ true
+unfolding sound given_rows laned_rows
+rows_sound k = go (eqb k 4)
+  where
+    go : (b : Bool) → sound (cond b given_rows laned_rows) ≡ true
+    go true = refl
+    go false = refl
 
-pub laned_sound : sound (rows laned_table 0 5) ≡ true
-unfolding sound rows row_at laned_table
-laned_sound = refl
+pub rows_long : (k : ℕ) → length (field_rows k) ≡ field_count k
+unfolding given_rows laned_rows
+rows_long k = go (eqb k 4)
+  where
+    go : (b : Bool) → length (cond b given_rows laned_rows) ≡ cond b 17 5
+    go true = refl
+    go false = refl
+
+pub count_few : (k : ℕ) → field_count k < 80
+count_few k = go (eqb k 4)
+  where
+    go : (b : Bool) → cond b 17 5 < 80
+    go true = omega arith
+    go false = omega arith
 
 -- ---- lengths
 
 module _ (n low high by : ℕ) where
-  pub too_short : n < low → false ≡ in_steps n low high by
-  unfolding in_steps
-  too_short h = rw (lt-leb low n h) refl
-
-  pub too_long : low ≤ n → high < n → false ≡ in_steps n low high by
-  unfolding in_steps
-  too_long g h = rw (le-leb low n g, lt-leb n high h) refl
-
-  pub in_steps_lem : low ≤ n → n ≤ high → eqb ((n - low) % by) 0 ≡ in_steps n low high by
-  unfolding in_steps
-  in_steps_lem g h = rw (le-leb low n g, le-leb n high h) refl
-
   pub at_least : in_steps n low high by ≡ true → low ≤ n
   unfolding in_steps
   at_least e = leb-true low n (ands (leb low n) (leb n high) (ands (leb low n && leb n high) (eqb ((n - low) % by) 0) e).0).0
-
-pub of_given : (k n : ℕ) (b : Bool) → k ≡ 4 → b ≡ in_steps n 65 97 8 → b ≡ possible k n
-unfolding possible
-of_given k n b h e = e ∙ rw (eq-eqb k 4 h) refl
-
-pub of_laned : (k n : ℕ) (b : Bool) → (k ≡ 4 → ⊥) → b ≡ in_steps n 41 24593 24 → b ≡ possible k n
-unfolding possible
-of_laned k n b h e = e ∙ rw (ne_eqb k 4 h) refl
 
 -- a possible payload is longer than its checksum
 pub some : (k n : ℕ) → possible k n ≡ true → 41 ≤ n
@@ -71,33 +73,6 @@ some k n e = go (eqb k 4) e
     go : (b : Bool) → cond b (in_steps n 65 97 8) (in_steps n 41 24593 24) ≡ true → 41 ≤ n
     go true q = omega (arith, at_least n 65 97 8 q)
     go false q = at_least n 41 24593 24 q
-
--- ---- the rows
-
-abbrev Start : ℕ → ℕ → Parsed
-Start at n = record { refused = 0; at = at; left = n; values = replicate 80 0 }
-
-abbrev Read : List ℕ → ℕ → List Row → Parsed → Parsed → Type 0
-Read s m rs p q = (view s m q ≡ steps rs (view s 0 p)) × (q.at ≤ length s) × (drop m q.values ≡ drop m p.values)
-
-abbrev pub Body : List ℕ → ℕ → ℕ → ℕ → List Row → Parsed → Type 0
-Body s at n m rs q = (view s m q ≡ steps rs (good n [] (drop at s))) × (q.at ≤ length s) × (drop m q.values ≡ replicate (80 - m) 0)
-
-from_start : (s : List ℕ) (at n m : ℕ) (rs : List Row) (p q : Parsed) → p ≡ Start at n → Read s m rs p q → drop {A = ℕ} m (replicate 80 0) ≡ replicate (80 - m) 0 → Body s at n m rs q
-from_start s at n m rs p q e r z = (r.0 ∙ ap (steps rs) (begun s at n p e), r.1, r.2 ∙ ap (λ (x : Parsed). drop m x.values) e ∙ z)
-
-module _ (s : List ℕ) (at n k : ℕ) (p q : Parsed) (e : p ≡ Start at n) where
-  pub read_given : k ≡ 4 → Read s 17 (rows given_table 0 17) p q → Body s at n (field_count k) (field_rows k) q
-  unfolding given_rows
-  read_given h r = rw (eq-eqb k 4 h) (from_start s at n 17 (rows given_table 0 17) p q e r refl)
-
-  pub read_laned : (k ≡ 4 → ⊥) → Read s 5 (rows laned_table 0 5) p q → Body s at n (field_count k) (field_rows k) q
-  unfolding laned_rows
-  read_laned h r = rw (ne_eqb k 4 h) (from_start s at n 5 (rows laned_table 0 5) p q e r refl)
-
-pub read_head_rows : (s : List ℕ) (at : ℕ) (p q : Parsed) → p ≡ Start at 5 → Read s 4 (rows head_table 0 4) p q → (view s 4 q ≡ steps head_rows (good 5 [] (drop at s))) × (q.at ≤ length s)
-unfolding head_rows
-read_head_rows s at p q e r = (r.0 ∙ ap (steps (rows head_table 0 4)) (begun s at 5 p e), r.1)
 
 -- ---- the tail
 
@@ -144,11 +119,11 @@ module _ (w left input : ℕ) where
 
 -- ---- what follows the fields
 
-abbrev Refused : ℕ → ℕ → Record
-Refused n at = record { refusal = n; kind = 0; next = at; values = replicate 80 0 }
-
 abbrev Got : ℕ → ℕ → List ℕ → Record
 Got k a v = record { refusal = 0; kind = k; next = a; values = v }
+
+abbrev Answered : ℕ → ℕ → List ℕ → Answer.Record
+Answered k a v = record { kind = k; next = a; values = v }
 
 module _ (covered : List ℕ) (k left : ℕ) (vs bs : List ℕ) (w : ℕ) (e : lane_bytes k vs ≡ w) where
   pub closed_refused : (t : ℕ) → t ≡ tail w left (length bs) → 0 < t → closed covered k (good left vs bs) ≡ refused t
@@ -170,14 +145,7 @@ lanes_are k vals = go (eqb k 4)
     go true = refl
     go false = ap (λ (z : ℕ). 24 * z) (get_or-take 5 vals 0 0 (omega arith))
 
-count_few : (k : ℕ) → field_count k < 80
-count_few k = go (eqb k 4)
-  where
-    go : (b : Bool) → cond b 17 5 < 80
-    go true = omega arith
-    go false = omega arith
-
-module _ (s : List ℕ) (at k n : ℕ) (p : Parsed) (x : Fields s at k n p) (w : ℕ) (e : w ≡ cond (eqb k 4) 0 (24 * get_or p.values 0 0)) (t : ℕ) (f : t ≡ tail w p.left (length s - p.at)) where
+module _ (s : List ℕ) (at k n : ℕ) (p : Parsed) (x : Fields s at k n p) (w : ℕ) (e : w ≡ cond (eqb k 4) 0 (24 * get_or p.values 0 0)) where
   abbrev bs : List ℕ
   bs = drop p.at s
 
@@ -190,19 +158,19 @@ module _ (s : List ℕ) (at k n : ℕ) (p : Parsed) (x : Fields s at k n p) (w :
   lanes : lane_bytes k vs ≡ w
   lanes = lanes_are k p.values ∙ sym e
 
-  tailed : t ≡ tail w p.left (length bs)
-  tailed = f ∙ ap (tail w p.left) (sym (length-drop p.at s))
+  tailed : (t : ℕ) → t ≡ tail w p.left (length s - p.at) → t ≡ tail w p.left (length bs)
+  tailed t f = f ∙ ap (tail w p.left) (sym (length-drop p.at s))
 
-  pub tail_wrong : (r : Record) → 0 < t → r ≡ Refused t at → r ≡ valued (length s) at (closed covered k (good p.left vs bs))
+  pub tail_wrong : (r : Refusal) → number r ≡ tail w p.left (length s - p.at) → record_read at (Err r) ≡ valued (length s) at (closed covered k (good p.left vs bs))
   unfolding valued
-  tail_wrong r h g = g ∙ sym (ap (valued (length s) at) (closed_refused covered k p.left vs bs w lanes t tailed h))
+  tail_wrong r f = sym (ap (valued (length s) at) (closed_refused covered k p.left vs bs w lanes (number r) (tailed (number r) f) (numbered r)))
 
-  module _ (g : t ≤ 0) where
+  module _ (f : 0 ≡ tail w p.left (length s - p.at)) where
     nothing : 0 ≡ tail w p.left (length bs)
-    nothing = omega (arith, tailed)
+    nothing = tailed 0 f
 
     pub room : p.at + w + 4 ≤ length s
-    room = omega (arith, tail_room w p.left (length s - p.at) (omega (arith, f)), x.inside)
+    room = omega (arith, tail_room w p.left (length s - p.at) (sym f), x.inside)
 
     place : (i : ℕ) → drop i (drop p.at s) ≡ drop (p.at + i) s
     place i = drop-drop i p.at s
@@ -214,11 +182,11 @@ module _ (s : List ℕ) (at k n : ℕ) (p : Parsed) (x : Fields s at k n p) (w :
       wanted_is : wanted ≡ checksum_of covered
       wanted_is = b ∙ ap (λ (z : List ℕ). checksum_of (take (n - 1) z)) (sym (drop-drop 2 at s))
 
-      pub sum_wrong : (r : Record) → (sum ≡ wanted → ⊥) → r ≡ Refused 17 at → r ≡ valued (length s) at (closed covered k (good p.left vs bs))
+      pub sum_wrong : (sum ≡ wanted → ⊥) → record_read at (Err refusal.Record) ≡ valued (length s) at (closed covered k (good p.left vs bs))
       unfolding valued
-      sum_wrong r h q = q ∙ sym (ap (valued (length s) at) (closed_wrong covered k p.left vs bs w lanes nothing (λ z. h (sum_is ∙ z ∙ sym wanted_is))))
+      sum_wrong h = sym (ap (valued (length s) at) (closed_wrong covered k p.left vs bs w lanes nothing (λ z. h (sum_is ∙ z ∙ sym wanted_is))))
 
-      pub sum_right : sum ≡ wanted → Got k (p.at + w + 4) p.values ≡ valued (length s) at (closed covered k (good p.left vs bs))
+      pub sum_right : sum ≡ wanted → record_read at (Ok (Answered k (p.at + w + 4) p.values)) ≡ valued (length s) at (closed covered k (good p.left vs bs))
       unfolding valued
       sum_right h =
           let m = field_count k in
@@ -231,39 +199,54 @@ module _ (s : List ℕ) (at k n : ℕ) (p : Parsed) (x : Fields s at k n p) (w :
 -- ---- the record
 
 module _ (s : List ℕ) (at : ℕ) where
-  refuses : (r : Record) (n : ℕ) → r ≡ Refused n at → read_sealed (drop at s) ≡ refused n → r ≡ sealed_at s at
+  refuses : (x : Refusal) (n : ℕ) → n ≡ number x → read_sealed (drop at s) ≡ refused n → record_read at (Err x) ≡ sealed_at s at
   unfolding sealed_at valued
-  refuses r n g e = g ∙ rw e refl
+  refuses x n g e = rw (e, g) refl
 
-  module _ (h : Parsed) (e : view s 4 h ≡ steps head_rows (good 5 [] (drop at s))) where
-    pub no_head : (r : Record) → 0 < h.refused → r ≡ Refused h.refused at → r ≡ sealed_at s at
-    unfolding read_sealed bodied
-    no_head r g f = refuses r h.refused f (ap (bodied (drop at s)) (sym e) ∙ ap (bodied (drop at s)) (shut s 4 h g))
+  pub no_head : (x : Refusal) → bad (number x) ≡ steps head_rows (good 5 [] (drop at s)) → record_read at (Err x) ≡ sealed_at s at
+  unfolding read_sealed bodied
+  no_head x e = refuses x (number x) refl (ap (bodied (drop at s)) (sym e))
 
-    module _ (g : h.refused ≤ 0) (k n : ℕ) (kind : k ≡ get_or h.values 2 0) (size : n ≡ get_or h.values 3 0) where
-      judged : read_sealed (drop at s) ≡ cond (possible k n) (closed (take (n - 1) (drop 2 (drop at s))) k (steps (field_rows k) (good (n - 4) [] (drop h.at s)))) (refused 17)
-      unfolding read_sealed bodied
-      judged = ap (bodied (drop at s)) (sym e) ∙ ap (bodied (drop at s)) (opened s 4 h g) ∙ rw (get_or-take 4 h.values 2 0 (omega arith), get_or-take 4 h.values 3 0 (omega arith), ← kind, ← size) refl
+  module _ (h : Parsed) (e : good h.left (take 4 h.values) (drop h.at s) ≡ steps head_rows (good 5 [] (drop at s))) (k n : ℕ) (kind : get_or h.values 2 0 ≡ k) (size : get_or h.values 3 0 ≡ n) where
+    summed : List ℕ
+    summed = take (n - 1) (drop 2 (drop at s))
 
-      pub no_length : (r : Record) → false ≡ possible k n → r ≡ Refused 17 at → r ≡ sealed_at s at
-      no_length r p f = refuses r 17 f (judged ∙ rw (← p) refl)
+    judged : read_sealed (drop at s) ≡ cond (possible k n) (closed summed k (steps (field_rows k) (good (n - 4) [] (drop h.at s)))) (refused 17)
+    unfolding read_sealed bodied summed
+    judged = ap (bodied (drop at s)) (sym e) ∙ rw (get_or-take 4 h.values 2 0 (omega arith), get_or-take 4 h.values 3 0 (omega arith), kind, size) refl
 
-      module _ (p : true ≡ possible k n) (q : Parsed) (b : Body s h.at (n - 4) (field_count k) (field_rows k) q) where
-        judged_body : read_sealed (drop at s) ≡ closed (take (n - 1) (drop 2 (drop at s))) k (view s (field_count k) q)
-        judged_body = judged ∙ rw (← p) (ap (closed (take (n - 1) (drop 2 (drop at s))) k) (sym b.0))
+    pub no_length : false ≡ possible k n → record_read at (Err refusal.Record) ≡ sealed_at s at
+    no_length p = refuses refusal.Record 17 refl (judged ∙ rw (← p) refl)
 
-        pub no_fields : (r : Record) → 0 < q.refused → r ≡ Refused q.refused at → r ≡ sealed_at s at
-        unfolding closed
-        no_fields r z f = refuses r q.refused f (judged_body ∙ ap (closed (take (n - 1) (drop 2 (drop at s))) k) (shut s (field_count k) q z))
+    module _ (p : true ≡ possible k n) (t : List Row) (rows : t ≡ field_rows k) (q : Parsed) (start : q ≡ Start h.at (n - 4)) where
+      judged_body : read_sealed (drop at s) ≡ closed summed k (steps t (view s 0 (Ok q)))
+      judged_body = judged ∙ rw (← p) (ap (λ z. closed summed k (steps z (good (n - 4) [] (drop h.at s)))) (sym rows) ∙ ap (λ z. closed summed k (steps t z)) (sym (begun s h.at (n - 4) q start)))
 
-        pub closes : (r : Record) → q.refused ≤ 0 → r ≡ valued (length s) at (closed (take (n - 1) (drop 2 (drop at s))) k (good q.left (take (field_count k) q.values) (drop q.at s))) → r ≡ sealed_at s at
-        unfolding sealed_at
-        closes r z f = f ∙ sym (ap (valued (length s) at) (judged_body ∙ ap (closed (take (n - 1) (drop 2 (drop at s))) k) (opened s (field_count k) q z)))
+      pub no_fields : (x : Refusal) → bad (number x) ≡ steps t (view s 0 (Ok q)) → record_read at (Err x) ≡ sealed_at s at
+      unfolding closed
+      no_fields x z = refuses x (number x) refl (judged_body ∙ ap (closed summed k) (sym z))
 
-        pub fields_read : at + 2 < length s → q.refused ≤ 0 → Fields s at k n q
-        fields_read a z =
-            let l = first_low k (n - 4) q.left (drop h.at s) (take (field_count k) q.values) (drop q.at s) (sym b.0 ∙ opened s (field_count k) q z) in
-            record { place = omega arith; some = omega (arith, some k n (sym p)); inside = b.1; low = omega (arith, l, get_or-take (field_count k) q.values 0 0 (positive k)); zeros = b.2 }
+      module _ (r : Parsed) (z : good r.left (take (length t) r.values) (drop r.at s) ≡ steps t (view s 0 (Ok q))) where
+        long : length t ≡ field_count k
+        long = ap length rows ∙ rows_long k
+
+        pub closes : (a : Record) → a ≡ valued (length s) at (closed (take (n - 1) (drop 2 (drop at s))) k (good r.left (take (field_count k) r.values) (drop r.at s))) → a ≡ sealed_at s at
+        unfolding sealed_at summed
+        closes a f = f ∙ sym (ap (valued (length s) at) (judged_body ∙ ap (closed summed k) (sym z) ∙ ap (λ m. closed summed k (good r.left (take m r.values) (drop r.at s))) long))
+
+        pub fields_read : at + 2 < length s → r.at ≤ length s → drop (length t) r.values ≡ drop (length t) q.values → Fields s at k n r
+        fields_read a i d =
+            let m = field_count k in
+            let y : steps (field_rows k) (good (n - 4) [] (drop h.at s)) ≡ good r.left (take m r.values) (drop r.at s) =
+            ap (λ z. steps z (good (n - 4) [] (drop h.at s))) (sym rows) ∙ ap (steps t) (sym (begun s h.at (n - 4) q start)) ∙ sym z ∙ ap (λ c. good r.left (take c r.values) (drop r.at s)) long in
+            let l = first_low k (n - 4) r.left (drop h.at s) (take m r.values) (drop r.at s) y in
+            record {
+              place = omega arith;
+              some = omega (arith, some k n (sym p));
+              inside = i;
+              low = omega (arith, l, get_or-take m r.values 0 0 (positive k));
+              zeros = ap (λ c. drop c r.values) (sym long) ∙ d ∙ ap (λ v. drop (length t) v.values) start ∙ drop-replicate (length t) 80 0 ∙ ap (λ c. replicate (80 - c) 0) long;
+            }
           where
             positive : (k : ℕ) → 0 < field_count k
             positive k = go (eqb k 4)
@@ -297,21 +280,3 @@ module _ (s : List ℕ) (at : ℕ) where
   pub is_open : (r : Record) → false ≡ is_sealed (drop at s) → r ≡ record_at s at → r ≡ any_at s at
   unfolding any_at
   is_open r e f = f ∙ rw (← e) refl
-
--- ---- four bytes
-
-num_four : (a b c d : ℕ) (l : List ℕ) → a + 256 * (b + 256 * (c + 256 * d)) ≡ num (take 4 (a ∷ b ∷ c ∷ d ∷ l))
-unfolding num
-num_four a b c d l = omega arith
-
-pub four : (s : List ℕ) (at a b c d : ℕ) → at + 4 ≤ length s → a ≡ get_or s at 0 → b ≡ get_or s (at + 1) 0 → c ≡ get_or s (at + 2) 0 → d ≡ get_or s (at + 3) 0
-    → a + 256 * (b + 256 * (c + 256 * d)) ≡ num (take 4 (drop at s))
-four s at a b c d h p q r t =
-    let x : at + 1 ≡ suc at = omega arith in
-    let y : at + 2 ≡ suc (suc at) = omega arith in
-    let z : at + 3 ≡ suc (suc (suc at)) = omega arith in
-    let l = drop (suc (suc (suc (suc at)))) s in
-    let e : drop at s ≡ get_or s at 0 ∷ (get_or s (suc at) 0 ∷ (get_or s (suc (suc at)) 0 ∷ (get_or s (suc (suc (suc at))) 0 ∷ l))) =
-    drop-cons s at 0 (omega arith) ∙ ap (λ (m : List ℕ). get_or s at 0 ∷ m) (drop-cons s (suc at) 0 (omega arith) ∙ ap (λ (m : List ℕ). get_or s (suc at) 0 ∷ m) (drop-cons s (suc (suc at)) 0 (omega arith) ∙ ap (λ (m : List ℕ). get_or s (suc (suc at)) 0 ∷ m) (drop-cons s (suc (suc (suc at))) 0 (omega arith)))) in
-    num_four a b c d l
-    ∙ rw (p, q ∙ ap (λ (i : ℕ). get_or s i 0) x, r ∙ ap (λ (i : ℕ). get_or s i 0) y, t ∙ ap (λ (i : ℕ). get_or s i 0) z) (ap (λ (m : List ℕ). num (take 4 m)) (sym e))

@@ -12,8 +12,7 @@ use borrow.Author.Tests.{le-leb, lt-leb, leb-true, leb-false, eqb-true, eq-eqb}
 use Rattle.byte_layout.specs.Numbers.{num}
 use Rattle.byte_layout.specs.Reads.{Reading, bad, good, steps}
 use Rattle.crc32.specs.Checksums.{checksum_of}
-use Rattle.trace_records.specs.declared.Record.{Record}
-use Rattle.trace_records.specs.Records.{Found, refused, found, record_at}
+use Rattle.trace_records.specs.Records.{Record, Found, refused, found, record_at}
 use Rattle.trace_records.proofs.Windows.{longer, Holds, refusal, input, rows_same, beyond}
 use Rattle.trace_records.proofs.Windows as of-version-1
 use Rattle.trace_sealed.specs.Tables.{head_rows, field_rows, field_count, lane_bytes}

@@ -5,13 +5,8 @@ use Rattle.byte_layout.specs.declared.Parsed.{Parsed}
 use Rattle.byte_layout.specs.Numbers.{num}
 use Rattle.byte_layout.specs.Reads.{Reading, bad, good, steps}
 use Rattle.crc32.specs.Checksums.{checksum_of}
-use Rattle.trace_records.specs.declared.Record.{Record}
-use Rattle.trace_records.specs.Records.{Found, refused, found, read_record, record_at}
+use Rattle.trace_records.specs.Records.{Record, Found, refused, found, in_steps, read_record, record_at}
 use Rattle.trace_sealed.specs.Tables.{head_rows, field_rows, field_count, lane_bytes}
-
--- from `least` to `most`, in steps
-unfoldable pub in_steps : ℕ → ℕ → ℕ → ℕ → Bool
-in_steps n low high by = leb low n && leb n high && eqb ((n - low) % by) 0
 
 -- a length that the kind's fields, lanes and checksum can have
 unfoldable pub possible : ℕ → ℕ → Bool

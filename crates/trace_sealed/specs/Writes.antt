@@ -1,11 +1,15 @@
 -- How a sealed record is written: its bytes, and the buffer after a write.
-use Rattle.std.specs.Prelude.{ℕ, ◌+◌, ◌-◌, ◌≡◌, Bool, true, ◌&&◌, cond, List, [], ◌++◌, leb, eqb, length, take, drop}
+use Rattle.std.specs.Prelude.{ℕ, ◌+◌, ◌-◌, ◌≡◌, Bool, true, false, ◌&&◌, cond, List, [], ◌++◌, leb, eqb, length}
+use Rattle.std.specs.Prelude.{take, drop, Result, Ok, Err}
 use Rattle.byte_layout.specs.Numbers.{Bytes, bytes}
 use Rattle.byte_layout.specs.Writes.{payload, fine}
 use Rattle.crc32.specs.Checksums.{checksum_of}
 use Rattle.trace_records.specs.Tables.{fields}
 use Rattle.trace_records.specs.Writes.{head_of, Written, write_record}
-use Rattle.trace_sealed.specs.Tables.{head_rows, field_rows, field_count, lane_bytes}
+use Rattle.refusals.specs.declared.Refusal.{Refusal}
+use Rattle.refusals.specs.declared.Refusal.TheVariants as refusal
+use Rattle.trace_sealed.specs.declared.layouts.Kind.{Kind}
+use Rattle.trace_sealed.specs.Tables.{head_rows, kind_number, field_rows, field_count, lane_bytes}
 
 -- the payload before the checksum: the fields' numbers, then the lanes' bytes
 abbrev pub body_of : ℕ → List ℕ → List ℕ → List ℕ
@@ -21,6 +25,11 @@ sealed_of k vs lanes = unsealed k vs lanes ++ bytes 4 (checksum_of (drop 2 (unse
 
 abbrev pub sealed_kind : ℕ → Bool
 sealed_kind k = leb 4 k && leb k 5
+
+-- the kind of a number
+abbrev pub Named : ℕ → Result Kind Refusal → Type 0
+Named n (Ok k) = n ≡ kind_number k
+Named n (Err e) = (e ≡ refusal.Kind) × (sealed_kind n ≡ false)
 
 -- numbers and lanes that a sealed record of the kind can have
 pub record Sealable (k : ℕ) (vs lanes : List ℕ) : Type 0 where

@@ -1,5 +1,6 @@
 -- If a loop is not empty, kira's `while` wraps and the remainders agree, in every move and for every position.
 -- By induction on the iterations: each subtracts one length from the position. Assumes nothing.
+use Rattle.std.specs.Prelude.{Option, Some, None}
 use Prim.Native.Nat.{ℕ, zero, suc, ◌+◌, ◌-◌, ◌%◌, ◌≤◌, ◌<◌}
 use mathlib.Core.Path.{◌≡◌, refl, sym, ap, ap₂, ◌∙◌}
 use mathlib.Core.Bool.{Bool, true, false, not, cond}
@@ -7,8 +8,6 @@ use native.Mathlib.Nat.{mod-eq_of_lt, mod-eq-sub-mod}
 use native.Mathlib.Omega.{arith}
 use lib.Dec.{T, leb, ltb, eqb, ltb→lt}
 use borrow.Author.Tests.{leb-true, leb-false, ltb-true, ltb-false, lt-ltb, le-ltb, ne_eqb, eqb-true}
-use Rattle.playback_position.specs.declared.FrameRange.{FrameRange}
-use Rattle.playback_position.specs.declared.FrameRange.TheVariants.{Absent, Frames}
 use Rattle.playback_position.specs.Positions.{ordered}
 use Rattle.transport.specs.declared.Transport.{Transport}
 use Rattle.transport.specs.Moves.{cycled, under, over, back, first, landed, forward, backward, seek}
@@ -19,7 +18,7 @@ use Rattle.transport.proofs.Steps.{moved}
 -- ---- down
 
 -- one iteration does not change the final position
-lower_turn : (s e p : ℕ) → s < e → e ≤ p → under (Frames s e) (p - (e - s)) ≡ under (Frames s e) p
+lower_turn : (s e p : ℕ) → s < e → e ≤ p → under (Some (s, e)) (p - (e - s)) ≡ under (Some (s, e)) p
 lower_turn s e p l h = go (leb e (p - (e - s))) refl
   where
     shift : (p - s) % (e - s) ≡ (p - (e - s) - s) % (e - s)
@@ -28,7 +27,7 @@ lower_turn s e p l h = go (leb e (p - (e - s))) refl
         swap : (a b : ℕ) → p - a - b ≡ p - b - a
         swap a b = omega arith
 
-    go : (b : Bool) → leb e (p - (e - s)) ≡ b → under (Frames s e) (p - (e - s)) ≡ under (Frames s e) p
+    go : (b : Bool) → leb e (p - (e - s)) ≡ b → under (Some (s, e)) (p - (e - s)) ≡ under (Some (s, e)) p
     go true t =
         let k = leb-true e (p - (e - s)) t in
         under_wrap s e (p - (e - s)) l k ∙ sym (under_wrap s e p l h ∙ ap (λ (x : ℕ). s + x) shift)
@@ -38,11 +37,11 @@ lower_turn s e p l h = go (leb e (p - (e - s))) refl
         ∙ sym (under_wrap s e p l h ∙ ap (λ (x : ℕ). s + x) (shift ∙ mod-eq_of_lt (omega arith)) ∙ (omega arith))
 
 -- as many iterations as the position, or more, end at the remainder
-pub lowered_under : (k s e p : ℕ) → s < e → p ≤ k → lowered k e (e - s) p ≡ under (Frames s e) p
+pub lowered_under : (k s e p : ℕ) → s < e → p ≤ k → lowered k e (e - s) p ≡ under (Some (s, e)) p
 unfolding lowered
 lowered_under zero s e p l h = sym (under_inside s e p (omega arith))
 lowered_under (suc k) s e p l h =
-    picked (λ x. x ≡ under (Frames s e) p) (leb e p) _ p
+    picked (λ x. x ≡ under (Some (s, e)) p) (leb e p) _ p
     (λ t. let m = leb-true e p t in lowered_under k s e (p - (e - s)) l (omega arith) ∙ lower_turn s e p l m)
     (λ t. sym (under_inside s e p (leb-false e p t)))
 
@@ -85,20 +84,20 @@ raised_lifted (suc k) b l p z h =
 
 -- ---- the three wraps
 
-pub while_at_end_lem : (r : FrameRange) (p : ℕ) → T (ordered r) → while_at_end r p ≡ under r p
-while_at_end_lem Absent p h = refl
-while_at_end_lem (Frames s e) p h = let l = ltb→lt s e h in lowered_under p s e p l (omega arith)
+pub while_at_end_lem : (r : Option (ℕ × ℕ)) (p : ℕ) → T (ordered r) → while_at_end r p ≡ under r p
+while_at_end_lem None p h = refl
+while_at_end_lem (Some (s, e)) p h = let l = ltb→lt s e h in lowered_under p s e p l (omega arith)
 
-pub while_below_start_lem : (r : FrameRange) (p : ℕ) → T (ordered r) → while_below_start r p ≡ over r p
-while_below_start_lem Absent p h = refl
-while_below_start_lem (Frames s e) p h = let l = ltb→lt s e h in raised_lifted s s (e - s) p (omega arith) (omega arith) ∙ go (ltb p s) refl
+pub while_below_start_lem : (r : Option (ℕ × ℕ)) (p : ℕ) → T (ordered r) → while_below_start r p ≡ over r p
+while_below_start_lem None p h = refl
+while_below_start_lem (Some (s, e)) p h = let l = ltb→lt s e h in raised_lifted s s (e - s) p (omega arith) (omega arith) ∙ go (ltb p s) refl
   where
     go : (t : Bool) → ltb p s ≡ t → cond t (s + (e - s - 1 - (s - p - 1) % (e - s))) p ≡ cond t (s + cycled p s (e - s)) p
     go true t = ap (λ (x : ℕ). s + x) (sym (cycled_below p s (e - s) (ltb-true p s t)))
     go false t = refl
 
 -- past the start, one less is the step back
-pub while_at_start_lem : (s e p : ℕ) → s < e → while_at_start (Frames s e) p ≡ suc (back (Frames s e) p)
+pub while_at_start_lem : (s e p : ℕ) → s < e → while_at_start (Some (s, e)) p ≡ suc (back (Some (s, e)) p)
 while_at_start_lem s e p l = raised_lifted (suc s) (suc s) (e - s) p (omega arith) (omega arith) ∙ go (leb p s) refl
   where
     go : (t : Bool) → leb p s ≡ t → lifted (suc s) (e - s) p ≡ suc (cond t (s + cycled p (suc s) (e - s)) (p - 1))
@@ -110,14 +109,14 @@ while_at_start_lem s e p l = raised_lifted (suc s) (suc s) (e - s) p (omega arit
         lifted_past (suc s) (e - s) p (omega arith) ∙ (omega arith)
 
 -- so it is never 0, and playing goes on
-less_one_lem : (t : Transport) (r : FrameRange) (p : ℕ) → t.playing ≡ true → T (ordered r)
+less_one_lem : (t : Transport) (r : Option (ℕ × ℕ)) (p : ℕ) → t.playing ≡ true → T (ordered r)
     → less_one t (while_at_start r p) ≡ moved t (back r p) (not (first r p))
-less_one_lem t Absent p g h = go (eqb p 0) refl
+less_one_lem t None p g h = go (eqb p 0) refl
   where
     go : (b : Bool) → eqb p 0 ≡ b → moved t (cond b p (p - 1)) (cond b false t.playing) ≡ moved t (p - 1) (not b)
     go true e = let z = eqb-true p 0 e in ap (λ (x : ℕ). moved t x false) (omega arith)
     go false e = ap (moved t (p - 1)) g
-less_one_lem t (Frames s e) p g h = ap (less_one t) (while_at_start_lem s e p (ltb→lt s e h)) ∙ next (back (Frames s e) p)
+less_one_lem t (Some (s, e)) p g h = ap (less_one t) (while_at_start_lem s e p (ltb→lt s e h)) ∙ next (back (Some (s, e)) p)
   where
     next : (x : ℕ) → less_one t (suc x) ≡ moved t x true
     next x =

@@ -1,14 +1,13 @@
--- The three moves case by case, as the code meets them: playing or not, a seek up or not, a step back at the loop's start or not; and whether a step wraps.
+-- The three moves case by case, as the code meets them: playing or not, a step back at the loop's start or not; and whether a step wraps.
 -- By deciding each test of the definitions. Assumes nothing.
+use Rattle.std.specs.Prelude.{Option, Some, None}
 use Prim.Native.Nat.{ℕ, ◌+◌, ◌-◌, ◌≤◌, ◌<◌}
 use mathlib.Core.Path.{◌≡◌, refl, sym, ap, ap₂, ◌∙◌}
 use mathlib.Core.Bool.{Bool, true, false, not, cond, ◌&&◌, and-true, and-false}
 use lib.Dec.{leb}
 use borrow.Author.Tests.{lt-ltb, le-ltb, eq-eqb, ne_eqb}
-use Rattle.playback_position.specs.declared.FrameRange.{FrameRange}
-use Rattle.playback_position.specs.declared.FrameRange.TheVariants.{Absent, Frames}
 use Rattle.transport.specs.declared.Transport.{Transport}
-use Rattle.transport.specs.Moves.{under, over, back, first, landed, forward, backward, at_end, at_start, wraps, seek}
+use Rattle.transport.specs.Moves.{under, back, first, landed, forward, backward, at_end, at_start, wraps}
 
 -- the transport with its two numbers changed
 abbrev pub moved : Transport → ℕ → Bool → Transport
@@ -44,34 +43,24 @@ unfolding backward
 backward_going t e = ap (λ (b : Bool). cond b (moved t (back t.loop_region t.position) (not (first t.loop_region t.position))) t) e
 
 -- with its loop known
-pub backward_looped : (t : Transport) (s e q : ℕ) → t.playing ≡ true → t.loop_region ≡ Frames s e → back (Frames s e) t.position ≡ q
+pub backward_looped : (t : Transport) (s e q : ℕ) → t.playing ≡ true → t.loop_region ≡ Some (s, e) → back (Some (s, e)) t.position ≡ q
     → backward t ≡ moved t q t.playing
 backward_looped t s e q p l h =
     backward_going t p
-    ∙ ap (λ (r : FrameRange). moved t (back r t.position) (not (first r t.position))) l
+    ∙ ap (λ (r : Option (ℕ × ℕ)). moved t (back r t.position) (not (first r t.position))) l
     ∙ ap₂ (moved t) h (sym p)
 
-pub backward_ended : (t : Transport) → t.playing ≡ true → t.loop_region ≡ Absent → t.position ≡ 0 → backward t ≡ moved t t.position false
+pub backward_ended : (t : Transport) → t.playing ≡ true → t.loop_region ≡ None → t.position ≡ 0 → backward t ≡ moved t t.position false
 backward_ended t p l z =
     backward_going t p
-    ∙ ap (λ (r : FrameRange). moved t (back r t.position) (not (first r t.position))) l
+    ∙ ap (λ (r : Option (ℕ × ℕ)). moved t (back r t.position) (not (first r t.position))) l
     ∙ ap₂ (moved t) (ap (λ (x : ℕ). x - 1) z ∙ sym z) (ap not (eq-eqb t.position 0 z))
 
-pub backward_plain : (t : Transport) → t.playing ≡ true → t.loop_region ≡ Absent → (t.position ≡ 0 → ⊥) → backward t ≡ moved t (t.position - 1) t.playing
+pub backward_plain : (t : Transport) → t.playing ≡ true → t.loop_region ≡ None → (t.position ≡ 0 → ⊥) → backward t ≡ moved t (t.position - 1) t.playing
 backward_plain t p l z =
     backward_going t p
-    ∙ ap (λ (r : FrameRange). moved t (back r t.position) (not (first r t.position))) l
+    ∙ ap (λ (r : Option (ℕ × ℕ)). moved t (back r t.position) (not (first r t.position))) l
     ∙ ap (moved t (t.position - 1)) (ap not (ne_eqb t.position 0 z) ∙ sym p)
-
--- ---- a seek
-
-pub seek_up : (n : ℕ) (t : Transport) (q : ℕ) → t.position < q → seek n t q ≡ landed n t (under t.loop_region q)
-unfolding seek
-seek_up n t q h = ap (λ (b : Bool). landed n t (cond b (under t.loop_region q) (over t.loop_region q))) (lt-ltb t.position q h)
-
-pub seek_down : (n : ℕ) (t : Transport) (q : ℕ) → q ≤ t.position → seek n t q ≡ landed n t (over t.loop_region q)
-unfolding seek
-seek_down n t q h = ap (λ (b : Bool). landed n t (cond b (under t.loop_region q) (over t.loop_region q))) (le-ltb t.position q h)
 
 -- ---- whether a step wraps
 
@@ -86,8 +75,8 @@ unfolding wraps
 wraps_going b d t e p = sym (ap₂ (λ (p b : Bool). p && cond b (at_start t.loop_region t.position) (at_end t.loop_region (t.position + 1))) p e)
 
 -- and with its loop known
-pub wraps_on : (t : Transport) (s e : ℕ) → t.playing ≡ true → t.loop_region ≡ Frames s e → wraps false t ≡ leb e (t.position + 1)
-wraps_on t s e p l = sym (wraps_going false false t refl p) ∙ ap (λ (r : FrameRange). at_end r (t.position + 1)) l
+pub wraps_on : (t : Transport) (s e : ℕ) → t.playing ≡ true → t.loop_region ≡ Some (s, e) → wraps false t ≡ leb e (t.position + 1)
+wraps_on t s e p l = sym (wraps_going false false t refl p) ∙ ap (λ (r : Option (ℕ × ℕ)). at_end r (t.position + 1)) l
 
-pub wraps_back : (t : Transport) (s e : ℕ) → t.playing ≡ true → t.loop_region ≡ Frames s e → wraps true t ≡ leb t.position s
-wraps_back t s e p l = sym (wraps_going true true t refl p) ∙ ap (λ (r : FrameRange). at_start r t.position) l
+pub wraps_back : (t : Transport) (s e : ℕ) → t.playing ≡ true → t.loop_region ≡ Some (s, e) → wraps true t ≡ leb t.position s
+wraps_back t s e p l = sym (wraps_going true true t refl p) ∙ ap (λ (r : Option (ℕ × ℕ)). at_start r t.position) l

@@ -1,5 +1,6 @@
 -- Each move keeps a transport well formed, a playing one inside its loop stays inside, and a seek never starts playing.
 -- By the bounds of a wrapped position. Assumes nothing.
+use Rattle.std.specs.Prelude.{Option, Some, None}
 use Prim.Native.Nat.{ℕ, suc, ◌+◌, ◌-◌, ◌≤◌, ◌<◌}
 use mathlib.Core.Path.{◌≡◌, refl, sym, ap, ◌∙◌, subst}
 use mathlib.Core.Bool.{Bool, true, false, false≢true, not, ◌&&◌, ◌||◌}
@@ -9,8 +10,6 @@ use lib.Dec.{T, leb, ltb, leb→le, ltb→lt, le→leb, lt→ltb}
 use lib.Ieee.Fits.{and_i, and_l, and_r}
 use borrow.Author.Tests.{ltb-true, leb-false}
 use Rattle.numbers.specs.Frames.{most}
-use Rattle.playback_position.specs.declared.FrameRange.{FrameRange}
-use Rattle.playback_position.specs.declared.FrameRange.TheVariants.{Absent, Frames}
 use Rattle.playback_position.specs.Positions.{within}
 use Rattle.playback_position.proofs.Ranges.{ranged_parts}
 use Rattle.transport.specs.declared.Transport.{Transport}
@@ -52,25 +51,25 @@ well_formed_transport_of n t h =
 -- ---- bounds of a wrapped position
 
 -- a wrapped position is inside the n frames
-wrapped_in : (n s e a b : ℕ) → T (within n (Frames s e)) → s + cycled a b (e - s) < n
+wrapped_in : (n s e a b : ℕ) → T (within n (Some (s, e))) → s + cycled a b (e - s) < n
 wrapped_in n s e a b h =
     let r = ranged_parts n s e h in
     lt_of_lt_of_le (wrapped_lt s e a b r.more) r.inside
 
 -- under and over keep a position at most m, if n is
-pub under_le : (n m : ℕ) (r : FrameRange) (p : ℕ) → n ≤ m → T (within n r) → p ≤ m → under r p ≤ m
-under_le n m Absent p k h l = l
-under_le n m (Frames s e) p k h l =
+pub under_le : (n m : ℕ) (r : Option (ℕ × ℕ)) (p : ℕ) → n ≤ m → T (within n r) → p ≤ m → under r p ≤ m
+under_le n m None p k h l = l
+under_le n m (Some (s, e)) p k h l =
     picked (λ x. x ≤ m) (leb e p) _ p (λ t. le_trans (le_of_lt (wrapped_in n s e p s h)) k) (λ t. l)
 
-pub over_le : (n m : ℕ) (r : FrameRange) (p : ℕ) → n ≤ m → T (within n r) → p ≤ m → over r p ≤ m
-over_le n m Absent p k h l = l
-over_le n m (Frames s e) p k h l =
+pub over_le : (n m : ℕ) (r : Option (ℕ × ℕ)) (p : ℕ) → n ≤ m → T (within n r) → p ≤ m → over r p ≤ m
+over_le n m None p k h l = l
+over_le n m (Some (s, e)) p k h l =
     picked (λ x. x ≤ m) (ltb p s) _ p (λ t. le_trans (le_of_lt (wrapped_in n s e p s h)) k) (λ t. l)
 
-pub back_lt : (n : ℕ) (r : FrameRange) (p : ℕ) → T (within n r) → p < n → back r p < n
-back_lt n Absent p h l = omega arith
-back_lt n (Frames s e) p h l = picked (λ x. x < n) (leb p s) _ (p - 1) (λ t. wrapped_in n s e p (suc s) h) (λ t. omega arith)
+pub back_lt : (n : ℕ) (r : Option (ℕ × ℕ)) (p : ℕ) → T (within n r) → p < n → back r p < n
+back_lt n None p h l = omega arith
+back_lt n (Some (s, e)) p h l = picked (λ x. x < n) (leb p s) _ (p - 1) (λ t. wrapped_in n s e p (suc s) h) (λ t. omega arith)
 
 -- ---- well formed stays well formed
 
@@ -115,13 +114,13 @@ seek_well_formed_transport n t q k h l =
     (λ e. under_le n most t.loop_region q k h.loop l)
     (λ e. over_le n most t.loop_region q k h.loop l))
 
-pub reloop_well_formed_transport : (n : ℕ) (t : Transport) (r : FrameRange) → T (within n r) → WellFormedTransport n t → WellFormedTransport n (reloop t r)
+pub reloop_well_formed_transport : (n : ℕ) (t : Transport) (r : Option (ℕ × ℕ)) → T (within n r) → WellFormedTransport n t → WellFormedTransport n (reloop t r)
 reloop_well_formed_transport n t r l h = record { loop = l; here = h.here; low = h.low }
 
 pub opening_lt : (n : ℕ) (reverse : Bool) (start : ℕ) → start < n → opening n reverse start < n
 opening_lt n reverse start h = picked (λ x. x < n) reverse (n - 1 - start) start (λ e. omega arith) (λ e. h)
 
-pub begun_well_formed_transport : (n : ℕ) (reverse : Bool) (r : FrameRange) (start : ℕ) → n ≤ most → T (within n r) → start < n → WellFormedTransport n (begun n reverse r start)
+pub begun_well_formed_transport : (n : ℕ) (reverse : Bool) (r : Option (ℕ × ℕ)) (start : ℕ) → n ≤ most → T (within n r) → start < n → WellFormedTransport n (begun n reverse r start)
 begun_well_formed_transport n reverse r start k l h =
     let p = opening_lt n reverse start h in
     record { loop = l; here = λ e. p; low = le_trans (le_of_lt p) k }
@@ -137,22 +136,22 @@ seek_starts_nothing n t q e = both_left t.playing _ e
 pub forward_inside : (n s e : ℕ) (t : Transport) → e ≤ n → Inside s e t → Inside s e (forward n t)
 forward_inside n s e t k h =
     subst (Inside s e)
-    (sym (forward_going n t h.going ∙ ap (landed n t) (ap (λ (r : FrameRange). under r (t.position + 1)) h.loop) ∙ landed_inside n t q (lt_of_lt_of_le low k)))
+    (sym (forward_going n t h.going ∙ ap (landed n t) (ap (λ (r : Option (ℕ × ℕ)). under r (t.position + 1)) h.loop) ∙ landed_inside n t q (lt_of_lt_of_le low k)))
     at_q
   where
     q : ℕ
-    q = under (Frames s e) (t.position + 1)
+    q = under (Some (s, e)) (t.position + 1)
 
     more : s < e
     more = let a = h.from in let b = h.to in omega arith
 
-    low : under (Frames s e) (t.position + 1) < e
+    low : under (Some (s, e)) (t.position + 1) < e
     low = picked (λ x. x < e) (leb e (t.position + 1)) _ _ (λ c. wrapped_lt s e _ s more) (λ c. leb-false e (t.position + 1) c)
 
-    high : s ≤ under (Frames s e) (t.position + 1)
+    high : s ≤ under (Some (s, e)) (t.position + 1)
     high = let a = h.from in picked (λ x. s ≤ x) (leb e (t.position + 1)) _ _ (λ c. omega arith) (λ c. omega arith)
 
-    at_q : Inside s e (moved t (under (Frames s e) (t.position + 1)) t.playing)
+    at_q : Inside s e (moved t (under (Some (s, e)) (t.position + 1)) t.playing)
     at_q = record { loop = h.loop; going = h.going; from = high; to = low }
 
 pub backward_inside : (s e : ℕ) (t : Transport) → Inside s e t → Inside s e (backward t)
@@ -161,11 +160,11 @@ backward_inside s e t h = subst (Inside s e) (sym (backward_looped t s e _ h.goi
     more : s < e
     more = let a = h.from in let b = h.to in omega arith
 
-    low : back (Frames s e) t.position < e
+    low : back (Some (s, e)) t.position < e
     low = let b = h.to in picked (λ x. x < e) (leb t.position s) _ _ (λ c. wrapped_lt s e _ (suc s) more) (λ c. omega arith)
 
-    high : s ≤ back (Frames s e) t.position
+    high : s ≤ back (Some (s, e)) t.position
     high = picked (λ x. s ≤ x) (leb t.position s) _ _ (λ c. omega arith) (λ c. let l = leb-false t.position s c in omega arith)
 
-    at_q : Inside s e (moved t (back (Frames s e) t.position) t.playing)
+    at_q : Inside s e (moved t (back (Some (s, e)) t.position) t.playing)
     at_q = record { loop = h.loop; going = h.going; from = high; to = low }

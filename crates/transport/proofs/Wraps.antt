@@ -1,5 +1,6 @@
 -- Where a loop puts a position, case by case as the code meets them, and the bounds of a remainder.
 -- By deciding each test of the definitions. Assumes nothing.
+use Rattle.std.specs.Prelude.{Some}
 use Prim.Native.Nat.{ℕ, suc, ◌+◌, ◌-◌, ◌%◌, ◌≤◌, ◌<◌}
 use mathlib.Core.Path.{◌≡◌, refl, ap, ◌∙◌}
 use mathlib.Core.Bool.{Bool, true, false, cond}
@@ -7,7 +8,6 @@ use native.Mathlib.Nat.{mod-lt, mod_self, mod-eq_of_lt, add-zero}
 use native.Mathlib.Omega.{arith}
 use lib.Dec.{leb}
 use borrow.Author.Tests.{lt-ltb, le-ltb, le-leb, lt-leb}
-use Rattle.playback_position.specs.declared.FrameRange.TheVariants.{Frames}
 use Rattle.transport.specs.Moves.{cycled, under, over, back}
 
 -- what holds for both branches, each under its test, holds for the result
@@ -44,28 +44,28 @@ from_end : (s e r : ℕ) → s < e → r < e - s → s + (e - s - 1 - r) ≡ e -
 from_end s e r h k = omega arith
 
 module _ (s e : ℕ) where
-  pub under_inside : (p : ℕ) → p < e → under (Frames s e) p ≡ p
+  pub under_inside : (p : ℕ) → p < e → under (Some (s, e)) p ≡ p
   under_inside p h = rw (lt-leb e p h)
 
-  pub under_wrap : (p : ℕ) → s < e → e ≤ p → under (Frames s e) p ≡ s + (p - s) % (e - s)
+  pub under_wrap : (p : ℕ) → s < e → e ≤ p → under (Some (s, e)) p ≡ s + (p - s) % (e - s)
   under_wrap p l h = rw (le-leb e p h) (ap (λ (c : ℕ). s + c) (cycled_above p s (e - s) (omega arith)))
 
   -- a step meets the loop's end itself
-  pub under_end : s < e → under (Frames s e) e ≡ s
+  pub under_end : s < e → under (Some (s, e)) e ≡ s
   under_end l = under_wrap e l (omega arith) ∙ ap (λ (c : ℕ). s + c) (mod_self (e - s)) ∙ add-zero s
 
-  pub over_inside : (p : ℕ) → s ≤ p → over (Frames s e) p ≡ p
+  pub over_inside : (p : ℕ) → s ≤ p → over (Some (s, e)) p ≡ p
   over_inside p h = rw (le-ltb p s h)
 
-  pub over_wrap : (p : ℕ) → s < e → p < s → over (Frames s e) p ≡ e - 1 - (s - p - 1) % (e - s)
+  pub over_wrap : (p : ℕ) → s < e → p < s → over (Some (s, e)) p ≡ e - 1 - (s - p - 1) % (e - s)
   over_wrap p l h =
       rw (lt-ltb p s h)
       (ap (λ (c : ℕ). s + c) (cycled_below p s (e - s) h) ∙ from_end s e ((s - p - 1) % (e - s)) l (mod-lt (s - p - 1) (omega arith)))
 
-  pub back_inside : (p : ℕ) → s < p → back (Frames s e) p ≡ p - 1
+  pub back_inside : (p : ℕ) → s < p → back (Some (s, e)) p ≡ p - 1
   back_inside p h = rw (lt-leb p s h)
 
-  pub back_wrap : (p : ℕ) → s < e → p ≤ s → back (Frames s e) p ≡ e - 1 - (s - p) % (e - s)
+  pub back_wrap : (p : ℕ) → s < e → p ≤ s → back (Some (s, e)) p ≡ e - 1 - (s - p) % (e - s)
   back_wrap p l h =
       rw (le-leb p s h)
       (ap (λ (c : ℕ). s + c) (cycled_below p (suc s) (e - s) (omega arith) ∙ ap (λ (x : ℕ). e - s - 1 - x % (e - s)) (same s p h))
@@ -75,7 +75,7 @@ module _ (s e : ℕ) where
       same s p h = omega arith
 
   -- a step meets the loop's start itself
-  pub back_start : (p : ℕ) → s < e → p ≡ s → back (Frames s e) p ≡ e - 1
+  pub back_start : (p : ℕ) → s < e → p ≡ s → back (Some (s, e)) p ≡ e - 1
   back_start p l h = back_wrap p l (omega arith) ∙ ap (λ (r : ℕ). e - 1 - r) (mod-eq_of_lt (omega arith)) ∙ none s e p h
     where
       none : (s e p : ℕ) → p ≡ s → e - 1 - (s - p) ≡ e - 1

@@ -1,8 +1,7 @@
 -- docs/assurance/RULES.md, "The transport": the first position and the three moves, by remainders. Loop (s, e), end
 -- exclusive, L = e - s.
 use Rattle.std.specs.Prelude.{ℕ, suc, ◌+◌, ◌-◌, ◌%◌, Bool, true, false, not, ◌&&◌, cond, leb, ltb, eqb}
-use Rattle.playback_position.specs.declared.FrameRange.{FrameRange}
-use Rattle.playback_position.specs.declared.FrameRange.TheVariants.{Absent, Frames}
+use Rattle.std.specs.Prelude.{Option, Some, None}
 use Rattle.transport.specs.declared.Transport.{Transport}
 
 -- (a - b) mod l, never negative
@@ -10,24 +9,24 @@ abbrev pub cycled : ℕ → ℕ → ℕ → ℕ
 cycled a b l = cond (leb b a) ((a - b) % l) (l - 1 - (b - a - 1) % l)
 
 -- p, wrapped into the loop if it is at or past the loop's end
-abbrev pub under : FrameRange → ℕ → ℕ
-under Absent p = p
-under (Frames s e) p = cond (leb e p) (s + cycled p s (e - s)) p
+abbrev pub under : Option (ℕ × ℕ) → ℕ → ℕ
+under None p = p
+under (Some (s, e)) p = cond (leb e p) (s + cycled p s (e - s)) p
 
 -- p, wrapped into the loop if it is below the loop's start
-abbrev pub over : FrameRange → ℕ → ℕ
-over Absent p = p
-over (Frames s e) p = cond (ltb p s) (s + cycled p s (e - s)) p
+abbrev pub over : Option (ℕ × ℕ) → ℕ → ℕ
+over None p = p
+over (Some (s, e)) p = cond (ltb p s) (s + cycled p s (e - s)) p
 
 -- the position after a step back from p; without a loop 0 stays 0
-abbrev pub back : FrameRange → ℕ → ℕ
-back Absent p = p - 1
-back (Frames s e) p = cond (leb p s) (s + cycled p (suc s) (e - s)) (p - 1)
+abbrev pub back : Option (ℕ × ℕ) → ℕ → ℕ
+back None p = p - 1
+back (Some (s, e)) p = cond (leb p s) (s + cycled p (suc s) (e - s)) (p - 1)
 
 -- whether a step back from p passes the sound's beginning
-abbrev pub first : FrameRange → ℕ → Bool
-first Absent p = eqb p 0
-first (Frames s e) p = false
+abbrev pub first : Option (ℕ × ℕ) → ℕ → Bool
+first None p = eqb p 0
+first (Some (s, e)) p = false
 
 -- the transport at q: at or past n it stops playing; nothing restarts it
 abbrev pub landed : ℕ → Transport → ℕ → Transport
@@ -49,14 +48,14 @@ backward t =
     t
 
 -- whether p is at or past the loop's end
-abbrev pub at_end : FrameRange → ℕ → Bool
-at_end Absent p = false
-at_end (Frames s e) p = leb e p
+abbrev pub at_end : Option (ℕ × ℕ) → ℕ → Bool
+at_end None p = false
+at_end (Some (s, e)) p = leb e p
 
 -- whether p is at or before the loop's start
-abbrev pub at_start : FrameRange → ℕ → Bool
-at_start Absent p = false
-at_start (Frames s e) p = leb p s
+abbrev pub at_start : Option (ℕ × ℕ) → ℕ → Bool
+at_start None p = false
+at_start (Some (s, e)) p = leb p s
 
 -- whether the next step wraps: backward from the loop's start or before it, forward onto its end or past it
 unfoldable pub wraps : Bool → Transport → Bool
@@ -68,7 +67,7 @@ unfoldable pub seek : ℕ → Transport → ℕ → Transport
 seek n t q = landed n t (cond (ltb t.position q) (under t.loop_region q) (over t.loop_region q))
 
 -- the same transport with another loop, or none
-abbrev pub reloop : Transport → FrameRange → Transport
+abbrev pub reloop : Transport → Option (ℕ × ℕ) → Transport
 reloop t r = record { position = t.position; loop_region = r; playing = t.playing }
 
 -- with reverse, the first position is N - 1 - start
@@ -76,5 +75,5 @@ abbrev pub opening : ℕ → Bool → ℕ → ℕ
 opening n reverse start = cond reverse (n - 1 - start) start
 
 -- the transport that a sound begins with
-abbrev pub begun : ℕ → Bool → FrameRange → ℕ → Transport
+abbrev pub begun : ℕ → Bool → Option (ℕ × ℕ) → ℕ → Transport
 begun n reverse loop start = record { position = opening n reverse start; loop_region = loop; playing = true }

@@ -1,9 +1,7 @@
 -- docs/assurance/RULES.md, "What must change shape": kira's `while` loops of transport.rs, to compare with the
 -- remainders. A `while` runs at most k times here. As many as the position (down) or the bound (up) are enough, since
 -- a loop is not empty.
-use Rattle.std.specs.Prelude.{ℕ, zero, suc, ◌+◌, ◌-◌, false, cond, leb, ltb, eqb}
-use Rattle.playback_position.specs.declared.FrameRange.{FrameRange}
-use Rattle.playback_position.specs.declared.FrameRange.TheVariants.{Absent, Frames}
+use Rattle.std.specs.Prelude.{ℕ, zero, suc, ◌+◌, ◌-◌, false, cond, leb, ltb, eqb, Option, Some, None}
 use Rattle.transport.specs.declared.Transport.{Transport}
 use Rattle.transport.specs.Moves.{landed}
 
@@ -18,19 +16,19 @@ raised zero b l p = p
 raised (suc k) b l p = cond (ltb p b) (raised k b l (p + l)) p
 
 -- while position >= loop_end { position -= loop_end - loop_start }
-abbrev pub while_at_end : FrameRange → ℕ → ℕ
-while_at_end Absent p = p
-while_at_end (Frames s e) p = lowered p e (e - s) p
+abbrev pub while_at_end : Option (ℕ × ℕ) → ℕ → ℕ
+while_at_end None p = p
+while_at_end (Some (s, e)) p = lowered p e (e - s) p
 
 -- while position < loop_start { position += loop_end - loop_start }
-abbrev pub while_below_start : FrameRange → ℕ → ℕ
-while_below_start Absent p = p
-while_below_start (Frames s e) p = raised s s (e - s) p
+abbrev pub while_below_start : Option (ℕ × ℕ) → ℕ → ℕ
+while_below_start None p = p
+while_below_start (Some (s, e)) p = raised s s (e - s) p
 
 -- while position <= loop_start { position += loop_end - loop_start }
-abbrev pub while_at_start : FrameRange → ℕ → ℕ
-while_at_start Absent p = p
-while_at_start (Frames s e) p = raised (suc s) (suc s) (e - s) p
+abbrev pub while_at_start : Option (ℕ × ℕ) → ℕ → ℕ
+while_at_start None p = p
+while_at_start (Some (s, e)) p = raised (suc s) (suc s) (e - s) p
 
 -- if position == 0 { playing = false } else { position -= 1 }
 abbrev pub less_one : Transport → ℕ → Transport

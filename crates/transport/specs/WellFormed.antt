@@ -1,8 +1,7 @@
 -- docs/assurance/RULES.md, "Well formed": when a transport over n frames is well formed, as a test and as a record of
 -- facts.
-use Rattle.std.specs.Prelude.{ℕ, ◌≤◌, ◌<◌, ◌≡◌, Bool, true, not, ◌&&◌, ◌||◌, T, leb, ltb}
+use Rattle.std.specs.Prelude.{ℕ, ◌≤◌, ◌<◌, ◌≡◌, Bool, true, not, ◌&&◌, ◌||◌, T, leb, ltb, Some}
 use Rattle.numbers.specs.Frames.{most}
-use Rattle.playback_position.specs.declared.FrameRange.TheVariants.{Frames}
 use Rattle.playback_position.specs.Positions.{within}
 use Rattle.transport.specs.declared.Transport.{Transport}
 
@@ -19,7 +18,7 @@ pub record WellFormedTransport (n : ℕ) (t : Transport) : Type 0 where
 
 -- playing inside the loop (s, e)
 pub record Inside (s e : ℕ) (t : Transport) : Type 0 where
-  pub loop : t.loop_region ≡ Frames s e
+  pub loop : t.loop_region ≡ Some (s, e)
   pub going : t.playing ≡ true
   pub from : s ≤ t.position
   pub to : t.position < e

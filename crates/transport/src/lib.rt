@@ -20,77 +20,62 @@ ghost use Rattle.transport.specs.Moves.{
 };
 ghost use Rattle.transport.specs.WellFormed.{WellFormedTransport};
 
-use playback_position::FrameRange;
-
-#[derive(Clone, Copy)]
+#[derive(Clone, Copy, Debug, PartialEq, Eq)]
 pub struct Transport {
     pub position: usize,
     // The frames that are looped. The end is exclusive.
-    pub loop_region: FrameRange,
+    pub loop_region: Option<(usize, usize)>,
     pub playing: bool,
 }
 
-// p, wrapped into the loop if it is at or past the loop's end.
-fn below_end(loop_region: FrameRange, p: usize) -> usize
+// p, wrapped into the loop if it is at or past the loop's end. `from_start` is its mirror image, with another sum and
+// no case without a division, so one function for both would be two behind a flag.
+fn below_end(loop_region: Option<(usize, usize)>, p: usize) -> usize
     requires { T (ordered loop_region) }
     ensures { result ≡ under loop_region p }
 {
     match loop_region {
-        FrameRange::Absent => p,
-        FrameRange::Frames(start, end) => {
-            if p < end {
-                return p;
-            }
+        Some((start, end)) if p >= end => {
             // A step lands exactly on the end, so the common case needs no division.
             if p == end {
-                return start;
+                start
+            } else {
+                start + (p - start) % (end - start)
             }
-            start + (p - start) % (end - start)
         }
+        _ => p,
     }
 }
 
 // p, wrapped into the loop if it is below the loop's start.
-fn from_start(loop_region: FrameRange, p: usize) -> usize
+fn from_start(loop_region: Option<(usize, usize)>, p: usize) -> usize
     requires { T (ordered loop_region) }
     ensures { result ≡ over loop_region p }
 {
     match loop_region {
-        FrameRange::Absent => p,
-        FrameRange::Frames(start, end) => {
-            if p < start {
-                end - 1 - (start - p - 1) % (end - start)
-            } else {
-                p
-            }
-        }
+        Some((start, end)) if p < start => end - 1 - (start - p - 1) % (end - start),
+        _ => p,
     }
 }
 
-// Whether p is at or past the loop's end.
-fn is_at_end(loop_region: FrameRange, p: usize) -> bool
+// Whether p is at or past the loop's end. This test and the next are a line each: one with a flag would be longer.
+fn is_at_end(loop_region: Option<(usize, usize)>, p: usize) -> bool
     ensures { result ≡ at_end loop_region p }
 {
-    match loop_region {
-        FrameRange::Absent => false,
-        FrameRange::Frames(_, end) => p >= end,
-    }
+    loop_region.is_some_and(|(_, end)| p >= end)
 }
 
 // Whether p is at or before the loop's start.
-fn is_at_start(loop_region: FrameRange, p: usize) -> bool
+fn is_at_start(loop_region: Option<(usize, usize)>, p: usize) -> bool
     ensures { result ≡ at_start loop_region p }
 {
-    match loop_region {
-        FrameRange::Absent => false,
-        FrameRange::Frames(start, _) => p <= start,
-    }
+    loop_region.is_some_and(|(start, _)| p <= start)
 }
 
 impl Transport {
     pub fn new(
         start_position: usize,
-        loop_region: FrameRange,
+        loop_region: Option<(usize, usize)>,
         reverse: bool,
         num_frames: usize,
     ) -> Transport
@@ -109,7 +94,7 @@ impl Transport {
         }
     }
 
-    pub fn set_loop_region(self, loop_region: FrameRange) -> Transport
+    pub fn set_loop_region(self, loop_region: Option<(usize, usize)>) -> Transport
         ensures { result ≡ reloop self loop_region }
     {
         Transport {
@@ -133,34 +118,29 @@ impl Transport {
         ensures { result ≡ forward num_frames self }
     {
         if self.playing {
-            let loop_region = self.loop_region;
-            self.position = below_end(loop_region, self.position + 1);
+            self.position = below_end(self.loop_region, self.position + 1);
             return self.ended_from(num_frames);
         }
         self
     }
 
+    // Not the forward step with a flag: it ends before the first frame, and its loop wraps at the other side.
     pub fn decrement_position(mut self) -> Transport
         requires { T (ordered self.loop_region) }
         ensures { result ≡ backward self }
     {
         if self.playing {
-            let loop_region = self.loop_region;
-            if let FrameRange::Frames(start, end) = loop_region {
-                if self.position <= start {
+            match self.loop_region {
+                Some((start, end)) if self.position <= start => {
                     // A step starts exactly at the start, so the common case needs no division.
-                    if self.position == start {
-                        self.position = end - 1;
-                        return self;
-                    }
-                    self.position = end - 1 - (start - self.position) % (end - start);
-                    return self;
+                    self.position = if self.position == start {
+                        end - 1
+                    } else {
+                        end - 1 - (start - self.position) % (end - start)
+                    };
                 }
-            }
-            if self.position == 0 {
-                self.playing = false;
-            } else {
-                self.position = self.position - 1;
+                _ if self.position == 0 => self.playing = false,
+                _ => self.position -= 1,
             }
         }
         self
@@ -171,29 +151,23 @@ impl Transport {
         requires { self.position ≤ most }
         ensures { result ≡ wraps backwards self }
     {
-        let loop_region = self.loop_region;
-        if backwards {
-            if self.playing {
-                return is_at_start(loop_region, self.position);
+        self.playing
+            && if backwards {
+                is_at_start(self.loop_region, self.position)
+            } else {
+                is_at_end(self.loop_region, self.position + 1)
             }
-            return false;
-        }
-        if self.playing {
-            return is_at_end(loop_region, self.position + 1);
-        }
-        false
     }
 
     pub fn seek_to(mut self, position: usize, num_frames: usize) -> Transport
         requires { T (ordered self.loop_region) }
         ensures { result ≡ seek num_frames self position }
     {
-        let loop_region = self.loop_region;
-        if position > self.position {
-            self.position = below_end(loop_region, position);
+        self.position = if position > self.position {
+            below_end(self.loop_region, position)
         } else {
-            self.position = from_start(loop_region, position);
-        }
+            from_start(self.loop_region, position)
+        };
         self.ended_from(num_frames)
     }
 }

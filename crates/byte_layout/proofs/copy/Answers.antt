@@ -1,23 +1,15 @@
--- `byte_layout::copy`: what is still to copy, copied, is the whole part copied.
+-- `byte_layout::copy`: the part of `out` that is written over.
+use Prim.Native.Nat.{◌+◌, ◌-◌}
 use native.Mathlib.Omega.{arith}
-use mathlib.Core.Path.{◌≡◌, refl, sym, ◌∙◌}
-use borrow.Author.Rules.{rules}
-use lib.ListN.{length, length-set}
-use Rattle.byte_layout.proofs.Puts.{copy_next, copy_last}
+use mathlib.Core.Path.{◌≡◌}
+use lib.ListN.{length, take, drop, length-drop}
+use lib.Seq.{length-take-le}
+use Rattle.byte_layout.proofs.Puts.{put_over}
 use Rattle.byte_layout.proofs.copy.Goals as goal
 
-pub loop-i-init : goal.loop-i-init
-loop-i-init c = (search rules, search rules, omega arith, refl, refl)
-
-pub loop-i-preserved : goal.loop-i-preserved
-loop-i-preserved c =
-    let l = c.loop-i in
-    let a = c.args in
-    let e : length l.out ≡ length a.out.now = l.invariant.3 in
-    (omega arith, omega arith, omega arith, simp length-set e, copy_next a.s.now l.out l.i a.to l.k c.loop-i-test.true c.requires.1 ∙ l.invariant.4)
-
-pub shape_of-out : goal.shape_of-out
-shape_of-out c = c.loop-i.invariant.3
-
 pub returns : goal.returns
-returns c = sym (copy_last _ _ _ _ _ c.loop-i-test.false) ∙ c.loop-i.invariant.4
+returns c =
+    let a = c.args in
+    let n : a.at + (a.to - a.from) - a.at ≡ a.to - a.from = omega arith in
+    let m : length (take (a.to - a.from) (drop a.from a.s.now)) ≡ a.to - a.from = length-take-le _ _ (omega (arith, length-drop a.from a.s.now)) in
+    rw (n, c.copy_from_slice.ensures.after) (put_over a.out.now (take (a.to - a.from) (drop a.from a.s.now)) a.at (a.to - a.from) m (omega arith))

@@ -1,35 +1,28 @@
--- `byte_layout::number`: after the bytes from k on, x is their number.
-use mathlib.Core.Path.{◌≡◌, refl}
-use Prim.Native.Nat.{◌+◌, ◌-◌, ◌<◌}
+-- `byte_layout::number`: after the bytes from i on, x is their number.
+use mathlib.Core.Path.{refl}
+use Prim.Native.Nat.{◌-◌, ◌<◌}
 use native.Mathlib.Nat.{sub_self}
 use native.Mathlib.Omega.{arith}
-use native.Mathlib.Numerals.{unary_clauses}
-use borrow.Author.Rules.{rules}
 use Rattle.byte_layout.specs.Numbers.{num}
-use Rattle.byte_layout.proofs.Numbers.{turn, room}
-use Rattle.byte_layout.proofs.number.Goals.{After-shared_slice_known-1}
+use Rattle.byte_layout.proofs.Numbers.{turn, room, counted}
+use Rattle.byte_layout.proofs.number.Goals.{In-loop-i}
 use Rattle.byte_layout.proofs.number.Goals as goal
 
-pub loop-k-init : goal.loop-k-init
+pub loop-i-init : goal.loop-i-init
 unfolding num
-loop-k-init c = (omega arith, rw sub_self refl)
+loop-i-init c = (omega arith, rw sub_self refl)
 
-small : (c : After-shared_slice_known-1) → c.loop-k.x < 72057594037927936
-small c = room c.args.s.now _ _ _ _ (λ i. omega (arith, c.type_inv.s i)) c.loop-k-test.true c.requires.1 c.loop-k.invariant.1
-
-pub overflow_cast-b : goal.overflow_cast-b
-overflow_cast-b c = omega (arith, c.type_inv.s (c.args.at + (c.loop-k.k - 1)))
+small : (c : In-loop-i) → c.loop-i.x < 72057594037927936
+small c = room c.args.s.now _ _ _ (λ i. omega (arith, c.type_inv.s i)) (omega arith) c.loop-i.invariant.1
 
 pub overflow_mul-x : goal.overflow_mul-x
-overflow_mul-x c = omega (arith, small (goal.at.overflow_mul-x c).After-shared_slice_known-1)
+overflow_mul-x c = omega (arith, small (goal.at.overflow_mul-x c).In-loop-i)
 
 pub overflow_add-x : goal.overflow_add-x
-overflow_add-x c = omega (arith, small (goal.at.overflow_add-x c).After-shared_slice_known-1, c.type_inv.s (c.args.at + (c.loop-k.k - 1)))
+overflow_add-x c = omega (arith, small (goal.at.overflow_add-x c).In-loop-i, c.type_inv.s (c.loop-i.i - 1))
 
-pub loop-k-preserved : goal.loop-k-preserved
-loop-k-preserved c = (search rules, turn _ _ _ _ _ c.loop-k-test.true c.loop-k.invariant.0 c.requires.0 c.loop-k.invariant.1)
+pub loop-i-preserved : goal.loop-i-preserved
+loop-i-preserved c = (omega arith, turn _ _ _ _ (omega arith) (omega arith) c.requires.0 c.loop-i.invariant.1)
 
 pub returns : goal.returns
-returns c =
-    let z : c.loop-k.k ≡ 0 = omega arith in
-    simp unary_clauses at (rw z at c.loop-k.invariant.1)
+returns c = counted c.args.s.now c.args.at c.args.width c.loop-i.i c.loop-i.x (omega arith) c.loop-i.invariant.1

@@ -1,15 +1,11 @@
 -- `byte_layout::rows_length`: the bytes counted and those of the rows left are the payload's.
-use Prim.Native.Nat.{◌+◌, ◌-◌, ◌*◌, ◌≤◌}
+use Prim.Native.Nat.{◌+◌, ◌*◌, ◌≤◌}
 use mathlib.Core.Path.{◌≡◌}
 use mathlib.Core.List.{[]}
 use lib.ListN.{length, take}
-use Rattle.byte_layout.specs.Rows.{rows}
 use Rattle.byte_layout.specs.Writes.{payload}
 use Rattle.byte_layout.proofs.Puts.{tail_of}
 use Rattle.byte_layout.proofs.rows_length.Given as goal
 
 abbrev pub invariant-loop-i : goal.invariant-loop-i
-invariant-loop-i l = (l.i ≤ l.n) × (l.k ≤ 8 * l.i) × (l.k + length (tail_of l.table l.n l.values l.i) ≡ length (payload (rows l.table 0 l.n) [] (take l.n l.values)))
-
-abbrev pub decreases-loop-i : goal.decreases-loop-i
-decreases-loop-i l = l.n - l.i
+invariant-loop-i l = (l.k ≤ 8 * l.i) × (l.k + length (tail_of l.table l.values l.i) ≡ length (payload l.table [] (take (length l.table) l.values)))

@@ -1,40 +1,35 @@
--- `c_state::state_of` meets its contract, number by number.
+-- `c_state::state_of` meets its contract: a known number, or one above 6.
+use Rattle.std.specs.Prelude.{Result, Ok, Err, MatchResult, ◌<◌, ◌≤◌, ℕ, eqb, false}
+use Rattle.std.specs.Result.{result_unwrap_or}
+use mathlib.Core.Path.{◌≡◌, sym, ◌∙◌}
+use native.Mathlib.Omega.{arith}
 use borrow.Author.Tests.{ne_eqb}
+use Rattle.playback_state_manager.specs.declared.PlaybackState.{PlaybackState}
+use Rattle.playback_state_manager.specs.declared.PlaybackState.TheVariants.{Stopped}
+use Rattle.playback_state_manager.specs.declared.UnknownState.{UnknownState}
+use Rattle.playback_state_manager.specs.States.{number}
 use Rattle.c_state.specs.Records.{state_of}
+use Rattle.c_state.proofs.Inverse.{state_back}
 use Rattle.c_state.proofs.state_of.Goals as goal
 
-pub returns-then-n-eq0 : goal.returns-then-n-eq0
-unfolding state_of
-returns-then-n-eq0 c = rw c.if-n-eq0.true
+above : (n k : ℕ) → 6 < n → k ≤ 6 → eqb n k ≡ false
+above n k h i = ne_eqb n k (λ e. omega (arith, e, h, i))
 
-pub returns-then-n-eq1 : goal.returns-then-n-eq1
+unknown : (n : ℕ) → 6 < n → Stopped ≡ state_of n
 unfolding state_of
-returns-then-n-eq1 c = rw c.if-n-eq1.true
+unknown n h =
+    simp (
+      above n 0 h (omega arith),
+      above n 1 h (omega arith),
+      above n 2 h (omega arith),
+      above n 3 h (omega arith),
+      above n 4 h (omega arith),
+      above n 5 h (omega arith),
+    )
 
-pub returns-then-n-eq2 : goal.returns-then-n-eq2
-unfolding state_of
-returns-then-n-eq2 c = rw c.if-n-eq2.true
-
-pub returns-then-n-eq3 : goal.returns-then-n-eq3
-unfolding state_of
-returns-then-n-eq3 c = rw c.if-n-eq3.true
-
-pub returns-then-n-eq4 : goal.returns-then-n-eq4
-unfolding state_of
-returns-then-n-eq4 c = rw c.if-n-eq4.true
-
-pub returns-then-n-eq5 : goal.returns-then-n-eq5
-unfolding state_of
-returns-then-n-eq5 c = rw c.if-n-eq5.true
+tried : (n : ℕ) (r : Result PlaybackState UnknownState) → MatchResult r (λ s. number s ≡ n) (λ _. 6 < n) → result_unwrap_or r Stopped ≡ state_of n
+tried n (Ok s) h = rw (sym h) (sym (state_back s))
+tried n (Err e) h = unknown n h
 
 pub returns : goal.returns
-unfolding state_of
-returns c =
-    simp (
-      ne_eqb _ _ c.if-n-eq0.false,
-      ne_eqb _ _ c.if-n-eq1.false,
-      ne_eqb _ _ c.if-n-eq2.false,
-      ne_eqb _ _ c.if-n-eq3.false,
-      ne_eqb _ _ c.if-n-eq4.false,
-      ne_eqb _ _ c.if-n-eq5.false,
-    )
+returns c = c.unwrap_or.ensures ∙ tried _ c.try_from.result c.try_from.ensures

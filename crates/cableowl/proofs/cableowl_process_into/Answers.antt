@@ -1,24 +1,20 @@
 -- `cableowl_process_into` meets its contract: the block between records of numbers.
-use Rattle.sound_lanes.specs.Lanes.{Lanes, lanes_now}
-use Rattle.cableowl.proofs.Answers.{mix_few, mix_is}
+use Rattle.sound_lanes.specs.Lanes.{Lanes, five}
+use Rattle.cableowl.proofs.Answers.{block_few, mix_low, mix_is}
 use Rattle.cableowl.proofs.cableowl_process_into.Goals.{Start}
 use Rattle.cableowl.proofs.cableowl_process_into.Goals as goal
 
 abbrev lent : Start → Lanes
-lent c =
-    let a = c.args in
-    lanes_now a.fade a.volume a.left a.right a.rate
+lent c = let a = c.args in five a.fade.now a.volume.now a.left.now a.right.now a.rate.now
 
 pub answer-requires : goal.answer-requires
 answer-requires c =
-    let p = c.before.before in
-    let a = p.args in
-    mix_few a.sound.now a.state a.dt (lent (goal.at.answer-requires c).Start) a.signals _ _
-    p.decode.ensures p.signals_of.ensures _ _ a.mix.now a.from p.process_into-processed.ensures
+    let a = c.args in
+    let b = lent (goal.at.answer-requires c).Start in
+    block_few c.from.result _ c.process_into-processed.result _ (mix_low a.sound.now c.from.result a.dt b c.from-2.result a.mix.now a.from) c.process_into-processed.ensures
 
 pub returns : goal.returns
 returns c =
-    let p = c.before.before.before in
-    let a = p.args in
-    mix_is a.sound.now a.state a.dt (lent (goal.at.returns c).Start) a.signals _ _
-    p.decode.ensures p.signals_of.ensures p.process_into-processed.result _ a.mix.now a.from p.process_into-processed.ensures _ c.answer.ensures
+    let a = c.args in
+    mix_is a.sound.now a.state a.dt (lent (goal.at.returns c).Start) a.signals c.from.result c.from-2.result c.from.ensures c.from-2.ensures
+    c.process_into-processed.result _ a.mix.now a.from c.process_into-processed.ensures _ c.answer.ensures

@@ -8,20 +8,21 @@ use Rattle.crc32.specs.Checksums.{register, checksum_of}
 use Rattle.crc32.proofs.Registers.{byte_on, at_end_lem}
 use Rattle.crc32.proofs.whole.Goals as goal
 
-pub loop-i-init : goal.loop-i-init
-loop-i-init c = (search rules, refl)
+pub loop-b-init : goal.loop-b-init
+loop-b-init c = refl
 
 pub step-c-requires : goal.step-c-requires
 step-c-requires c = c.all-entries.ensures
 
-pub loop-i-preserved : goal.loop-i-preserved
-loop-i-preserved c =
+pub loop-b-preserved : goal.loop-b-preserved
+loop-b-preserved c =
     let l = c.before.before.before.before in
     let s = l.args.s.now in
-    (search rules, ap (λ (r : ℕ). register r (drop (l.loop-i.i + 1) s)) c.step-c.ensures ∙ sym (byte_on l.loop-i.c s l.loop-i.i (search rules)) ∙ l.loop-i.invariant.1)
+    let i = l.loop-b.b-index in
+    ap (λ (r : ℕ). register r (drop (i + 1) s)) c.step-c.ensures ∙ sym (byte_on l.loop-b.c s i (search rules)) ∙ l.loop-b.invariant
 
 pub returns : goal.returns
 unfolding checksum_of
 returns c =
     let l = c.before in
-    ap (λ (r : ℕ). bit_xor r 4294967295) (sym (at_end_lem l.loop-i.c l.args.s.now l.loop-i.i (search rules)) ∙ l.loop-i.invariant.1)
+    ap (λ (r : ℕ). bit_xor r 4294967295) (sym (at_end_lem l.loop-b.c l.args.s.now l.loop-b.b-index (search rules)) ∙ l.loop-b.invariant)

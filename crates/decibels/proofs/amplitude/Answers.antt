@@ -4,10 +4,10 @@ use Rattle.decibels.proofs.Amplitudes.{whole_float, at_level, at_silence}
 use Rattle.decibels.proofs.amplitude.Goals as goal
 
 pub int_to_float-result : goal.int_to_float-result
-int_to_float-result c = whole_float _ _ (table_entry _ c.requires.table _ c.if-level-lt601.true).0
+int_to_float-result c = whole_float _ _ (table_entry _ c.all.ensures _ c.if-level-lt601.true).0
 
 pub returns-then-level-lt601 : goal.returns-then-level-lt601
-returns-then-level-lt601 c = at_level _ _ c.if-level-lt601.true (table_entry _ c.requires.table _ c.if-level-lt601.true).0
+returns-then-level-lt601 c = at_level _ _ c.if-level-lt601.true (table_entry _ c.all.ensures _ c.if-level-lt601.true).0
 
 pub returns-else-level-lt601 : goal.returns-else-level-lt601
 returns-else-level-lt601 c = at_silence _ c.if-level-lt601.false

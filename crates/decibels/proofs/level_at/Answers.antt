@@ -1,5 +1,5 @@
 -- `decibels::level_at` meets its contract: the dividend is at most 601 * 65,535. Assumes nothing.
-use mathlib.Core.Path.{sym, subst, ◌∙◌}
+use mathlib.Core.Path.{sym, subst}
 use Prim.Native.Nat.{ℕ, ◌+◌, ◌-◌, ◌*◌, ◌≤◌}
 use native.Mathlib.Omega.{arith}
 use borrow.Author.Rules.{rules}
@@ -26,8 +26,7 @@ overflow_add-sum c = omega (arith, small (goal.at.overflow_add-sum c).Else-count
 
 pub returns : goal.returns
 returns c =
-    let b = c.before in
-    let a = b.args in
-    let p = b.requires in
-    let e = c.divided.ensures ∙ sym (more_frames a.start a.end a.count a.i b.if-count-eq1.false) in
+    let a = c.args in
+    let p = c.requires in
+    let e = sym (more_frames a.start a.end a.count a.i c.if-count-eq1.false) in
     (e, subst (λ (r : ℕ). r ≤ 601) (sym e) (between a.start a.end a.count a.i 0 601 p.i_lt_count (omega arith) (omega arith) p.start_bound p.end_bound).1)

@@ -1,15 +1,10 @@
--- `float_bits::bits_of_f64` meets its contract: what equals itself is a number. Assumes nothing.
-use Rattle.numbers.proofs.Signs.{equal_number}
-use Rattle.float_bits.specs.Patterns.{bits_of}
+-- `float_bits::bits_of_f64` meets its contract. Assumes nothing.
+use Rattle.std.proofs.Common.{sym, ◌∙◌}
+use Rattle.float_bits.proofs.Patterns.{nan_told, number_told}
 use Rattle.float_bits.proofs.bits_of_f64.Goals as goal
 
-pub float_to_bits-result : goal.float_to_bits-result
-float_to_bits-result c = equal_number c.args.x _ c.if-x.true
+pub returns-then-is_nan : goal.returns-then-is_nan
+returns-then-is_nan c = nan_told _ _ c.args.x (sym c.is_nan.ensures.value ∙ c.if-is_nan.true)
 
-pub returns-then-x : goal.returns-then-x
-unfolding bits_of
-returns-then-x c = simp c.if-x.true
-
-pub returns-else-x : goal.returns-else-x
-unfolding bits_of
-returns-else-x c = simp c.if-x.false
+pub returns-else-is_nan : goal.returns-else-is_nan
+returns-else-is_nan c = number_told _ _ c.args.x (sym c.is_nan.ensures.value ∙ c.if-is_nan.false)

@@ -6,7 +6,7 @@ use Rattle.numbers.proofs.Stepping.{spinning, spun, spun_out}
 use Rattle.numbers.proofs.advance_by.Goals as goal
 
 pub loop-rest-init : goal.loop-rest-init
-loop-rest-init c = spinning c.args.fraction c.args.advance c.requires.t c.requires.t_2 c.requires.t_3
+loop-rest-init c = spinning c.args.fraction c.args.advance c.requires.fraction_proper c.requires.advance_clear c.requires.advance_most
 
 pub overflow_add-steps : goal.overflow_add-steps
 unfolding of_bits

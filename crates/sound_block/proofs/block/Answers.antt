@@ -1,13 +1,14 @@
 -- `block` is the sound of a voice that is live once it has taken its signals, and the silence of any other.
 use mathlib.Core.Path.{sym, ◌∙◌}
 use lib.ListN.{length}
-use Rattle.sound_lanes.specs.Lanes.{Lanes, lanes_now}
+use Rattle.sound_lanes.specs.Lanes.{Lanes}
+use Rattle.sound_fast_path.specs.BlockLanes.{block_lanes}
 use Rattle.sound_block.proofs.Sounds.{sounds, rests, playable}
 use Rattle.sound_block.proofs.block.Goals.{After-begin-begun}
 use Rattle.sound_block.proofs.block.Goals as goal
 
 abbrev lent : After-begin-begun → Lanes
-lent c = let a = c.args in lanes_now a.fade a.volume a.left a.right a.rate
+lent c = block_lanes c.args.lanes
 
 pub play-requires : goal.play-requires
 play-requires c =

@@ -29,4 +29,4 @@ told-by c v x t p r s rate loop pause resume stop = rw (stop, resume, pause, loo
 pub returns : goal.returns
 returns c =
     let a = c.args in
-    told-by a.commands a.voice _ _ _ _ _ c.set_playback_rate-playback_rate.ensures c.set_loop_region-transport.ensures c.pause-state.ensures c.resume-state.ensures c.stop-state.ensures
+    told-by a.commands a.voice _ _ _ _ _ c.unwrap_or-playback_rate.ensures c.set_loop_region-transport.ensures c.pause-state.ensures c.resume-state.ensures c.stop-state.ensures

@@ -4,8 +4,8 @@ use Rattle.numbers.proofs.Frames.{number_held}
 use Rattle.sound_commands.specs.Commands.{target_by}
 use Rattle.sound_commands.proofs.frames_by.Goals as goal
 
-pub int_to_float-current_position : goal.int_to_float-current_position
-int_to_float-current_position c = number_held _ c.requires
+pub int_to_float-result : goal.int_to_float-result
+int_to_float-result c = number_held _ c.requires
 
 pub returns : goal.returns
 unfolding target_by

@@ -1,4 +1,5 @@
 -- `sound_commands::read_commands` meets its contract: the commands in the order of `obeyed`, each on a voice that is still well formed.
+use Rattle.std.specs.Prelude.{Option}
 use mathlib.Core.Path.{◌≡◌, sym, ap, ◌∙◌, subst}
 use Prim.Native.Nat.{ℕ, ◌*◌}
 use mathlib.Core.List.{List}
@@ -9,7 +10,6 @@ use Rattle.sound_state.specs.declared.Setup.{Setup}
 use Rattle.sound_state.specs.declared.StaticSound.{StaticSound}
 use Rattle.sound_state.specs.WellFormed.{well_formed_for}
 use Rattle.sound_state.proofs.WellFormed.{well_formed_for_parts, well_formed_for_of}
-use Rattle.sound_commands.specs.declared.Amount.{Amount}
 use Rattle.sound_commands.specs.declared.Commands.{Commands}
 use Rattle.sound_commands.specs.Commands.{refused_set, before_seeks, sought_by, sought_to, obeyed}
 use Rattle.sound_commands.proofs.Refusals.{obeyable_parts}
@@ -24,7 +24,7 @@ told-well-formed-for len c v h =
     let p = well_formed_for_parts len v a.well_formed_for in
     well_formed_for_of len (before_seeks c v) (told_well_formed c v a.loop a.rate p.0) p.1
 
-by-well-formed-for : (len : ℕ) (snd : List Float) (v : StaticSound) (a : Amount) → T (well_formed_for len v) → T (well_formed_for len (sought_by snd v a))
+by-well-formed-for : (len : ℕ) (snd : List Float) (v : StaticSound) (a : Option Float) → T (well_formed_for len v) → T (well_formed_for len (sought_by snd v a))
 by-well-formed-for len snd v a h =
     let p = well_formed_for_parts len v h in
     well_formed_for_of len (sought_by snd v a) (by_well_formed snd v a p.0) (p.1 ∙ ap (λ (k : Setup). 2 * k.num_frames) (sym (by_setup snd v a)))

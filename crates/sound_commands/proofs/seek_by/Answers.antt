@@ -12,12 +12,12 @@ frames_by-requires c = (well_formed_for_parts _ _ c.requires).0.transport_well_f
 
 pub seek_to_index-requires : goal.seek_to_index-requires
 seek_to_index-requires c =
-    record { t = c.requires; index_le_most = subst (λ (n : ℕ). n ≤ most) (sym c.cut.ensures) (cut_le _) }
+    record { well_formed = c.requires; index_le_most = subst (λ (n : ℕ). n ≤ most) (sym c.cut.ensures) (cut_le _) }
 
-pub returns-in-Absent : goal.returns-in-Absent
-returns-in-Absent c = rw c.in-Absent.is
+pub returns-in-None : goal.returns-in-None
+returns-in-None c = rw c.in-None.is
 
-pub returns-in-Given : goal.returns-in-Given
-returns-in-Given c =
-    rw c.in-Given.is
+pub returns-in-Some : goal.returns-in-Some
+returns-in-Some c =
+    rw c.in-Some.is
     (c.seek_to_index.ensures ∙ ap (sought _ _) (c.cut.ensures ∙ ap cut_off c.frames_by.ensures))

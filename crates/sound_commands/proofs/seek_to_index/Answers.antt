@@ -22,7 +22,7 @@ use Rattle.sound_state.specs.WellFormed.{well_formed_for}
 use Rattle.sound_state.proofs.WellFormed.{well_formed_for_parts, updatable_of}
 use Rattle.sound_commands.specs.Commands.{sought}
 use Rattle.sound_commands.proofs.Orders.{jumped_kept}
-use Rattle.sound_commands.proofs.seek_to_index.Goals.{After-num_frames}
+use Rattle.sound_commands.proofs.seek_to_index.Goals.{After-num_frames, then-is_advancing, else-is_advancing}
 use Rattle.sound_commands.proofs.seek_to_index.Goals as goal
 
 -- the moving part with another transport, and also with another window
@@ -53,19 +53,22 @@ lands c t e =
     let a = c.args in
     e ∙ ap (λ (n : ℕ). seek n a.voice.moving.transport a.index) c.num_frames.ensures
 
-pub seek_to-transport-requires : goal.seek_to-transport-requires
-seek_to-transport-requires c =
+pub seek_to-requires : goal.seek_to-requires
+seek_to-requires c =
     let v = c.args.voice in
-    within_ordered (length_of_slice v.setup) v.moving.transport.loop_region (well_formed_for_parts _ v c.requires.t).0.transport_well_formed.loop
+    within_ordered (length_of_slice v.setup) v.moving.transport.loop_region (well_formed_for_parts _ v c.requires.well_formed).0.transport_well_formed.loop
 
 pub push_frame_to_resampler-resampler-requires : goal.push_frame_to_resampler-resampler-requires
 push_frame_to_resampler-resampler-requires c =
-    jumped-updatable _ c.args.voice c.args.index _ _ c.requires.t c.requires.index_le_most (lands (goal.at.push_frame_to_resampler-resampler-requires c).After-num_frames _ c.seek_to-transport.ensures) c.slice.ensures
-
-pub returns-then-is_advancing : goal.returns-then-is_advancing
-returns-then-is_advancing c =
-    sought-going _ c.args.voice c.args.index _ _ _ (sym c.is_advancing.ensures ∙ c.if-is_advancing.true) (lands (goal.at.returns-then-is_advancing c).After-num_frames _ c.seek_to-transport.ensures) c.slice.ensures c.push_frame_to_resampler-resampler.ensures
+    jumped-updatable _ c.args.voice c.args.index _ _ c.requires.well_formed c.requires.index_le_most (lands (goal.at.push_frame_to_resampler-resampler-requires c).After-num_frames _ c.seek_to.ensures) c.slice.ensures
 
 pub returns : goal.returns
 returns c =
-    sought-still _ c.args.voice c.args.index _ (sym c.is_advancing.ensures ∙ c.if-is_advancing.false) (lands (goal.at.returns c).After-num_frames _ c.seek_to-transport.ensures)
+    let landed = lands (goal.at.returns c).After-num_frames _ c.seek_to.ensures in
+    elim c.if-is_advancing.branch [
+      | then-is_advancing w ↦
+          sought-going _ c.args.voice c.args.index _ _ _ (sym c.is_advancing.ensures ∙ w.if-is_advancing.true) landed w.slice.ensures (w.resampler-is ∙ w.push_frame_to_resampler-resampler.ensures)
+      | else-is_advancing w ↦
+          ap (λ (r : Resampler). moved c.args.voice c.args.voice.fractional_position (with c.args.voice c.seek_to.result r)) w.resampler-is
+          ∙ sought-still _ c.args.voice c.args.index _ (sym c.is_advancing.ensures ∙ w.if-is_advancing.false) landed
+    ]

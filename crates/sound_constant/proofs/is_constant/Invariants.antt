@@ -1,13 +1,6 @@
 -- `is_constant` compares every number with the first, which is not 0. The invariant: if all so far were equal, each is the first.
-use Prim.Native.Nat.{ℕ, ◌+◌, ◌-◌, ◌≤◌, ◌<◌}
-use mathlib.Core.Path.{◌≡◌}
-use mathlib.Core.Bool.{true, false≢true}
-use lib.ListN.{length, get_or}
-use lib.Ieee.{nan}
+use Rattle.std.proofs.Common.{◌≡◌, true, take, replicate}
 use Rattle.sound_constant.proofs.is_constant.Given as goal
 
-abbrev pub invariant-loop-i : goal.invariant-loop-i
-invariant-loop-i l = (l.i ≤ length l.lane) × (l.same ≡ true → (j : ℕ) → j < l.i → get_or l.lane j nan ≡ get_or l.lane 0 nan)
-
-abbrev pub decreases-loop-i : goal.decreases-loop-i
-decreases-loop-i l = length l.lane - l.i
+abbrev pub invariant-loop-x : goal.invariant-loop-x
+invariant-loop-x g l = l.same ≡ true → take l.x-index l.lane ≡ replicate l.x-index l.first

@@ -1,10 +1,10 @@
 -- `sound_creation::open` meets its contract: an accepted start lies below N, and each part is made by its function.
+use Rattle.std.specs.Prelude.{Option}
 use mathlib.Core.Path.{◌≡◌, ap, ◌∙◌}
 use Prim.Native.Nat.{ℕ}
 use mathlib.Core.Bool.{Bool, not}
 use lib.Ieee.{Float, of_bits}
 use Rattle.numbers.specs.Words.{positive_zero}
-use Rattle.playback_position.specs.declared.FrameRange.{FrameRange}
 use Rattle.playback_position.specs.Positions.{position_in_frames}
 use Rattle.playback_state_manager.specs.declared.PlaybackState.TheVariants as state
 use Rattle.transport.specs.declared.Transport.{Transport}
@@ -20,7 +20,7 @@ use Rattle.sound_creation.specs.Creation.{ranged, setup_of, opened, transport_of
 use Rattle.sound_creation.proofs.Refusals.{creatable_parts}
 use Rattle.sound_creation.proofs.open.Goals as goal
 
-begun-with : (len : ℕ) (s : Settings) (n start : ℕ) (r : FrameRange)
+begun-with : (len : ℕ) (s : Settings) (n start : ℕ) (r : Option (ℕ × ℕ))
     → n ≡ length_of_slice (setup_of len s) → start ≡ position_in_frames s.sample_rate s.start_position → r ≡ ranged s.sample_rate n s.loop_region
     → begun n s.reverse r start ≡ transport_of (setup_of len s) s
 begun-with len s n start r e f g = rw (g, f, e)

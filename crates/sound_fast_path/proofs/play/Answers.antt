@@ -1,28 +1,31 @@
 -- `play` scans where the window is contiguous, and plays the other frames, if any, one by one.
-use Prim.Native.Nat.{ℕ, ◌+◌, ◌-◌, ◌*◌, ◌^◌, ◌≤◌, ◌<◌}
+use Prim.Native.Nat.{ℕ, ◌+◌, ◌-◌, ◌*◌, ◌/◌, ◌^◌, ◌≤◌, ◌<◌}
 use mathlib.Core.Path.{◌≡◌, sym, ap, ◌∙◌, subst}
 use native.Mathlib.Omega.{arith}
 use lib.ListN.{length}
-use Rattle.sound_lanes.specs.Lanes.{Lanes, lanes_now}
+use Rattle.sound_lanes.specs.Lanes.{Lanes}
 use Rattle.sound_lanes.proofs.Rows.{sized_parts}
 use Rattle.sound_update.specs.declared.Wraps.{Wraps}
+use Rattle.sound_state.specs.declared.StaticSound.{StaticSound}
 use Rattle.sound_state.specs.Voices.{slice_of, moved}
 use Rattle.sound_state.specs.WellFormed.{WellFormed}
 use Rattle.sound_track.specs.Tracks.{track_of}
 use Rattle.sound_track.specs.Contiguous.{InsideSound, contiguous_of, Contiguous}
+use Rattle.sound_slow_path.specs.Plays.{accepted}
 use Rattle.sound_slow_path.specs.FrameSteps.{Playable}
+use Rattle.sound_fast_path.specs.BlockLanes.{block_lanes}
 use Rattle.sound_fast_path.specs.Scans.{Tracked, scanned_to}
 use Rattle.sound_fast_path.proofs.Scans.{position_on, Heard, heard_of, scannable, scan_begins}
-use Rattle.sound_fast_path.proofs.Joins.{lies_of, from_few, from_long, reached_on, reached_whole}
-use Rattle.sound_fast_path.proofs.play.Goals.{After-by_frame, After-contiguous_at, After-track_of-track, Else-not-is_contiguous}
+use Rattle.sound_fast_path.proofs.Joins.{lies_of, from_few, reached_on, reached_whole}
+use Rattle.sound_fast_path.proofs.play.Goals.{After-apply_gains, After-contiguous_at, After-track_of-track, Else-not-is_contiguous}
 use Rattle.sound_fast_path.proofs.play.Goals as goal
 
 abbrev lent : After-track_of-track → Lanes
-lent c = let a = c.args in lanes_now a.fade a.volume a.left a.right a.rate
+lent c = block_lanes c.args.lanes
 
 -- the track is the voice's
 track-is : (c : After-track_of-track) → (let v = c.args.voice in c.track_of-track.result ≡ track_of v.moving.transport.loop_region (slice_of v))
-track-is c = let v = c.args.voice in c.track_of-track.ensures ∙ ap (track_of v.moving.transport.loop_region) c.slice-slice.ensures
+track-is c = let v = c.args.voice in c.track_of-track.ensures ∙ ap (track_of v.moving.transport.loop_region) c.slice.ensures
 
 tracked : (c : After-track_of-track) → Tracked c.args.sound.now c.args.voice c.track_of-track.result
 tracked c =
@@ -32,22 +35,22 @@ tracked c =
 sum_fits : (a b i n : ℕ) → a ≤ 257 * i → b ≤ 257 * (n - i) → i ≤ n → n ≤ 4096 → a + b < 2 ^ 64
 sum_fits a b i n h k l m = omega arith
 
-few-steps : (a i n : ℕ) → a ≤ 257 * i → i ≤ n → n ≤ 4096 → a < 4294967296
-few-steps a i n h l m = omega arith
-
 -- the window is the voice's contiguous window
 contiguous : (c : Else-not-is_contiguous) → Contiguous c.args.sound.now c.track_of-track.result c.args.voice.moving
 contiguous c = c.is_contiguous.ensures.contiguous (c.if-not-is_contiguous.false)
 
 -- the frames after the gains are applied
-heard : (c : After-by_frame) → (let a = c.args in
-    let b = lanes_now a.fade a.volume a.left a.right a.rate in
+heard : (c : After-apply_gains) → (let a = c.args in
     Tracked a.sound.now a.voice c.track_of-track.result → Contiguous a.sound.now c.track_of-track.result a.voice.moving
-    → Heard a.sound.now a.dt b a.voice c.track_of-track.result c.scan-reached.result c.by_frame.new.out)
+    → Heard a.sound.now a.dt (block_lanes a.lanes) a.voice c.track_of-track.result c.scan-reached.result c.apply_gains.new.out)
 heard c t w =
     let a = c.args in
     let r = c.scan-reached in
-    heard_of a.sound.now a.dt (lanes_now a.fade a.volume a.left a.right a.rate) a.voice c.track_of-track.result t w c.requires r.result r.new.out c.by_frame.new.out r.ensures c.by_frame.ensures
+    heard_of a.sound.now a.dt (block_lanes a.lanes) a.voice c.track_of-track.result t w c.requires r.result r.new.out c.apply_gains.new.out r.ensures c.apply_gains.ensures
+
+-- the voice after the scan
+abbrev passed : After-contiguous_at → StaticSound
+passed c = moved c.args.voice c.scan-reached.result.fractional_position c.contiguous_at.result
 
 passed_is : (c : After-contiguous_at)
     → (let t = c in
@@ -60,10 +63,9 @@ passed_is c =
     ap (moved v r.fractional_position) (c.contiguous_at.ensures ∙ ap (λ (w : Wraps). contiguous_of c.args.sound.now c.track_of-track.result v.moving w r.at) c.wraps_after-wraps.ensures)
 
 passed-plays : (c : After-contiguous_at) → (let a = c.args in
-    let b = lanes_now a.fade a.volume a.left a.right a.rate in
-    let r = c.scan-reached.result in
-    Heard a.sound.now a.dt b a.voice c.track_of-track.result r c.by_frame.new.out
-    → Playable a.sound.now (moved a.voice r.fractional_position c.contiguous_at.result) a.dt b (length c.by_frame.new.out))
+    let b = block_lanes a.lanes in
+    Heard a.sound.now a.dt b a.voice c.track_of-track.result c.scan-reached.result c.apply_gains.new.out
+    → Playable a.sound.now (passed c) a.dt b (length c.apply_gains.new.out))
 passed-plays c h =
     record {
       well_formed = subst WellFormed (sym (passed_is c)) h.well_formed;
@@ -74,78 +76,54 @@ passed-plays c h =
       near = c.requires.near;
     }
 
-fits_in : (i n m : ℕ) → i ≤ n → m ≡ n → i ≤ m
-fits_in i n m h e = omega arith
-
-twice : (i n m : ℕ) → i ≤ n → m ≡ 2 * n → 2 * i ≤ m
-twice i n m h e = omega arith
-
-at_most : (i n : ℕ) → i ≤ n → n ≤ 4096 → i ≤ 4096
-at_most i n h l = omega arith
-
-pub is_contiguous-requires : goal.is_contiguous-requires
-is_contiguous-requires c =
-    record { inside_sound = (tracked (goal.at.is_contiguous-requires c).After-track_of-track).lies; frames_len = c.requires.well_formed.window.four }
-
-pub scan-reached-requires : goal.scan-reached-requires
-scan-reached-requires c =
+pub scan-reached-requires-clause-scannable : goal.scan-reached-requires-clause-scannable
+scan-reached-requires-clause-scannable c =
     let a = c.args in
-    let b = lent (goal.at.scan-reached-requires c).After-track_of-track in
-    let t = tracked (goal.at.scan-reached-requires c).After-track_of-track in
-    let w = contiguous (goal.at.scan-reached-requires c).Else-not-is_contiguous in
-    record {
-      scannable = scannable a.sound.now a.dt b a.voice c.track_of-track.result t w c.requires;
-      scanned = scan_begins a.sound.now a.dt b a.voice c.track_of-track.result t w c.requires a.out.now c.requires.long;
-    }
+    let p = goal.at.scan-reached-requires-clause-scannable c in
+    scannable a.sound.now a.dt (lent p.After-track_of-track) a.voice c.track_of-track.result (tracked p.After-track_of-track) (contiguous p.Else-not-is_contiguous) c.requires
 
-pub by_frame-requires : goal.by_frame-requires
-by_frame-requires c =
-    let z = sized_parts (lent (goal.at.by_frame-requires c).After-track_of-track) c.requires.sized in
-    let w = c.scan-reached.ensures.within in
-    record { n_in_bounds = fits_in _ _ _ w z.fade; n_in_bounds_2 = fits_in _ _ _ w z.volume; n_in_bounds_3 = fits_in _ _ _ w z.left; n_in_bounds_4 = fits_in _ _ _ w z.right; n_in_bounds_5 = twice _ _ _ w c.scan-reached.ensures.as_long; n_bound = at_most _ _ w z.most }
+pub scan-reached-requires-clause-scanned : goal.scan-reached-requires-clause-scanned
+scan-reached-requires-clause-scanned c =
+    let a = c.args in
+    let p = goal.at.scan-reached-requires-clause-scanned c in
+    scan_begins a.sound.now a.dt (lent p.After-track_of-track) a.voice c.track_of-track.result (tracked p.After-track_of-track) (contiguous p.Else-not-is_contiguous) c.requires a.out.now c.requires.long
 
-pub wraps_after-wraps-requires : goal.wraps_after-wraps-requires
-wraps_after-wraps-requires c =
-    record {
-      on = position_on _ _ _ (contiguous (goal.at.wraps_after-wraps-requires c).Else-not-is_contiguous);
-      n_bound = few-steps _ _ _ c.scan-reached.ensures.few c.scan-reached.ensures.within (sized_parts (lent (goal.at.wraps_after-wraps-requires c).After-track_of-track) c.requires.sized).most;
-    }
+pub wraps_after-wraps-requires-clause-on : goal.wraps_after-wraps-requires-clause-on
+wraps_after-wraps-requires-clause-on c = position_on _ _ _ (contiguous (goal.at.wraps_after-wraps-requires-clause-on c).Else-not-is_contiguous)
 
-pub contiguous_at-requires : goal.contiguous_at-requires
-contiguous_at-requires c =
-    record { inside_sound = (tracked (goal.at.contiguous_at-requires c).After-track_of-track).lies; on = c.scan-reached.ensures.on }
+pub contiguous_at-requires-clause-inside_sound : goal.contiguous_at-requires-clause-inside_sound
+contiguous_at-requires-clause-inside_sound c = (tracked (goal.at.contiguous_at-requires-clause-inside_sound c).After-track_of-track).lies
 
-pub shape_of-out-then-reached-rate : goal.shape_of-out-then-reached-rate
-shape_of-out-then-reached-rate c =
-    let h = heard (goal.at.shape_of-out-then-reached-rate c).After-by_frame (tracked (goal.at.shape_of-out-then-reached-rate c).After-track_of-track) (contiguous (goal.at.shape_of-out-then-reached-rate c).Else-not-is_contiguous) in
-    h.as_long ∙ sym c.requires.long
+pub returns-then-reached-frames : goal.returns-then-reached-frames
+returns-then-reached-frames c =
+    let a = c.args in
+    let p = goal.at.returns-then-reached-frames c in
+    let b = lent p.After-track_of-track in
+    let h = heard p.After-apply_gains (tracked p.After-track_of-track) (contiguous p.Else-not-is_contiguous) in
+    reached_whole a.sound.now a.dt b a.voice _ c.track_of-track.result c.scan-reached.result c.apply_gains.new.out (passed-plays p.After-contiguous_at h) h (passed_is p.After-contiguous_at) (all_of _ _ _ c.if-reached-frames.true c.requires.long)
+  where
+    all_of : (i m n : ℕ) → i ≡ m / 2 → m ≡ 2 * n → i ≡ n
+    all_of i m n e l = omega arith
 
-pub returns-then-reached-rate : goal.returns-then-reached-rate
-returns-then-reached-rate c =
-    let h = heard (goal.at.returns-then-reached-rate c).After-by_frame (tracked (goal.at.returns-then-reached-rate c).After-track_of-track) (contiguous (goal.at.returns-then-reached-rate c).Else-not-is_contiguous) in
-    reached_whole c.args.sound.now c.args.dt (lent (goal.at.returns-then-reached-rate c).After-track_of-track) c.args.voice _ c.track_of-track.result c.scan-reached.result c.by_frame.new.out (passed-plays (goal.at.returns-then-reached-rate c).After-contiguous_at h) h (passed_is (goal.at.returns-then-reached-rate c).After-contiguous_at) c.if-reached-rate.true
+pub play_from-played-requires-clause-playable : goal.play_from-played-requires-clause-playable
+play_from-played-requires-clause-playable c =
+    let p = goal.at.play_from-played-requires-clause-playable c in
+    passed-plays p.After-contiguous_at (heard p.After-apply_gains (tracked p.After-track_of-track) (contiguous p.Else-not-is_contiguous))
 
-pub play_from-played-requires : goal.play_from-played-requires
-play_from-played-requires c =
-    let h = heard (goal.at.play_from-played-requires c).After-by_frame (tracked (goal.at.play_from-played-requires c).After-track_of-track) (contiguous (goal.at.play_from-played-requires c).Else-not-is_contiguous) in
-    record { playable = passed-plays (goal.at.play_from-played-requires c).After-contiguous_at h; next_in_bounds = c.scan-reached.ensures.within }
-
-pub overflow_add-steps : goal.overflow_add-steps
-overflow_add-steps c =
+pub overflow_add-result : goal.overflow_add-result
+overflow_add-result c =
+    let a = c.args in
     let q = c.play_from-played in
-    let h = heard (goal.at.overflow_add-steps c).After-by_frame (tracked (goal.at.overflow_add-steps c).After-track_of-track) (contiguous (goal.at.overflow_add-steps c).Else-not-is_contiguous) in
-    let b = lent (goal.at.overflow_add-steps c).After-track_of-track in
-    let f = from_few c.args.sound.now _ c.args.dt b c.by_frame.new.out (passed-plays (goal.at.overflow_add-steps c).After-contiguous_at h) c.scan-reached.result.next q.result _ q.ensures in
+    let p = goal.at.overflow_add-result c in
+    let b = lent p.After-track_of-track in
+    let h = heard p.After-apply_gains (tracked p.After-track_of-track) (contiguous p.Else-not-is_contiguous) in
+    let f = from_few a.sound.now _ a.dt b c.apply_gains.new.out (passed-plays p.After-contiguous_at h) c.scan-reached.result.next (accepted q.result) _ q.ensures in
     record { fits = sum_fits _ _ _ _ h.few f h.within (sized_parts b c.requires.sized).most }
-
-pub shape_of-out : goal.shape_of-out
-shape_of-out c =
-    let q = c.play_from-played in
-    let h = heard (goal.at.shape_of-out c).After-by_frame (tracked (goal.at.shape_of-out c).After-track_of-track) (contiguous (goal.at.shape_of-out c).Else-not-is_contiguous) in
-    from_long c.args.sound.now _ c.args.dt (lent (goal.at.shape_of-out c).After-track_of-track) c.by_frame.new.out (passed-plays (goal.at.shape_of-out c).After-contiguous_at h) c.scan-reached.result.next q.result _ h.within q.ensures ∙ (h.as_long ∙ sym c.requires.long)
 
 pub returns : goal.returns
 returns c =
+    let a = c.args in
     let q = c.play_from-played in
-    let h = heard (goal.at.returns c).After-by_frame (tracked (goal.at.returns c).After-track_of-track) (contiguous (goal.at.returns c).Else-not-is_contiguous) in
-    reached_on c.args.sound.now c.args.dt (lent (goal.at.returns c).After-track_of-track) c.args.voice _ c.track_of-track.result c.scan-reached.result q.result c.by_frame.new.out _ h (passed_is (goal.at.returns c).After-contiguous_at) q.ensures
+    let p = goal.at.returns c in
+    let h = heard p.After-apply_gains (tracked p.After-track_of-track) (contiguous p.Else-not-is_contiguous) in
+    reached_on a.sound.now a.dt (lent p.After-track_of-track) a.voice _ c.track_of-track.result c.scan-reached.result (accepted q.result) c.apply_gains.new.out _ h (passed_is p.After-contiguous_at) q.ensures

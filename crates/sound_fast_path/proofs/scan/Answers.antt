@@ -24,9 +24,5 @@ returns-then-goes_steadily c =
     let e = (c.goes_steadily.ensures c.if-goes_steadily.true).each in
     subst (λ (l : List Float). Scanned a.sound.now a.way l c.scan_held.result c.scan_held.new.out) (sym e) c.scan_held.ensures
 
-pub scan_varied-requires : goal.scan_varied-requires
-scan_varied-requires c =
-    record { scannable = c.requires.scannable; scanned = c.requires.scanned }
-
 pub returns : goal.returns
-returns c = c.scan_varied.ensures
+returns c = c.scan.ensures

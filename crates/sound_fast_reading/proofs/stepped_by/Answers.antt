@@ -4,7 +4,7 @@ use Rattle.sound_fast_reading.proofs.stepped_by.Goals as goal
 
 pub advance_by-requires : goal.advance_by-requires
 advance_by-requires c =
-    record { t = c.requires.t; t_2 = c.requires.slow.finite_clear; t_3 = c.requires.slow.most }
+    record { fraction_proper = c.requires.t; advance_clear = c.requires.slow.finite_clear; advance_most = c.requires.slow.most }
 
 pub returns : goal.returns
 returns c = stepped_move _ _ c.requires.t c.requires.slow _ c.advance_by.ensures

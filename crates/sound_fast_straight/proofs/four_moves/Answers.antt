@@ -1,38 +1,45 @@
 -- `four_moves` makes one frame's steps after another.
-use Prim.Native.Nat.{ℕ, ◌+◌, ◌<◌}
+use mathlib.Core.Path.{sym, subst}
+use Prim.Native.Nat.{◌+◌, ◌<◌}
 use native.Mathlib.Omega.{arith}
+use lib.Dec.{T}
+use lib.Ieee.{Float}
+use Rattle.numbers.specs.Words.{advance}
 use Rattle.sound_lanes.specs.Lanes.{slow}
+use Rattle.sound_fast_reading.specs.Moves.{Move}
 use Rattle.sound_fast_reading.proofs.Scans.{all_at}
 use Rattle.sound_fast_straight.proofs.four_moves.Goals as goal
 
-less0 : (i n : ℕ) → i + 3 < n → i < n
-less0 i n h = omega arith
+pub moved-first-requires-clause-t_3 : goal.moved-first-requires-clause-t_3
+moved-first-requires-clause-t_3 g c =
+    let a = c.args in
+    subst (λ (q : Float). T (slow a.sample_rate a.dt q)) (sym c.rate.ensures) (all_at (slow a.sample_rate a.dt) (g.R.Rates.list a.rates) a.i (omega (arith, c.requires.i_in_bounds)) c.requires.t_3)
 
-less1 : (i n : ℕ) → i + 3 < n → i + 1 < n
-less1 i n h = omega arith
+pub moved-second-requires-clause-t_3 : goal.moved-second-requires-clause-t_3
+moved-second-requires-clause-t_3 g c =
+    let a = c.args in
+    subst (λ (q : Float). T (slow a.sample_rate a.dt q)) (sym c.rate-2.ensures) (all_at (slow a.sample_rate a.dt) (g.R.Rates.list a.rates) (a.i + 1) (omega (arith, c.requires.i_in_bounds)) c.requires.t_3)
 
-less2 : (i n : ℕ) → i + 3 < n → i + 2 < n
-less2 i n h = omega arith
+pub moved-third-requires-clause-t_3 : goal.moved-third-requires-clause-t_3
+moved-third-requires-clause-t_3 g c =
+    let a = c.args in
+    subst (λ (q : Float). T (slow a.sample_rate a.dt q)) (sym c.rate-3.ensures) (all_at (slow a.sample_rate a.dt) (g.R.Rates.list a.rates) (a.i + 2) (omega (arith, c.requires.i_in_bounds)) c.requires.t_3)
 
-less3 : (i n : ℕ) → i + 3 < n → i + 3 < n
-less3 i n h = h
-
-pub moved-first-requires : goal.moved-first-requires
-moved-first-requires c =
-    record { t = c.requires.t; t_2 = c.requires.t_2; t_3 = all_at (slow c.args.sample_rate c.args.dt) c.args.rate.now c.args.i (less0 _ _ c.requires.i_in_bounds) c.requires.t_3 }
-
-pub moved-second-requires : goal.moved-second-requires
-moved-second-requires c =
-    record { t = c.moved-first.ensures.below; t_2 = c.requires.t_2; t_3 = all_at (slow c.args.sample_rate c.args.dt) c.args.rate.now (c.args.i + 1) (less1 _ _ c.requires.i_in_bounds) c.requires.t_3 }
-
-pub moved-third-requires : goal.moved-third-requires
-moved-third-requires c =
-    record { t = c.moved-second.ensures.below; t_2 = c.requires.t_2; t_3 = all_at (slow c.args.sample_rate c.args.dt) c.args.rate.now (c.args.i + 2) (less2 _ _ c.requires.i_in_bounds) c.requires.t_3 }
-
-pub moved-fourth-requires : goal.moved-fourth-requires
-moved-fourth-requires c =
-    record { t = c.moved-third.ensures.below; t_2 = c.requires.t_2; t_3 = all_at (slow c.args.sample_rate c.args.dt) c.args.rate.now (c.args.i + 3) (less3 _ _ c.requires.i_in_bounds) c.requires.t_3 }
+pub moved-fourth-requires-clause-t_3 : goal.moved-fourth-requires-clause-t_3
+moved-fourth-requires-clause-t_3 g c =
+    let a = c.args in
+    subst (λ (q : Float). T (slow a.sample_rate a.dt q)) (sym c.rate-4.ensures) (all_at (slow a.sample_rate a.dt) (g.R.Rates.list a.rates) (a.i + 3) c.requires.i_in_bounds c.requires.t_3)
 
 pub returns : goal.returns
-returns c =
-    record { fact = c.moved-first.ensures; fact_2 = c.moved-second.ensures; fact_3 = c.moved-third.ensures; fact_4 = c.moved-fourth.ensures }
+returns g c =
+    let a = c.args in
+    let m = c.moved-first in
+    let n = c.moved-second in
+    let o = c.moved-third in
+    let p = c.moved-fourth in
+    record {
+      fact = subst (λ (q : Float). Move a.fractional_position (advance a.sample_rate q a.dt) m.result) c.rate.ensures m.ensures;
+      fact_2 = subst (λ (q : Float). Move m.result.fraction (advance a.sample_rate q a.dt) n.result) c.rate-2.ensures n.ensures;
+      fact_3 = subst (λ (q : Float). Move n.result.fraction (advance a.sample_rate q a.dt) o.result) c.rate-3.ensures o.ensures;
+      fact_4 = subst (λ (q : Float). Move o.result.fraction (advance a.sample_rate q a.dt) p.result) c.rate-4.ensures p.ensures;
+    }

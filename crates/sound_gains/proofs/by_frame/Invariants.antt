@@ -1,17 +1,7 @@
 -- `by_frame` scales one frame per iteration. The invariant: the frames so far are scaled, and the rest is unchanged.
-use Prim.Native.Nat.{ℕ, ◌+◌, ◌-◌, ◌*◌, ◌≤◌, ◌<◌}
-use mathlib.Core.Path.{◌≡◌, ◌∙◌}
-use mathlib.Core.List.{List}
-use lib.Ieee.{Float}
-use Rattle.sound_gains.specs.Gained.{gained}
+use Rattle.sound_lanes.specs.Lanes.{lanes_of}
+use Rattle.sound_gains.proofs.Gained.{Sofar}
 use Rattle.sound_gains.proofs.by_frame.Given as goal
 
-pub record Sofar (fade volume left right : List Float) (n : ℕ) (out₀ out : List Float) (i : ℕ) : Type 0 where
-  pub within : i ≤ n
-  pub so_far_lem : out ≡ gained fade volume left right i out₀
-
 abbrev pub invariant-loop-i : goal.invariant-loop-i
-invariant-loop-i l = Sofar l.fade l.volume l.left l.right l.n l.initial.out l.out l.i
-
-abbrev pub decreases-loop-i : goal.decreases-loop-i
-decreases-loop-i l = l.n - l.i
+invariant-loop-i l = let b = lanes_of l.fn.lanes in Sofar b.fade b.volume b.left b.right l.n l.initial.out l.out l.i

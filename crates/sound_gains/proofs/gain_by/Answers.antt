@@ -1,6 +1,6 @@
 -- `gain_by` scales one frame and writes it.
-use mathlib.Core.Path.{◌≡◌, ap, ◌∙◌}
-use Prim.Native.Nat.{ℕ, ◌+◌, ◌*◌}
+use mathlib.Core.Path.{ap, ◌∙◌}
+use Prim.Native.Nat.{◌+◌, ◌*◌}
 use lib.ListN.{set}
 use Rattle.frame.specs.declared.Frame.{Frame}
 use Rattle.sound_gains.proofs.gain_by.Goals as goal

@@ -1,5 +1,5 @@
 -- `sound_lanes::top` meets its contract: up to the largest number the top bit is the sign, and what is not up to that is refused. Assumes nothing.
-use mathlib.Core.Path.{sym, ◌∙◌, subst}
+use mathlib.Core.Path.{sym, subst}
 use lib.Dec.{T}
 use lib.Ieee.{of_bits, nan_bits}
 use Rattle.numbers.proofs.Signs.{finite_clear_bits}

@@ -6,4 +6,4 @@ use Rattle.sound_slow_path.proofs.frame_with_gains.Goals as goal
 pub returns : goal.returns
 unfolding frame_at reading
 returns c =
-    simp (c.get-read.ensures, c.narrow.ensures)
+    simp (c.scale.ensures, c.get-read.ensures, c.narrow.ensures)

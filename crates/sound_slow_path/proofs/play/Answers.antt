@@ -2,7 +2,7 @@
 use mathlib.Core.Path.{◌≡◌, sym, ap, ◌∙◌, subst}
 use Prim.Native.Nat.{◌/◌}
 use lib.ListN.{length}
-use Rattle.sound_lanes.specs.Lanes.{Lanes, lanes_now, rows}
+use Rattle.sound_lanes.specs.Lanes.{Lanes, lanes_of, rows}
 use Rattle.sound_slow_path.specs.Plays.{plays, accepted_as}
 use Rattle.sound_slow_path.specs.FrameSteps.{spread, Playable}
 use Rattle.sound_slow_path.proofs.Spread.{spread_same, alike, half_of}
@@ -10,7 +10,7 @@ use Rattle.sound_slow_path.proofs.play.Goals.{Start}
 use Rattle.sound_slow_path.proofs.play.Goals as goal
 
 abbrev lent : Start → Lanes
-lent c = let a = c.args in lanes_now a.fade a.volume a.left a.right a.rate
+lent c = lanes_of c.args.lanes
 
 same : (c : Start) → spread (length c.args.out.now / 2) (lent c) ≡ lent c
 same c = spread_same (lent c) _ c.requires.sized (half_of _ _ c.requires.long)

@@ -5,7 +5,8 @@ use native.Mathlib.Omega.{arith}
 use lib.ListN.{length, get_or, length-set}
 use lib.Dec.{T}
 use lib.Ieee.{nan}
-use Rattle.sound_lanes.specs.Lanes.{Lane, Lanes, lanes_now, slow}
+use Rattle.sound_lanes.specs.declared.Gains.{Gains}
+use Rattle.sound_lanes.specs.Lanes.{Lane, Lanes, lanes_of, slow}
 use Rattle.sound_lanes.proofs.Rows.{sized_parts}
 use Rattle.sound_update.specs.declared.Slice.{Slice}
 use Rattle.sound_state.specs.Voices.{slice_of, moved}
@@ -13,21 +14,22 @@ use Rattle.sound_state.proofs.WellFormed.{updatable_of}
 use Rattle.resampler.specs.declared.Reading.{Reading}
 use Rattle.resampler.specs.Windows.{reading}
 use Rattle.sound_slow_path.specs.Plays.{lower}
-use Rattle.sound_slow_path.specs.FrameSteps.{spread, frame_steps, Steppable}
+use Rattle.sound_slow_path.specs.FrameSteps.{frame_with_gains_at, spread, frame_steps, Steppable}
 use Rattle.sound_slow_path.proofs.Loops.{lane_at, framed, played_none, played_more, played_all, slow_at, turned_few, turned_on}
+use Rattle.sound_slow_path.proofs.Lowest.{min_lower}
 use Rattle.sound_slow_path.proofs.Spread.{spread_at, spread_below}
 use Rattle.sound_slow_path.proofs.play_spread.Goals.{After-frame_steps-next, After-lane_frame-j, In-loop-i}
 use Rattle.sound_slow_path.proofs.play_spread.Goals as goal
 
 -- the lanes as they are passed, and as the block reads them
 abbrev given : In-loop-i → Lanes
-given c = let a = c.args in lanes_now a.fade a.volume a.left a.right a.rate
+given c = let a = c.args in lanes_of a.lanes
 
 abbrev lent : In-loop-i → Lanes
 lent c = spread (length c.args.out.now / 2) (given c)
 
 abbrev given-there : After-lane_frame-j → Lanes
-given-there c = let a = c.args in lanes_now a.fade a.volume a.left a.right a.rate
+given-there c = let a = c.args in lanes_of a.lanes
 
 abbrev lent-there : After-lane_frame-j → Lanes
 lent-there c = spread (length c.args.out.now / 2) (given-there c)
@@ -49,7 +51,7 @@ lane_is c = spread_at (given-there c) _ c.loop-i.i c.lane_frame-j.result c.loop-
 -- what a frame's steps ask
 turning : (c : After-lane_frame-j)
     → let a = c.args in
-    Steppable a.sound.now (slice_of a.voice) a.voice.setup.sample_rate (get_or a.rate.now c.lane_frame-j.result nan) a.dt c.loop-i.moving c.loop-i.fractional_position
+    Steppable a.sound.now (slice_of a.voice) a.voice.setup.sample_rate (get_or a.lanes.rate.now c.lane_frame-j.result nan) a.dt c.loop-i.moving c.loop-i.fractional_position
 turning c =
     let p = c.requires.playable in
     let v = c.args.voice in
@@ -82,11 +84,11 @@ lane-there c = spread_below (given-there c) _ c.loop-i.i c.lane_frame-j.result (
 turn-here : (c : After-frame_steps-next)
     → let a = c.args in
     c.frame_steps-next.result
-    ≡ frame_steps a.sound.now (slice_of a.voice) a.voice.setup.sample_rate (get_or a.rate.now c.lane_frame-j.result nan) a.dt c.loop-i.moving c.loop-i.fractional_position
+    ≡ frame_steps a.sound.now (slice_of a.voice) a.voice.setup.sample_rate (get_or a.lanes.rate.now c.lane_frame-j.result nan) a.dt c.loop-i.moving c.loop-i.fractional_position
 turn-here c =
     let a = c.args in
     c.frame_steps-next.ensures
-    ∙ ap (λ (k : Slice). frame_steps a.sound.now k a.voice.setup.sample_rate (get_or a.rate.now c.lane_frame-j.result nan) a.dt c.loop-i.moving c.loop-i.fractional_position)
+    ∙ ap (λ (k : Slice). frame_steps a.sound.now k a.voice.setup.sample_rate (get_or a.lanes.rate.now c.lane_frame-j.result nan) a.dt c.loop-i.moving c.loop-i.fractional_position)
     c.slice-slice.ensures
 
 -- ---- the needs
@@ -99,20 +101,17 @@ loop-i-init c =
       as_long = refl;
       well_formed = c.requires.playable.well_formed;
       so_far_lem =
-          played_none a.sound.now a.dt (spread (length a.out.now / 2) (lanes_now a.fade a.volume a.left a.right a.rate)) a.voice a.out.now;
+          played_none a.sound.now a.dt (spread (length a.out.now / 2) (lanes_of a.lanes)) a.voice a.out.now;
     }
 
-pub frame_with_gains-read-requires : goal.frame_with_gains-read-requires
-frame_with_gains-read-requires c =
+pub gains-requires : goal.gains-requires
+gains-requires c =
     let k = c.requires.alike in
-    let h = lane-there (goal.at.frame_with_gains-read-requires c).After-lane_frame-j in
-    record {
-      t = c.loop-i.invariant.well_formed.fraction;
-      i_in_bounds = omega (arith, h, k.fade);
-      i_in_bounds_2 = omega (arith, h, k.volume);
-      i_in_bounds_3 = omega (arith, h, k.left);
-      i_in_bounds_4 = omega (arith, h, k.right);
-    }
+    let h = lane-there (goal.at.gains-requires c).After-lane_frame-j in
+    record { fade = omega (arith, h, k.fade); volume = omega (arith, h, k.volume); left = omega (arith, h, k.left); right = omega (arith, h, k.right) }
+
+pub frame_with_gains-read-requires : goal.frame_with_gains-read-requires
+frame_with_gains-read-requires c = c.loop-i.invariant.well_formed.fraction
 
 pub overflow_mul-out : goal.overflow_mul-out
 overflow_mul-out c = omega (arith, numbers (goal.at.overflow_mul-out c).In-loop-i)
@@ -135,11 +134,11 @@ offset_bounds-out-i-in-loop-i c = omega (arith, numbers (goal.at.offset_bounds-o
 pub bounds-out-i-in-loop-i : goal.bounds-out-i-in-loop-i
 bounds-out-i-in-loop-i c = simp length-set (omega (arith, numbers (goal.at.bounds-out-i-in-loop-i c).In-loop-i))
 
-pub offset_bounds-rate-j : goal.offset_bounds-rate-j
-offset_bounds-rate-j c = omega (arith, lane-there (goal.at.offset_bounds-rate-j c).After-lane_frame-j)
+pub offset_bounds-lanes-j : goal.offset_bounds-lanes-j
+offset_bounds-lanes-j c = omega (arith, lane-there (goal.at.offset_bounds-lanes-j c).After-lane_frame-j)
 
-pub bounds-rate-j : goal.bounds-rate-j
-bounds-rate-j c = lane-there (goal.at.bounds-rate-j c).After-lane_frame-j
+pub bounds-lanes-j : goal.bounds-lanes-j
+bounds-lanes-j c = lane-there (goal.at.bounds-lanes-j c).After-lane_frame-j
 
 pub frame_steps-next-requires : goal.frame_steps-next-requires
 frame_steps-next-requires c =
@@ -147,12 +146,6 @@ frame_steps-next-requires c =
 
 pub overflow_add-steps : goal.overflow_add-steps
 overflow_add-steps c = omega (arith, numbers (goal.at.overflow_add-steps c).In-loop-i, turned_few _ _ _ _ _ _ _ c.frame_steps-next.result (turning (goal.at.overflow_add-steps c).After-lane_frame-j) (turn-here (goal.at.overflow_add-steps c).After-frame_steps-next))
-
-pub overflow_add-i : goal.overflow_add-i
-overflow_add-i c = omega (arith, numbers (goal.at.overflow_add-i c).In-loop-i)
-
-pub loop-i-smaller : goal.loop-i-smaller
-loop-i-smaller c = omega (arith, numbers (goal.at.loop-i-smaller c).In-loop-i)
 
 pub loop-i-preserved : goal.loop-i-preserved
 unfolding reading
@@ -173,8 +166,10 @@ loop-i-preserved c =
       well_formed = turned_on a.sound.now a.dt a.voice _ l.moving l.fractional_position c.frame_steps-next.result l.invariant.well_formed (turning there) here;
       so_far_lem =
           played_more a.sound.now a.dt (lent in-loop) a.voice l.i l.steps l.lowest_count l.out l.moving l.fractional_position
-          read.result.frame c.lower-lowest_count.result c.frame_steps-next.result (inside in-loop) (omega (arith, n)) l.invariant.so_far_lem
-          (ap (λ (r : Reading). r.frame) read.ensures ∙ ap (λ (l : Lane). framed c.loop-i.moving c.loop-i.fractional_position l) (sym (lane_is there))) (c.lower-lowest_count.ensures ∙ ap (λ (r : Reading). lower c.loop-i.lowest_count r.count) read.ensures) turn;
+          read.result.frame c.min-lowest_count.result c.frame_steps-next.result (inside in-loop) (omega (arith, n)) l.invariant.so_far_lem
+          (ap (λ (r : Reading). r.frame) read.ensures
+          ∙ ap (λ (g : Gains). (frame_with_gains_at l.moving.resampler l.fractional_position g).frame) c.gains.ensures
+          ∙ ap (λ (l : Lane). framed c.loop-i.moving c.loop-i.fractional_position l) (sym (lane_is there))) (c.min-lowest_count.ensures ∙ min_lower c.loop-i.lowest_count read.result.count ∙ ap (λ (r : Reading). lower c.loop-i.lowest_count r.count) read.ensures) turn;
     }
 
 pub shape_of-out : goal.shape_of-out
@@ -188,5 +183,5 @@ returns c =
     let p = c.requires.playable in
     let a = c.args in
     let l = c.loop-i in
-    played_all _ _ (spread (length a.out.now / 2) (lanes_now a.fade a.volume a.left a.right a.rate)) _ l.i l.steps l.lowest_count l.out _ (all_lanes _ _ _ p.long c.loop-i-test.false) l.invariant.within (l.invariant.as_long ∙ p.long)
+    played_all _ _ (spread (length a.out.now / 2) (lanes_of a.lanes)) _ l.i l.steps l.lowest_count l.out _ (all_lanes _ _ _ p.long c.loop-i-test.false) l.invariant.within (l.invariant.as_long ∙ p.long)
     l.invariant.so_far_lem

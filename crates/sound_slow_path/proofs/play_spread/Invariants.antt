@@ -1,10 +1,10 @@
 -- `play_spread` plays every frame and stores its two samples. The invariant: what is played so far is the definition's of the lanes so far.
-use Prim.Native.Nat.{ℕ, ◌-◌, ◌*◌, ◌/◌, ◌≤◌}
+use Prim.Native.Nat.{ℕ, ◌*◌, ◌/◌, ◌≤◌}
 use mathlib.Core.Path.{◌≡◌}
 use mathlib.Core.List.{List}
 use lib.ListN.{length, take}
 use lib.Ieee.{Float}
-use Rattle.sound_lanes.specs.Lanes.{Lanes, five, rows}
+use Rattle.sound_lanes.specs.Lanes.{Lanes, lanes_of, rows}
 use Rattle.sound_update.specs.declared.Moving.{Moving}
 use Rattle.sound_state.specs.declared.StaticSound.{StaticSound}
 use Rattle.sound_state.specs.Voices.{moved}
@@ -23,8 +23,4 @@ pub record Sofar (snd : List Float) (dt : Float) (b : Lanes) (v : StaticSound) (
 
 abbrev pub invariant-loop-i : goal.invariant-loop-i
 invariant-loop-i l =
-    Sofar l.sound l.dt (spread (length l.initial.out / 2) (five l.fade l.volume l.left l.right l.rate)) l.voice l.i l.initial.out l.out l.moving l.fractional_position l.steps l.lowest_count
-
-abbrev pub decreases-loop-i : goal.decreases-loop-i
-decreases-loop-i l =
-    length l.initial.out / 2 - l.i
+    Sofar l.sound l.dt (spread (length l.initial.out / 2) (lanes_of l.fn.lanes)) l.voice l.i l.initial.out l.out l.moving l.fractional_position l.steps l.lowest_count

@@ -22,9 +22,9 @@ advance_by-s-requires c =
     let m = c.magnitude-a in
     let low : T (le m.result _) = subst T (sym c.if-a.true) tt in
     record {
-      t = subst T (sym (proper-here (goal.at.advance_by-s-requires c).Then-is_proper)) tt;
-      t_2 = bounded m.result 1 (pos 8) (subst (λ (z : Float). T (clear z)) (sym m.ensures) (magnitude_clear _)) low;
-      t_3 = low;
+      fraction_proper = subst T (sym (proper-here (goal.at.advance_by-s-requires c).Then-is_proper)) tt;
+      advance_clear = bounded m.result 1 (pos 8) (subst (λ (z : Float). T (clear z)) (sym m.ensures) (magnitude_clear _)) low;
+      advance_most = low;
     }
 
 pub returns-then-a : goal.returns-then-a

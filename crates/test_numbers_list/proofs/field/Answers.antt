@@ -10,12 +10,12 @@ use Rattle.test_numbers_list.proofs.field.Goals.{After-digit_value, In-loop-i}
 use Rattle.test_numbers_list.proofs.field.Goals as goal
 
 pub loop-i-init : goal.loop-i-init
-loop-i-init c = (omega arith, unfold number in refl)
+loop-i-init c = unfold number in refl
 
 -- the digits so far leave space for one more
 small : (c : In-loop-i) → c.loop-i.value < 2 ^ 60
 small c =
-    subst (λ (v : ℕ). v < 2 ^ 60) (sym c.loop-i.invariant.1)
+    subst (λ (v : ℕ). v < 2 ^ 60) (sym c.loop-i.invariant)
     (room c.args.line.now c.args.from c.loop-i.i c.args.count c.loop-i-test.true c.requires.count_bound_2)
 
 pub overflow_mul-value : goal.overflow_mul-value
@@ -35,20 +35,9 @@ low c =
 pub overflow_add-value : goal.overflow_add-value
 overflow_add-value c = let h = small (goal.at.overflow_add-value c).In-loop-i in let k = low (goal.at.overflow_add-value c).After-digit_value in omega arith
 
-pub overflow_add-i : goal.overflow_add-i
-overflow_add-i c = omega arith
-
-pub loop-i-smaller : goal.loop-i-smaller
-loop-i-smaller c = omega arith
-
 pub loop-i-preserved : goal.loop-i-preserved
 loop-i-preserved c =
-    let l = c.before.before.before in
-    let line = l.args.line.now in
-    let from = l.args.from in (
-      omega arith,
-      ap₂ (λ (v d : ℕ). v * 16 + d) l.loop-i.invariant.1 c.digit_value.ensures ∙ sym (number_more line from l.loop-i.i),
-    )
+    ap₂ (λ (v d : ℕ). v * 16 + d) c.loop-i.invariant c.digit_value.ensures ∙ sym (number_more c.args.line.now c.args.from c.loop-i.i)
 
 pub returns : goal.returns
 returns c =
@@ -56,5 +45,5 @@ returns c =
     let from = c.args.from in
     let n = c.args.count in
     let last : c.loop-i.i ≡ n = omega arith in
-    let e : c.loop-i.value ≡ number line from n = c.loop-i.invariant.1 ∙ ap (number line from) last in
+    let e : c.loop-i.value ≡ number line from n = c.loop-i.invariant ∙ ap (number line from) last in
     record { value = e; upper_bound = subst (λ (v : ℕ). v < 16 ^ n) (sym e) (number_lt line from n) }

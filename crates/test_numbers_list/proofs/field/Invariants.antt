@@ -1,4 +1,4 @@
--- `test_numbers_list::field` meets its contract. The invariant: the value is that of the digits so far. The measure is how many are left.
+-- `test_numbers_list::field` meets its contract. The invariant: the value is that of the digits so far.
 -- Assumes nothing.
 use mathlib.Core.Path.{◌≡◌, ap₂, ◌∙◌}
 use Prim.Native.Nat.{ℕ, ◌+◌, ◌-◌, ◌*◌, ◌^◌, ◌≤◌, ◌<◌}
@@ -6,7 +6,4 @@ use Rattle.test_numbers_list.specs.Lines.{number}
 use Rattle.test_numbers_list.proofs.field.Given as goal
 
 abbrev pub invariant-loop-i : goal.invariant-loop-i
-invariant-loop-i l = (l.i ≤ l.count) × (l.value ≡ number l.line l.from l.i)
-
-abbrev pub decreases-loop-i : goal.decreases-loop-i
-decreases-loop-i l = l.count - l.i
+invariant-loop-i l = l.value ≡ number l.line l.from l.i

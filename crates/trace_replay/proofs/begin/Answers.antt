@@ -1,5 +1,5 @@
 -- `trace_replay::begin`: the blank voice.
-use mathlib.Core.Path.{◌≡◌, refl, ap, ◌∙◌}
+use mathlib.Core.Path.{refl, ap}
 use mathlib.Core.List.{[]}
 use Rattle.trace_replay.proofs.Replays.{replay}
 use Rattle.trace_replay.proofs.begin.Goals as goal

@@ -1,27 +1,40 @@
 -- `trace_replay::play`: the player's result, counted, and its line.
-use mathlib.Core.Path.{◌≡◌, ◌∙◌}
-use lib.ListN.{take}
+use Rattle.std.proofs.Common.{◌∙◌, ap, sym, take}
+use Rattle.static_sound.specs.Entries.{block_answer}
 use Rattle.trace_replay.proofs.Parts.{part_long}
-use Rattle.trace_replay.proofs.Replays.{few_frames, block_replay, block_line_lem}
+use Rattle.trace_replay.proofs.Replays.{replay, few_frames, block_replay, block_line_lem}
 use Rattle.trace_replay.proofs.play.Goals as goal
 
 pub slice_bounds-answer-end : goal.slice_bounds-answer-end
 slice_bounds-answer-end c = part_long c.args.run.samples c.args.sound.now c.requires.0
 
-pub answer-processed-requires : goal.answer-processed-requires
-answer-processed-requires c = few_frames c.args.values c.block_of-block.result c.block_of-block.ensures
+pub answer-answer-requires : goal.answer-answer-requires
+answer-answer-requires c = few_frames c.args.values c.block_of-block.result c.block_of-block.ensures
 
-pub returns : goal.returns
-returns c =
-    let p = c.before.before.before in
-    let m = p.before.before in
-    let w = m.before in
-    let b = w.before.before in
-    let s = b.before.before.before.before in
-    let a = s.args in
-    let x = take a.run.samples a.sound.now in (
-      block_replay x a.run.voice a.values b.block_of-block.result w.answer-processed.result m.more_of-blocks.result a.run.blocks b.block_of-block.ensures w.answer-processed.ensures m.more_of-blocks.ensures,
-      block_line_lem x a.run.voice a.values b.block_of-block.result w.answer-processed.result m.more_of-blocks.result a.run.blocks b.block_of-block.ensures w.answer-processed.ensures m.more_of-blocks.ensures _ p.put_line-written.ensures.0,
-      s.requires.0,
-      p.put_line-written.ensures.1,
+pub returns-in-Ok : goal.returns-in-Ok
+returns-in-Ok c =
+    let a = c.args in
+    let v = a.run.voice in
+    let x = take a.run.samples a.sound.now in
+    let b = c.block_of-block in
+    let w = c.answer-answer in
+    let m = c.more_of-blocks in (
+      ap (λ z. replay (block_answer v z).voice x m.result) (sym c.in-Ok.is) ∙ block_replay x v a.values b.result (block_answer v w.result) m.result a.run.blocks b.ensures w.ensures m.ensures,
+      block_line_lem x v a.values b.result (block_answer v w.result) m.result a.run.blocks b.ensures w.ensures m.ensures _ (c.put_line-written.ensures.0 v),
+      c.requires.0,
+      c.put_line-written.ensures.1,
+    )
+
+pub returns-in-Err : goal.returns-in-Err
+returns-in-Err c =
+    let a = c.args in
+    let v = a.run.voice in
+    let x = take a.run.samples a.sound.now in
+    let b = c.block_of-block in
+    let w = c.answer-answer in
+    let m = c.more_of-blocks in (
+      ap (λ z. replay (block_answer v z).voice x m.result) (sym c.in-Err.is) ∙ block_replay x v a.values b.result (block_answer v w.result) m.result a.run.blocks b.ensures w.ensures m.ensures,
+      block_line_lem x v a.values b.result (block_answer v w.result) m.result a.run.blocks b.ensures w.ensures m.ensures _ (c.put_line-written.ensures.0 v),
+      c.requires.0,
+      c.put_line-written.ensures.1,
     )

@@ -33,4 +33,4 @@ pub returns : goal.returns
 returns c =
     let e = c.before in
     let l = e.loop-t in
-    saved _ _ _ l.out l.t c.first_of.result e.if-out-s.false e.loop-t-test.false l.invariant.5 l.invariant.6 l.invariant.7 l.invariant.8 c.first_of.ensures
+    saved _ _ _ l.out l.t c.unwrap_or.result e.if-out-s.false e.loop-t-test.false l.invariant.5 l.invariant.6 l.invariant.7 l.invariant.8 c.unwrap_or.ensures

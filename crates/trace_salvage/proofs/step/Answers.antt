@@ -1,33 +1,26 @@
 -- `trace_salvage::step`: a record kept, or a byte skipped.
-use Prim.Native.Nat.{ℕ, ◌+◌, ◌-◌, ◌*◌, ◌≤◌, ◌<◌}
-use native.Mathlib.Omega.{arith}
-use mathlib.Core.Path.{◌≡◌, ◌∙◌}
+use Rattle.std.proofs.Common.{◌≡◌, ◌≤◌, drop, arith, rules}
+use Rattle.trace_salvage.specs.Salvage.{size_by}
 use Rattle.trace_salvage.proofs.Keeps.{size_le, keeps, skips}
-use borrow.Author.Rules.{rules}
+use Rattle.trace_salvage.proofs.step.Goals.{in_default-via-in-Some+else-t-end, in_default-via-in_default}
 use Rattle.trace_salvage.proofs.step.Goals as goal
-
-pub overflow_add-to : goal.overflow_add-to
-overflow_add-to c = let r = c.before in omega (arith, size_le r.args.reader r.args.s.now r.args.t.at, r.record_size-n.ensures)
 
 pub copy-requires : goal.copy-requires
 copy-requires c =
-    let r = c.before.before in
-    (search rules, omega (arith, size_le r.args.reader r.args.s.now r.args.t.at, r.record_size-n.ensures), omega (arith, size_le r.args.reader r.args.s.now r.args.t.at, r.record_size-n.ensures, r.requires))
+    let a = c.args in
+    let p = c.requires in
+    let n = size_le a.reader a.s.now a.t.at in
+    (omega arith, omega (arith, n, c.in-Some.ensures), omega (arith, n, c.in-Some.ensures, p))
 
-pub overflow_add-result : goal.overflow_add-result
-overflow_add-result c = let r = c.before.before.before.before.before in omega (arith, size_le r.args.reader r.args.s.now r.args.t.at, r.record_size-n.ensures, r.requires)
+pub returns-in-Some : goal.returns-in-Some
+returns-in-Some c =
+    let a = c.args in
+    let p = c.requires in
+    keeps a.reader a.s.now a.out.now a.t p.0 p.1 p.2 p.3 c.copy.new.out c.in-Some.end _ (omega arith) c.in-Some.ensures (omega arith) c.copy.ensures
 
-pub returns-then-n-gt0 : goal.returns-then-n-gt0
-returns-then-n-gt0 c =
-    let q = c.before.before.before in
-    let r = q.before.before.before in
-    let a = r.args in
-    let p = r.requires in
-    keeps a.reader a.s.now a.out.now a.t p.0 p.1 p.2 p.3 q.copy.new.out r.record_size-n.result r.record_size-n.ensures q.if-n-gt0.true q.copy.ensures
-
-pub returns : goal.returns
-returns c =
-    let r = c.before.before.before in
-    let a = r.args in
-    let p = r.requires in
-    skips a.reader a.s.now a.out.now a.t p.0 p.1 p.2 p.3 r.record_size-n.result c.first_of.result r.record_size-n.ensures c.if-n-gt0.false c.first_of.ensures
+pub returns-in_default : goal.returns-in_default
+returns-in_default c =
+    let a = c.args in
+    let p = c.requires in
+    let n : size_by a.reader (drop a.t.at a.s.now) ≤ 0 = elim c.in_default.branch [ in_default-via-in-Some+else-t-end w ↦ omega (arith, w.in-Some.ensures) | in_default-via-in_default w ↦ omega (arith, w.in_default.ensures) ] in
+    skips a.reader a.s.now a.out.now a.t p.0 p.1 p.2 p.3 _ n c.unwrap_or.ensures

@@ -9,5 +9,5 @@ read_sealed-requires c = c.is_sealed.ensures.1 c.if-is_sealed.true
 pub returns-then-is_sealed : goal.returns-then-is_sealed
 returns-then-is_sealed c = is_sealed_lem _ _ _ (sym c.if-is_sealed.true ∙ c.is_sealed.ensures.0) c.read_sealed.ensures
 
-pub returns : goal.returns
-returns c = is_open _ _ _ (sym c.if-is_sealed.false ∙ c.is_sealed.ensures.0) c.read.ensures
+pub returns-else-is_sealed : goal.returns-else-is_sealed
+returns-else-is_sealed c = is_open _ _ _ (sym c.if-is_sealed.false ∙ c.is_sealed.ensures.0) c.read.ensures

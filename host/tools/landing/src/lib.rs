@@ -69,21 +69,33 @@ fn defined(line: &str) -> Option<&str> {
     (words.next() == Some(":") || !line.starts_with(name)).then_some(name)
 }
 
-/// The contracts of a text of Rattle: for each function that has one, its signature and its clauses.
+/// The contracts of a text of Rattle: for each function that has one, its signature and its clauses; for each trait, each
+/// `impl` of one and each struct with ghost members, its first line and these. A trait is named `trait Direction`, an
+/// `impl` of it `Direction for Forward`.
 #[must_use]
 pub fn contracts(text: &str) -> Items {
     let mut found = Items::new();
-    let mut owner = String::new();
+    let mut owner = Owner::default();
+    let mut ghost = false;
     let mut open: Option<(String, Vec<String>)> = None;
     for line in text.lines() {
         let trimmed = line.trim();
-        if let Some(rest) = line.strip_prefix("impl ") {
-            owner = format!("{}::", rest.trim_end_matches(" {"));
+        if let Some(begun) = Owner::begun_by(line) {
+            owner = begun;
         } else if line == "}" {
-            owner.clear();
+            owner = Owner::default();
         }
         if let Some(name) = function(trimmed) {
-            open = Some((format!("{owner}{name}"), Vec::new()));
+            open = Some((format!("{}{name}", owner.prefix()), Vec::new()));
+        }
+        ghost |= open.is_none() && !owner.name.is_empty() && trimmed.starts_with("ghost ");
+        if ghost {
+            let lines = found.entry(owner.name.clone()).or_default();
+            if lines.is_empty() {
+                lines.push(owner.line.clone());
+            }
+            lines.push(line.to_owned());
+            ghost = !trimmed.ends_with(';') && !trimmed.ends_with("},");
         }
         let Some((name, lines)) = &mut open else {
             continue;
@@ -93,7 +105,12 @@ pub fn contracts(text: &str) -> Items {
             .chain([&line.to_owned()])
             .any(|line| is_clause(line));
         let is_body = trimmed == "{" || trimmed == "{}";
-        if is_body || (!has_clause && trimmed.ends_with(['{', '}'])) {
+        // A trait's function may have no body.
+        let is_end = trimmed.ends_with(';') && depth(lines.iter()) + depth([line]) == 0;
+        if is_end && has_clause {
+            lines.push(line.to_owned());
+        }
+        if is_body || is_end || (!has_clause && trimmed.ends_with(['{', '}'])) {
             if has_clause {
                 found.insert(std::mem::take(name), std::mem::take(lines));
             }
@@ -103,6 +120,63 @@ pub fn contracts(text: &str) -> Items {
         }
     }
     found
+}
+
+/// Whether other crates see a contract of [`contracts`]: a public function's, or a trait's.
+#[must_use]
+pub fn is_public(name: &str, lines: &[String]) -> bool {
+    let of_trait = name.starts_with("trait ") || name.contains(" for ");
+    let first = lines.first().map(|line| line.trim_start());
+    of_trait || first.is_some_and(|line| line.starts_with("pub "))
+}
+
+/// The `impl`, trait or struct that a line is in.
+#[derive(Default)]
+struct Owner {
+    name: String,
+    line: String,
+    /// A struct's functions are in an `impl`, so it is part of no function's name.
+    is_struct: bool,
+}
+
+impl Owner {
+    fn begun_by(line: &str) -> Option<Self> {
+        let plain = line.strip_prefix("pub ").unwrap_or(line);
+        let head = plain.split(['{', ':']).next().unwrap_or(plain).trim();
+        let is_struct = head.starts_with("struct ");
+        let name = if is_struct || head.starts_with("trait ") {
+            head.to_owned()
+        } else {
+            // The parameters after `impl` are no part of the name.
+            let rest = plain.strip_prefix("impl")?.trim_end_matches(" {");
+            let rest = match rest.strip_prefix('<') {
+                Some(parameters) => parameters.split_once("> ")?.1,
+                None => rest,
+            };
+            rest.trim().to_owned()
+        };
+        Some(Self {
+            name,
+            line: line.to_owned(),
+            is_struct,
+        })
+    }
+
+    fn prefix(&self) -> String {
+        if self.name.is_empty() || self.is_struct {
+            return String::new();
+        }
+        format!("{}::", self.name)
+    }
+}
+
+/// How many braces are open after some lines.
+fn depth<L: AsRef<str>>(lines: impl IntoIterator<Item = L>) -> i32 {
+    let of_one = |line: L| -> i32 {
+        let of_char = |c| i32::from(c == '{') - i32::from(c == '}');
+        line.as_ref().chars().map(of_char).sum()
+    };
+    lines.into_iter().map(of_one).sum()
 }
 
 fn function(line: &str) -> Option<&str> {

@@ -5,7 +5,7 @@ use std::collections::{BTreeMap, BTreeSet};
 
 use sha256::{digest, hex};
 
-use crate::{Change, Items, Sources, change, contracts, definitions};
+use crate::{Change, Items, Sources, change, contracts, definitions, is_public};
 
 /// The file that holds them.
 pub const FILE: &str = "docs/assurance/STATEMENTS.txt";
@@ -14,7 +14,7 @@ pub const FILE: &str = "docs/assurance/STATEMENTS.txt";
 const HEAD: &str = "\
 # The digest of each statement; `tools/statements` writes this file, and docs/guide/CHANGING.md says when to run it.
 # A line: name, kind, and the first 64 bits of the SHA-256 of its text without comments and layout.
-#   contract    a public function's signature, requires and ensures
+#   contract    a public function's signature, requires and ensures; the ghost members of a trait, an impl or a struct
 #   definition  of specs/; of a record its first line and the names of its fields
 #   field       of a record of specs/, a promise among them
 #   names       where the names come from that a file uses in its definitions or contracts
@@ -42,7 +42,7 @@ pub fn statements(sources: &Sources) -> String {
         }
     }
     for (name, lines) in sources.items("src", contracts) {
-        if lines[0].trim_start().starts_with("pub ") {
+        if is_public(&name, &lines) {
             add(&name, "contract", &plain(&lines, "//"));
         }
     }

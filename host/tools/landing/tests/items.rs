@@ -1,6 +1,6 @@
 //! Definitions and contracts are found by name, and changes are reported.
 
-use landing::{change, contracts, definitions};
+use landing::{change, contracts, definitions, is_public};
 
 const SPECS: &str = "-- A block.\nuse Rattle.std.specs.Prelude.{Float}\n\n-- the sum\nunfoldable pub total : Float → Float\nunfolding advance\ntotal dt = add dt\n\npub record Outcome : Type 0 where\n  pub answer : Processed\n\nabbrev pub holds : Lanes → Bool\nholds b = true\n";
 
@@ -22,6 +22,27 @@ fn contracts_by_function_and_type() {
     let found = contracts(SOURCE);
     assert_eq!(found.keys().collect::<Vec<_>>(), ["Voice::turned", "entry"]);
     assert_eq!(found["entry"].len(), 4);
+}
+
+#[test]
+fn contracts_of_a_trait_and_of_what_has_it() {
+    let source = "pub trait Direction: Copy {\n    ghost backwards: { Bool };\n\n    fn next(at: usize) -> usize\n        requires { at < 9 }\n        ensures { result ≡ next backwards at };\n\n    fn name() -> u8;\n\n    fn twice(at: usize) -> usize\n        ensures { result ≡ record {\n          a = at;\n        } }\n    {\n        at\n    }\n}\n\npub struct Forward;\n\nimpl Direction for Forward {\n    ghost backwards = { false };\n\n    fn next(at: usize) -> usize {\n        at + 1\n    }\n}\n\nimpl<'a> Lanes<'a> {\n    pub fn len(self) -> usize\n        ensures { result ≡ 0 }\n    {\n        0\n    }\n}\n";
+    let found = contracts(source);
+    assert_eq!(
+        found.keys().collect::<Vec<_>>(),
+        [
+            "Direction for Forward",
+            "Lanes<'a>::len",
+            "trait Direction",
+            "trait Direction::next",
+            "trait Direction::twice",
+        ]
+    );
+    assert_eq!(found["trait Direction::next"].len(), 3);
+    assert_eq!(found["trait Direction::twice"].len(), 4);
+    assert_eq!(found["Direction for Forward"].len(), 2);
+    assert!(found.iter().all(|(name, lines)| is_public(name, lines)));
+    assert!(!is_public("plain", &["    fn plain() -> u32".to_owned()]));
 }
 
 #[test]

@@ -60,9 +60,13 @@ fn parts(identifier: &str) -> Vec<String> {
     parts
 }
 
-/// The identifiers of a text, without its comments, its texts in quotes, its imports' crates and the names of the C interface.
+/// The identifiers of a text, without its comments, its texts in quotes, its imports' crates and the names of the C
+/// interface. `type Error` is the name that std's trait `TryFrom` gives.
 fn identifiers(text: &str) -> BTreeSet<&str> {
-    let code = text.lines().map(|line| {
+    let ours = text
+        .lines()
+        .filter(|line| !line.trim_start().starts_with("type Error = "));
+    let code = ours.map(|line| {
         let end = [line.find("//"), line.find("-- ")];
         &line[..end.into_iter().flatten().min().unwrap_or(line.len())]
     });

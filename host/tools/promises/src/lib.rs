@@ -88,15 +88,20 @@ impl Documents {
         if self.excuses(&whole_crate) && !function.is_entry() {
             return None;
         }
-        if !self.promises.contains(&format!("| `{path}` |")) {
-            return Some(format!("{path}: no row in docs/PROMISES.md"));
+        let row = function.row();
+        if !self.promises.contains(&format!("| `{row}` |")) {
+            return Some(format!("{row}: no row in docs/PROMISES.md"));
+        }
+        // What a trait asks has a line for each type that has it.
+        if function.of == Of::Trait {
+            return None;
         }
         let excused = self.excuses(path) || self.excuses(&format!("*::{}", function.name()));
         match self.law(path) {
             Some(_) if excused => Some(format!(
                 "{path}: it has a line in `Coincide`, so docs/EXCEPTIONS.md need not excuse it"
             )),
-            Some(law) if !self.is_about(&law, path) => Some(format!(
+            Some(law) if !self.is_about(&law, function) => Some(format!(
                 "{path}: its line in `Coincide` is about another contract: {law}"
             )),
             Some(law) if function.writes() && !law.starts_with("DecidesWith ") => Some(format!(
@@ -130,10 +135,9 @@ impl Documents {
 
     /// Whether a line is about this function's contract: it has `Post NAME.ended NAME.clauses` once, and NAME is imported
     /// as the contract.
-    fn is_about(&self, law: &str, path: &str) -> bool {
-        let (krate, function) = path.split_once("::").expect("a crate's name");
-        let start = format!("use Rattle.{krate}.specs.contracts.");
-        let function = function.replace("::", ".");
+    fn is_about(&self, law: &str, function: &Function) -> bool {
+        let start = format!("use Rattle.{}.specs.contracts.", function.krate());
+        let function = function.contract();
         let lines = self.laws.lines();
         let mut imports = lines.filter_map(|line| line.strip_prefix(&start)?.split_once(" as "));
         imports.any(|(of, name)| {
@@ -158,9 +162,23 @@ impl Documents {
     }
 }
 
+/// What a function is part of.
+#[derive(Clone, Default, Debug, PartialEq, Eq)]
+pub enum Of {
+    /// a file, or a type's own `impl`
+    #[default]
+    Itself,
+    /// a trait: each type that has it keeps the function's contract
+    Trait,
+    /// the `impl` of a trait, by the trait's name and its parameters
+    Impl(String),
+}
+
 /// A function of a Rattle source.
 #[derive(Default)]
 pub struct Function {
+    /// what it is part of
+    pub of: Of,
     /// `crate::Type::name` or `crate::name`
     pub path: String,
     /// whether it is `pub` or C calls it; `pub(crate)` is private
@@ -231,17 +249,78 @@ fn paths_of(before: &str, part: &str, found: &mut Vec<String>) {
     }
 }
 
+/// A type's name without its parameters; one that is no single word as the toolchain writes it: `&[f64]` is `RefSliceF64`.
+fn type_name(written: &str) -> String {
+    let plain = written.split('<').next().unwrap_or(written).trim();
+    if plain.chars().all(|c| c.is_alphanumeric() || c == '_') {
+        return plain.to_string();
+    }
+    camel(written)
+}
+
+/// Words in one: `&[f64]` is `RefSliceF64`, `From<Refusal>` is `FromRefusal`.
+fn camel(written: &str) -> String {
+    let spelled = written.replace('&', "Ref ").replace('[', "Slice ");
+    let words = spelled.split(|c: char| !c.is_alphanumeric() && c != '_');
+    let capital = |word: &str| -> String {
+        let mut rest = word.chars();
+        let first = rest.next().map(|c| c.to_ascii_uppercase());
+        first.into_iter().chain(rest).collect()
+    };
+    words.map(capital).collect()
+}
+
+/// The type or the trait whose functions begin after a line, and what these are part of.
+fn owner(line: &str) -> Option<(String, Of)> {
+    let plain = line.strip_prefix("pub(crate) ").unwrap_or(line);
+    let plain = plain.strip_prefix("pub ").unwrap_or(plain);
+    if let Some(rest) = plain.strip_prefix("trait ") {
+        let name = rest.split([':', ' ', '<']).next().unwrap_or(rest);
+        return Some((name.to_string(), Of::Trait));
+    }
+    let rest = plain.strip_prefix("impl")?.trim_end_matches(" {");
+    let rest = match rest.strip_prefix('<') {
+        Some(parameters) => parameters.split_once("> ")?.1,
+        None => rest.trim_start(),
+    };
+    Some(match rest.split_once(" for ") {
+        Some((of, name)) => (type_name(name), Of::Impl(of.to_string())),
+        None => (type_name(rest), Of::Itself),
+    })
+}
+
 /// Every function of one file of Rattle.
 pub fn functions(krate: &str, source: &str) -> Vec<Function> {
-    let mut owner = String::new();
+    let mut in_type = String::new();
+    let mut of = Of::Itself;
+    // Functions of a public trait, and of its `impl`s for public types, are public without the word.
+    let mut sealed = true;
+    let declares = |words: String| {
+        let ends = |rest: &str| !rest.starts_with(|c: char| c.is_alphanumeric() || c == '_');
+        let mut lines = source.lines();
+        lines.any(|line| line.strip_prefix(words.as_str()).is_some_and(ends))
+    };
+    let is_sealed = |line: &str, of: &Of, name: &str| match of {
+        Of::Itself => true,
+        Of::Trait => !line.starts_with("pub "),
+        Of::Impl(of) => {
+            let of = of.split('<').next().unwrap_or(of);
+            declares(format!("trait {of}"))
+                || declares(format!("pub(crate) trait {of}"))
+                || declares(format!("pub(crate) enum {name}"))
+                || declares(format!("pub(crate) struct {name}"))
+        }
+    };
     let mut found: Vec<Function> = Vec::new();
     let used = used(source);
     let mut in_signature = false;
     for line in source.lines() {
-        if let Some(rest) = line.strip_prefix("impl ") {
-            owner = rest.trim_end_matches(" {").to_string();
+        if let Some((name, begun)) = owner(line) {
+            sealed = is_sealed(line, &begun, &name);
+            (in_type, of) = (name, begun);
         } else if line == "}" {
-            owner.clear();
+            in_type.clear();
+            (of, sealed) = (Of::Itself, true);
         }
         let text = line.trim_start();
         let unsealed = text.strip_prefix("pub ");
@@ -254,14 +333,17 @@ pub fn functions(krate: &str, source: &str) -> Vec<Function> {
                 .chars()
                 .take_while(|c| c.is_alphanumeric() || *c == '_')
                 .collect();
-            let path = if owner.is_empty() {
+            let path = if in_type.is_empty() {
                 format!("{krate}::{name}")
             } else {
-                format!("{krate}::{owner}::{name}")
+                format!("{krate}::{in_type}::{name}")
             };
             found.push(Function {
                 path,
-                public: unsealed.or(exported).is_some(),
+                of: of.clone(),
+                public: unsealed.or(exported).is_some() || !sealed,
+                // What it promises stands in its trait.
+                promises: matches!(of, Of::Impl(_)),
                 used: used.clone(),
                 ..Function::default()
             });
@@ -281,7 +363,7 @@ pub fn functions(krate: &str, source: &str) -> Vec<Function> {
             function.code.push_str(line);
             function.code.push('\n');
         }
-        in_signature &= !text.starts_with('{') && !text.ends_with(" {");
+        in_signature &= !text.starts_with('{') && !text.ends_with(" {") && !text.ends_with(';');
     }
     found
 }
@@ -300,6 +382,34 @@ impl Function {
         self.path.rsplit("::").next().expect("a function's name")
     }
 
+    /// What stands before its name in its path.
+    fn owner(&self) -> &str {
+        &self.path[..self.path.len() - self.name().len()]
+    }
+
+    /// The name of its row in docs/PROMISES.md: of a function of a trait of its own crate, the trait's.
+    fn row(&self) -> String {
+        match &self.of {
+            Of::Impl(name)
+                if !["From<", "TryFrom<"]
+                    .iter()
+                    .any(|std| name.starts_with(std)) =>
+            {
+                format!("{}::{}::{}", self.krate(), type_name(name), self.name())
+            }
+            _ => self.path.clone(),
+        }
+    }
+
+    /// The name of its contract below `specs.contracts` of its crate.
+    fn contract(&self) -> String {
+        let parts: Vec<&str> = self.path.split("::").skip(1).collect();
+        match (&self.of, &parts[..]) {
+            (Of::Impl(name), [of, function]) => format!("{}{}.{function}", camel(of), camel(name)),
+            _ => parts.join("."),
+        }
+    }
+
     /// Whether C calls it: a public function of the crate `cableowl`, which `cableowl_c` exports.
     pub fn is_entry(&self) -> bool {
         self.public && self.krate() == "cableowl"
@@ -311,24 +421,67 @@ impl Function {
     }
 
     /// Whether its code calls the function with this path: a method by `.name(` or `Type::name(`, another function by
-    /// its name inside its crate or if a `use` imports it, and otherwise by `crate::name(`.
+    /// its name inside its crate or if a `use` imports it, and otherwise by `crate::name(`. A name may have types, as in
+    /// `name::<T>(`. A method of another crate is called only where the file names that crate.
     pub fn calls(&self, path: &str) -> bool {
+        self.calls_as(path, true)
+    }
+
+    /// The same of a function that has a `self`, or has none: `.name(` does not call that one.
+    fn calls_as(&self, path: &str, has_self: bool) -> bool {
         let parts: Vec<&str> = path.split("::").collect();
         let name = parts[parts.len() - 1];
-        let call = format!("{name}(");
         let same_crate = self.krate() == parts[0];
         let by_name = same_crate || self.used.iter().any(|used| used == path);
-        self.code.match_indices(&call).any(|(at, _)| {
+        let of_crate = format!("{}::", parts[0]);
+        let names_crate = same_crate
+            || self.used.iter().any(|used| used.starts_with(&of_crate))
+            || self.code.contains(&of_crate);
+        if parts.len() == 3 && !names_crate {
+            return false;
+        }
+        let mut calls = self.code.match_indices(name).filter(|(at, _)| {
+            let after = &self.code[at + name.len()..];
+            let types = after.strip_prefix("::<").and_then(|it| it.split_once(">("));
+            let types = types.filter(|(types, _)| !types.contains(['(', ';', '{']));
+            after.starts_with('(') || types.is_some()
+        });
+        calls.any(|(at, _)| {
             let before = &self.code[..at];
             if parts.len() == 3 {
-                return before.ends_with('.') || before.ends_with(&format!("{}::", parts[1]));
+                // A type parameter is one capital letter.
+                let parameter = before.strip_suffix("::").and_then(|it| {
+                    let word = it.rsplit(|c: char| !c.is_alphanumeric() && c != '_').next();
+                    word.filter(|word| word.len() == 1 || *word == "Self")
+                });
+                return (has_self && before.ends_with('.'))
+                    || before.ends_with(&format!("{}::", parts[1]))
+                    || parameter.is_some();
             }
             let alone = !before.ends_with(|c: char| c.is_alphanumeric() || "_.:".contains(c));
             before
-                .strip_suffix(&format!("{}::", parts[0]))
+                .strip_suffix(&of_crate)
                 .is_some_and(|b| !b.ends_with(|c: char| c.is_alphanumeric() || c == '_'))
                 || (by_name && alone)
         })
+    }
+
+    /// Whether its code calls a function, or the same function of a type if that one is a trait's. A private function is
+    /// called in its own crate.
+    fn is_caller_of(&self, called: &Function, all: &[Function]) -> bool {
+        if !called.public && self.krate() != called.krate() {
+            return false;
+        }
+        let has_self = called.signature.contains("self");
+        // A type need not have a text of its own for each function of the trait.
+        let of_trait = |f: &&Function| {
+            called.of == Of::Trait
+                && f.of != Of::Trait
+                && f.row().strip_suffix(f.name()) == Some(called.owner())
+        };
+        let types = all.iter().filter(of_trait).map(Function::owner);
+        let mut owners = types.chain(iter::once(called.owner()));
+        owners.any(|owner| self.calls_as(&format!("{owner}{}", called.name()), has_self))
     }
 }
 
@@ -374,13 +527,16 @@ pub fn rows(exceptions: &str) -> Vec<Row<'_>> {
 /// The callers are sorted by name. The row of a function without a `requires` stays the same.
 pub fn with_callers(exceptions: &str, all: &[Function]) -> String {
     let lines = lines_with_rows(exceptions).map(|(line, row)| match row {
-        Some(row) if all.iter().any(|f| f.asks && f.path == row.path) => {
-            let callers = all.iter().filter(|f| f.calls(row.path));
-            let mut callers: Vec<String> = callers.map(|f| format!("`{}`", f.path)).collect();
-            callers.sort_unstable();
-            format!("{} | {} |\n", row.kept, callers.join(", "))
-        }
-        _ => format!("{line}\n"),
+        Some(row) => match all.iter().find(|f| f.asks && f.path == row.path) {
+            Some(called) => {
+                let callers = all.iter().filter(|f| f.is_caller_of(called, all));
+                let mut callers: Vec<String> = callers.map(|f| format!("`{}`", f.path)).collect();
+                callers.sort_unstable();
+                format!("{} | {} |\n", row.kept, callers.join(", "))
+            }
+            None => format!("{line}\n"),
+        },
+        None => format!("{line}\n"),
     });
     lines.collect()
 }

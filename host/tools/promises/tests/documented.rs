@@ -63,6 +63,31 @@ fn public(krate: &str, name: &str, parameter: &str, contract: &str) -> Function 
 }
 
 #[test]
+fn a_function_is_found_in_a_trait_and_in_what_has_it() {
+    let source = "pub trait Rates: Copy {\n    fn count(self) -> usize\n        ensures { result ≡ 0 };\n}\nimpl Rates for &[f64] {\n    fn count(self) -> usize {\n    }\n}\nimpl From<Refusal> for u32 {\n    fn from(r: Refusal) -> u32 {\n    }\n}\nimpl Lanes<'_> {\n    pub fn len(self) -> usize {\n    }\n}\ntrait Hidden {\n    fn one() -> u32;\n}\nimpl Hidden for f32 {\n    fn one() -> u32 {\n    }\n}\npub(crate) enum Kind {\n    Given,\n}\nimpl TryFrom<u64> for Kind {\n    fn try_from(kind: u64) -> Result<Kind, Refusal> {\n    }\n}\nimpl From<Kind> for Kinds {\n    fn from(kind: Kind) -> Kinds {\n    }\n}\npub(crate) struct Tail;\nimpl Rates for Tail {\n    fn count(self) -> usize {\n    }\n}\n";
+    let found = promises::functions("k", source);
+    let seen: Vec<_> = found
+        .iter()
+        .map(|it| (it.path.as_str(), it.public, it.promises))
+        .collect();
+    assert_eq!(
+        seen,
+        [
+            ("k::Rates::count", true, true),
+            ("k::RefSliceF64::count", true, true),
+            ("k::u32::from", true, true),
+            ("k::Lanes::len", true, false),
+            ("k::Hidden::one", false, false),
+            ("k::f32::one", false, true),
+            ("k::Kind::try_from", false, true),
+            ("k::Kinds::from", true, true),
+            ("k::Tail::count", false, true),
+        ]
+    );
+    assert_eq!(promises::law_of(&found[1].path), "k_refslicef64_count");
+}
+
+#[test]
 fn a_clause_is_found_with_its_name_and_without() {
     for (line, says) in [
         ("    ensures { result ≡ x }", Some(" result ≡ x }")),
@@ -244,6 +269,23 @@ fn callers_are_written_into_the_last_column_only() {
 }
 
 #[test]
+fn callers_of_a_traits_function_name_the_trait_or_a_type_that_has_it() {
+    let source = "pub trait Way {\n    fn next(at: u32) -> u32\n        requires { at }\n        ensures { at };\n}\nimpl Way for On {\n    fn next(at: u32) -> u32 {\n        at\n    }\n}\nimpl Track {\n    fn next(self) -> u32\n        requires { self }\n    {\n        On::next(self.at)\n    }\n    fn two(self) -> u32 {\n        self.next()\n    }\n}\nfn one<D: Way>() -> u32 {\n    D::next(1)\n}\n";
+    let all = functions("k", source);
+    let page = "| function | asks | called by |\n|---|---|---|\n| `k::Way::next` | x | |\n| `k::Track::next` | x | |\n";
+    let right = page
+        .replace(
+            "`k::Way::next` | x | |",
+            "`k::Way::next` | x | `k::Track::next`, `k::one` |",
+        )
+        .replace(
+            "`k::Track::next` | x | |",
+            "`k::Track::next` | x | `k::Track::two`, `k::one` |",
+        );
+    assert_eq!(with_callers(page, &all), right);
+}
+
+#[test]
 fn a_call_is_found_by_its_path() {
     let source = "fn held(x: u32) -> u32\n    requires { x }\n{\n    x\n}\nfn one() -> u32 {\n    // held(2)\n    upheld(1) + k::other(held(1))\n}\n";
     let found = functions("k", source);
@@ -257,6 +299,19 @@ fn a_call_is_found_by_its_path() {
         ["j::held", "j::low::Low", "j::low::of_low", "j::T"]
     );
     assert!(found[0].calls("j::held") && !found[0].calls("j::T"));
+    let source = "use j::T;\nfn one(x: T) -> u32 {\n    x.read(2)\n}\nfn two() -> u32 {\n    n::of(1).write()\n}\n";
+    let found = functions("k", source);
+    for (path, calls) in [
+        ("j::T::read", true),
+        ("k::T::read", true),
+        ("m::T::read", false),
+    ] {
+        assert_eq!(found[0].calls(path), calls, "{path}");
+    }
+    assert!(found[1].calls("n::N::write") && !found[1].calls("m::N::write"));
+    let source = "fn one<D: Way>(x: T) -> u32 {\n    fours::<D, T>(x); two::<T>::three(x)\n}\n";
+    let found = functions("k", source);
+    assert!(found[0].calls("k::fours") && !found[0].calls("k::two"));
 }
 
 #[test]

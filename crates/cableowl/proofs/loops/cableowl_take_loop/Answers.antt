@@ -2,12 +2,10 @@
 use Rattle.cableowl.proofs.Takes.{take_few, take_is}
 use Rattle.cableowl.proofs.loops.cableowl_take_loop.Goals as goal
 
-pub state_after-requires : goal.state_after-requires
-state_after-requires c =
-    let a = c.args in
-    take_few a.sound.now a.table a.slot a.state _ _ c.decode.ensures c.take-commanded.ensures
+pub command_answer-requires : goal.command_answer-requires
+command_answer-requires c = let a = c.args in take_few a.sound.now a.table a.slot c.from-voice.result c.take.result c.take.ensures
 
 pub returns : goal.returns
 returns c =
     let a = c.args in
-    take_is a.sound.now a.table a.slot a.state _ _ c.decode.ensures c.take-commanded.ensures _ c.state_after.ensures
+    take_is a.sound.now a.table a.slot a.state c.from-voice.result c.take.result _ c.from-voice.ensures c.take.ensures c.command_answer.ensures

@@ -1,70 +1,39 @@
--- `cableowl_replay_step` meets its contract: refused, no bytes, a record played, one that is not whole, a refused one.
-use mathlib.Core.Path.{sym, ◌∙◌}
+-- `cableowl_replay_step` meets its contract: refused, no bytes, a record played, a refused one.
+use Rattle.std.specs.Prelude.{Ok, Err}
+use mathlib.Core.Path.{refl, sym, ap, ◌∙◌}
 use lib.ListN.{length}
-use Rattle.cableowl.proofs.ReplaySteps.{accepted_room, step_refused, step_more, step_end, step_played, step_unfinished, step_broken}
+use Rattle.trace_records.specs.Records.{record_read}
+use Rattle.cableowl.proofs.ReplaySteps.{accepted_room, called_err, called_ok, step_refused, step_empty, step_played, step_unread}
 use Rattle.cableowl.proofs.replays.cableowl_replay_step.Goals as goal
 
-pub returns-then-refused-ne0 : goal.returns-then-refused-ne0
-returns-then-refused-ne0 c =
-    let t = c.before in
-    let k = t.before in
-    let a = k.args in
-    step_refused a.replay a.bytes.now a.ended a.sound.now a.out.now _ k.refusal_of-refused.ensures _ t.if-refused-ne0.true c.not_played.ensures
-
-pub returns-then-ended-eq0 : goal.returns-then-ended-eq0
-returns-then-ended-eq0 c =
-    let t = c.before in
-    let n = t.before in
-    let e = n.before in
-    let k = e.before in
-    let a = k.args in
-    step_more a.replay a.bytes.now a.ended a.sound.now a.out.now _ k.refusal_of-refused.ensures _ e.if-refused-ne0.false n.if-bytes-eq0.true t.if-ended-eq0.true c.not_played-then-ended-eq0.ensures
+pub returns-in-Err : goal.returns-in-Err
+returns-in-Err c =
+    let a = c.args in
+    let e = called_err c.check.result c.in-Err.refusal _ c.check.ensures c.in-Err.is in
+    step_refused a.replay a.bytes.now a.ended a.sound.now a.out.now c.in-Err.refusal _ e c.refused_call.ensures
 
 pub returns-then-bytes-eq0 : goal.returns-then-bytes-eq0
 returns-then-bytes-eq0 c =
-    let t = c.before in
-    let n = t.before in
-    let e = n.before in
-    let k = e.before in
-    let a = k.args in
-    step_end a.replay a.bytes.now a.ended a.sound.now a.out.now _ k.refusal_of-refused.ensures _ e.if-refused-ne0.false n.if-bytes-eq0.true t.if-ended-eq0.false c.not_played-then-bytes-eq0.ensures
+    let a = c.args in
+    let e = called_ok c.check.result c.in_default.field-0 _ c.check.ensures c.in_default.is in
+    step_empty a.replay a.bytes.now a.ended a.sound.now a.out.now _ e c.if-bytes-eq0.true c.no_record.ensures
 
 pub play_record-requires : goal.play_record-requires
 play_record-requires c =
-    let e = c.before.before.before.before.before.before in
-    let k = e.before in
-    let a = k.args in
-    accepted_room a.replay (length a.sound.now) (length a.out.now) (sym k.refusal_of-refused.ensures ∙ e.if-refused-ne0.false)
+    let a = c.args in
+    accepted_room a.replay (length a.sound.now) (length a.out.now) (called_ok c.check.result c.in_default.field-0 _ c.check.ensures c.in_default.is)
 
-pub returns-then-read-eq0 : goal.returns-then-read-eq0
-returns-then-read-eq0 c =
-    let p = c.before.before.before.before in
-    let t = p.before.before.before in
-    let d = t.before.before in
-    let n = d.before in
-    let e = n.before in
-    let k = e.before in
-    let a = k.args in
-    step_played a.replay a.bytes.now a.ended a.sound.now a.out.now _ k.refusal_of-refused.ensures d.read-read.result e.if-refused-ne0.false n.if-bytes-eq0.false d.read-read.ensures _ t.if-read-eq0.true p.play_record.ensures
+pub returns-in-Ok : goal.returns-in-Ok
+returns-in-Ok c =
+    let a = c.args in
+    let e = called_ok c.check.result c.in_default.field-0 _ c.check.ensures c.in_default.is in
+    let f = ap (record_read 0) (sym c.in-Ok.is) ∙ c.read.ensures in
+    step_played a.replay a.bytes.now a.ended a.sound.now a.out.now (record_read 0 (Ok c.in-Ok.read)) e c.if-bytes-eq0.false f _ refl c.play_record.ensures
 
-pub returns-then-read-ended : goal.returns-then-read-ended
-returns-then-read-ended c =
-    let t = c.before in
-    let o = t.before.before in
-    let d = o.before.before in
-    let n = d.before in
-    let e = n.before in
-    let k = e.before in
-    let a = k.args in
-    step_unfinished a.replay a.bytes.now a.ended a.sound.now a.out.now _ k.refusal_of-refused.ensures d.read-read.result e.if-refused-ne0.false n.if-bytes-eq0.false d.read-read.ensures _ o.if-read-eq0.false t.if-read-ended.true c.not_played-then-read-ended.ensures
-
-pub returns : goal.returns
-returns c =
-    let t = c.before in
-    let o = t.before.before in
-    let d = o.before.before in
-    let n = d.before in
-    let e = n.before in
-    let k = e.before in
-    let a = k.args in
-    step_broken a.replay a.bytes.now a.ended a.sound.now a.out.now _ k.refusal_of-refused.ensures d.read-read.result e.if-refused-ne0.false n.if-bytes-eq0.false d.read-read.ensures _ o.if-read-eq0.false t.if-read-ended.false c.not_played-2.ensures
+pub returns-in-Err-read : goal.returns-in-Err-read
+returns-in-Err-read c =
+    let a = c.args in
+    let e = called_ok c.check.result c.in_default.field-0 _ c.check.ensures c.in_default.is in
+    let f = ap (record_read 0) (sym c.in-Err-read.is) ∙ c.read.ensures in
+    step_unread a.replay a.bytes.now a.ended a.sound.now a.out.now (record_read 0 (Err c.in-Err-read.refusal)) e c.if-bytes-eq0.false f c.in-Err-read.refusal _ refl
+    c.refused_record.ensures

@@ -1,58 +1,40 @@
 -- `play_record_v2`: by the kind, then by the voice's sound.
+use Rattle.std.proofs.Common.{rules}
+use Rattle.std.specs.Prelude.{Ok}
 use lib.ListN.{length}
+use Rattle.trace_records.specs.Records.{record_read}
 use Rattle.cableowl.proofs.ReplayStepsV2.{turned_creation_v2, turned_given, turned_sound, turned_over, enough_given, enough_played}
 use Rattle.cableowl.proofs.replays_v2.play_record_v2.Goals as goal
 
-pub returns-then-read-eq1 : goal.returns-then-read-eq1
-returns-then-read-eq1 c =
-    let k = c.before.before in
-    let q = k.before.before in
-    let t = q.before in
-    let a = t.args in
-    turned_creation_v2 a.replay a.read a.bytes.now a.sound.now a.given.now a.sounds a.out.now _ _ _ t.if-read-eq1.true q.playing_of.ensures k.create.ensures.0 k.create.ensures.1
+pub returns-in-1 : goal.returns-in-1
+returns-in-1 c =
+    let a = c.args in
+    turned_creation_v2 a.replay (record_read 0 (Ok a.read)) a.bytes.now a.sound.now a.given.now a.sounds a.out.now _ _ _ c.in-1.is c.playing_of.ensures c.create_with.ensures.0 c.create_with.ensures.1
 
-pub create_over-requires : goal.create_over-requires
-create_over-requires c =
-    let s = c.before.before.before in
-    let a = s.args in
-    enough_given a.replay a.read a.sounds (length a.given.now) s.requires.3 c.if-read-eq4.true
+pub create_over_given-requires : goal.create_over_given-requires
+create_over_given-requires c =
+    let a = c.args in
+    enough_given a.replay (record_read 0 (Ok a.read)) a.sounds (length a.given.now) c.requires.3 c.in-4.is
 
-pub returns-then-read-eq4 : goal.returns-then-read-eq4
-returns-then-read-eq4 c =
-    let t = c.before in
-    let e = t.before.before in
-    let a = e.args in
-    turned_given a.replay a.read a.bytes.now a.sound.now a.given.now a.sounds a.out.now _ e.if-read-eq1.false t.if-read-eq4.true c.create_over.ensures
+pub returns-in-4 : goal.returns-in-4
+returns-in-4 c =
+    let a = c.args in
+    turned_given a.replay (record_read 0 (Ok a.read)) a.bytes.now a.sound.now a.given.now a.sounds a.out.now _ (search rules) c.in-4.is c.create_over_given.ensures
 
-pub obey-requires : goal.obey-requires
-obey-requires c =
-    let t = c.before.before in
-    let s = t.before.before.before.before.before in
-    (s.requires.2 t.if-replay-eq0.true, s.requires.1)
+pub obey_or_play-requires : goal.obey_or_play-requires
+obey_or_play-requires c = (c.requires.2 c.if-replay-eq0.true, c.requires.1)
 
 pub returns-then-replay-eq0 : goal.returns-then-replay-eq0
 returns-then-replay-eq0 c =
-    let p = c.before.before in
-    let t = p.before.before.before in
-    let f = t.before.before in
-    let e = f.before.before in
-    let a = e.args in
-    turned_sound a.replay a.read a.bytes.now a.sound.now a.given.now a.sounds a.out.now _ _ e.if-read-eq1.false f.if-read-eq4.false t.if-replay-eq0.true p.obey.ensures
+    let a = c.args in
+    turned_sound a.replay (record_read 0 (Ok a.read)) a.bytes.now a.sound.now a.given.now a.sounds a.out.now _ _ (search rules) (search rules) c.if-replay-eq0.true c.obey_or_play.ensures
 
-pub obey-requires-2 : goal.obey-requires-2
-obey-requires-2 c =
-    let t = c.before in
-    let f = t.before.before in
-    let e = f.before.before in
-    let s = e.before in
-    let a = s.args in
-    (enough_played a.replay a.read a.sounds (length a.given.now) s.requires.3 e.if-read-eq1.false f.if-read-eq4.false t.if-replay-eq0.false, s.requires.1)
+pub obey_or_play-requires-else-replay-eq0 : goal.obey_or_play-requires-else-replay-eq0
+obey_or_play-requires-else-replay-eq0 c =
+    let a = c.args in
+    (enough_played a.replay (record_read 0 (Ok a.read)) a.sounds (length a.given.now) c.requires.3 (search rules) (search rules) c.if-replay-eq0.false, c.requires.1)
 
-pub returns : goal.returns
-returns c =
-    let p = c.before.before in
-    let t = p.before.before in
-    let f = t.before.before in
-    let e = f.before.before in
-    let a = e.args in
-    turned_over a.replay a.read a.bytes.now a.sound.now a.given.now a.sounds a.out.now _ _ e.if-read-eq1.false f.if-read-eq4.false t.if-replay-eq0.false p.obey-2.ensures
+pub returns-else-replay-eq0 : goal.returns-else-replay-eq0
+returns-else-replay-eq0 c =
+    let a = c.args in
+    turned_over a.replay (record_read 0 (Ok a.read)) a.bytes.now a.sound.now a.given.now a.sounds a.out.now _ _ (search rules) (search rules) c.if-replay-eq0.false c.obey_or_play-else-replay-eq0.ensures

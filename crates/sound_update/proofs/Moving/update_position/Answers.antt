@@ -31,7 +31,7 @@ returns-then-transport-empty c =
     let s = c.before.before.before in
     updated-by _ _ _ _ _ _ _ _ s.step-transport.ensures s.count-wraps.ensures s.push_frame_to_resampler-resampler.ensures c.empty.ensures c.if-transport-empty.true
 
-pub returns : goal.returns
-returns c =
+pub returns-else-transport-empty : goal.returns-else-transport-empty
+returns-else-transport-empty c =
     let s = c.before.before.before in
     updated-by _ _ _ _ _ _ _ _ s.step-transport.ensures s.count-wraps.ensures s.push_frame_to_resampler-resampler.ensures c.empty.ensures c.if-transport-empty.false

@@ -1,6 +1,8 @@
 -- `update_positions` makes as many updates as it is asked to. The invariant: the remaining updates from the current state lead to the same result.
 -- The moving part is in pieces, and is assembled for each update with the same loop.
 use mathlib.Core.Path.{◌≡◌, refl, sym, ap, ◌∙◌, subst}
+use Prim.Native.Nat.{◌-◌}
+use native.Mathlib.Nat.{sub-zero}
 use native.Mathlib.Omega.{arith}
 use Rattle.sound_update.specs.Updates.{updates, moving_of, Updatable}
 use Rattle.sound_update.specs.Windows.{window_of}
@@ -17,23 +19,23 @@ begins c =
     together_as _ c.args.self c.args.self _ _ refl refl c.well_formed.0.1.1.1.1.0.1.1.0.1.0.1 c.frames_of-frames.ensures c.numbers_of-numbers.ensures
 
 -- what is updated
-given : (c : After-moving_of-moving) → c.moving_of-moving.result ≡ moving_of c.args.self.transport.loop_region c.loop-left.state c.loop-left.position c.loop-left.playing c.loop-left.wraps (window_of c.loop-left.frames c.loop-left.numbers)
+given : (c : After-moving_of-moving) → c.moving_of-moving.result ≡ moving_of c.args.self.transport.loop_region c.loop.state c.loop.position c.loop.playing c.loop.wraps (window_of c.loop.frames c.loop.numbers)
 given c = c.moving_of-moving.ensures ∙ ap (moving_of _ _ _ _ _) c.window_of-window.ensures
 
 -- ---- the needs
-pub loop-left-init : goal.loop-left-init
-loop-left-init c = (subst (Updatable _ _) (sym (begins (goal.at.loop-left-init c).After-numbers_of-numbers)) c.requires, refl)
+pub loop-init : goal.loop-init
+loop-init c = (subst (Updatable _ _) (sym (begins (goal.at.loop-init c).After-numbers_of-numbers)) c.requires, rw sub-zero)
 
 pub update_position-next-requires : goal.update_position-next-requires
-update_position-next-requires c = subst (Updatable _ _) (sym (given (goal.at.update_position-next-requires c).After-moving_of-moving)) c.loop-left.invariant.0
+update_position-next-requires c = subst (Updatable _ _) (sym (given (goal.at.update_position-next-requires c).After-moving_of-moving)) c.loop.invariant.0
 
-pub loop-left-preserved : goal.loop-left-preserved
-loop-left-preserved c =
-    let l = c.loop-left in
-    rw (updated_apart _ _ _ (moving_of c.args.self.transport.loop_region l.state l.position l.playing l.wraps (window_of l.frames l.numbers)) _ _ _ _ (given (goal.at.loop-left-preserved c).After-moving_of-moving) c.update_position-next.ensures refl c.frames_of-frames-in-loop-left.ensures c.numbers_of-numbers-in-loop-left.ensures)
-    (updated_updatable _ _ _ l.invariant.0, updates_one l.left _ _ _ c.loop-left-test.true ∙ l.invariant.1)
+pub loop-preserved : goal.loop-preserved
+loop-preserved c =
+    let l = c.loop in
+    rw (updated_apart _ _ _ (moving_of c.args.self.transport.loop_region l.state l.position l.playing l.wraps (window_of l.frames l.numbers)) _ _ _ _ (given (goal.at.loop-preserved c).After-moving_of-moving) c.update_position-next.ensures refl c.frames_of-frames-in-loop.ensures c.numbers_of-numbers-in-loop.ensures)
+    (updated_updatable _ _ _ l.invariant.0, updates_one c.args.steps l.counter _ _ _ c.loop-test.true ∙ l.invariant.1)
 
 pub returns : goal.returns
 returns c =
-    c.moving_of.ensures ∙ ap (moving_of _ _ _ _ _) c.window_of-window-2.ensures ∙ sym (updates_none c.loop-left.left _ _ _ (omega (arith, c.loop-left-test.false))) ∙ c.loop-left.invariant.1
+    c.moving_of.ensures ∙ ap (moving_of _ _ _ _ _) c.window_of-window-2.ensures ∙ sym (updates_none (c.args.steps - c.loop.counter) _ _ _ (omega (arith, c.loop-test.false))) ∙ c.loop.invariant.1
     ∙ ap (updates c.args.steps c.args.sound.now c.args.slice) (begins (goal.at.returns c).After-numbers_of-numbers)

@@ -1,4 +1,5 @@
 -- `stretch` is the slice's part of the sound itself, or all of it, where it lies; the empty part at the start where the voice is refused.
+use Rattle.std.specs.Prelude.{Option}
 use mathlib.Core.Path.{◌≡◌, refl, sym, ap, subst}
 use mathlib.Core.Bool.{Bool, true}
 use Prim.Native.Nat.{ℕ, ◌+◌, ◌*◌, ◌≤◌, ◌<◌}
@@ -7,13 +8,12 @@ use native.Mathlib.Omega.{arith}
 use lib.Dec.{T}
 use lib.ListN.{length}
 use Rattle.playback_position.specs.Positions.{within}
-use Rattle.playback_position.specs.declared.FrameRange.{FrameRange}
 use Rattle.playback_position.proofs.Ranges.{ranged_parts}
 use Rattle.sound_state.specs.WellFormed.{well_formed_for}
 use Rattle.sound_state.proofs.WellFormed.{setup_parts, well_formed_for_parts}
 use Rattle.static_sound.specs.Entries.{stretch_of, stretch_at}
 use Rattle.static_sound.proofs.Calls.{fails, passes}
-use Rattle.static_sound.proofs.stretches.stretch.Goals.{Else-not-is_well_formed, In-Frames}
+use Rattle.static_sound.proofs.stretches.stretch.Goals.{Else-not-is_well_formed, In-Some}
 use Rattle.static_sound.proofs.stretches.stretch.Goals as goal
 
 -- no sample further
@@ -33,12 +33,12 @@ record Numbers (s e n len : ℕ) : Type 0 where
   few : n ≤ 16777216
   lent : len ≡ 2 * n
 
-numbers : (c : In-Frames) → Numbers c.in-Frames.start c.in-Frames.end c.args.voice.setup.num_frames (length c.args.sound.now)
+numbers : (c : In-Some) → Numbers c.in-Some.start c.in-Some.end c.args.voice.setup.num_frames (length c.args.sound.now)
 numbers c =
     let a = c.args in
     let o = well_formed_for_parts (length a.sound.now) a.voice (is_true (passes c.is_well_formed.ensures c.if-not-is_well_formed.false)) in
     let k = setup_parts a.voice.setup o.0.setup in
-    let r = ranged_parts a.voice.setup.num_frames c.in-Frames.start c.in-Frames.end (subst (λ (r : FrameRange). T (within a.voice.setup.num_frames r)) c.in-Frames.is k.slice) in
+    let r = ranged_parts a.voice.setup.num_frames c.in-Some.start c.in-Some.end (subst (λ (r : Option (ℕ × ℕ)). T (within a.voice.setup.num_frames r)) c.in-Some.is k.slice) in
     record { more = r.more; inside = r.inside; few = k.few; lent = o.1 }
 
 pub returns-then-not-is_well_formed : goal.returns-then-not-is_well_formed
@@ -48,33 +48,33 @@ returns-then-not-is_well_formed c =
     record { result_value = simp e; ref_ptr_value = simp e (at-start c.args.sound.ref_ptr) }
 
 pub overflow_mul-result : goal.overflow_mul-result
-overflow_mul-result c = omega (arith, numbers (goal.at.overflow_mul-result c).In-Frames)
+overflow_mul-result c = omega (arith, numbers (goal.at.overflow_mul-result c).In-Some)
 
-pub overflow_mul-result-in-Frames : goal.overflow_mul-result-in-Frames
-overflow_mul-result-in-Frames c = omega (arith, numbers (goal.at.overflow_mul-result-in-Frames c).In-Frames)
+pub overflow_mul-result-in-Some : goal.overflow_mul-result-in-Some
+overflow_mul-result-in-Some c = omega (arith, numbers (goal.at.overflow_mul-result-in-Some c).In-Some)
 
 pub offset_bounds-sound-start : goal.offset_bounds-sound-start
-offset_bounds-sound-start c = omega (arith, numbers (goal.at.offset_bounds-sound-start c).In-Frames)
+offset_bounds-sound-start c = omega (arith, numbers (goal.at.offset_bounds-sound-start c).In-Some)
 
 pub slice_bounds-result-count : goal.slice_bounds-result-count
-slice_bounds-result-count c = omega (arith, numbers (goal.at.slice_bounds-result-count c).In-Frames)
+slice_bounds-result-count c = omega (arith, numbers (goal.at.slice_bounds-result-count c).In-Some)
 
 pub slice_bounds-result-start : goal.slice_bounds-result-start
-slice_bounds-result-start c = omega (arith, numbers (goal.at.slice_bounds-result-start c).In-Frames)
+slice_bounds-result-start c = omega (arith, numbers (goal.at.slice_bounds-result-start c).In-Some)
 
-pub slice_bounds-result-end-in-Frames : goal.slice_bounds-result-end-in-Frames
-slice_bounds-result-end-in-Frames c = omega (arith, numbers (goal.at.slice_bounds-result-end-in-Frames c).In-Frames)
+pub slice_bounds-result-end-in-Some : goal.slice_bounds-result-end-in-Some
+slice_bounds-result-end-in-Some c = omega (arith, numbers (goal.at.slice_bounds-result-end-in-Some c).In-Some)
 
-pub returns-in-Absent : goal.returns-in-Absent
+pub returns-in-None : goal.returns-in-None
 unfolding stretch_of stretch_at
-returns-in-Absent c =
-    let e = well_formed (goal.at.returns-in-Absent c).Else-not-is_well_formed in
-    let h = c.in-Absent.is in
+returns-in-None c =
+    let e = well_formed (goal.at.returns-in-None c).Else-not-is_well_formed in
+    let h = c.in-None.is in
     record { result_value = simp (e, h); ref_ptr_value = simp (e, h) (at-start c.args.sound.ref_ptr) }
 
-pub returns-in-Frames : goal.returns-in-Frames
+pub returns-in-Some : goal.returns-in-Some
 unfolding stretch_of stretch_at
-returns-in-Frames c =
-    let e = well_formed (goal.at.returns-in-Frames c).Else-not-is_well_formed in
-    let h = c.in-Frames.is in
+returns-in-Some c =
+    let e = well_formed (goal.at.returns-in-Some c).Else-not-is_well_formed in
+    let h = c.in-Some.is in
     record { result_value = simp (e, h); ref_ptr_value = simp (e, h) refl }

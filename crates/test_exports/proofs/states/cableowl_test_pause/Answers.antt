@@ -4,4 +4,4 @@ use Rattle.playback_state_manager.specs.States.{number, pausing}
 use Rattle.test_exports.proofs.states.cableowl_test_pause.Goals as goal
 
 pub returns : goal.returns
-returns c = c.number.ensures ∙ ap number (c.pause.ensures ∙ ap pausing c.state_of.ensures)
+returns c = c.from.ensures ∙ ap number (c.pause.ensures ∙ ap pausing c.state_of.ensures)

@@ -4,4 +4,4 @@ use Rattle.playback_state_manager.specs.States.{number, stopping}
 use Rattle.test_exports.proofs.states.cableowl_test_stop.Goals as goal
 
 pub returns : goal.returns
-returns c = c.number.ensures ∙ ap number (c.stop.ensures ∙ ap stopping c.state_of.ensures)
+returns c = c.from.ensures ∙ ap number (c.stop.ensures ∙ ap stopping c.state_of.ensures)

@@ -12,5 +12,5 @@ same p q r = rw (p, q, r)
 pub returns : goal.returns
 returns c =
     let told = c.before.before in
-    c.number.ensures
-    ∙ ap number (c.update.ensures ∙ same told.is_yes.ensures told.answer_of.ensures told.state_of.ensures)
+    c.from.ensures
+    ∙ ap number (c.update-after.ensures ∙ same told.is_yes.ensures told.answer_of.ensures told.state_of.ensures)

@@ -1,34 +1,44 @@
--- `test_exports::states::state_of` meets its contract: the number picks one state. Assumes nothing.
-use mathlib.Core.Path.{sym, ap}
+-- `test_exports::states::state_of` meets its contract: a known number, or one above 6.
+use Rattle.std.specs.Prelude.{Result, Ok, Err, MatchResult, ◌<◌, ◌≤◌, ℕ, eqb, false}
+use Rattle.std.specs.Result.{result_unwrap_or}
+use mathlib.Core.Path.{◌≡◌, refl, sym, ◌∙◌}
 use native.Mathlib.Omega.{arith}
 use borrow.Author.Tests.{ne_eqb}
+use Rattle.playback_state_manager.specs.declared.PlaybackState.{PlaybackState}
+use Rattle.playback_state_manager.specs.declared.PlaybackState.TheVariants.{Playing, Pausing, Paused, WaitingToResume, Resuming, Stopping, Stopped}
+use Rattle.playback_state_manager.specs.declared.UnknownState.{UnknownState}
+use Rattle.playback_state_manager.specs.States.{number}
 use Rattle.test_exports.specs.States.{state_of}
 use Rattle.test_exports.proofs.states.state_of.Goals as goal
 
-pub returns-in-0 : goal.returns-in-0
+state_back : (s : PlaybackState) → state_of (number s) ≡ s
 unfolding state_of
-returns-in-0 c = sym (ap state_of c.in-0.is)
+state_back Playing = refl
+state_back Pausing = refl
+state_back Paused = refl
+state_back WaitingToResume = refl
+state_back Resuming = refl
+state_back Stopping = refl
+state_back Stopped = refl
 
-pub returns-in-1 : goal.returns-in-1
-unfolding state_of
-returns-in-1 c = sym (ap state_of c.in-1.is)
+above : (n k : ℕ) → 6 < n → k ≤ 6 → eqb n k ≡ false
+above n k h i = ne_eqb n k (λ e. omega (arith, e, h, i))
 
-pub returns-in-2 : goal.returns-in-2
+unknown : (n : ℕ) → 6 < n → Stopped ≡ state_of n
 unfolding state_of
-returns-in-2 c = sym (ap state_of c.in-2.is)
+unknown n h =
+    simp (
+      above n 0 h (omega arith),
+      above n 1 h (omega arith),
+      above n 2 h (omega arith),
+      above n 3 h (omega arith),
+      above n 4 h (omega arith),
+      above n 5 h (omega arith),
+    )
 
-pub returns-in-3 : goal.returns-in-3
-unfolding state_of
-returns-in-3 c = sym (ap state_of c.in-3.is)
+tried : (n : ℕ) (r : Result PlaybackState UnknownState) → MatchResult r (λ s. number s ≡ n) (λ _. 6 < n) → result_unwrap_or r Stopped ≡ state_of n
+tried n (Ok s) h = rw (sym h) (sym (state_back s))
+tried n (Err e) h = unknown n h
 
-pub returns-in-4 : goal.returns-in-4
-unfolding state_of
-returns-in-4 c = sym (ap state_of c.in-4.is)
-
-pub returns-in-5 : goal.returns-in-5
-unfolding state_of
-returns-in-5 c = sym (ap state_of c.in-5.is)
-
-pub returns-in_default : goal.returns-in_default
-unfolding state_of
-returns-in_default c = rw (ne_eqb c.args.n 0 (omega arith), ne_eqb c.args.n 1 (omega arith), ne_eqb c.args.n 2 (omega arith), ne_eqb c.args.n 3 (omega arith), ne_eqb c.args.n 4 (omega arith), ne_eqb c.args.n 5 (omega arith))
+pub returns : goal.returns
+returns c = c.unwrap_or.ensures ∙ tried _ c.try_from.result c.try_from.ensures

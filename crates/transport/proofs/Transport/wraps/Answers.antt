@@ -1,18 +1,17 @@
--- `transport::Transport::wraps` meets its contract: by the direction, and by whether it plays.
+-- `transport::Transport::wraps` meets its contract: by whether it plays, and by the direction.
 -- Assumes nothing.
-use mathlib.Core.Path.{◌∙◌}
-use mathlib.Core.Bool.{true, false}
-use Rattle.transport.proofs.Steps.{wraps_still, wraps_going}
+use borrow.Author.Rules.{rules}
+use Rattle.transport.specs.Moves.{wraps}
 use Rattle.transport.proofs.Transport.wraps.Goals as goal
 
-pub returns-then-self : goal.returns-then-self
-returns-then-self c = c.is_at_start.ensures ∙ wraps_going _ true _ c.if-backwards.true c.if-self.true
-
 pub returns-then-backwards : goal.returns-then-backwards
-returns-then-backwards c = wraps_still _ _ c.if-self.false
+unfolding wraps
+returns-then-backwards c = search rules
 
-pub returns-then-self-2 : goal.returns-then-self-2
-returns-then-self-2 c = c.is_at_end.ensures ∙ wraps_going _ false _ c.if-backwards.false c.if-self-2.true
+pub returns-else-backwards : goal.returns-else-backwards
+unfolding wraps
+returns-else-backwards c = search rules
 
-pub returns : goal.returns
-returns c = wraps_still _ _ c.if-self-2.false
+pub returns-else-self : goal.returns-else-self
+unfolding wraps
+returns-else-self c = search rules

@@ -1,0 +1,2 @@
+-- What a number says of its refusal.
+pub mod Numbers

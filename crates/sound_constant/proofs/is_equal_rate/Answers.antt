@@ -1,9 +1,0 @@
--- `is_equal_rate`: equal numbers that are not 0 are the same.
-use mathlib.Core.Path.{sym, subst}
-use lib.Dec.{T}
-use lib.Ieee.{binary64}
-use Rattle.numbers.proofs.Equal.{eq_same}
-use Rattle.sound_constant.proofs.is_equal_rate.Goals as goal
-
-pub returns : goal.returns
-returns c = λ e. eq_same binary64 _ _ (subst T (sym c.well_formed.0.1) tt) (subst T (sym c.well_formed.1.0.1) tt) c.requires e

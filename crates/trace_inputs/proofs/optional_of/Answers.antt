@@ -1,9 +1,0 @@
--- `trace_inputs::optional_of` meets its contract, tag by tag.
-use borrow.Author.Tests.{ne_eqb}
-use Rattle.trace_inputs.proofs.optional_of.Goals as goal
-
-pub returns-then-tag-eq0 : goal.returns-then-tag-eq0
-returns-then-tag-eq0 c = rw c.if-tag-eq0.true
-
-pub returns : goal.returns
-returns c = simp (ne_eqb _ _ c.if-tag-eq0.false, c.region_of.ensures)

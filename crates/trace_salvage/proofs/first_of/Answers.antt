@@ -1,9 +1,0 @@
--- `trace_salvage::first_of`: by its test.
-use borrow.Author.Tests.{eq-eqb, ne_eqb}
-use Rattle.trace_salvage.proofs.first_of.Goals as goal
-
-pub returns-then-t-eq0 : goal.returns-then-t-eq0
-returns-then-t-eq0 c = simp (eq-eqb _ _ c.if-t-eq0.true)
-
-pub returns : goal.returns
-returns c = simp (ne_eqb _ _ c.if-t-eq0.false)
