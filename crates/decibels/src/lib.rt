@@ -2,7 +2,7 @@
 // lane.
 #![tactic(auto)]
 
-ghost use Rattle.std.specs.Prelude.{◌≡◌, ◌<◌, ◌≤◌, length};
+ghost use Rattle.std.specs.Prelude.{◌≡◌, ◌<◌, ◌≤◌, length, IfOk};
 ghost use Rattle.refusals.specs.Numbers.{number_of};
 ghost use Rattle.decibels.specs.Levels as Levels;
 ghost use Rattle.decibels.specs.Levels.{amplitude_answer};
@@ -35,44 +35,54 @@ pub fn as_amplitude(level: u32) -> Result<f32, Refusal>
     Ok(amplitude(level))
 }
 
-// The level of a frame on the straight line from start to end, rounded down; a single frame has the end level.
-fn level_at(start: u32, end: u32, count: u32, i: u32) -> u32
-    requires start_bound { start ≤ 601 }
-    requires end_bound { end ≤ 601 }
-    requires count_bound { count ≤ 65536 }
-    requires i_lt_count { i < count }
-    ensures { (result ≡ level_at start end count i) × (result ≤ 601) }
-{
-    if count == 1 {
-        return end;
-    }
-    let last = count - 1;
-    let sum = start * (last - i) + end * i;
-    sum / last
+// An accepted ramp, as `Ramp::new` makes it.
+#[derive(Clone, Copy)]
+struct Ramp {
+    start: u32,
+    end: u32,
+    count: u32,
+    ghost start_bound: { start ≤ 601 },
+    ghost end_bound: { end ≤ 601 },
+    ghost count_bound: { count ≤ 65536 },
 }
 
-fn fill(start: u32, end: u32, count: u32, lane: &mut [f32])
-    requires start_bound { start ≤ 601 }
-    requires end_bound { end ≤ 601 }
-    requires count_bound { count ≤ 65536 }
-    requires lane_len { length lane.old ≡ count }
-    ensures { lane.new ≡ frames start end count count }
-{
-    for (i, frame) in lane.iter_mut().enumerate() {
-        *frame = amplitude(level_at(start, end, count, i as u32));
+impl Ramp {
+    // For a lane with room for this many frames.
+    fn new(start: u32, end: u32, count: u32, room: usize) -> Result<Ramp, Refusal>
+        ensures refusal { number_of result ≡ refusal start end count room }
+        ensures numbers { IfOk result (λ r. (r.start ≡ start) × (r.end ≡ end) × (r.count ≡ count)) }
+        ensures whole { IfOk result (λ r. r.count ≡ room) }
+    {
+        if start > 601 || end > 601 {
+            return Err(Refusal::Level);
+        }
+        if count < 1 || count > 65536 || count as usize != room {
+            return Err(Refusal::Ramp);
+        }
+        Ok(Ramp { start, end, count })
     }
-}
 
-fn check(start: u32, end: u32, count: u32, room: usize) -> Result<(), Refusal>
-    ensures { number_of result ≡ refusal start end count room }
-{
-    if start > 601 || end > 601 {
-        return Err(Refusal::Level);
+    // The level of a frame on the straight line from start to end, rounded down; a single frame has the end level.
+    fn level_at(self, i: u32) -> u32
+        requires { i < self.count }
+        ensures { (result ≡ level_at self.start self.end self.count i) × (result ≤ 601) }
+    {
+        if self.count == 1 {
+            return self.end;
+        }
+        let last = self.count - 1;
+        let sum = self.start * (last - i) + self.end * i;
+        sum / last
     }
-    if count < 1 || count > 65536 || count as usize != room {
-        return Err(Refusal::Ramp);
+
+    fn fill(self, lane: &mut [f32])
+        requires { length lane.old ≡ self.count }
+        ensures { lane.new ≡ frames self.start self.end self.count self.count }
+    {
+        for (i, frame) in lane.iter_mut().enumerate() {
+            *frame = amplitude(self.level_at(i as u32));
+        }
     }
-    Ok(())
 }
 
 // Writes the whole lane; if refused, nothing.
@@ -80,8 +90,7 @@ pub fn fade_ramp(start: u32, end: u32, count: u32, lane: &mut [f32]) -> Result<(
     ensures { (number_of result ≡ refusal start end count (length lane.old))
         × (lane.new ≡ faded start end count lane.old) }
 {
-    check(start, end, count, lane.len())?;
-    fill(start, end, count, lane);
+    Ramp::new(start, end, count, lane.len())?.fill(lane);
     Ok(())
 }
 
