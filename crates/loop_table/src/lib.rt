@@ -62,7 +62,8 @@ impl LoopSlot {
         self.start < self.end && self.end <= num_frames
     }
 
-    fn is_well_formed(self, num_frames: u64) -> bool
+    // Whether it is empty, or a loop inside this many frames.
+    pub fn is_well_formed(self, num_frames: u64) -> bool
         ensures { result ≡ well_formed_slot num_frames self }
     {
         self.is_empty() || self.is_loop(num_frames)

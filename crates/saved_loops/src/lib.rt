@@ -1,12 +1,12 @@
 // A hall's half of a loop table as bytes, stored and loaded: docs/formats/LOOPS.md has their layout. The names are
-// bytes here; the host checks whether they are text.
+// bytes here; the host checks whether they are text. A half is nineteen words and no struct: C passes it so, with any
+// words, and the theorems are about them.
 #![tactic(auto)]
 
 ghost use Rattle.std.specs.Prelude.{◌≡◌, [], ◌≤◌, length, take, drop};
 ghost use Rattle.std.proofs.lemmas.List.Edits.{sets};
 ghost use Rattle.refusals.specs.Numbers.{number_of};
 ghost use Rattle.byte_layout.specs.Writes.{payload};
-ghost use Rattle.loop_table.specs.Tables.{well_formed_slot, slot_of};
 ghost use Rattle.saved_loops.specs.Tables.{half_rows};
 ghost use Rattle.saved_loops.specs.Records.{
   well_formed_slots,
@@ -25,22 +25,21 @@ ghost use Rattle.saved_loops.specs.Promises.{Promises};
 mod layouts;
 
 use layouts::HALF;
+use loop_table::LoopSlot;
 use refusals::Refusal;
 
 // ---- fields
-
-fn is_slot(num_frames: u64, start: u64, end: u64) -> bool
-    ensures { result ≡ well_formed_slot num_frames (slot_of start end) }
-{
-    ((start == 0) & (end == 0)) | ((start < end) & (end <= num_frames))
-}
 
 fn are_slots(words: [u64; 19]) -> bool
     ensures { result ≡ well_formed_slots 8 words }
 {
     let mut ok = true;
     for k in 0..8 {
-        ok &= is_slot(words[1], words[3 + 2 * k], words[4 + 2 * k]);
+        let slot = LoopSlot {
+            start: words[3 + 2 * k],
+            end: words[4 + 2 * k],
+        };
+        ok &= slot.is_well_formed(words[1]);
     }
     ok
 }

@@ -13,7 +13,7 @@ loop-k-init c = refl
 
 pub loop-k-preserved : goal.loop-k-preserved
 unfolding well_formed_slots
-loop-k-preserved c = rw add-one (ap₂ ◌&&◌ c.loop-k.invariant c.is_slot-ok.ensures)
+loop-k-preserved c = rw add-one (ap₂ ◌&&◌ c.loop-k.invariant c.is_well_formed-ok.ensures)
 
 pub returns : goal.returns
 returns c =
