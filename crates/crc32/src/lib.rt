@@ -3,16 +3,16 @@
 
 ghost use Rattle.std.specs.Prelude.{◌≡◌, take, drop};
 ghost use Rattle.crc32.specs.Checksums as Checksums;
-ghost use Rattle.crc32.specs.Checksums.{Table, register, byte, checksum_of};
+ghost use Rattle.crc32.specs.Checksums.{register, byte, checksum_of};
 ghost use Rattle.crc32.specs.Promises.{Promises};
 
 mod table;
 
 // The register after one more byte.
-fn step(entries: &[u32; 256], register: u32, b: u8) -> u32
-    requires { Table entries.now }
+fn step(register: u32, b: u8) -> u32
     ensures { result ≡ byte register b }
 {
+    let entries = table::all();
     let x = register ^ (b as u32);
     let i = (x & 255) as usize;
     entries[i] ^ (x >> 8)
@@ -22,10 +22,9 @@ fn step(entries: &[u32; 256], register: u32, b: u8) -> u32
 fn whole(s: &[u8]) -> u32
     ensures { result ≡ checksum_of s.now }
 {
-    let entries = table::all();
     let mut c: u32 = 4294967295;
     for b in s {
-        c = step(&entries, c, *b);
+        c = step(c, *b);
     }
     c ^ 4294967295
 }

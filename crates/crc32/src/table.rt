@@ -36,8 +36,8 @@ const TABLE: [u32; 256] = [
     3009837614, 3294710456, 1567103746, 711928724, 3020668471, 3272380065, 1510334235, 755167117,
 ];
 
-pub(crate) fn all() -> [u32; 256]
-    ensures { Table result }
+pub(crate) fn all() -> &'static [u32; 256]
+    ensures { Table result.now }
 {
-    TABLE
+    &TABLE
 }

@@ -14,4 +14,4 @@ pub bounds-entries-i : goal.bounds-entries-i
 bounds-entries-i c = mask_lt (bit_xor c.args.register c.args.b) 8
 
 pub returns : goal.returns
-returns c = by_table _ c.args.register c.args.b c.requires
+returns c = by_table _ c.args.register c.args.b c.all-entries.ensures

@@ -11,9 +11,6 @@ use Rattle.crc32.proofs.whole.Goals as goal
 pub loop-b-init : goal.loop-b-init
 loop-b-init c = refl
 
-pub step-c-requires : goal.step-c-requires
-step-c-requires c = c.all-entries.ensures
-
 pub loop-b-preserved : goal.loop-b-preserved
 loop-b-preserved c =
     let l = c.before.before.before.before in
