@@ -146,7 +146,8 @@ pub fn begin(at: usize, left: usize) -> Parsed
     }
 }
 
-// Reads a table's rows. The values after theirs do not change.
+// Reads a table's rows. The values after theirs do not change. Four functions ask for at most 80 rows, as there are 80
+// numbers. The prover computes the length of each table, so a type that says it would be no plainer.
 pub fn read_rows(s: &[u8], parsed: Parsed, table: &[Row]) -> Result<Parsed, Refusal>
     requires { (parsed.at ≤ length s.now) × (length table.now ≤ 80) × (sound table.now ≡ true) }
     ensures { (view s.now (length table.now) result ≡ steps table.now (view s.now 0 (Ok parsed)))

@@ -27,7 +27,8 @@ pub struct Stepped {
     pub fraction: f64,
 }
 
-// Adds the advance to the fraction, then subtracts 1 while the sum is at least 1, one step each time.
+// Adds the advance to the fraction, then subtracts 1 while the sum is at least 1, one step each time. There is no index
+// to go over, and the number of steps shows only at the end, so a `for` would be no plainer.
 pub fn advance_by(fraction: f64, advance: f64) -> Stepped
     requires fraction_proper { T (proper fraction) }
     requires advance_clear { T (finite_clear advance) }
