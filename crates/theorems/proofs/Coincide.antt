@@ -260,6 +260,7 @@ coincide =
       loop_table_looptable_clear = λ k a x y s t p q. by_parts (changed_of _) (λ (c : LoopChanged). c.refusal) (λ (c : LoopChanged). c.table) (λ u. refl) (λ r. refl) (λ u. refl) x y (same p q);
       loop_table_looptable_read = λ k a x y s t p q. by_parts found_of (λ (c : LoopFound). c.refusal) (λ (c : LoopFound). c.slot) (λ u. refl) (λ r. refl) (λ u. refl) x y (same p q);
       loop_table_looptable_is_well_formed = λ k a x y s t p q. same p q;
+      loop_table_loopslot_is_well_formed = λ k a x y s t p q. same p q;
       loop_copies_loopcopy_new = λ k a x y s t p q. same p q;
       loop_copies_loopcopy_write = λ k a x y s t p q. by_parts (copy_changed_of _) (λ (c : CopyChanged). c.refusal) (λ (c : CopyChanged). c.copy) (λ u. refl) (λ r. refl) (λ u. refl) x y (same p q);
       loop_copies_loopcopy_clear = λ k a x y s t p q. by_parts (copy_changed_of _) (λ (c : CopyChanged). c.refusal) (λ (c : CopyChanged). c.copy) (λ u. refl) (λ r. refl) (λ u. refl) x y (same p q);

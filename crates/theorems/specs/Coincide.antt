@@ -115,6 +115,7 @@ use Rattle.loop_table.specs.contracts.LoopTable.write as LoopTableLoopTableWrite
 use Rattle.loop_table.specs.contracts.LoopTable.clear as LoopTableLoopTableClear
 use Rattle.loop_table.specs.contracts.LoopTable.read as LoopTableLoopTableRead
 use Rattle.loop_table.specs.contracts.LoopTable.is_well_formed as LoopTableLoopTableIsWellFormed
+use Rattle.loop_table.specs.contracts.LoopSlot.is_well_formed as LoopTableLoopSlotIsWellFormed
 use Rattle.loop_copies.specs.contracts.LoopCopy.new as LoopCopiesLoopCopyNew
 use Rattle.loop_copies.specs.contracts.LoopCopy.write as LoopCopiesLoopCopyWrite
 use Rattle.loop_copies.specs.contracts.LoopCopy.clear as LoopCopiesLoopCopyClear
@@ -467,6 +468,9 @@ pub record Coincide : Type 0 where
       Decides (Post LoopTableLoopTableRead.ended LoopTableLoopTableRead.clauses (λ k a. (tt, λ r s. r_last _)))
   pub loop_table_looptable_is_well_formed :
       Decides (Post LoopTableLoopTableIsWellFormed.ended LoopTableLoopTableIsWellFormed.clauses
+      (λ k a. (tt, λ r s. r_last _)))
+  pub loop_table_loopslot_is_well_formed :
+      Decides (Post LoopTableLoopSlotIsWellFormed.ended LoopTableLoopSlotIsWellFormed.clauses
       (λ k a. (tt, λ r s. r_last _)))
   pub loop_copies_loopcopy_new :
       Decides (Post LoopCopiesLoopCopyNew.ended LoopCopiesLoopCopyNew.clauses (λ k a. (tt, λ r s. r_last _)))
