@@ -202,6 +202,8 @@ fn before_seeks(voice: StaticSound, commands: Commands) -> StaticSound
     }
 }
 
+// In the seeks a well formed voice is a clause and no type: it is a fact of the voice together with the length of the
+// sound. A state that C passes may be anything, and `StaticSound::is_well_formed` checks it.
 fn seek_to_index(voice: StaticSound, index: usize, sound: &[f32]) -> StaticSound
     requires well_formed { T (well_formed_for (length sound.now) voice) }
     requires index_le_most { index ≤ most }

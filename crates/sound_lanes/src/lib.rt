@@ -79,7 +79,8 @@ impl Lanes<'_> {
             & (self.right.len() == n)
     }
 
-    // Whether the amplitudes and gains are finite with their sign bit clear.
+    // Whether the amplitudes and gains are finite with their sign bit clear. That the lanes have one length is a clause
+    // and no invariant of `Lanes`: C may pass lanes of any lengths, and `are_sized` checks them.
     fn four_finite_clear(self) -> bool
         requires { T (sized (lanes_of self)) }
         ensures { result ≡ four_finite_clear self.entry.fade.now self.entry.volume.now self.entry.left.now

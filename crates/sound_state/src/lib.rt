@@ -114,7 +114,8 @@ impl StaticSound {
         }
     }
 
-    // Whether the voice is well formed and the sound, of len samples, is as long as the voice records.
+    // Whether the voice is well formed and the sound, of len samples, is as long as the voice records. A test and no
+    // invariant of the type: a state that C passes may be anything, and the sound is not part of it.
     pub fn is_well_formed(self, len: usize) -> bool
         ensures { result ≡ well_formed_for len self }
     {

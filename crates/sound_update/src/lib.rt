@@ -70,6 +70,8 @@ fn frame_to_push(sound: &[f32], playing: bool, i: usize) -> Option<Frame>
     }
 }
 
+// The direction is asked here and in `count`, as in kira: a trait of the two directions would have two impls in place
+// of these two tests.
 fn step(transport: Transport, slice: Slice) -> Transport
     requires { WellFormedTransport slice.num_frames transport }
     ensures { result ≡ stepped slice transport }
@@ -101,6 +103,10 @@ fn count(transport: Transport, slice: Slice, wraps: Wraps) -> Wraps
     }
 }
 
+// What an update asks, `Updatable`, is a clause and no invariant of a type: it is a fact of the moving part together with
+// its slice and the sound's length. A state that C passes may be anything, and `StaticSound::is_well_formed` checks it.
+// The slice and the sound are two parameters, since C passes the sound and the slice is of the state: a struct of both
+// would be built for a call and taken apart in it.
 impl Moving {
     // Pushes the frame at the position, or no frame if the transport is not playing.
     pub fn push_frame_to_resampler(self, slice: Slice, sound: &[f32]) -> Resampler
