@@ -1,12 +1,13 @@
 -- `are_constant`: if every lane repeats its first number, the lanes are constant.
 use Prim.Native.Nat.{ℕ, ◌<◌}
 use mathlib.Core.Path.{◌≡◌, sym, ◌∙◌, subst}
-use mathlib.Core.Bool.{Bool, true, false, false≢true, ◌&&◌}
+use mathlib.Core.Bool.{false≢true}
 use native.Mathlib.Omega.{arith}
 use lib.Dec.{T}
 use borrow.Author.Tests.{eqb-false}
 use lib.ListN.{length}
 use lib.Ieee.{nan}
+use Rattle.numbers.proofs.Equal.{first_of, second_of}
 use Rattle.sound_lanes.specs.Lanes.{Lanes, Covers, lanes_of, sized}
 use Rattle.sound_lanes.proofs.Rows.{sized_parts}
 use Rattle.sound_constant.proofs.Lanes.{constant_of}
@@ -68,24 +69,15 @@ is_constant-requires-4 c = (somes (goal.at.is_constant-requires-4 c).Else-not-ar
 pub is_constant-requires-5 : goal.is_constant-requires-5
 is_constant-requires-5 c = (somes (goal.at.is_constant-requires-5 c).Else-not-are_sized).right
 
--- five results at once
-record Five (a b c d e : Bool) : Type 0 where
-  one : a ≡ true
-  two : b ≡ true
-  three : c ≡ true
-  four : d ≡ true
-  five-th : e ≡ true
-
-five-of : (a b c d e : Bool) → (a && b && c && d && e) ≡ true → Five a b c d e
-five-of true true true true true h = record { one = h; two = h; three = h; four = h; five-th = h }
-five-of true true true true false h = absurd (false≢true h)
-five-of true true true false e h = absurd (false≢true h)
-five-of true true false d e h = absurd (false≢true h)
-five-of true false c d e h = absurd (false≢true h)
-five-of false b c d e h = absurd (false≢true h)
-
 pub returns : goal.returns
 returns c = λ e.
     let at = (goal.at.returns c).Else-not-are_sized in
-    let f = five-of c.is_constant.result c.is_constant-2.result c.is_constant-3.result c.is_constant-4.result c.is_constant-5.result e in
-    constant_of (lent at) (is-sized at) (some at) (c.is_constant.ensures f.one nan) (c.is_constant-2.ensures f.two nan) (c.is_constant-3.ensures f.three nan) (c.is_constant-4.ensures f.four nan) (c.is_constant-5.ensures f.five-th nan)
+    let four = first_of _ c.is_constant-5.result e in
+    let three = first_of _ c.is_constant-4.result four in
+    let two = first_of _ c.is_constant-3.result three in
+    constant_of (lent at) (is-sized at) (some at)
+    (c.is_constant.ensures (first_of _ c.is_constant-2.result two) nan)
+    (c.is_constant-2.ensures (second_of c.is_constant.result _ two) nan)
+    (c.is_constant-3.ensures (second_of _ _ three) nan)
+    (c.is_constant-4.ensures (second_of _ _ four) nan)
+    (c.is_constant-5.ensures (second_of _ _ e) nan)

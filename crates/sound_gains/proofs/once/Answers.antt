@@ -1,7 +1,6 @@
 -- `once`: gains of 1 change nothing. Other gains scale one frame per iteration. The invariant: the frames so far are scaled, and the rest is unchanged.
 use Prim.Native.Nat.{ℕ}
 use mathlib.Core.Path.{◌≡◌, sym, ap, ◌∙◌}
-use mathlib.Core.Bool.{Bool, true, ◌&&◌}
 use mathlib.Core.List.{List}
 use native.Mathlib.Omega.{arith}
 use lib.Dec.{T}
@@ -13,19 +12,6 @@ use Rattle.sound_lanes.specs.declared.Gains.{Gains}
 use Rattle.sound_gains.specs.Gained.{gained}
 use Rattle.sound_gains.proofs.Gained.{sofar_none, sofar_length, sofar_more, sofar_all, gains_once, gained_ones}
 use Rattle.sound_gains.proofs.once.Goals as goal
-
--- four tests at once
-record Four (a b c d : Bool) : Type 0 where
-  first : a ≡ true
-  second : b ≡ true
-  third : c ≡ true
-  fourth : d ≡ true
-
-four-of : (a b c d : Bool) → (a && b && c && d) ≡ true → Four a b c d
-four-of a b c d h =
-    let k = first_of (a && b && c) d h in
-    let l = first_of (a && b) c k in
-    record { first = first_of a b l; second = second_of a b l; third = second_of (a && b) c k; fourth = second_of (a && b && c) d h }
 
 -- the frames times four gains of 1
 kept : (g : Gains) (n : ℕ) (out : List Float) → g.fade ≡ one → g.volume ≡ one → g.left ≡ one → g.right ≡ one → ((i : ℕ) → T (fits binary32 (get_or out i nan)))
@@ -39,9 +25,11 @@ kept g n out f v l r h =
 
 pub returns-then-is_one : goal.returns-then-is_one
 returns-then-is_one c =
-    let f = four-of _ _ _ _ c.if-is_one.true in
-    kept c.args.gains c.args.n c.args.out.now (c.is_one.ensures f.first) (c.is_one-2.ensures f.second) (c.is_one-3.ensures f.third) (c.is_one-4.ensures f.fourth)
-    c.type_inv.out
+    let e = c.if-is_one.true in
+    let three = first_of _ c.is_one-4.result e in
+    let two = first_of _ c.is_one-3.result three in
+    kept c.args.gains c.args.n c.args.out.now (c.is_one.ensures (first_of _ c.is_one-2.result two)) (c.is_one-2.ensures (second_of c.is_one.result _ two))
+    (c.is_one-3.ensures (second_of _ _ three)) (c.is_one-4.ensures (second_of _ _ e)) c.type_inv.out
 
 pub loop-i-init : goal.loop-i-init
 loop-i-init c = sofar_none _ _ _ _ _ _
