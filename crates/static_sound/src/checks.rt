@@ -7,7 +7,6 @@ ghost use Rattle.static_sound.specs.Entries.{refused_block};
 
 use refusals::Refusal;
 use sound_fast_path::BlockLanes;
-use sound_lanes::Lanes;
 use sound_state::StaticSound;
 
 // Refusal 9, except for the output's length.
@@ -49,14 +48,7 @@ pub(crate) fn check(
             if frames == 0 {
                 return Ok(());
             }
-            let gains = held.gains;
-            let one = Lanes {
-                fade: &[gains.fade],
-                volume: &[gains.volume],
-                left: &[gains.left],
-                right: &[gains.right],
-                rate: &[held.rate],
-            };
+            let one = held.lanes();
             one.judge(voice.setup.sample_rate, dt)
         }
     }

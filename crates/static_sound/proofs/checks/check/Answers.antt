@@ -2,7 +2,7 @@
 use mathlib.Core.Path.{◌≡◌, sym, ap, ◌∙◌, subst}
 use lib.Dec.{T}
 use mathlib.Core.Bool.{true}
-use Rattle.sound_lanes.specs.Lanes.{sized, is_time_step, judged}
+use Rattle.sound_lanes.specs.Lanes.{Lanes, sized, is_time_step, judged}
 use Rattle.sound_held.specs.Held.{held_lanes}
 use Rattle.sound_fast_path.specs.BlockLanes.{block_lanes}
 use Rattle.sound_state.specs.WellFormed.{well_formed_for}
@@ -42,7 +42,10 @@ judge-requires c =
 
 pub judge-requires-in-Held : goal.judge-requires-in-Held
 judge-requires-in-Held c =
-    record { t = tt; t_2 = subst T (sym (time-step-one (goal.at.judge-requires-in-Held c).Else-not-is_time_step)) tt }
+    record {
+      t = subst (λ (b : Lanes). T (sized b)) (sym c.lanes-one.ensures) tt;
+      t_2 = subst T (sym (time-step-one (goal.at.judge-requires-in-Held c).Else-not-is_time_step)) tt;
+    }
 
 pub returns-then-frames-eq0 : goal.returns-then-frames-eq0
 returns-then-frames-eq0 c =
@@ -64,6 +67,7 @@ returns-else-frames-eq0 c =
     let a = c.args in
     let p = goal.at.returns-else-frames-eq0 c in
     c.judge-in-Held.ensures
+    ∙ ap (judged a.voice.setup.sample_rate a.dt) c.lanes-one.ensures
     ∙ judged_some _ _ c.in-Held.held c.in-Held.frames c.if-frames-eq0.false
     ∙ ap (judged a.voice.setup.sample_rate a.dt) (sym (ap block_lanes c.in-Held.is))
     ∙ number_judged _ _ _ _ _ (well_formed p.Else-not-is_well_formed) (lanes-sized p.Else-not-are_sized) c.if-not-placed.false (time-step-one p.Else-not-is_time_step)
