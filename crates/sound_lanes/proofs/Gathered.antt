@@ -62,7 +62,7 @@ or_low a b = go (ltb a 2147483648) (ltb b 2147483648) refl refl
     go true false e f = le-ltb _ _ (more a b (bit_or a b) (bit_and a b) (or_add_and a b) (and_le_l a b) (ltb-false b 2147483648 f))
     go false q e f = le-ltb _ _ (other a b (bit_or a b) (bit_and a b) (or_add_and a b) (and_le_r a b) (ltb-false a 2147483648 e))
 
--- ---- one more entry, and the end
+-- ---- one more entry
 module _ {A : Type 0} (p : A → Bool) where
   pub all_more : (ls : List A) (i : ℕ) (z : A) → i < length ls → all p (take (suc i) ls) ≡ (all p (take i ls) && p (get_or ls i z))
   all_more [] i z h = absurd (not-suc-le-zero h)
@@ -76,9 +76,6 @@ module _ {A : Type 0} (p : A → Bool) where
   pub all_turn : (ls : List A) (i : ℕ) (z : A) (ok w : Bool) → i < length ls → ok ≡ all p (take i ls) → w ≡ p (get_or ls i z) → (w && ok) ≡ all p (take (i + 1) ls)
   all_turn ls i z ok w h e f =
       both_comm w ok ∙ ap₂ (λ (a b : Bool). a && b) e f ∙ sym (ap (λ (n : ℕ). all p (take n ls)) (add-one i) ∙ all_more ls i z h)
-
-  pub all_end : (ls : List A) (i : ℕ) (ok : Bool) → length ls ≤ i → ok ≡ all p (take i ls) → ok ≡ all p ls
-  all_end ls i ok h e = e ∙ ap (all p) (take_all i ls h)
 
 -- one iteration over four lanes
 pub four_turn : (a b c d : List Float) (i tops ta tb tc td : ℕ) → i < length a → i < length b → i < length c → i < length d
