@@ -5,7 +5,7 @@ use mathlib.Core.Bool.{Bool, true, false, cond}
 use Rattle.numbers.specs.Words.{finite}
 use Rattle.numbers.specs.Lists.{all}
 use Rattle.sound_lanes.specs.Lanes.{Lanes, lanes_of, judged, slow, four_finite_clear}
-use Rattle.sound_lanes.proofs.Rows.{Sized, sized_parts, judged_lanes}
+use Rattle.sound_lanes.proofs.Rows.{judged_lanes}
 use Rattle.sound_lanes.proofs.Lanes.judge.Goals.{Start}
 use Rattle.sound_lanes.proofs.Lanes.judge.Goals as goal
 
