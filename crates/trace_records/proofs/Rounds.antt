@@ -1,12 +1,12 @@
 -- A record is read back as it was written, and what is read is what would be written.
 use mathlib.Core.Path.{◌≡◌, refl, sym, ap, ◌∙◌}
-use Prim.Native.Nat.{ℕ, zero, suc, ◌+◌, ◌-◌, ◌*◌, ◌%◌, ◌≤◌, ◌<◌}
+use Prim.Native.Nat.{ℕ, suc, ◌+◌, ◌-◌, ◌*◌, ◌%◌, ◌≤◌, ◌<◌}
 use native.Mathlib.Omega.{arith}
 use native.Mathlib.Nat.{add-mul-mod_self_left}
 use mathlib.Core.Bool.{Bool, true, false, ◌&&◌, cond}
 use mathlib.Core.List.{List, [], ◌∷◌, ◌++◌, append_assoc}
 use lib.Dec.{leb, eqb, leb-zero}
-use lib.ListN.{length, get_or, length-append}
+use lib.ListN.{length, get_or}
 use borrow.Author.Tests.{le-leb, leb-true, eqb-true, eq-eqb}
 use Rattle.byte_layout.specs.declared.Row.{Row}
 use Rattle.byte_layout.specs.Numbers.{bytes}
@@ -15,10 +15,10 @@ use Rattle.byte_layout.specs.Rows.{row, stands, within, sound}
 use Rattle.byte_layout.specs.Reads.{Reading, bad, good, steps}
 use Rattle.byte_layout.specs.Writes.{field, payload, fits, fine}
 use Rattle.byte_layout.proofs.Numbers.{Small}
-use Rattle.byte_layout.proofs.Codec.{never, both, ands, read_written, written_read, bad_good}
+use Rattle.byte_layout.proofs.Codec.{never, both, ands, read_written, written_read}
 use Rattle.byte_layout.proofs.Lengths.{always, most, least, eights, at_most, at_least, apart}
 use Rattle.trace_records.specs.Tables.{head_rows, creation_rows, frame_rows, command_rows, block_rows, body, fields}
-use Rattle.trace_records.specs.Records.{shortest, longest, possible, Found, refused, found, ended, bodied, read_record}
+use Rattle.trace_records.specs.Records.{shortest, longest, possible, refused, found, ended, bodied, read_record}
 use Rattle.trace_records.specs.Writes.{head_of, record_of, known}
 use Rattle.trace_records.specs.Promises.{Kept}
 

@@ -2,7 +2,7 @@
 use mathlib.Core.Path.{◌≡◌, refl, sym, ap, ◌∙◌}
 use Prim.Native.Nat.{ℕ, zero, suc, ◌+◌, ◌-◌, ◌≤◌, ◌<◌}
 use native.Mathlib.Omega.{arith}
-use mathlib.Core.Bool.{Bool, true, false, ◌&&◌, cond}
+use mathlib.Core.Bool.{Bool, true, false, cond}
 use mathlib.Core.List.{List, [], ◌∷◌, ◌++◌, append_assoc, append-nil}
 use lib.Dec.{leb, eqb}
 use lib.ListN.{length, take, drop, length-append, take-append-drop, length-drop}
@@ -14,8 +14,8 @@ use Rattle.byte_layout.proofs.Codec.{never, ands}
 use Rattle.trace_records.specs.Tables.{head_rows, body}
 use Rattle.trace_records.specs.Records.{Found, refused, found, read_record}
 use Rattle.trace_records.specs.Writes.{head_of, record_of, known, Written, write_record}
-use Rattle.trace_records.specs.Traces.{Entry, trace_of, takes, takes_all, write_all, Story, over, broken, and_then, onward, read_all_by, read_all, entries, is_whole}
-use Rattle.trace_records.specs.Promises.{Kept, Reads, Appended}
+use Rattle.trace_records.specs.Traces.{Entry, trace_of, takes, takes_all, write_all, Story, broken, and_then, onward, read_all_by, read_all, entries, is_whole}
+use Rattle.trace_records.specs.Promises.{Reads, Appended}
 use Rattle.trace_records.proofs.Rounds.{head_length, read_record_lem, written_record, small_after}
 
 none : {A : Type 0} → ⊥ → A

@@ -1,15 +1,15 @@
 -- The ways that the reading of a record can go, from the tests of the code.
 use mathlib.Core.Path.{◌≡◌, refl, sym, ap, ◌∙◌}
-use Prim.Native.Nat.{ℕ, ◌+◌, ◌-◌, ◌%◌, ◌≤◌, ◌<◌}
+use Prim.Native.Nat.{ℕ, ◌-◌, ◌%◌, ◌≤◌, ◌<◌}
 use lib.Dec.{eqb}
 use native.Mathlib.Omega.{arith}
 use mathlib.Core.Bool.{true, false, cond}
-use mathlib.Core.List.{List, [], ◌∷◌, ◌++◌}
+use mathlib.Core.List.{List, [], ◌++◌}
 use lib.ListN.{length, get_or, take, drop, replicate, length-replicate, length-drop, take-append-drop, drop_of_length-le}
 use lib.Seq.{get_or-take, length-take-le}
 use borrow.Author.Tests.{eq-eqb, ne_eqb, lt-leb, le-leb}
 use Rattle.std.proofs.lemmas.List.{drop-replicate}
-use Rattle.std.specs.Prelude.{Result, Ok, Err}
+use Rattle.std.specs.Prelude.{Ok, Err}
 use Rattle.refusals.specs.declared.Refusal.{Refusal}
 use Rattle.refusals.specs.declared.Refusal.TheVariants as refusal
 use Rattle.refusals.specs.Numbers.{number}
@@ -20,7 +20,7 @@ use Rattle.byte_layout.specs.Reads.{bad, good, taken, step, steps, view}
 use Rattle.byte_layout.proofs.Ways.{begun}
 use Rattle.trace_records.specs.declared.Record as Answer
 use Rattle.trace_records.specs.Tables.{head_rows, body, fields}
-use Rattle.trace_records.specs.Records.{in_steps, possible, Found, refused, found, ended, bodied, read_record, valued, record_at, Record, record_read}
+use Rattle.trace_records.specs.Records.{in_steps, possible, refused, found, ended, bodied, read_record, valued, record_at, Record, record_read}
 use Rattle.trace_records.proofs.Rounds.{body_long, fields_few}
 
 -- ---- a length in steps

@@ -8,7 +8,7 @@ use Rattle.byte_layout.specs.Writes.{fine}
 use Rattle.trace_records.specs.Tables.{body, fields}
 use Rattle.trace_records.specs.Records.{found, read_record, record_at}
 use Rattle.trace_records.specs.Writes.{record_of, known, Written, write_record}
-use Rattle.trace_records.specs.Traces.{Entry, Story, trace_of, takes_all, write_all, read_all, entries, is_whole}
+use Rattle.trace_records.specs.Traces.{Entry, trace_of, takes_all, write_all, read_all, entries, is_whole}
 
 -- the bytes begin with the record of these fields, which a writer accepts
 pub record Kept (bs : List ℕ) (k : ℕ) (ws rest : List ℕ) : Type 0 where

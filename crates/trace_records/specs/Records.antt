@@ -1,6 +1,6 @@
 -- A record read: docs/formats/TRACE.md, "How a record is judged". Then the record as a value.
-use Rattle.std.specs.Prelude.{ℕ, ◌+◌, ◌-◌, ◌*◌, ◌%◌, Bool, true, false, ◌&&◌, cond, List, [], ◌∷◌, ◌++◌, leb, eqb}
-use Rattle.std.specs.Prelude.{length, get_or, take, drop, replicate, Result, Ok, Err}
+use Rattle.std.specs.Prelude.{ℕ, ◌-◌, ◌%◌, Bool, ◌&&◌, cond, List, [], ◌++◌, leb, eqb}
+use Rattle.std.specs.Prelude.{length, get_or, drop, replicate, Result, Ok, Err}
 use Rattle.refusals.specs.declared.Refusal.{Refusal}
 use Rattle.refusals.specs.Numbers.{number}
 use Rattle.byte_layout.specs.Reads.{Reading, bad, good, steps}

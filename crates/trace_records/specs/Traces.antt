@@ -1,5 +1,5 @@
 -- A whole trace: its records one after the other, with nothing between them, written and read.
-use Rattle.std.specs.Prelude.{ℕ, zero, suc, ◌+◌, ◌-◌, Bool, true, false, ◌&&◌, cond, List, [], ◌∷◌, ◌++◌, eqb, length}
+use Rattle.std.specs.Prelude.{ℕ, zero, suc, ◌-◌, Bool, true, false, ◌&&◌, cond, List, [], ◌∷◌, ◌++◌, eqb, length}
 use Rattle.byte_layout.specs.Writes.{fine}
 use Rattle.trace_records.specs.Tables.{body}
 use Rattle.trace_records.specs.Records.{Found, refused, found, read_record}

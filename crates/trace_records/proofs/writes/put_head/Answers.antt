@@ -1,5 +1,5 @@
 -- `trace_records::writes::put_head`: the head's four numbers.
-use Rattle.std.proofs.Common.{◌≡◌, ℕ, ◌+◌, ap, ◌∙◌, rules}
+use Rattle.std.proofs.Common.{ℕ, ◌+◌, ap, ◌∙◌, rules}
 use Rattle.byte_layout.specs.Numbers.{bytes}
 use Rattle.byte_layout.specs.Rows.{stands}
 use Rattle.byte_layout.specs.Writes.{field, payload}
