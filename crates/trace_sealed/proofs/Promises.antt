@@ -1,24 +1,17 @@
 -- The theorems, by their laws. Assumes nothing.
-use mathlib.Core.Path.{◌≡◌, refl, sym, ap, ◌∙◌}
-use Prim.Native.Nat.{ℕ, zero, suc, ◌+◌, ◌%◌, ◌≤◌, ◌<◌}
+use mathlib.Core.Path.{refl}
 use native.Mathlib.Omega.{arith}
-use mathlib.Core.Bool.{Bool, true, false, ◌&&◌, cond}
-use mathlib.Core.List.{List, [], ◌∷◌, ◌++◌}
-use lib.Dec.{leb, eqb}
-use lib.ListN.{get_or, take, drop, length, replicate}
-use borrow.Author.Tests.{le-leb, leb-true}
+use lib.ListN.{replicate}
 use Rattle.byte_layout.specs.Numbers.{num, bytes}
 use Rattle.byte_layout.specs.Rows.{stands, within}
 use Rattle.byte_layout.specs.Reads.{taken, step, steps}
 use Rattle.byte_layout.specs.Writes.{field, payload, fits, fine}
 use Rattle.byte_layout.proofs.Numbers.{small_of}
-use Rattle.byte_layout.proofs.Codec.{ands}
 use Rattle.crc32.specs.Checksums.{bit, bits, byte, register, checksum_of}
-use Rattle.trace_records.specs.Records.{found, in_steps, read_record}
-use Rattle.trace_sealed.specs.Tables.{head_rows, given_rows, laned_rows}
-use Rattle.trace_sealed.specs.Records.{possible, tail, closed, bodied, read_sealed, is_sealed, read_any, any_at}
-use Rattle.trace_sealed.specs.Writes.{unsealed, sealed_of, sealed_kind, Sealable}
-use Rattle.trace_sealed.specs.Promises.{Begins, Kept, Old, Witnesses, Promises, silent_numbers, silent_record}
+use Rattle.trace_records.specs.Records.{in_steps}
+use Rattle.trace_sealed.specs.Tables.{head_rows, laned_rows}
+use Rattle.trace_sealed.specs.Records.{possible, tail, closed, bodied, read_sealed, read_any}
+use Rattle.trace_sealed.specs.Promises.{Witnesses, Promises, silent_record}
 use Rattle.trace_sealed.proofs.Readers.{read_any_lem, again, as_reader_1}
 use Rattle.trace_sealed.proofs.Windows.{window}
 

@@ -1,6 +1,6 @@
 -- A sealed record is read back as it was written, whatever follows it, and what is read is what would be written. Assumes nothing.
 use mathlib.Core.Path.{◌≡◌, refl, sym, ap, ◌∙◌, subst}
-use Prim.Native.Nat.{ℕ, zero, suc, ◌+◌, ◌-◌, ◌*◌, ◌%◌, ◌^◌, ◌≤◌, ◌<◌}
+use Prim.Native.Nat.{ℕ, ◌+◌, ◌-◌, ◌*◌, ◌%◌, ◌≤◌}
 use native.Mathlib.Omega.{arith}
 use native.Mathlib.Nat.{add-mul-mod_self_left}
 use mathlib.Core.Bool.{Bool, true, false, ◌&&◌, cond}
@@ -11,20 +11,20 @@ use lib.Seq.{take_at, drop_at, drop-append-le, drop-drop, length-take-le}
 use borrow.Author.Tests.{le-leb, leb-true, eqb-true, eq-eqb}
 use Rattle.refusals.specs.declared.Refusal.TheVariants.{Record}
 use Rattle.byte_layout.specs.Numbers.{num, bytes}
-use Rattle.byte_layout.specs.Rows.{row, stands, within, sound}
+use Rattle.byte_layout.specs.Rows.{row, stands, within}
 use Rattle.byte_layout.specs.Reads.{Reading, bad, good, steps}
 use Rattle.byte_layout.specs.Writes.{field, payload, fits, fine}
 use Rattle.byte_layout.proofs.Numbers.{Small, small_drop, num_bytes, bytes_num, length_bytes}
 use Rattle.byte_layout.proofs.Codec.{never, both, ands, read_written, written_read}
 use Rattle.byte_layout.proofs.Lengths.{always, most, least, eights, at_most, at_least, apart}
 use Rattle.crc32.specs.Checksums.{checksum_of}
-use Rattle.trace_records.specs.Records.{Found, refused, found, in_steps}
+use Rattle.trace_records.specs.Records.{refused, found, in_steps}
 use Rattle.trace_records.specs.Writes.{head_of}
 use Rattle.trace_records.proofs.Ways.{between}
-use Rattle.trace_records.proofs.Rounds.{row_always, one, refused_found, Head, head_is, head_known, small_after}
-use Rattle.trace_sealed.specs.Tables.{head_rows, given_rows, laned_rows, field_rows, field_count, lane_bytes}
+use Rattle.trace_records.proofs.Rounds.{refused_found, Head, head_is, head_known, small_after}
+use Rattle.trace_sealed.specs.Tables.{head_rows, given_rows, laned_rows, field_rows, lane_bytes}
 use Rattle.trace_sealed.specs.Records.{possible, tail, closed, bodied, read_sealed}
-use Rattle.trace_sealed.specs.Writes.{body_of, unsealed, sealed_of, sealed_kind, Sealable}
+use Rattle.trace_sealed.specs.Writes.{unsealed, sealed_of, sealed_kind, Sealable}
 use Rattle.trace_sealed.specs.Promises.{Kept}
 use Rattle.trace_sealed.proofs.Sums.{checksum_low, small_append, small_payload, small_take}
 use Rattle.trace_sealed.proofs.Ways.{some, rows_sound, head_rows_sound, tail_there, closed_found}

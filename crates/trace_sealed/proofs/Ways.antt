@@ -1,12 +1,12 @@
 -- The results that the reading of a sealed record can have, from the tests of the code. Assumes nothing.
 use mathlib.Core.Path.{◌≡◌, refl, sym, ap, ◌∙◌}
-use Prim.Native.Nat.{ℕ, zero, suc, ◌+◌, ◌-◌, ◌*◌, ◌%◌, ◌≤◌, ◌<◌}
+use Prim.Native.Nat.{ℕ, ◌+◌, ◌-◌, ◌*◌, ◌%◌, ◌≤◌, ◌<◌}
 use native.Mathlib.Omega.{arith}
 use mathlib.Core.Bool.{Bool, true, false, ◌&&◌, cond}
 use mathlib.Core.List.{List, [], ◌∷◌, ◌++◌}
 use lib.Dec.{eqb, leb}
-use lib.ListN.{length, get_or, take, drop, replicate, length-replicate, length-drop, take-append-drop, drop_of_length-le}
-use lib.Seq.{get_or-take, get_or-drop, length-take-le, drop-drop, take_at, drop-cons}
+use lib.ListN.{length, get_or, take, drop, replicate, length-replicate, length-drop, take-append-drop}
+use lib.Seq.{get_or-take, get_or-drop, length-take-le, drop-drop, take_at}
 use Rattle.std.proofs.lemmas.List.{drop-replicate}
 use borrow.Author.Tests.{eq-eqb, ne_eqb, le-leb, lt-leb, leb-true}
 use Rattle.std.specs.Prelude.{Ok, Err}
@@ -17,14 +17,14 @@ use Rattle.byte_layout.specs.declared.Row.{Row}
 use Rattle.byte_layout.specs.declared.Parsed.{Parsed}
 use Rattle.byte_layout.specs.Numbers.{num}
 use Rattle.byte_layout.specs.Rows.{sound}
-use Rattle.byte_layout.specs.Reads.{Reading, bad, good, steps, view}
-use Rattle.byte_layout.proofs.Codec.{never, ands}
+use Rattle.byte_layout.specs.Reads.{bad, good, steps, view}
+use Rattle.byte_layout.proofs.Codec.{ands}
 use Rattle.byte_layout.proofs.Low.{numbered}
 use Rattle.byte_layout.proofs.Ways.{begun}
 use Rattle.crc32.specs.Checksums.{checksum_of}
 use Rattle.trace_records.specs.declared.Record as Answer
-use Rattle.trace_records.specs.Records.{Record, record_read, Found, refused, found, in_steps, record_at}
-use Rattle.trace_records.proofs.Ways.{Start, between}
+use Rattle.trace_records.specs.Records.{Record, record_read, refused, found, in_steps, record_at}
+use Rattle.trace_records.proofs.Ways.{Start}
 use Rattle.trace_sealed.specs.Tables.{head_rows, given_rows, laned_rows, field_rows, field_count, lane_bytes}
 use Rattle.trace_sealed.specs.Records.{Fields, possible, tail, closed, bodied, read_sealed, is_sealed, valued, sealed_at, any_at}
 use Rattle.trace_sealed.proofs.Firsts.{first_low}

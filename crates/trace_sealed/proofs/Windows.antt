@@ -1,21 +1,21 @@
 -- A sealed record has at most 24,598 bytes, so a window of as many bytes, or of all that is left, reads the same as the
 -- whole. Assumes nothing.
 use mathlib.Core.Path.{◌≡◌, refl, sym, ap, ◌∙◌}
-use Prim.Native.Nat.{ℕ, zero, suc, ◌+◌, ◌-◌, ◌≤◌, ◌<◌}
+use Prim.Native.Nat.{ℕ, ◌+◌, ◌-◌, ◌≤◌}
 use native.Mathlib.Omega.{arith}
 use mathlib.Core.Bool.{Bool, true, false, ◌&&◌, cond}
 use mathlib.Core.List.{List, [], ◌∷◌, ◌++◌}
 use lib.Dec.{leb, eqb}
 use lib.ListN.{length, get_or, take, drop, length-append, length-drop, take-append-drop}
 use lib.Seq.{take-append-le, drop-append-le, length-take-le, take_all}
-use borrow.Author.Tests.{le-leb, lt-leb, leb-true, leb-false, eqb-true, eq-eqb}
+use borrow.Author.Tests.{le-leb, leb-true, leb-false, eqb-true}
 use Rattle.byte_layout.specs.Numbers.{num}
-use Rattle.byte_layout.specs.Reads.{Reading, bad, good, steps}
+use Rattle.byte_layout.specs.Reads.{Reading, good, steps}
 use Rattle.crc32.specs.Checksums.{checksum_of}
 use Rattle.trace_records.specs.Records.{Record, Found, refused, found, record_at}
 use Rattle.trace_records.proofs.Windows.{longer, Holds, refusal, input, rows_same, beyond}
 use Rattle.trace_records.proofs.Windows as of-version-1
-use Rattle.trace_sealed.specs.Tables.{head_rows, field_rows, field_count, lane_bytes}
+use Rattle.trace_sealed.specs.Tables.{head_rows, field_rows, lane_bytes}
 use Rattle.trace_sealed.specs.Records.{possible, tail, closed, bodied, read_sealed, is_sealed, valued, sealed_at, any_at}
 use Rattle.trace_sealed.proofs.Ways.{some}
 use Rattle.trace_sealed.proofs.Rounds.{possible_few, tail_facts}

@@ -5,7 +5,7 @@ use Rattle.std.specs.Prelude.{ℕ, ◌+◌, ◌≤◌, ◌≡◌, true, false, L
 use Rattle.byte_layout.specs.Numbers.{Bytes}
 use Rattle.trace_records.specs.Promises.{pause_record}
 use Rattle.trace_records.specs.Records.{found, read_record}
-use Rattle.trace_sealed.specs.Records.{is_sealed, read_sealed, read_any, any_at}
+use Rattle.trace_sealed.specs.Records.{is_sealed, read_any, any_at}
 use Rattle.trace_sealed.specs.Writes.{sealed_of, Sealable}
 
 -- the bytes begin with the sealed record of these fields and lanes, which can be sealed

@@ -1,5 +1,5 @@
 -- How a sealed record is read: docs/formats/TRACE.md, "How a sealed record is checked". Then a record of any kind.
-use Rattle.std.specs.Prelude.{ℕ, ◌+◌, ◌-◌, ◌%◌, ◌≤◌, ◌≡◌, Bool, ◌&&◌, cond, List, [], ◌++◌, leb, eqb, length, get_or}
+use Rattle.std.specs.Prelude.{ℕ, ◌+◌, ◌-◌, ◌≤◌, ◌≡◌, Bool, ◌&&◌, cond, List, [], ◌++◌, leb, eqb, length, get_or}
 use Rattle.std.specs.Prelude.{take, drop, replicate}
 use Rattle.byte_layout.specs.declared.Parsed.{Parsed}
 use Rattle.byte_layout.specs.Numbers.{num}

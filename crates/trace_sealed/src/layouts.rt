@@ -95,16 +95,18 @@ impl TryFrom<u64> for Kind {
     }
 }
 
-impl Kind {
-    pub(crate) fn number(self) -> u64
-        ensures { result ≡ kind_number self }
-    {
-        match self {
+impl From<Kind> for u64 {
+    ghost from_gives = { λ kind n. n ≡ kind_number kind };
+
+    fn from(kind: Kind) -> u64 {
+        match kind {
             Kind::Given => 4,
             Kind::Laned => 5,
         }
     }
+}
 
+impl Kind {
     // The rows of the fields.
     pub(crate) fn rows(self) -> &'static [Row]
         ensures { result.now ≡ field_rows (kind_number self) }

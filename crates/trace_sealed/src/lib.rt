@@ -61,7 +61,7 @@ fn close(s: &[u8], at: usize, kind: Kind, n: usize, fields: Parsed) -> Result<Re
         return Err(Refusal::Record);
     }
     Ok(Record {
-        kind: kind.number(),
+        kind: u64::from(kind),
         next: sum + 4,
         values,
     })

@@ -18,7 +18,7 @@ fn seal(buf: &mut [u8], at: usize, kind: Kind, n: usize, values: [u64; 80], lane
         (sealed_of (kind_number kind) (take (field_count (kind_number kind)) values) lanes.now))
         × (result ≡ at + 5 + n) }
 {
-    let fields = trace_records::put_head(buf, at, kind.number(), n);
+    let fields = trace_records::put_head(buf, at, u64::from(kind), n);
     let start = byte_layout::put_rows(buf, fields, values, kind.rows());
     let w = lanes.len();
     byte_layout::copy(lanes, 0, w, buf, start);

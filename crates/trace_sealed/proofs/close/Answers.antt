@@ -1,5 +1,5 @@
 -- `trace_sealed::close`: each return is one of the ways of proofs/Ways.antt.
-use Rattle.std.proofs.Common.{◌≡◌, ◌∙◌, sym, arith}
+use Rattle.std.proofs.Common.{◌∙◌, arith}
 use Rattle.std.proofs.lemmas.Result.{err_from_is_err_and}
 use Rattle.trace_sealed.proofs.Ways.{tail_wrong, room, sum_wrong, sum_right}
 use Rattle.trace_sealed.proofs.close.Goals as goal
@@ -35,5 +35,5 @@ overflow_add-result c =
 pub returns : goal.returns
 returns c =
     let a = c.args in
-    rw c.number-2.ensures
+    rw c.from-2.ensures
     (sum_right a.s.now a.at _ a.n a.fields c.requires c.lane_bytes-w.result c.lane_bytes-w.ensures c.in_ok-check_tail.ensures c.number.result c.from.result c.number.ensures (c.from.ensures ∙ c.checksum-wanted.ensures) c.if-number-from.false)

@@ -1,5 +1,5 @@
 -- `trace_sealed::read` meets its contract: by the kind. Assumes nothing.
-use mathlib.Core.Path.{◌≡◌, sym, ◌∙◌}
+use mathlib.Core.Path.{sym, ◌∙◌}
 use Rattle.trace_sealed.proofs.Ways.{is_sealed_lem, is_open}
 use Rattle.trace_sealed.proofs.read.Goals as goal
 

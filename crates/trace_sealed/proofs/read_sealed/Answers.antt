@@ -1,5 +1,5 @@
 -- `trace_sealed::read_sealed`: each return is one of the ways of proofs/Ways.antt.
-use Rattle.std.proofs.Common.{◌≡◌, ℕ, refl, sym, ap, ◌∙◌, arith, get_or-take}
+use Rattle.std.proofs.Common.{refl, sym, ap, ◌∙◌, arith, get_or-take}
 use Rattle.std.proofs.lemmas.Result.{err_from_is_err_and}
 use Rattle.byte_layout.specs.declared.Parsed.{Parsed}
 use Rattle.byte_layout.specs.Reads.{steps}
