@@ -1,23 +1,28 @@
 -- Kept and skipped bytes are all bytes; the effect of one iteration on the rest.
 use mathlib.Core.Path.{◌≡◌, refl, sym, ap, subst, ◌∙◌}
-use Prim.Native.Nat.{ℕ, zero, suc, ◌+◌, ◌-◌, ◌*◌, ◌≤◌, ◌<◌}
+use Prim.Native.Nat.{ℕ, zero, suc, ◌+◌, ◌-◌, ◌≤◌, ◌<◌}
 use native.Mathlib.Omega.{arith}
-use mathlib.Core.Bool.{Bool, true, false, ◌&&◌, cond}
-use mathlib.Core.List.{List, [], ◌∷◌, ◌++◌, append_assoc}
-use lib.Dec.{eqb, ltb, leb}
-use lib.ListN.{length, get_or, take, drop, set, length-append, length-drop, drop_of_length-le}
-use native.Mathlib.Numerals.{add-one}
-use lib.Seq.{take_at, drop_at, drop-cons, drop-drop, sets, length-sets, length-take-le}
+use mathlib.Core.Bool.{Bool, true, false, cond}
+use mathlib.Core.List.{List, [], ◌∷◌, ◌++◌}
+use lib.Dec.{eqb}
+use lib.ListN.{length, get_or, take, drop, length-append, length-drop, drop_of_length-le}
+use lib.Seq.{drop-cons, drop-drop, sets, length-sets, length-take-le}
+use Rattle.byte_layout.specs.declared.Row.{Row}
+use Rattle.byte_layout.specs.Reads.{Reading, bad, good, steps}
+use Rattle.byte_layout.proofs.Low.{some_refusal}
+use Rattle.byte_layout.proofs.Numbers.{Small, small_drop}
 use Rattle.byte_layout.proofs.Puts.{sets_append}
 use Rattle.trace_salvage.specs.declared.Salvaging.{Salvaging}
-use borrow.Author.Tests.{eqb-true, eqb-false, ne_eqb, eq-eqb, lt-ltb, le-ltb, ltb-true, ltb-false, leb-true, le-leb, lt-leb}
+use borrow.Author.Tests.{eqb-false, ne_eqb, eq-eqb, lt-ltb, le-ltb}
 use Rattle.std.specs.Prelude.{Some, unwrap_or, Err}
 use Rattle.refusals.specs.declared.Refusal.{Refusal}
 use Rattle.trace_records.specs.Records.{Record, record_read, Found, refused, found, read_record, valued, record_at}
 use Rattle.trace_sealed.specs.Records as sealed
-use Rattle.trace_sealed.specs.Records.{is_sealed, read_sealed, read_any, read_by, sealed_at, any_at}
-use Rattle.trace_sealed.proofs.Readers.{by_1, by_2, unmarked_by}
-use Rattle.trace_salvage.specs.Salvage.{kept, skipped, records, first, size_in, size_by, placed, Salvages, Salvaged, salvage_by}
+use Rattle.trace_records.proofs.Windows.{refusal_numbered}
+use Rattle.trace_sealed.specs.Tables.{head_rows, field_rows, lane_bytes}
+use Rattle.trace_sealed.specs.Records.{possible, tail, closed, bodied, is_sealed, read_sealed, read_any, read_by, sealed_at, any_at}
+use Rattle.trace_sealed.proofs.Readers.{by_1, by_2, opens_by, unmarked_by}
+use Rattle.trace_salvage.specs.Salvage.{kept, skipped, records, first, size_in, size_by, Ends, placed, Salvages, Salvaged, salvage_by}
 
 none : {A : Type 0} → ⊥ → A
 none e = elim e [ ]
@@ -104,6 +109,58 @@ pub size_le : (v : ℕ) (s : List ℕ) (at : ℕ) → size_by v (drop at s) ≤ 
 unfolding size_by
 size_le v s at = omega (arith, size_in_le (length (drop at s)) (read_by v (drop at s)), length-drop at s)
 
+-- ---- a refusal that a reader finds is a number
+
+unfoldable numbers : Found → ℕ
+numbers (refused k) = k
+numbers (found l ws rest) = 1
+
+closed_numbered : (covered : List ℕ) (k n : ℕ) (rs : List Row) (bs : List ℕ) → 0 < numbers (closed covered k (steps rs (good n [] bs)))
+unfolding closed numbers
+closed_numbered covered k n rs bs = go (steps rs (good n [] bs)) refl
+  where
+    summed : (b : Bool) (ws rest : List ℕ) → 0 < numbers (cond b (found k ws rest) (refused 17))
+    summed true ws rest = omega arith
+    summed false ws rest = omega arith
+
+    tailed : (c : Bool) (t : ℕ) → eqb t 0 ≡ c → (b : Bool) (ws rest : List ℕ) → 0 < numbers (cond c (cond b (found k ws rest) (refused 17)) (refused t))
+    tailed true t e b ws rest = summed b ws rest
+    tailed false t e b ws rest = omega (arith, eqb-false t 0 e)
+
+    go : (d : Reading) → steps rs (good n [] bs) ≡ d → 0 < numbers (closed covered k d)
+    go (bad j) e = some_refusal rs bs n j e
+    go (good l vs rest) e = tailed (eqb (tail (lane_bytes k vs) l (length rest)) 0) (tail (lane_bytes k vs) l (length rest)) refl _ _ _
+
+sealed_numbered : (bs : List ℕ) (n : ℕ) → read_sealed bs ≡ refused n → 0 < n
+unfolding read_sealed bodied numbers
+sealed_numbered bs n e = omega (arith, ap numbers e, go (steps head_rows (good 5 [] bs)) refl)
+  where
+    possibly : (b : Bool) (covered : List ℕ) (k m : ℕ) (rest : List ℕ) → 0 < numbers (cond b (closed covered k (steps (field_rows k) (good m [] rest))) (refused 17))
+    possibly true covered k m rest = closed_numbered covered k m (field_rows k) rest
+    possibly false covered k m rest = omega arith
+
+    go : (d : Reading) → steps head_rows (good 5 [] bs) ≡ d → 0 < numbers (bodied bs d)
+    go (bad j) q = some_refusal head_rows bs 5 j q
+    go (good l hs rest) q = possibly (possible (get_or hs 2 0) (get_or hs 3 0)) (take (get_or hs 3 0 - 1) (drop 2 bs)) (get_or hs 2 0) (get_or hs 3 0 - 4) rest
+
+any_numbered : (bs : List ℕ) (n : ℕ) → read_any bs ≡ refused n → 0 < n
+unfolding read_any
+any_numbered bs n = go (is_sealed bs)
+  where
+    go : (b : Bool) → cond b (read_sealed bs) (read_record bs) ≡ refused n → 0 < n
+    go true e = sealed_numbered bs n e
+    go false e = refusal_numbered bs n e
+
+numbered_by : (v : ℕ) (bs : List ℕ) (n : ℕ) → read_by v bs ≡ refused n → 0 < n
+unfolding read_by
+numbered_by v bs n = go (eqb v 1)
+  where
+    go : (b : Bool) → cond b (read_record bs) (read_any bs) ≡ refused n → 0 < n
+    go true e = refusal_numbered bs n e
+    go false e = any_numbered bs n e
+
+-- ---- the record at an offset
+
 -- the length of a record that was read at an offset
 abbrev taken_up : ℕ → Record → ℕ
 taken_up at r = cond (eqb r.refusal 0) (r.next - at) 0
@@ -115,39 +172,72 @@ nothing_taken at k = go (eqb k 0)
     go true = omega arith
     go false = refl
 
-size_found : (len at n : ℕ) (d : Found) → n ≡ len - at → taken_up at (valued len at d) ≡ size_in n d
-unfolding valued size_in
-size_found len at n (refused k) e = nothing_taken at k
-size_found len at n (found k ws rest) e = omega arith
+-- the refusal of what is found, 0 for none
+unfoldable refusal_in : Found → ℕ
+refusal_in (refused k) = k
+refusal_in (found l ws rest) = 0
 
-sealed_found : (len at n : ℕ) (d : Found) → n ≡ len - at → taken_up at (sealed.valued len at d) ≡ size_in n d
-unfolding sealed.valued size_in
-sealed_found len at n (refused k) e = nothing_taken at k
-sealed_found len at n (found k ws rest) e = omega arith
+-- the size and the refusal of the record that a reader found at an offset
+pub record Read (v : ℕ) (s : List ℕ) (at : ℕ) (r : Record) : Type 0 where
+  pub size : taken_up at r ≡ size_by v (drop at s)
+  refusal : r.refusal ≡ refusal_in (read_by v (drop at s))
 
-size_1 : (s : List ℕ) (at : ℕ) → taken_up at (record_at s at) ≡ size_in (length (drop at s)) (read_record (drop at s))
+record In (at n : ℕ) (r : Record) (d : Found) : Type 0 where
+  size : taken_up at r ≡ size_in n d
+  refusal : r.refusal ≡ refusal_in d
+
+valued_in : (len at n : ℕ) (d : Found) → n ≡ len - at → In at n (valued len at d) d
+unfolding valued size_in refusal_in
+valued_in len at n (refused k) e = record { size = nothing_taken at k; refusal = refl }
+valued_in len at n (found k ws rest) e = record { size = omega arith; refusal = refl }
+
+sealed_in : (len at n : ℕ) (d : Found) → n ≡ len - at → In at n (sealed.valued len at d) d
+unfolding sealed.valued size_in refusal_in
+sealed_in len at n (refused k) e = record { size = nothing_taken at k; refusal = refl }
+sealed_in len at n (found k ws rest) e = record { size = omega arith; refusal = refl }
+
+in_1 : (s : List ℕ) (at : ℕ) → In at (length (drop at s)) (record_at s at) (read_record (drop at s))
 unfolding record_at
-size_1 s at = size_found (length s) at (length (drop at s)) (read_record (drop at s)) (length-drop at s)
+in_1 s at = valued_in (length s) at (length (drop at s)) (read_record (drop at s)) (length-drop at s)
 
-size_2 : (s : List ℕ) (at : ℕ) → taken_up at (any_at s at) ≡ size_in (length (drop at s)) (read_any (drop at s))
+in_2 : (s : List ℕ) (at : ℕ) → In at (length (drop at s)) (any_at s at) (read_any (drop at s))
 unfolding any_at sealed_at read_any
-size_2 s at = go (is_sealed (drop at s))
+in_2 s at = go (is_sealed (drop at s))
   where
-    go : (t : Bool) → taken_up at (cond t (sealed.valued (length s) at (read_sealed (drop at s))) (record_at s at)) ≡ size_in (length (drop at s)) (cond t (read_sealed (drop at s)) (read_record (drop at s)))
-    go true = sealed_found (length s) at (length (drop at s)) (read_sealed (drop at s)) (length-drop at s)
-    go false = size_1 s at
+    go : (t : Bool) → In at (length (drop at s)) (cond t (sealed.valued (length s) at (read_sealed (drop at s))) (record_at s at)) (cond t (read_sealed (drop at s)) (read_record (drop at s)))
+    go true = sealed_in (length s) at (length (drop at s)) (read_sealed (drop at s)) (length-drop at s)
+    go false = in_1 s at
 
--- the size of the record that a reader found at an offset
-pub read_1 : (v : ℕ) (s : List ℕ) (at : ℕ) (r : Record) → v ≡ 1 → r ≡ record_at s at → taken_up at r ≡ size_by v (drop at s)
+read_in : (v : ℕ) (s : List ℕ) (at : ℕ) (r : Record) → In at (length (drop at s)) r (read_by v (drop at s)) → Read v s at r
 unfolding size_by
-read_1 v s at r h e = ap (taken_up at) e ∙ size_1 s at ∙ ap (size_in (length (drop at s))) (sym (by_1 v (drop at s) (eq-eqb v 1 h)))
+read_in v s at r i = record { size = i.size; refusal = i.refusal }
 
-pub read_2 : (v : ℕ) (s : List ℕ) (at : ℕ) (r : Record) → (v ≡ 1 → ⊥) → r ≡ any_at s at → taken_up at r ≡ size_by v (drop at s)
-unfolding size_by
-read_2 v s at r h e = ap (taken_up at) e ∙ size_2 s at ∙ ap (size_in (length (drop at s))) (sym (by_2 v (drop at s) (ne_eqb v 1 h)))
+pub read_1 : (v : ℕ) (s : List ℕ) (at : ℕ) (r : Record) → v ≡ 1 → r ≡ record_at s at → Read v s at r
+read_1 v s at r h e =
+    read_in v s at r (subst (λ d. In at (length (drop at s)) r d) (sym (by_1 v (drop at s) (eq-eqb v 1 h))) (subst (λ x. In at (length (drop at s)) x (read_record (drop at s))) (sym e) (in_1 s at)))
 
-pub none_read : (v : ℕ) (s : List ℕ) (at : ℕ) (e : Refusal) → taken_up at (record_read at (Err e)) ≡ size_by v (drop at s) → 0 ≡ size_by v (drop at s)
-none_read v s at e h = sym (nothing_taken at _) ∙ h
+pub read_2 : (v : ℕ) (s : List ℕ) (at : ℕ) (r : Record) → (v ≡ 1 → ⊥) → r ≡ any_at s at → Read v s at r
+read_2 v s at r h e =
+    read_in v s at r (subst (λ d. In at (length (drop at s)) r d) (sym (by_2 v (drop at s) (ne_eqb v 1 h))) (subst (λ x. In at (length (drop at s)) x (read_any (drop at s))) (sym e) (in_2 s at)))
+
+pub none_read : (v : ℕ) (s : List ℕ) (at : ℕ) (e : Refusal) → Read v s at (record_read at (Err e)) → 0 ≡ size_by v (drop at s)
+none_read v s at e h = sym (nothing_taken at _) ∙ h.size
+
+-- a record that is read ends after its offset
+pub ends : (v : ℕ) (s : List ℕ) (at : ℕ) (r : Record) → Small s → r.refusal ≡ 0 → Read v s at r → Ends v s at (Some r.next)
+unfolding size_by size_in refusal_in
+ends v s at r m z h = go (read_by v (drop at s)) refl
+  where
+    size : r.next - at ≡ size_by v (drop at s)
+    size = rw z at h.size
+
+    go : (d : Found) → read_by v (drop at s) ≡ d → (at < r.next) × (r.next - at ≡ size_by v (drop at s))
+    go (refused n) e = none (omega (arith, numbered_by v (drop at s) n e, ap refusal_in e, h.refusal, z))
+    go (found k ws rest) e =
+        let o = opens_by v (drop at s) k ws rest (small_drop at s m) e in
+        let l : length (drop at s) ≡ length o.front + length rest = ap length o.same ∙ length-append o.front rest in
+        let n : size_by v (drop at s) ≡ length (drop at s) - length rest = ap (size_in (length (drop at s))) e in
+        (omega (arith, size, n, l, o.some), size)
 
 -- no record begins past the end, or with another byte than A5
 pub size_past : (v : ℕ) (s : List ℕ) (at : ℕ) → length s ≤ at → 0 ≡ size_by v (drop at s)

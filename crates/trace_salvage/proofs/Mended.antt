@@ -5,19 +5,19 @@ use native.Mathlib.Omega.{arith}
 use mathlib.Core.Bool.{Bool, true, false, cond}
 use mathlib.Core.List.{List, [], ◌∷◌, ◌++◌, append_assoc}
 use lib.Dec.{eqb}
-use lib.ListN.{length, take, drop, length-append, length-drop}
+use lib.ListN.{length, take, drop, length-append}
 use lib.Seq.{take_at, drop_at}
 use Rattle.byte_layout.proofs.Numbers.{Small, small_drop}
 use Rattle.byte_layout.proofs.Codec.{never}
 use Rattle.trace_records.specs.Records.{Found, refused, found}
-use Rattle.trace_records.specs.Traces.{Entry, Story, over, broken, and_then, read_all_by, entries, is_whole}
+use Rattle.trace_records.specs.Traces.{Entry, Story, and_then, read_all_by, entries, is_whole}
 use Rattle.trace_records.proofs.Rounds.{small_after}
 use Rattle.trace_records.proofs.Traces.{Opens, one_first, by_refused}
 use Rattle.trace_sealed.specs.Records.{read_by}
 use Rattle.trace_sealed.proofs.Readers.{opens_by}
 use Rattle.trace_salvage.specs.Salvage.{kept, skipped, records, first, size_in, size_by}
 use Rattle.trace_salvage.specs.Promises.{story, Same, Mended, Before}
-use Rattle.trace_salvage.proofs.Keeps.{Keep, turn_keep, Skip, turn_skip}
+use Rattle.trace_salvage.proofs.Keeps.{turn_keep, Skip, turn_skip}
 
 none : {A : Type 0} → ⊥ → A
 none e = elim e [ ]

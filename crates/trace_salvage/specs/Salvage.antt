@@ -1,6 +1,6 @@
 -- Salvage of a damaged trace. `size` is the length of the complete record at the beginning of a list, 0 if there is
 -- none; k bytes of the current record are left to copy.
-use Rattle.std.specs.Prelude.{ℕ, zero, suc, ◌+◌, ◌-◌, ◌≤◌, ◌<◌, Bool, true, false, cond, List, [], ◌∷◌, ◌++◌, ◌≡◌}
+use Rattle.std.specs.Prelude.{ℕ, zero, suc, ◌+◌, ◌-◌, ◌≤◌, ◌<◌, cond, List, [], ◌∷◌, ◌≡◌}
 use Rattle.std.specs.Prelude.{eqb, ltb, length, drop, Option, Some, None, unwrap_or, Result, Ok, Err}
 use Rattle.std.proofs.lemmas.List.Edits.{sets}
 use Rattle.trace_records.specs.Records.{Found, refused, found}
@@ -87,7 +87,7 @@ salvage_of = salvage_by 1
 
 -- the offset after the complete record at an offset
 abbrev pub Ends : ℕ → List ℕ → ℕ → Option ℕ → Type 0
-Ends v s at (Some end) = end - at ≡ size_by v (drop at s)
+Ends v s at (Some end) = (at < end) × (end - at ≡ size_by v (drop at s))
 Ends v s at None = 0 ≡ size_by v (drop at s)
 
 -- the first skipped offset, once something was skipped

@@ -55,7 +55,7 @@ fn step(reader: u64, s: &[u8], out: &mut [u8], t: Salvaging) -> Salvaging
     ensures { Salvages reader s.now out.old out.new t result }
 {
     match record_end(reader, s, t.at) {
-        Some(end) if t.at < end => {
+        Some(end) => {
             byte_layout::copy(s, t.at, end, out, t.w);
             Salvaging {
                 at: end,
@@ -64,7 +64,7 @@ fn step(reader: u64, s: &[u8], out: &mut [u8], t: Salvaging) -> Salvaging
                 ..t
             }
         }
-        _ => Salvaging {
+        None => Salvaging {
             at: t.at + 1,
             skip: t.skip + 1,
             first: Some(t.first.unwrap_or(t.at)),
@@ -88,6 +88,7 @@ pub fn salvage_by(reader: u64, s: &[u8], out: &mut [u8]) -> Result<Saved, Refusa
         records: 0,
         first: None,
     };
+    // A `while` and no `for`: each step passes a record or a single byte.
     while t.at < s.len() {
         t = step(reader, s, out, t);
     }

@@ -1,7 +1,7 @@
 -- `trace_salvage::record_end`: what the reader accepts.
-use Rattle.std.proofs.Common.{◌≡◌, sym, ap, ◌∙◌, Ok, Err}
+use Rattle.std.proofs.Common.{refl, sym, ap, ◌∙◌, Ok, Err, arith}
 use Rattle.trace_records.specs.Records.{record_read}
-use Rattle.trace_salvage.proofs.Keeps.{size_past, size_unmarked, read_1, read_2, none_read}
+use Rattle.trace_salvage.proofs.Keeps.{size_past, size_unmarked, read_1, read_2, none_read, ends}
 use Rattle.trace_salvage.proofs.record_end.Goals.{then-reader-eq1, else-reader-eq1}
 use Rattle.trace_salvage.proofs.record_end.Goals as goal
 
@@ -17,10 +17,11 @@ pub returns-in-Ok : goal.returns-in-Ok
 returns-in-Ok c =
     let a = c.args in
     let r = record_read a.at (Ok c.in-Ok.record) in
-    elim c.if-reader-eq1.branch [
+    ends a.reader a.s.now a.at r (λ i. let q = c.type_inv.s i in omega (arith, q)) refl
+    (elim c.if-reader-eq1.branch [
       | then-reader-eq1 w ↦ read_1 a.reader a.s.now a.at r w.if-reader-eq1.true (ap (record_read a.at) (sym c.in-Ok.is ∙ w.record-is) ∙ w.read-record.ensures)
       | else-reader-eq1 w ↦ read_2 a.reader a.s.now a.at r w.if-reader-eq1.false (ap (record_read a.at) (sym c.in-Ok.is ∙ w.record-is) ∙ w.read-record-else-reader-eq1.ensures)
-    ]
+    ])
 
 pub returns-in-Err : goal.returns-in-Err
 returns-in-Err c =

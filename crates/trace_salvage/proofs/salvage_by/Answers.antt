@@ -1,7 +1,6 @@
 -- `trace_salvage::salvage_by`: the rest, done, completes the whole salvage.
-use Prim.Native.Nat.{ℕ, ◌+◌, ◌-◌, ◌*◌, ◌≤◌, ◌<◌}
 use native.Mathlib.Omega.{arith}
-use mathlib.Core.Path.{◌≡◌, refl, ◌∙◌}
+use mathlib.Core.Path.{refl, ◌∙◌}
 use borrow.Author.Rules.{rules}
 use Rattle.trace_salvage.proofs.Keeps.{refused_short, saved}
 use Rattle.trace_salvage.proofs.salvage_by.Goals as goal

@@ -1,6 +1,6 @@
 -- `trace_salvage::salvage_by`: the rest, done, completes the whole salvage.
-use Prim.Native.Nat.{ℕ, ◌+◌, ◌-◌, ◌*◌, ◌≤◌, ◌<◌}
-use mathlib.Core.Path.{◌≡◌, ◌∙◌}
+use Prim.Native.Nat.{◌+◌, ◌-◌, ◌≤◌}
+use mathlib.Core.Path.{◌≡◌}
 use lib.ListN.{length, drop}
 use lib.Seq.{sets}
 use Rattle.trace_salvage.specs.Salvage.{kept, skipped, records, first, placed, size_by}
