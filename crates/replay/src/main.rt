@@ -31,6 +31,7 @@ fn read_full(input: Stdin, buf: &mut [u8]) -> usize
 {
     let mut input = input;
     let mut done = 0;
+    // A `while` and no `for`: a read gives any number of bytes.
     while done < buf.len() {
         let Ok(n) = input.read(&mut buf[done..]) else {
             return done;

@@ -61,6 +61,9 @@ pub struct LanedBlock {
     pub signals: Signals,
 }
 
+// Functions and no `From`: a `From` needs a type of this crate, and eighty numbers alone do not say of which kind of
+// record they are.
+
 // ---- numbers
 
 fn half_of(n: u64) -> u32

@@ -1,4 +1,5 @@
 // Formats the lines that a replay prints, at the start of a buffer of at least 139 bytes.
+// A state and a refusal are numbers here: the lines print them so, and this crate knows no player.
 #![tactic(auto)]
 
 ghost use Rattle.std.specs.Prelude.{◌≡◌, ◌+◌, ◌≤◌, length};
