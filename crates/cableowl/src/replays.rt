@@ -10,7 +10,6 @@ ghost use Rattle.c_state.specs.Records.{decoded};
 ghost use Rattle.cableowl.specs.Replays.{
   blank_by,
   blank_replay,
-  more,
   onward,
   behind,
   played_as,
@@ -64,12 +63,6 @@ pub struct CableowlReplayed {
     pub kind: u64,
     pub refusal: u64,
     pub lowest_count: u64,
-}
-
-fn more_of(n: u64) -> u64
-    ensures { result ≡ more n }
-{
-    n.saturating_add(1)
 }
 
 fn onward_of(at: u64, n: u64) -> u64
@@ -250,7 +243,7 @@ pub(crate) fn count_block(
         size,
         answered.state,
         replay.samples,
-        more_of(replay.blocks),
+        replay.blocks.saturating_add(1),
     );
     played(
         after,

@@ -7,7 +7,6 @@ ghost use Rattle.static_sound.specs.Entries.{block_answer};
 ghost use Rattle.trace_replay.specs.Runs.{
   blank,
   replay_of,
-  more,
   answered,
   line_of,
   after_creation,
@@ -46,12 +45,6 @@ pub struct Advanced {
     pub run: Run,
     pub next: Option<usize>,
     pub written: usize,
-}
-
-fn more_of(n: u64) -> u64
-    ensures { result ≡ more n }
-{
-    n.saturating_add(1)
 }
 
 // The player's result for a block whose frames all have the same numbers.
@@ -152,7 +145,7 @@ fn play(run: Run, values: [u64; 80], sound: &[f32], line: &mut [u8]) -> PlayedRe
     let samples = run.samples;
     let block = trace_inputs::block_of(values);
     let answer = answer(run.voice, &sound[..samples], block);
-    let blocks = more_of(run.blocks);
+    let blocks = run.blocks.saturating_add(1);
     let written = put_line(line, blocks, block.frames, answer);
     match answer {
         Ok(processed) => PlayedRecord {
@@ -170,7 +163,7 @@ fn play(run: Run, values: [u64; 80], sound: &[f32], line: &mut [u8]) -> PlayedRe
     }
 }
 
-// One record: the run after it, and its line.
+// One record: the run after it, and its line. The kind is a number, as in the record read; any but 1 and 2 is a block.
 pub fn play_record(
     run: Run,
     kind: u64,
