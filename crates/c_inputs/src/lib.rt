@@ -1,5 +1,5 @@
-// Settings, commands and signals from C records. An unknown tag becomes a value that its field's check refuses, as
-// a NaN.
+// Settings, commands and signals from C records. Kinds, tags and flags are numbers there, and any number may come: an
+// unknown tag becomes a value that its field's check refuses, as a NaN.
 #![tactic(auto)]
 
 ghost use Rattle.std.specs.Prelude.{◌≡◌};
@@ -173,6 +173,7 @@ fn loop_of(command: u32, region: CableowlRegion) -> LoopCommand
     }
 }
 
+// A function and no `From`, as is `answer_of`: the number and its meaning are both types of other crates.
 fn resume_of(n: u32) -> ResumeCommand
     ensures { result ≡ resume_of n }
 {

@@ -1,5 +1,5 @@
-// A voice as a C record. Any bytes are accepted: a record that represents no voice becomes the blank state, which
-// every entry refuses.
+// A voice as a C record, where states and flags are numbers. Any bytes are accepted: a record that represents no voice
+// becomes the blank state, which every entry refuses.
 #![tactic(auto)]
 
 ghost use Rattle.std.specs.Prelude.{◌≡◌, ◌≤◌};
@@ -75,7 +75,7 @@ fn is_well_formed(state: CableowlState) -> bool
         & is_range(state.has_loop, state.loop_start, state.loop_end)
 }
 
-// A number above 6 is in no well formed record.
+// A number above 6 is in no well formed record. A function of its own, since `TryFrom` refuses such a number.
 fn state_of(n: u32) -> PlaybackState
     ensures { result ≡ state_of n }
 {

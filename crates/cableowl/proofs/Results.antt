@@ -1,7 +1,7 @@
--- What `told` and its callers return, from the result of the function below them. Assumes nothing.
+-- What `value_or` and its callers return, from the result of the function below them. Assumes nothing.
 use Rattle.std.specs.Prelude.{Result, Ok, Err, MatchResult, ◌<◌}
 use Rattle.std.specs.Result.{result_unwrap_or}
-use mathlib.Core.Path.{◌≡◌, refl, ap, subst}
+use mathlib.Core.Path.{◌≡◌, refl, ap}
 use Prim.Native.Nat.{ℕ, ◌≤◌}
 use mathlib.Core.Bool.{Bool, true, false, cond}
 use mathlib.Core.List.{List}
@@ -76,16 +76,12 @@ half_value_or (Err k) a f = (ap (λ (h : LoadedHalf). h.refusal) f, ap (λ (h : 
 
 -- ---- halls
 
-module _ (n : ℕ) (r : Result Hall Refusal) (m : MatchResult r (λ h. (h ≡ hall_of n) × (n ≤ 1)) (λ e. (e ≡ State) × (1 < n))) where
-  pub hall_known : (h : Hall) → r ≡ Ok h → (leb n 1 ≡ true) × (h ≡ hall_of n)
-  hall_known h i =
-      let e = subst (λ (q : Result Hall Refusal). MatchResult q (λ h. (h ≡ hall_of n) × (n ≤ 1)) (λ e. (e ≡ State) × (1 < n))) i m in
-      (le-leb n 1 e.1, e.0)
-
-  pub hall_unknown : (k : Refusal) → r ≡ Err k → (leb n 1 ≡ false) × (k ≡ State)
-  hall_unknown k i =
-      let e = subst (λ (q : Result Hall Refusal). MatchResult q (λ h. (h ≡ hall_of n) × (n ≤ 1)) (λ e. (e ≡ State) × (1 < n))) i m in
-      (lt-leb n 1 e.1, e.0)
+-- what a call of a hall returns, by the hall's number: g makes the C record of it
+pub by_hall : {A B C : Type 0} (f : Result A Refusal → B) (g : B → C) (w : Hall → B) (n : ℕ) (h : Result Hall Refusal) (r : Result A Refusal)
+    → MatchResult h (λ x. (x ≡ hall_of n) × (n ≤ 1)) (λ e. (e ≡ State) × (1 < n)) → MatchResult h (λ x. f r ≡ w x) (λ e. r ≡ Err e)
+    → g (f r) ≡ cond (leb n 1) (g (w (hall_of n))) (g (f (Err State)))
+by_hall f g w n (Ok x) r m e = rw (le-leb n 1 m.1, ← m.0) (ap g e)
+by_hall f g w n (Err k) r m e = rw (lt-leb n 1 m.1, ← m.0) (ap (λ q. g (f q)) e)
 
 -- ---- a write to a trace
 

@@ -1,4 +1,5 @@
-// The C entries of copies of the loop table: crate loop_copies over numbers. Hall A is 0, B is 1.
+// The C entries of copies of the loop table: crate loop_copies over numbers. Hall A is 0, B is 1. C has a function and
+// a result of its own for a table (loops.rt) and for a copy, so each entry is written for both.
 ghost use Rattle.std.specs.Prelude.{◌≡◌};
 ghost use Rattle.loop_copies.specs.Copies.{empty_copy, copy_changed_of};
 ghost use Rattle.cableowl.specs.Loops.{copy_changed_c, copy_written_c, copy_cleared_c, merged_c};
@@ -40,20 +41,16 @@ pub extern "C" fn cableowl_write_copy(
 ) -> CopyChanged
     ensures { result ≡ copy_written_c copy hall slot start end }
 {
-    match hall_of(hall) {
-        Ok(hall) => changed(copy, copy.write(hall, slot as usize, start, end)),
-        Err(refusal) => changed(copy, Err(refusal)),
-    }
+    let written = hall_of(hall).and_then(|hall| copy.write(hall, slot as usize, start, end));
+    changed(copy, written)
 }
 
 #[unsafe(no_mangle)]
 pub extern "C" fn cableowl_clear_copy(copy: LoopCopy, hall: u32, slot: u64) -> CopyChanged
     ensures { result ≡ copy_cleared_c copy hall slot }
 {
-    match hall_of(hall) {
-        Ok(hall) => changed(copy, copy.clear(hall, slot as usize)),
-        Err(refusal) => changed(copy, Err(refusal)),
-    }
+    let cleared = hall_of(hall).and_then(|hall| copy.clear(hall, slot as usize));
+    changed(copy, cleared)
 }
 
 #[unsafe(no_mangle)]

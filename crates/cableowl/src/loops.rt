@@ -37,6 +37,8 @@ pub(crate) fn hall_of(n: u32) -> Result<Hall, Refusal>
     }
 }
 
+// copies.rt has the same for a copy. C knows the two results by names of their own, so a trait of both would only add
+// to the two lines.
 fn changed(given: LoopTable, answer: Result<LoopTable, Refusal>) -> LoopChanged
     ensures { result ≡ changed_c (changed_of given answer) }
 {
@@ -61,20 +63,16 @@ pub extern "C" fn cableowl_write_loop(
 ) -> LoopChanged
     ensures { result ≡ written_c table hall slot start end }
 {
-    match hall_of(hall) {
-        Ok(hall) => changed(table, table.write(hall, slot as usize, start, end)),
-        Err(refusal) => changed(table, Err(refusal)),
-    }
+    let written = hall_of(hall).and_then(|hall| table.write(hall, slot as usize, start, end));
+    changed(table, written)
 }
 
 #[unsafe(no_mangle)]
 pub extern "C" fn cableowl_clear_loop(table: LoopTable, hall: u32, slot: u64) -> LoopChanged
     ensures { result ≡ cleared_c table hall slot }
 {
-    match hall_of(hall) {
-        Ok(hall) => changed(table, table.clear(hall, slot as usize)),
-        Err(refusal) => changed(table, Err(refusal)),
-    }
+    let cleared = hall_of(hall).and_then(|hall| table.clear(hall, slot as usize));
+    changed(table, cleared)
 }
 
 #[unsafe(no_mangle)]

@@ -282,7 +282,7 @@ pub(crate) fn play(
     count_block(replay, size, 3, block.frames, processed)
 }
 
-// Plays one record, by its kind.
+// Plays one record, by its kind, a number from 1 to 3 as C reads it too.
 fn play_record(
     replay: CableowlReplay,
     read: Record,
@@ -346,6 +346,8 @@ pub extern "C" fn cableowl_replay() -> CableowlReplay
 }
 
 // Reads and plays the next record of a trace; returns what it did and the replay after it.
+// cableowl_replay_step_v2 has the same steps, and shares the functions of those that are equal. One text for both is no
+// plainer: they check, read and play differently, and each of the three would be a closure over the caller's buffers.
 #[unsafe(no_mangle)]
 pub extern "C" fn cableowl_replay_step(
     replay: CableowlReplay,

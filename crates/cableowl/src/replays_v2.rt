@@ -45,6 +45,8 @@ fn is_twice(n: usize, frames: u64) -> bool
     (half == frames) & (n % 2 == 0)
 }
 
+// C gives `sounds` as a number, and any may come: 0 if the host has no sounds, 1 if the given one has the recorded
+// digest, any other if it has other sounds only.
 fn is_other_sound(sounds: u32, len: usize, values: [u64; 80]) -> bool
     ensures { result ≡ other_sound sounds len values }
 {
@@ -158,7 +160,7 @@ fn obey_or_play(
     }
 }
 
-// Plays one record, by its kind.
+// Plays one record, by its kind, a number from 1 to 5 as C reads it too.
 fn play_record_v2(
     replay: CableowlReplay,
     read: Record,
@@ -225,7 +227,8 @@ pub extern "C" fn cableowl_replay_v2() -> CableowlReplay
     blank(2)
 }
 
-// Reads and plays the next record of a trace of version 2; returns what it did and the replay after it.
+// Reads and plays the next record of a trace of version 2; returns what it did and the replay after it. The steps are
+// those of cableowl_replay_step, which says why they are written twice.
 #[unsafe(no_mangle)]
 pub extern "C" fn cableowl_replay_step_v2(
     replay: CableowlReplay,

@@ -8,6 +8,7 @@ use crate::number_of;
 use c_inputs::{CableowlPlace, CableowlRegion, CableowlSettings};
 use saved_settings::{Loaded, SavedSettings};
 
+// Functions and no `From`: the array and the types of `saved_settings` are all of other crates.
 fn saved_in(words: &[u64; 8]) -> SavedSettings
     ensures { result ≡ saved_in words.now }
 {
@@ -79,7 +80,7 @@ fn rate_of(bits: u64, pitch: u64) -> f64
     }
 }
 
-// 0 or 1 unchanged, any other number becomes 2.
+// A tag of C, which is a number there: 0 or 1 unchanged, any other number becomes 2.
 fn tag_of(word: u64) -> u32
     ensures { result ≡ tag_of word }
 {

@@ -1,21 +1,14 @@
 -- `cableowl_write_loop` meets its contract: by the hall with that number.
-use Rattle.std.specs.Prelude.{Err}
-use mathlib.Core.Path.{ap, ◌∙◌}
-use Rattle.refusals.specs.declared.Refusal.{Refusal}
+use Rattle.std.proofs.Common.{rules}
+use mathlib.Core.Path.{◌∙◌}
 use Rattle.loop_table.specs.declared.Hall.{Hall}
 use Rattle.loop_table.specs.Tables.{written, changed_of}
 use Rattle.cableowl.specs.Loops.{changed_c}
-use Rattle.cableowl.proofs.Results.{hall_known, hall_unknown}
+use Rattle.cableowl.proofs.Results.{by_hall}
 use Rattle.cableowl.proofs.loops.cableowl_write_loop.Goals as goal
 
-pub returns-in-Ok : goal.returns-in-Ok
-returns-in-Ok c =
+pub returns : goal.returns
+returns c =
     let a = c.args in
-    let e = hall_known a.hall c.hall_of.result c.hall_of.ensures c.in-Ok.hall c.in-Ok.is in
-    rw e.0 (c.changed.ensures ∙ ap changed_c (c.write.ensures ∙ ap (λ (h : Hall). written a.table h a.slot a.start a.end) e.1))
-
-pub returns-in-Err : goal.returns-in-Err
-returns-in-Err c =
-    let a = c.args in
-    let e = hall_unknown a.hall c.hall_of.result c.hall_of.ensures c.in-Err.refusal c.in-Err.is in
-    rw e.0 (c.changed-in-Err.ensures ∙ ap (λ (k : Refusal). changed_c (changed_of a.table (Err k))) e.1)
+    c.changed.ensures
+    ∙ by_hall (changed_of a.table) changed_c (λ (h : Hall). written a.table h a.slot a.start a.end) a.hall c.hall_of.result _ c.hall_of.ensures (search rules)
