@@ -7,7 +7,7 @@ ghost use Rattle.test_exports.specs.Answers.{yes};
 ghost use Rattle.test_exports.specs.Places.{range_of};
 ghost use Rattle.test_exports.specs.Moves.{transport_of, plain_transport, nowhere};
 
-use super::places::{PlainRange, plain_range, range_of};
+use super::places::{PlainRange, range_of};
 use transport::Transport;
 
 // Playing if `playing` is not 0.
@@ -29,25 +29,27 @@ const NOWHERE: PlainTransport = PlainTransport {
     playing: 0,
 };
 
-fn transport_of(t: PlainTransport) -> Transport
-    ensures { result ≡ transport_of t }
-{
-    let loop_region = t.loop_region;
-    Transport {
-        position: t.position as usize,
-        loop_region: range_of(loop_region),
-        playing: super::is_yes(t.playing),
+impl From<PlainTransport> for Transport {
+    ghost from_gives = { λ given transport. transport ≡ transport_of given };
+
+    fn from(given: PlainTransport) -> Transport {
+        Transport {
+            position: given.position as usize,
+            loop_region: range_of(given.loop_region),
+            playing: super::is_yes(given.playing),
+        }
     }
 }
 
-fn plain_transport(t: Transport) -> PlainTransport
-    ensures { result ≡ plain_transport t }
-{
-    let loop_region = t.loop_region;
-    PlainTransport {
-        position: t.position as u64,
-        loop_region: plain_range(loop_region),
-        playing: u32::from(t.playing),
+impl From<Transport> for PlainTransport {
+    ghost from_gives = { λ transport plain. plain ≡ plain_transport transport };
+
+    fn from(transport: Transport) -> PlainTransport {
+        PlainTransport {
+            position: transport.position as u64,
+            loop_region: PlainRange::from(transport.loop_region),
+            playing: u32::from(transport.playing),
+        }
     }
 }
 
@@ -65,8 +67,7 @@ fn is_ordered(loop_region: Option<(usize, usize)>) -> bool
 fn is_well_formed_transport(t: Transport, num_frames: usize) -> bool
     ensures { result ≡ well_formed_transport num_frames t }
 {
-    let loop_region = t.loop_region;
-    playback_position::is_within(loop_region, num_frames)
+    playback_position::is_within(t.loop_region, num_frames)
         & (!t.playing | (t.position < num_frames))
         & (t.position <= 4294967296)
 }
@@ -79,9 +80,9 @@ pub extern "C" fn cableowl_test_increment_position(
     ensures { result ≡ cond (well_formed_transport num_frames (transport_of t))
         (plain_transport (forward num_frames (transport_of t))) nowhere }
 {
-    let given = transport_of(t);
+    let given = Transport::from(t);
     if is_well_formed_transport(given, num_frames as usize) {
-        plain_transport(given.increment_position(num_frames as usize))
+        PlainTransport::from(given.increment_position(num_frames as usize))
     } else {
         NOWHERE
     }
@@ -92,10 +93,9 @@ pub extern "C" fn cableowl_test_decrement_position(t: PlainTransport) -> PlainTr
     ensures { result ≡ cond (ordered (transport_of t).loop_region)
         (plain_transport (backward (transport_of t))) nowhere }
 {
-    let given = transport_of(t);
-    let loop_region = given.loop_region;
-    if is_ordered(loop_region) {
-        plain_transport(given.decrement_position())
+    let given = Transport::from(t);
+    if is_ordered(given.loop_region) {
+        PlainTransport::from(given.decrement_position())
     } else {
         NOWHERE
     }
@@ -110,10 +110,9 @@ pub extern "C" fn cableowl_test_seek_to(
     ensures { result ≡ cond (ordered (transport_of t).loop_region)
         (plain_transport (seek num_frames (transport_of t) position)) nowhere }
 {
-    let given = transport_of(t);
-    let loop_region = given.loop_region;
-    if is_ordered(loop_region) {
-        plain_transport(given.seek_to(position as usize, num_frames as usize))
+    let given = Transport::from(t);
+    if is_ordered(given.loop_region) {
+        PlainTransport::from(given.seek_to(position as usize, num_frames as usize))
     } else {
         NOWHERE
     }
@@ -126,7 +125,7 @@ pub extern "C" fn cableowl_test_set_loop_region(
 ) -> PlainTransport
     ensures { result ≡ plain_transport (reloop (transport_of t) (range_of loop_region)) }
 {
-    plain_transport(transport_of(t).set_loop_region(range_of(loop_region)))
+    PlainTransport::from(Transport::from(t).set_loop_region(range_of(loop_region)))
 }
 
 #[unsafe(no_mangle)]
@@ -140,7 +139,7 @@ pub extern "C" fn cableowl_test_new_transport(
         (plain_transport (begun num_frames (yes reverse) (range_of loop_region) start_position)) nowhere }
 {
     if start_position < num_frames {
-        plain_transport(Transport::new(
+        PlainTransport::from(Transport::new(
             start_position as usize,
             range_of(loop_region),
             super::is_yes(reverse),

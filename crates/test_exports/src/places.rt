@@ -33,61 +33,64 @@ pub struct PlainRange {
     pub end: u64,
 }
 
-fn position_of(p: PlainPosition) -> PlaybackPosition
-    ensures { result ≡ position_of p }
-{
-    if p.in_seconds == 0 {
-        PlaybackPosition::Samples(p.samples as usize)
-    } else {
-        PlaybackPosition::Seconds(p.seconds)
+impl From<PlainPosition> for PlaybackPosition {
+    ghost from_gives = { λ given position. position ≡ position_of given };
+
+    fn from(given: PlainPosition) -> PlaybackPosition {
+        match given.in_seconds {
+            0 => PlaybackPosition::Samples(given.samples as usize),
+            _ => PlaybackPosition::Seconds(given.seconds),
+        }
     }
 }
 
+// A function: an end is made of two fields of a region.
 fn end_of(given: u32, p: PlainPosition) -> EndPosition
     ensures { result ≡ end_of given p }
 {
-    if given == 0 {
-        EndPosition::EndOfAudio
-    } else {
-        EndPosition::Custom(position_of(p))
+    match given {
+        0 => EndPosition::EndOfAudio,
+        _ => EndPosition::Custom(PlaybackPosition::from(p)),
     }
 }
 
-fn region_of(region: PlainRegion) -> Region
-    ensures { result ≡ region_of region }
-{
-    let start = region.start;
-    let end = region.end;
-    Region {
-        start: position_of(start),
-        end: end_of(region.end_given, end),
+impl From<PlainRegion> for Region {
+    ghost from_gives = { λ given region. region ≡ region_of given };
+
+    fn from(given: PlainRegion) -> Region {
+        Region {
+            start: PlaybackPosition::from(given.start),
+            end: end_of(given.end_given, given.end),
+        }
     }
 }
 
+// A function: with a `From` each call would spell out `Option::<(usize, usize)>::from`.
 pub fn range_of(range: PlainRange) -> Option<(usize, usize)>
     ensures { result ≡ range_of range }
 {
-    if range.given == 0 {
-        None
-    } else {
-        Some((range.start as usize, range.end as usize))
+    match range.given {
+        0 => None,
+        _ => Some((range.start as usize, range.end as usize)),
     }
 }
 
-pub fn plain_range(range: Option<(usize, usize)>) -> PlainRange
-    ensures { result ≡ plain_range range }
-{
-    match range {
-        None => PlainRange {
-            given: 0,
-            start: 0,
-            end: 0,
-        },
-        Some((start, end)) => PlainRange {
-            given: 1,
-            start: start as u64,
-            end: end as u64,
-        },
+impl From<Option<(usize, usize)>> for PlainRange {
+    ghost from_gives = { λ range plain. plain ≡ plain_range range };
+
+    fn from(range: Option<(usize, usize)>) -> PlainRange {
+        match range {
+            None => PlainRange {
+                given: 0,
+                start: 0,
+                end: 0,
+            },
+            Some((start, end)) => PlainRange {
+                given: 1,
+                start: start as u64,
+                end: end as u64,
+            },
+        }
     }
 }
 
@@ -95,7 +98,7 @@ pub fn plain_range(range: Option<(usize, usize)>) -> PlainRange
 pub extern "C" fn cableowl_test_into_samples(position: PlainPosition, sample_rate: u32) -> u64
     ensures { result ≡ position_in_frames sample_rate (position_of position) }
 {
-    position_of(position).into_samples(sample_rate) as u64
+    PlaybackPosition::from(position).into_samples(sample_rate) as u64
 }
 
 #[unsafe(no_mangle)]
@@ -106,8 +109,8 @@ pub extern "C" fn cableowl_test_into_frames(
 ) -> PlainRange
     ensures { result ≡ plain_range (Some (region_in_frames sample_rate num_frames (region_of region))) }
 {
-    let frames = region_of(region).into_frames(sample_rate, num_frames as usize);
-    plain_range(Some(frames))
+    let frames = Region::from(region).into_frames(sample_rate, num_frames as usize);
+    PlainRange::from(Some(frames))
 }
 
 #[unsafe(no_mangle)]
@@ -118,5 +121,5 @@ pub extern "C" fn cableowl_test_is_lawful(
 ) -> u32
     ensures { result ≡ bit (well_formed_region sample_rate num_frames (region_of region)) }
 {
-    u32::from(region_of(region).is_well_formed(sample_rate, num_frames as usize))
+    u32::from(Region::from(region).is_well_formed(sample_rate, num_frames as usize))
 }

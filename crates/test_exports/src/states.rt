@@ -7,6 +7,7 @@ ghost use Rattle.test_exports.specs.States.{state_of, answer_of};
 
 use playback_state_manager::{PlaybackState, StartAnswer};
 
+// A function, since `TryFrom` refuses a number above 6.
 fn state_of(n: u32) -> PlaybackState
     ensures { result ≡ state_of n }
 {

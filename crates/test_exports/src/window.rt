@@ -45,91 +45,106 @@ pub struct PlainWindow {
     pub time_until_empty: u64,
 }
 
-fn frame_of(f: PlainFrame) -> Frame
-    ensures { result ≡ frame_of f }
-{
-    Frame {
-        left: f.left,
-        right: f.right,
+impl From<PlainFrame> for Frame {
+    ghost from_gives = { λ given frame. frame ≡ frame_of given };
+
+    fn from(given: PlainFrame) -> Frame {
+        Frame {
+            left: given.left,
+            right: given.right,
+        }
     }
 }
 
-fn plain_frame(f: Frame) -> PlainFrame
-    ensures { result ≡ plain_frame f }
-{
-    PlainFrame {
-        left: f.left,
-        right: f.right,
+impl From<Frame> for PlainFrame {
+    ghost from_gives = { λ frame plain. plain ≡ plain_frame frame };
+
+    fn from(frame: Frame) -> PlainFrame {
+        PlainFrame {
+            left: frame.left,
+            right: frame.right,
+        }
     }
 }
 
-fn plain_reading(r: Reading) -> PlainReading
-    ensures { result ≡ plain_reading r }
-{
-    let frame = r.frame;
-    PlainReading {
-        frame: plain_frame(frame),
-        count: r.count as u64,
+impl From<Reading> for PlainReading {
+    ghost from_gives = { λ reading plain. plain ≡ plain_reading reading };
+
+    fn from(reading: Reading) -> PlainReading {
+        PlainReading {
+            frame: PlainFrame::from(reading.frame),
+            count: reading.count as u64,
+        }
     }
 }
 
-fn entry_of(e: PlainEntry) -> RecentFrame
-    ensures { result ≡ entry_of e }
-{
-    let frame = e.frame;
-    RecentFrame {
-        frame: frame_of(frame),
-        frame_index: e.frame_index as usize,
+impl From<PlainEntry> for RecentFrame {
+    ghost from_gives = { λ given entry. entry ≡ entry_of given };
+
+    fn from(given: PlainEntry) -> RecentFrame {
+        RecentFrame {
+            frame: Frame::from(given.frame),
+            frame_index: given.frame_index as usize,
+        }
     }
 }
 
-fn plain_entry(e: RecentFrame) -> PlainEntry
-    ensures { result ≡ plain_entry e }
-{
-    let frame = e.frame;
-    PlainEntry {
-        frame: plain_frame(frame),
-        frame_index: e.frame_index as u64,
+impl From<RecentFrame> for PlainEntry {
+    ghost from_gives = { λ entry plain. plain ≡ plain_entry entry };
+
+    fn from(entry: RecentFrame) -> PlainEntry {
+        PlainEntry {
+            frame: PlainFrame::from(entry.frame),
+            frame_index: entry.frame_index as u64,
+        }
     }
 }
 
-fn window_of(w: PlainWindow) -> Resampler
-    ensures { result ≡ window_of w }
-{
-    let a = entry_of(w.entries[0]);
-    let b = entry_of(w.entries[1]);
-    let c = entry_of(w.entries[2]);
-    let d = entry_of(w.entries[3]);
-    Resampler {
-        frames: [a, b, c, d],
-        time_until_empty: w.time_until_empty as usize,
+impl From<PlainWindow> for Resampler {
+    ghost from_gives = { λ given window. window ≡ window_of given };
+
+    fn from(given: PlainWindow) -> Resampler {
+        let a = RecentFrame::from(given.entries[0]);
+        let b = RecentFrame::from(given.entries[1]);
+        let c = RecentFrame::from(given.entries[2]);
+        let d = RecentFrame::from(given.entries[3]);
+        Resampler {
+            frames: [a, b, c, d],
+            time_until_empty: given.time_until_empty as usize,
+        }
     }
 }
 
-fn plain_window(w: Resampler) -> PlainWindow
-    ensures { result ≡ plain_window w }
-{
-    let a = plain_entry(w.frames[0]);
-    let b = plain_entry(w.frames[1]);
-    let c = plain_entry(w.frames[2]);
-    let d = plain_entry(w.frames[3]);
-    PlainWindow {
-        entries: [a, b, c, d],
-        time_until_empty: w.time_until_empty as u64,
+impl From<Resampler> for PlainWindow {
+    ghost from_gives = { λ window plain. plain ≡ plain_window window };
+
+    fn from(window: Resampler) -> PlainWindow {
+        let a = PlainEntry::from(window.frames[0]);
+        let b = PlainEntry::from(window.frames[1]);
+        let c = PlainEntry::from(window.frames[2]);
+        let d = PlainEntry::from(window.frames[3]);
+        PlainWindow {
+            entries: [a, b, c, d],
+            time_until_empty: window.time_until_empty as u64,
+        }
     }
 }
 
 fn given_frame(given: u32, f: PlainFrame) -> Option<Frame>
     ensures { result ≡ frame_given given f }
 {
-    if given == 0 { None } else { Some(frame_of(f)) }
+    if given == 0 {
+        None
+    } else {
+        Some(Frame::from(f))
+    }
 }
 
 #[unsafe(no_mangle)]
 pub extern "C" fn cableowl_test_new_window(starting_frame_index: u64) -> PlainWindow
     ensures { result ≡ plain_window (fresh starting_frame_index) }
 {
-    plain_window(Resampler::new(starting_frame_index as usize))
+    PlainWindow::from(Resampler::new(starting_frame_index as usize))
 }
 
 // No frame is pushed if `given` is 0.
@@ -142,28 +157,31 @@ pub extern "C" fn cableowl_test_push_frame(
 ) -> PlainWindow
     ensures { result ≡ plain_window (push (window_of w) (frame_given given frame) frame_index) }
 {
-    plain_window(window_of(w).push_frame(given_frame(given, frame), frame_index as usize))
+    PlainWindow::from(Resampler::from(w).push_frame(
+        given_frame(given, frame),
+        frame_index as usize,
+    ))
 }
 
 #[unsafe(no_mangle)]
 pub extern "C" fn cableowl_test_get(w: PlainWindow, fractional_position: f32) -> PlainReading
     ensures { result ≡ plain_reading (reading (window_of w) fractional_position) }
 {
-    plain_reading(window_of(w).get(fractional_position))
+    PlainReading::from(Resampler::from(w).get(fractional_position))
 }
 
 #[unsafe(no_mangle)]
 pub extern "C" fn cableowl_test_current_frame_index(w: PlainWindow) -> u64
     ensures { result ≡ current_frame_index (window_of w) }
 {
-    window_of(w).current_frame_index() as u64
+    Resampler::from(w).current_frame_index() as u64
 }
 
 #[unsafe(no_mangle)]
 pub extern "C" fn cableowl_test_empty(w: PlainWindow) -> u32
     ensures { result ≡ bit (is_empty (window_of w)) }
 {
-    u32::from(window_of(w).empty())
+    u32::from(Resampler::from(w).empty())
 }
 
 #[unsafe(no_mangle)]
@@ -177,11 +195,11 @@ pub extern "C" fn cableowl_test_interpolate_frame(
     ensures { result ≡ plain_frame
         (interpolated (frame_of previous) (frame_of current) (frame_of next_1) (frame_of next_2) fraction) }
 {
-    plain_frame(interpolate_frame(
-        frame_of(previous),
-        frame_of(current),
-        frame_of(next_1),
-        frame_of(next_2),
+    PlainFrame::from(interpolate_frame(
+        Frame::from(previous),
+        Frame::from(current),
+        Frame::from(next_1),
+        Frame::from(next_2),
         fraction,
     ))
 }

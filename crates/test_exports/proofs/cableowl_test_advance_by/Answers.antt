@@ -1,6 +1,6 @@
 -- `test_exports::cableowl_test_advance_by` meets its contract: a magnitude that is at most 256 is finite and clear. Assumes nothing.
 use mathlib.Core.Path.{◌≡◌, sym, ap, subst, ◌∙◌}
-use mathlib.Core.Logic.{inl, inr, ⊎_elim}
+use mathlib.Core.Logic.{inl, inr}
 use mathlib.Core.Bool.{true}
 use lib.IntN.{pos}
 use lib.Dec.{T}

@@ -14,13 +14,13 @@ decrement_position-requires c = subst T (sym (sym c.is_ordered.ensures ∙ c.if-
 pub returns-then-is_ordered : goal.returns-then-is_ordered
 returns-then-is_ordered c =
     let tested = c.before.before.before in
-    c.plain_transport.ensures
+    c.from.ensures
     ∙ ap plain_transport c.decrement_position.ensures
-    ∙ passed (λ (t : Transport). ordered t.loop_region) backward tested.transport_of-given.ensures
+    ∙ passed (λ (t : Transport). ordered t.loop_region) backward tested.from-given.ensures
     (sym tested.is_ordered.ensures ∙ c.if-is_ordered.true)
 
 pub returns-else-is_ordered : goal.returns-else-is_ordered
 returns-else-is_ordered c =
     let tested = c.before in
-    refused (λ (t : Transport). ordered t.loop_region) backward tested.transport_of-given.ensures
+    refused (λ (t : Transport). ordered t.loop_region) backward tested.from-given.ensures
     (sym tested.is_ordered.ensures ∙ c.if-is_ordered.false)

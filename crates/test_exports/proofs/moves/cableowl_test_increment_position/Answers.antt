@@ -15,12 +15,12 @@ pub returns-then-is_well_formed_transport : goal.returns-then-is_well_formed_tra
 returns-then-is_well_formed_transport c =
     let tested = c.before.before.before in
     let n = tested.args.num_frames in
-    c.plain_transport.ensures
+    c.from.ensures
     ∙ ap plain_transport c.increment_position.ensures
-    ∙ passed (well_formed_transport n) (forward n) tested.transport_of-given.ensures (sym tested.is_well_formed_transport.ensures ∙ c.if-is_well_formed_transport.true)
+    ∙ passed (well_formed_transport n) (forward n) tested.from-given.ensures (sym tested.is_well_formed_transport.ensures ∙ c.if-is_well_formed_transport.true)
 
 pub returns-else-is_well_formed_transport : goal.returns-else-is_well_formed_transport
 returns-else-is_well_formed_transport c =
     let tested = c.before in
     let n = tested.args.num_frames in
-    refused (well_formed_transport n) (forward n) tested.transport_of-given.ensures (sym tested.is_well_formed_transport.ensures ∙ c.if-is_well_formed_transport.false)
+    refused (well_formed_transport n) (forward n) tested.from-given.ensures (sym tested.is_well_formed_transport.ensures ∙ c.if-is_well_formed_transport.false)

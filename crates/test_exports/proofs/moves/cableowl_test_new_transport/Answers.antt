@@ -13,7 +13,7 @@ returns-then-start_position-num_frames c =
     let given = made.before in
     let start = given.before.before.before in
     rw (lt-ltb _ _ given.if-start_position-num_frames.true)
-    (c.plain_transport.ensures
+    (c.from.ensures
     ∙ ap plain_transport
     (made.new.ensures
     ∙ ap₂ (λ (b : Bool) (r : Option (ℕ × ℕ)). begun start.args.num_frames b r start.args.start_position) given.is_yes.ensures given.range_of.ensures))

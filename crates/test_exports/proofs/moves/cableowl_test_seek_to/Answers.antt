@@ -15,14 +15,14 @@ pub returns-then-is_ordered : goal.returns-then-is_ordered
 returns-then-is_ordered c =
     let tested = c.before.before.before in
     let start = tested.before.before in
-    c.plain_transport.ensures
+    c.from.ensures
     ∙ ap plain_transport c.seek_to.ensures
-    ∙ passed (λ (t : Transport). ordered t.loop_region) (λ (t : Transport). seek start.args.num_frames t start.args.position) tested.transport_of-given.ensures
+    ∙ passed (λ (t : Transport). ordered t.loop_region) (λ (t : Transport). seek start.args.num_frames t start.args.position) tested.from-given.ensures
     (sym tested.is_ordered.ensures ∙ c.if-is_ordered.true)
 
 pub returns-else-is_ordered : goal.returns-else-is_ordered
 returns-else-is_ordered c =
     let tested = c.before in
     let start = tested.before.before in
-    refused (λ (t : Transport). ordered t.loop_region) (λ (t : Transport). seek start.args.num_frames t start.args.position) tested.transport_of-given.ensures
+    refused (λ (t : Transport). ordered t.loop_region) (λ (t : Transport). seek start.args.num_frames t start.args.position) tested.from-given.ensures
     (sym tested.is_ordered.ensures ∙ c.if-is_ordered.false)

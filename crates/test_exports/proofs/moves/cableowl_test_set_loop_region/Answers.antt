@@ -7,4 +7,4 @@ use Rattle.test_exports.proofs.moves.cableowl_test_set_loop_region.Goals as goal
 pub returns : goal.returns
 returns c =
     let given = c.before.before in
-    c.plain_transport.ensures ∙ ap plain_transport (c.set_loop_region.ensures ∙ ap₂ reloop given.transport_of.ensures given.range_of.ensures)
+    c.from-2.ensures ∙ ap plain_transport (c.set_loop_region.ensures ∙ ap₂ reloop given.from.ensures given.range_of.ensures)

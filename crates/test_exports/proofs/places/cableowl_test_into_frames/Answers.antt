@@ -8,5 +8,5 @@ use Rattle.test_exports.proofs.places.cableowl_test_into_frames.Goals as goal
 pub returns : goal.returns
 returns c =
     let start = c.before.before.before in
-    c.plain_range.ensures
-    ∙ ap (λ (r : ℕ × ℕ). plain_range (Some r)) (c.into_frames-frames.ensures ∙ ap (region_in_frames start.args.sample_rate start.args.num_frames) c.region_of.ensures)
+    c.from-2.ensures
+    ∙ ap (λ (r : ℕ × ℕ). plain_range (Some r)) (c.into_frames-frames.ensures ∙ ap (region_in_frames start.args.sample_rate start.args.num_frames) c.from.ensures)

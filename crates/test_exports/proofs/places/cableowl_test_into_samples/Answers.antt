@@ -4,4 +4,4 @@ use Rattle.playback_position.specs.Positions.{position_in_frames}
 use Rattle.test_exports.proofs.places.cableowl_test_into_samples.Goals as goal
 
 pub returns : goal.returns
-returns c = c.into_samples.ensures ∙ ap (position_in_frames c.args.sample_rate) c.position_of.ensures
+returns c = c.into_samples.ensures ∙ ap (position_in_frames c.args.sample_rate) c.from.ensures

@@ -8,5 +8,5 @@ use Rattle.test_exports.proofs.places.cableowl_test_is_lawful.Goals as goal
 pub returns : goal.returns
 returns c =
     let start = c.before.before.before in
-    c.from.ensures ∙ byte_bit _
-    ∙ ap bit (c.is_well_formed.ensures ∙ ap (well_formed_region start.args.sample_rate start.args.num_frames) c.region_of.ensures)
+    c.from-2.ensures ∙ byte_bit _
+    ∙ ap bit (c.is_well_formed.ensures ∙ ap (well_formed_region start.args.sample_rate start.args.num_frames) c.from.ensures)

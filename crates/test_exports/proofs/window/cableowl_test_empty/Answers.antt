@@ -6,4 +6,4 @@ use Rattle.test_exports.proofs.Bits.{byte_bit}
 use Rattle.test_exports.proofs.window.cableowl_test_empty.Goals as goal
 
 pub returns : goal.returns
-returns c = c.from.ensures ∙ byte_bit _ ∙ ap bit (c.empty.ensures ∙ ap is_empty c.window_of.ensures)
+returns c = c.from-2.ensures ∙ byte_bit _ ∙ ap bit (c.empty.ensures ∙ ap is_empty c.from.ensures)

@@ -8,4 +8,4 @@ use Rattle.test_exports.proofs.window.cableowl_test_get.Goals as goal
 pub returns : goal.returns
 returns c =
     let f = c.args.fractional_position in
-    c.plain_reading.ensures ∙ ap plain_reading (c.get.ensures ∙ ap (λ (w : Resampler). reading w f) c.window_of.ensures)
+    c.from-2.ensures ∙ ap plain_reading (c.get.ensures ∙ ap (λ (w : Resampler). reading w f) c.from.ensures)

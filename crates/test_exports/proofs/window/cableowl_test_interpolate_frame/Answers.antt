@@ -15,4 +15,4 @@ pub returns : goal.returns
 returns c =
     let fourth = c.before.before in
     let second = fourth.before.before in
-    answer _ second.frame_of.ensures second.frame_of-2.ensures fourth.frame_of-3.ensures fourth.frame_of-4.ensures c.interpolate_frame.ensures c.plain_frame.ensures
+    answer _ second.from.ensures second.from-2.ensures fourth.from-3.ensures fourth.from-4.ensures c.interpolate_frame.ensures c.from-5.ensures

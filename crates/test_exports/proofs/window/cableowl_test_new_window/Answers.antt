@@ -4,4 +4,4 @@ use Rattle.test_exports.specs.Windows.{plain_window}
 use Rattle.test_exports.proofs.window.cableowl_test_new_window.Goals as goal
 
 pub returns : goal.returns
-returns c = c.plain_window.ensures ∙ ap plain_window c.new.ensures
+returns c = c.from.ensures ∙ ap plain_window c.new.ensures

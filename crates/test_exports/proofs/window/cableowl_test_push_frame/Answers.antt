@@ -12,5 +12,5 @@ returns c =
     let pushed = c.before in
     let given = pushed.before in
     let n = given.args.frame_index in
-    c.plain_window.ensures
-    ∙ ap plain_window (pushed.push_frame.ensures ∙ ap₂ (λ (w : Resampler) (g : Option Frame). push w g n) given.window_of.ensures given.given_frame.ensures)
+    c.from-2.ensures
+    ∙ ap plain_window (pushed.push_frame.ensures ∙ ap₂ (λ (w : Resampler) (g : Option Frame). push w g n) given.from.ensures given.given_frame.ensures)

@@ -8,4 +8,4 @@ pub returns-then-given-eq0 : goal.returns-then-given-eq0
 returns-then-given-eq0 c = simp (eq-eqb _ 0 c.if-given-eq0.true)
 
 pub returns-else-given-eq0 : goal.returns-else-given-eq0
-returns-else-given-eq0 c = rw (ne_eqb _ 0 c.if-given-eq0.false) (ap Some c.frame_of.ensures)
+returns-else-given-eq0 c = rw (ne_eqb _ 0 c.if-given-eq0.false) (ap Some c.from.ensures)

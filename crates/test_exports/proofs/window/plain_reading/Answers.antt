@@ -1,5 +1,0 @@
--- `test_exports::window::plain_reading` meets its contract, by its frame's. Assumes nothing.
-use Rattle.test_exports.proofs.window.plain_reading.Goals as goal
-
-pub returns : goal.returns
-returns c = rw c.plain_frame.ensures
