@@ -13,7 +13,8 @@ use std::io::{BufReader, Read};
 // The largest number of lines of a list.
 const MOST: u64 = 1_000_000;
 
-// The value of a hexadecimal digit in lower case.
+// The value of a hexadecimal digit in lower case. float_bits has the same function; this one stays for the edit
+// a_counts_nine, which changes it here.
 fn digit_value(b: u8) -> u64
     ensures { result ≡ digit b }
 {

@@ -358,7 +358,8 @@ fn show_zeros_in_lanes(rt: &impl Print, tally: &mut Tally) -> io::Result<()> {
 
 // ---- refused calls
 
-// A block with a time step of 0: whether nothing is written and the voice does not change.
+// A block with a time step of 0: whether nothing is written. A refused call returns no voice, so the caller keeps the one
+// that it passed.
 fn refused_block() -> bool {
     let sound = [1.0f32, 1.0, 2.0, 2.0, 3.0, 3.0];
     let unit = [1.0f32; 2];
@@ -373,7 +374,8 @@ fn refused_block() -> bool {
         && out.iter().all(|sample| *sample == 9.0)
 }
 
-// A seek to 2^32 frames: whether the voice does not change and positive zero is reported.
+// A seek to 2^32 frames. It returns no voice and no position either: the voice that was passed stays, and the position
+// is positive zero, as C reports it.
 fn refused_command_set() -> bool {
     let sound = [0.0f32; 32];
     let set = commands(LoopCommand::Keep, Some(97391.55));
