@@ -98,7 +98,7 @@ pub(crate) fn is(from: &mut impl Read, number: u64) -> bool {
 }
 
 pub(crate) fn is_yes(from: &mut impl Read, answer: bool) -> bool {
-    if answer { is(from, 1) } else { is(from, 0) }
+    is(from, u64::from(answer))
 }
 
 pub(crate) fn is_double(from: &mut impl Read, x: f64) -> bool {

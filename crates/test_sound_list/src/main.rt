@@ -24,15 +24,10 @@ struct Replay {
     differ: u64,
 }
 
-// One more, up to a limit that no list reaches.
-fn more(count: u64) -> u64 {
-    if count < MOST { count + 1 } else { count }
-}
-
 impl Replay {
     // After a call: keeps its state, and counts.
     fn answered(self, voice: StaticSound, same: bool) -> Replay {
-        let calls = more(self.calls);
+        let calls = self.calls.saturating_add(1);
         if same {
             Replay {
                 voice,
@@ -43,12 +38,13 @@ impl Replay {
             Replay {
                 voice,
                 calls,
-                differ: more(self.differ),
+                differ: self.differ.saturating_add(1),
                 ..self
             }
         }
     }
 
+    // The kind of a record is the list's number, and a list may have any.
     fn call(self, from: &mut impl Read, kind: u64, sound: &[f32]) -> Replay {
         let voice = self.voice;
         let made = match kind {
@@ -72,7 +68,7 @@ impl Replay {
                 let lent = input::floats(from, sound);
                 Replay {
                     lent,
-                    scenarios: more(self.scenarios),
+                    scenarios: self.scenarios.saturating_add(1),
                     ..self
                 }
             }

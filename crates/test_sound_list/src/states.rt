@@ -27,15 +27,7 @@ fn is_range(from: &mut impl Read, range: Option<(usize, usize)>) -> bool {
 
 // The state with this number; Stopped for any other.
 fn playback_state(number: u64) -> PlaybackState {
-    match number {
-        0 => PlaybackState::Playing,
-        1 => PlaybackState::Pausing,
-        2 => PlaybackState::Paused,
-        3 => PlaybackState::WaitingToResume,
-        4 => PlaybackState::Resuming,
-        5 => PlaybackState::Stopping,
-        _ => PlaybackState::Stopped,
-    }
+    PlaybackState::try_from(number.min(6) as u32).unwrap_or(PlaybackState::Stopped)
 }
 
 fn next_setup(from: &mut impl Read) -> Setup {
