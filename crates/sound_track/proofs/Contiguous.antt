@@ -2,17 +2,15 @@
 -- By the direction and the loop, case by case, then by induction on the updates. Assumes nothing.
 use Rattle.std.specs.Prelude.{Option, Some, None}
 use mathlib.Core.Path.{◌≡◌, refl, sym, ap, ap₂, ◌∙◌, subst}
-use Prim.Native.Nat.{ℕ, zero, suc, ◌+◌, ◌-◌, ◌*◌, ◌≤◌, ◌<◌}
+use Prim.Native.Nat.{ℕ, zero, suc, ◌+◌, ◌-◌, ◌≤◌, ◌<◌}
 use native.Mathlib.Omega.{arith}
-use mathlib.Core.Bool.{Bool, true, false, not, ◌&&◌, ◌||◌, cond, false≢true, true≢false}
+use mathlib.Core.Bool.{Bool, true, false, not, ◌&&◌, ◌||◌, cond, true≢false}
 use mathlib.Core.List.{List, [], ◌∷◌}
 use lib.Dec.{T, leb, ltb, eqb}
-use lib.ListN.{length}
 use lib.Ieee.{Float}
 use borrow.Author.Tests.{eqb-true, eqb-false, le-leb, lt-leb, leb-true, ltb-true}
 use Rattle.frame.specs.Frames.{frame_of}
 use Rattle.playback_position.specs.Positions.{within}
-use Rattle.playback_position.proofs.Ranges.{ranged_parts}
 use Rattle.playback_state_manager.specs.declared.PlaybackState.TheVariants as state
 use Rattle.transport.specs.declared.Transport.{Transport}
 use Rattle.transport.specs.Moves.{under, back, landed, forward, backward, wraps}
@@ -26,7 +24,7 @@ use Rattle.sound_update.specs.declared.Wraps.{Wraps}
 use Rattle.sound_update.specs.Updates.{pushed, stepped, raised, counted, updated, updates}
 use Rattle.sound_track.specs.declared.Track.{Track}
 use Rattle.sound_track.specs.Tracks.{track_of, wraps_at, next, nexts, counted_at, counts, On, roomy, far}
-use Rattle.sound_track.specs.Contiguous.{seen, ahead, passed, contiguous_of}
+use Rattle.sound_track.specs.Contiguous.{seen, ahead, contiguous_of}
 use Rattle.sound_track.proofs.Tracks.{on_next, on_nexts, next_far, stays_on, nexts_within}
 
 abbrev on : Option (ℕ × ℕ) → ℕ → Transport
@@ -199,11 +197,3 @@ updates_contiguous (suc n) snd k m c w q f i =
         let h = i.ends e in
         let l = next_far k q i.on (omega arith) in
         omega arith
-
--- ---- as the code assembles it
-
-pub contiguous_made : (snd : List Float) (k : Track) (m : Moving) (w : Wraps) (q b c d p : ℕ) (ea eb ec ed : RecentFrame)
-    → b ≡ next k q → c ≡ next k b → d ≡ next k c → p ≡ next k d
-    → ea ≡ seen snd k.start q → eb ≡ seen snd k.start b → ec ≡ seen snd k.start c → ed ≡ seen snd k.start d
-    → record { state = m.state; transport = on m.transport.loop_region p; wraps = w; resampler = record { frames = ea ∷ eb ∷ ec ∷ ed ∷ []; time_until_empty = 4 } } ≡ contiguous_of snd k m w q
-contiguous_made snd k m w q b c d p ea eb ec ed h₁ h₂ h₃ h₄ e₁ e₂ e₃ e₄ = rw (e₁, e₂, e₃, e₄, h₄, h₃, h₂, h₁)

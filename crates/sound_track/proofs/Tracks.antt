@@ -1,8 +1,8 @@
 -- Positions of a track: one step, n steps at once, and that they stay on it. Both directions at once: what counts is the distance to the
 -- step that wraps. By induction on the steps. Assumes nothing.
-use mathlib.Core.Path.{◌≡◌, refl, sym, ap, ap₂, ◌∙◌, subst}
+use mathlib.Core.Path.{◌≡◌, refl, sym, ap, ◌∙◌, subst}
 use Prim.Native.Nat.{ℕ, zero, suc, ◌+◌, ◌-◌, ◌%◌, ◌/◌, ◌≤◌, ◌<◌}
-use native.Mathlib.Nat.{mod-lt, mod-eq_of_lt, mod-eq-sub-mod, div-eq_of_lt, div-eq-sub-div}
+use native.Mathlib.Nat.{mod-eq_of_lt, mod-eq-sub-mod, div-eq_of_lt, div-eq-sub-div}
 use native.Mathlib.Numerals.{add-one}
 use native.Mathlib.Omega.{arith}
 use mathlib.Core.Bool.{Bool, true, false, cond, false≢true, true≢false}
@@ -271,7 +271,7 @@ nexts_beyond (suc n) k q o h = over_more n k q o h (nexts_beyond n k)
 
 -- forward
 module _ (n : ℕ) (k : Track) (q : ℕ) (o : On k q) (forth : k.backwards ≡ false) where
-  far_forth : far k q ≡ k.high - 1 - q
+  pub far_forth : far k q ≡ k.high - 1 - q
   far_forth = ap (λ (b : Bool). cond b (q - k.low) (k.high - 1 - q)) forth
 
   pub forth_on : q + n < k.high → (nexts n k q ≡ q + n) × (wraps_of n k q ≡ 0)
@@ -296,21 +296,9 @@ module _ (n : ℕ) (k : Track) (q : ℕ) (o : On k q) (forth : k.backwards ≡ f
   pub forth_once : k.high ≤ q + n → q + n - k.high < k.high - k.low → k.low + (q + n - k.high) ≡ nexts n k q
   forth_once h l = sym ((forth_over h).0 ∙ ap (λ (x : ℕ). k.low + x) (mod-eq_of_lt l))
 
-  pub after_turn : q + 1 ≡ k.high → k.low ≡ next k q
-  after_turn h =
-      sym
-      (ap (λ (b : Bool). cond (cond b (eqb q k.low) (eqb (q + 1) k.high)) (cond b (k.high - 1) k.low) (cond b (q - 1) (q + 1))) forth
-      ∙ ap (λ (t : Bool). cond t k.low (q + 1)) (eq-eqb (q + 1) k.high h))
-
-  pub after_on : (q + 1 ≡ k.high → ⊥) → q + 1 ≡ next k q
-  after_on h =
-      sym
-      (ap (λ (b : Bool). cond (cond b (eqb q k.low) (eqb (q + 1) k.high)) (cond b (k.high - 1) k.low) (cond b (q - 1) (q + 1))) forth
-      ∙ ap (λ (t : Bool). cond t k.low (q + 1)) (ne_eqb (q + 1) k.high h))
-
 -- backward
 module _ (n : ℕ) (k : Track) (q : ℕ) (o : On k q) (back : k.backwards ≡ true) where
-  far_back : far k q ≡ q - k.low
+  pub far_back : far k q ≡ q - k.low
   far_back = ap (λ (b : Bool). cond b (q - k.low) (k.high - 1 - q)) back
 
   pub back_on : k.low + n ≤ q → (nexts n k q ≡ q - n) × (wraps_of n k q ≡ 0)
@@ -335,18 +323,6 @@ module _ (n : ℕ) (k : Track) (q : ℕ) (o : On k q) (back : k.backwards ≡ tr
   pub back_once : q < k.low + n → k.low + n - q - 1 < k.high - k.low → k.high - 1 - (k.low + n - q - 1) ≡ nexts n k q
   back_once h l = sym ((back_over h).0 ∙ ap (λ (x : ℕ). k.high - 1 - x) (mod-eq_of_lt l))
 
-  pub before_turn : q ≡ k.low → k.high - 1 ≡ next k q
-  before_turn h =
-      sym
-      (ap (λ (b : Bool). cond (cond b (eqb q k.low) (eqb (q + 1) k.high)) (cond b (k.high - 1) k.low) (cond b (q - 1) (q + 1))) back
-      ∙ ap (λ (t : Bool). cond t (k.high - 1) (q - 1)) (eq-eqb q k.low h))
-
-  pub before_on : (q ≡ k.low → ⊥) → q - 1 ≡ next k q
-  before_on h =
-      sym
-      (ap (λ (b : Bool). cond (cond b (eqb q k.low) (eqb (q + 1) k.high)) (cond b (k.high - 1) k.low) (cond b (q - 1) (q + 1))) back
-      ∙ ap (λ (t : Bool). cond t (k.high - 1) (q - 1)) (ne_eqb q k.low h))
-
 -- n straight steps, which leave the window's four frames before the step that wraps
 pub straight_far : (k : Track) (n q : ℕ) → T (straight k n q) → n + 4 ≤ far k q
 straight_far k n q h = go k.backwards h
@@ -354,17 +330,3 @@ straight_far k n q h = go k.backwards h
     go : (b : Bool) → T (cond b (leb (k.low + 4 + n) q) (ltb (q + 4 + n) k.high)) → n + 4 ≤ cond b (q - k.low) (k.high - 1 - q)
     go true h = let l = leb-true (k.low + 4 + n) q (is_true _ h) in omega arith
     go false h = let l = ltb-true (q + 4 + n) k.high (is_true _ h) in omega arith
-
--- a computed position is the right one, and on the track
-pub next_ends : (k : Track) (q : ℕ) → On k q → (r : ℕ) → r ≡ next k q → (r ≡ next k q) × On k r
-next_ends k q o r e = (e, subst (On k) (sym e) (on_next k q o))
-
-pub nexts_ends : (n : ℕ) (k : Track) (q : ℕ) → On k q → (r : ℕ) → r ≡ nexts n k q → (r ≡ nexts n k q) × On k r
-nexts_ends n k q o r e = (e, subst (On k) (sym e) (on_nexts n k q o))
-
--- a remainder by the loop length is below it
-pub round_rest : (x : ℕ) (k : Track) → k.low < k.high → x % (k.high - k.low) < k.high - k.low
-round_rest x k s = mod-lt x (some k.low k.high s)
-  where
-    some : (l h : ℕ) → l < h → 0 < h - l
-    some l h s = omega arith

@@ -35,7 +35,8 @@ use sound_update::{Moving, Slice, Wraps};
 use transport::Transport;
 
 // The positions that uninterrupted playback passes: forward up to high and again from low, or backward down to low
-// and again from high - 1. Without a loop it ends there. Its `count` positions begin at `start` in the sound.
+// and again from high - 1. Without a loop it ends there. Its `count` positions begin at `start` in the sound. Every step
+// reads low and high, with a loop or without one, so they are no Option.
 #[derive(Clone, Copy)]
 pub struct Track {
     pub start: usize,
@@ -71,7 +72,9 @@ pub fn track_of(loop_region: Option<(usize, usize)>, slice: Slice) -> Track
 
 // ---- directions
 
-// A direction along a track. Code that takes one is compiled for each.
+// A direction along a track. Code that takes one is compiled for each. A track and a position are two parameters: the
+// loops and the window keep bare positions of one track, so a struct of both would be made for each call and taken
+// apart after it. That the track goes in this direction is a clause: a track is one type for a scan and its laws.
 pub trait Direction {
     ghost backwards: { Bool };
 
@@ -185,7 +188,7 @@ impl Direction for Backward {
     }
 }
 
-// ---- both directions
+// ---- both directions: here the direction is a value of the track, and is tested a few times a block
 
 impl Track {
     fn step(self, at: usize) -> usize
@@ -311,6 +314,7 @@ impl Track {
     }
 
     // Whether the window is a contiguous window, and the next update pushes a frame.
+    #[tactic(auto, unfolding(crate::specs::Contiguous::is_contiguous))]
     pub fn is_contiguous(self, moving: Moving, sound: &[f32]) -> bool
         requires inside_sound { InsideSound sound.now self }
         requires frames_len { length moving.resampler.frames ≡ 4 }

@@ -1,27 +1,20 @@
--- `before_steps` makes n steps at once: by a difference, with one wrap, or by a remainder.
+-- `after_steps`, backward, makes n steps at once: by a difference, with one wrap, or by a remainder.
 use mathlib.Core.Path.{sym}
 use native.Mathlib.Omega.{arith}
-use Prim.Native.Nat.{◌+◌, ◌-◌}
-use Rattle.sound_track.proofs.Tracks.{nexts_ends, round_rest, back_on, back_once, back_over}
+use Rattle.sound_track.proofs.Tracks.{back_on, back_once, back_over}
 use Rattle.sound_track.proofs.BackwardDirection.after_steps.Goals as goal
 
-pub returns-then-down-at : goal.returns-then-down-at
-returns-then-down-at c =
+pub returns-then-down-at-clause-value : goal.returns-then-down-at-clause-value
+returns-then-down-at-clause-value c =
     let a = c.args in
-    record { value = (sym (back_on a.n a.track a.at c.requires.on c.requires.backwards_value c.if-down-at.true).0); on_2 = (nexts_ends a.n a.track a.at c.requires.on _ (sym (back_on a.n a.track a.at c.requires.on c.requires.backwards_value c.if-down-at.true).0)).1 }
+    sym (back_on a.n a.track a.at c.requires.on c.requires.backwards_value c.if-down-at.true).0
 
-pub returns-then-short-round : goal.returns-then-short-round
-returns-then-short-round c =
+pub returns-then-short-round-clause-value : goal.returns-then-short-round-clause-value
+returns-then-short-round-clause-value c =
     let a = c.args in
-    record { value = (back_once a.n a.track a.at c.requires.on c.requires.backwards_value (omega arith) (omega arith)); on_2 = (nexts_ends a.n a.track a.at c.requires.on _ (back_once a.n a.track a.at c.requires.on c.requires.backwards_value (omega arith) (omega arith))).1 }
+    back_once a.n a.track a.at c.requires.on c.requires.backwards_value (omega arith) (omega arith)
 
-pub overflow_sub-result-3 : goal.overflow_sub-result-3
-overflow_sub-result-3 c =
+pub returns-clause-value : goal.returns-clause-value
+returns-clause-value c =
     let a = c.args in
-    let m = round_rest (a.track.low + a.n - a.at - 1) a.track c.requires.on.some in
-    omega (arith, m)
-
-pub returns : goal.returns
-returns c =
-    let a = c.args in
-    record { value = (sym (back_over a.n a.track a.at c.requires.on c.requires.backwards_value (omega arith)).0); on_2 = (nexts_ends a.n a.track a.at c.requires.on _ (sym (back_over a.n a.track a.at c.requires.on c.requires.backwards_value (omega arith)).0)).1 }
+    sym (back_over a.n a.track a.at c.requires.on c.requires.backwards_value (omega arith)).0

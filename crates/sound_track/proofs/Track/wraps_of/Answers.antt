@@ -1,8 +1,7 @@
 -- `wraps_of` counts by a division how often the steps wrap.
 use mathlib.Core.Path.{◌≡◌, sym, ◌∙◌}
 use native.Mathlib.Omega.{arith}
-use native.Mathlib.Nat.{div-le_self}
-use Prim.Native.Nat.{ℕ, suc, ◌+◌, ◌-◌}
+use Prim.Native.Nat.{ℕ, suc, ◌+◌}
 use Rattle.sound_track.proofs.Tracks.{forth_on, forth_over, back_on, back_over}
 use Rattle.sound_track.proofs.Track.wraps_of.Goals as goal
 
@@ -14,12 +13,6 @@ returns-then-self-n c =
     let a = c.args in
     sym (back_on a.n a.self a.at c.requires.on c.if-self.true c.if-self-n.true).1
 
-pub overflow_add-result-then-self : goal.overflow_add-result-then-self
-overflow_add-result-then-self c =
-    let a = c.args in
-    let m = div-le_self (a.self.low + a.n - a.at - 1) (a.self.high - a.self.low) in
-    record { fits = omega (arith, m) }
-
 pub returns-then-self : goal.returns-then-self
 returns-then-self c =
     let a = c.args in
@@ -29,12 +22,6 @@ pub returns-then-at-n : goal.returns-then-at-n
 returns-then-at-n c =
     let a = c.args in
     sym (forth_on a.n a.self a.at c.requires.on c.if-self.false c.if-at-n.true).1
-
-pub overflow_add-result-3 : goal.overflow_add-result-3
-overflow_add-result-3 c =
-    let a = c.args in
-    let m = div-le_self (a.at + a.n - a.self.high) (a.self.high - a.self.low) in
-    record { fits = omega (arith, m) }
 
 pub returns : goal.returns
 returns c =
