@@ -14,7 +14,9 @@ use frame::Frame;
 use numbers::Stepped;
 use sound_track::Track;
 
-// A track, the position and fraction where the fast path begins, the time step, and the sound's sample rate.
+// A track, the position and fraction where the fast path begins, the time step, and the sound's sample rate. The loops
+// take it beside the sound and the rates: a struct of the three with `Scannable` as its ghost field would save each
+// loop that clause, and lengthen each other clause, which names the three.
 #[derive(Clone, Copy)]
 pub struct Way {
     pub track: Track,
@@ -136,6 +138,7 @@ pub fn store(out: &mut [f32], k: usize, frame: Frame)
     out[k + 1] = frame.right;
 }
 
+// Equal bit for bit: 0 and -0 are equal numbers, and differ.
 fn is_same_rate(a: f64, b: f64) -> bool
     requires t { T (number a) }
     requires t_2 { T (number b) }

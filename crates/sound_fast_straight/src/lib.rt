@@ -101,7 +101,8 @@ impl Straight for Backward {
     }
 }
 
-// Four frames per iteration.
+// Four frames per iteration. A while loop: it begins at the frame that `from` names, goes by four frames, and stops
+// before a step that wraps.
 pub fn fours<D: Straight, R: Rates>(
     way: Way,
     from: Reached,

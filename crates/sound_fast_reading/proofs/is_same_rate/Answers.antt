@@ -10,11 +10,5 @@ use Rattle.sound_fast_reading.proofs.is_same_rate.Goals as goal
 same : (a b : Float) → T (fits binary64 a) → T (fits binary64 b) → eqb (to_bits binary64 a) (to_bits binary64 b) ≡ true → a ≡ b
 same a b f g e = sym (of_bits-to_bits binary64 a f) ∙ ap (of_bits binary64) (eqb-true (to_bits binary64 a) (to_bits binary64 b) e) ∙ of_bits-to_bits binary64 b g
 
-pub float_to_bits-result : goal.float_to_bits-result
-float_to_bits-result c = c.requires.t
-
-pub float_to_bits-result-2 : goal.float_to_bits-result-2
-float_to_bits-result-2 c = c.requires.t_2
-
 pub returns : goal.returns
 returns c = λ e. same _ _ (subst T (sym c.well_formed.0.1) tt) (subst T (sym c.well_formed.1.0.1) tt) e

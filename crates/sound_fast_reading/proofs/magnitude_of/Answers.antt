@@ -4,9 +4,6 @@ use lib.Dec.{T}
 use Rattle.numbers.proofs.Signs.{by_bits, number_bits}
 use Rattle.sound_fast_reading.proofs.magnitude_of.Goals as goal
 
-pub float_to_bits-result : goal.float_to_bits-result
-float_to_bits-result c = c.requires
-
 pub float_from_bits-result : goal.float_from_bits-result
 float_from_bits-result c = number_bits c.args.rate c.requires (subst T (sym c.well_formed.0.1) tt)
 

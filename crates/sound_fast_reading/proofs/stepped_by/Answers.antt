@@ -2,9 +2,5 @@
 use Rattle.sound_fast_reading.proofs.Moves.{stepped_move}
 use Rattle.sound_fast_reading.proofs.stepped_by.Goals as goal
 
-pub advance_by-requires : goal.advance_by-requires
-advance_by-requires c =
-    record { fraction_proper = c.requires.t; advance_clear = c.requires.slow.finite_clear; advance_most = c.requires.slow.most }
-
 pub returns : goal.returns
 returns c = stepped_move _ _ c.requires.t c.requires.slow _ c.advance_by.ensures
