@@ -23,7 +23,9 @@ fn gain_by(gains: Gains, i: usize, out: &mut [f32])
     sound_fast_reading::store(out, 2 * i, x);
 }
 
-// Multiplies the first n frames of the output by their gains; clang vectorises it.
+// Multiplies the first n frames of the output by their gains; clang vectorises it. Not inlined: inside the block the
+// loop has too few registers, and takes 1 instruction a frame more.
+#[inline(never)]
 pub fn by_frame(lanes: Lanes<'_>, n: usize, out: &mut [f32])
     requires covers { Covers n (lanes_of lanes) }
     requires n_in_bounds { 2 * n ≤ length out.old }

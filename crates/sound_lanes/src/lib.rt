@@ -80,7 +80,9 @@ impl Lanes<'_> {
     }
 
     // Whether the amplitudes and gains are finite with their sign bit clear. That the lanes have one length is a clause
-    // and no invariant of `Lanes`: C may pass lanes of any lengths, and `are_sized` checks them.
+    // and no invariant of `Lanes`: C may pass lanes of any lengths, and `are_sized` checks them. Not inlined: inside the
+    // block the loop has too few registers, and takes 7 instructions a frame more.
+    #[inline(never)]
     fn four_finite_clear(self) -> bool
         requires { T (sized (lanes_of self)) }
         ensures { result ≡ four_finite_clear self.entry.fade.now self.entry.volume.now self.entry.left.now
