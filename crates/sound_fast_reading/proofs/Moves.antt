@@ -1,16 +1,16 @@
 -- One frame's steps along a track: they are few, leave a fraction, and stay on the track if it has space for them. Assumes nothing.
-use mathlib.Core.Path.{◌≡◌, refl, sym, ap, ap₂, ◌∙◌, subst}
-use Prim.Native.Nat.{ℕ, suc, ◌+◌, ◌-◌, ◌*◌, ◌≤◌, ◌<◌}
+use mathlib.Core.Path.{◌≡◌, refl, sym, ap, ap₂, subst}
+use Prim.Native.Nat.{ℕ, suc, ◌+◌, ◌-◌, ◌≤◌, ◌<◌}
 use native.Mathlib.Nat.{le_refl}
 use native.Mathlib.Omega.{arith}
-use mathlib.Core.Bool.{Bool, true, false, not, ◌&&◌, ◌||◌, cond}
+use mathlib.Core.Bool.{Bool, true, false, not, ◌||◌, cond}
 use mathlib.Core.List.{List, [], ◌∷◌}
 use lib.Dec.{T, leb, ltb}
 use lib.IntN.{pos}
 use lib.ListN.{length, get_or, replicate}
 use lib.Ieee.{Float, nan, inf, fin, binary64, add, mul, of_int, lt, le, is_nan}
 use lib.Ieee.Fits.{and_i, and_l, and_r}
-use borrow.Author.Tests.{le-leb, lt-ltb, ltb-true, ltb-false}
+use borrow.Author.Tests.{le-leb, lt-ltb}
 use Rattle.numbers.specs.declared.Stepped.{Stepped}
 use Rattle.numbers.specs.Words.{positive_zero, proper, finite_clear, magnitude, stepped, advance}
 use Rattle.numbers.proofs.Fractions.{advance_finite_clear, sum_steps}
@@ -18,11 +18,10 @@ use Rattle.numbers.proofs.Stepping.{sum_proper}
 use Rattle.numbers.specs.Lists.{all}
 use Rattle.sound_lanes.specs.Lanes.{slow}
 use Rattle.sound_track.specs.declared.Track.{Track}
-use Rattle.sound_track.specs.Tracks.{nexts, far, On, roomy}
+use Rattle.sound_track.specs.Tracks.{nexts, On, roomy}
 use Rattle.sound_track.proofs.Tracks.{on_nexts, nexts_within}
-use Rattle.numbers.proofs.Equal.{first_of, second_of}
 use Rattle.sound_track.proofs.Contiguous.{Inside, inside_of, inside_first, inside_rest}
-use Rattle.sound_fast_reading.specs.Moves.{Slow, Move, number, Same}
+use Rattle.sound_fast_reading.specs.Moves.{Slow, Move, number}
 
 -- ---- the sum
 
@@ -37,9 +36,6 @@ advance_is hz r dt m e = ap (λ (x : Float). product hz x dt) e
 -- what the sum requires of the advance
 pub asks : (hz : ℕ) (r dt m : Float) → m ≡ magnitude r → T (lt positive_zero dt) → T (slow hz dt r) → T (finite_clear (product hz m dt)) × T (le (product hz m dt) (fin false 1 (pos 8)))
 asks hz r dt m e t s = rw (advance_is hz r dt m e) (advance_finite_clear hz r dt t s, s)
-
-pub sum_is : (hz : ℕ) (r dt m f : Float) (a : Stepped) → m ≡ magnitude r → a ≡ stepped (add binary64 f (product hz m dt)) → a ≡ stepped (add binary64 f (advance hz r dt))
-sum_is hz r dt m f a e h = h ∙ ap (λ (x : Float). stepped (add binary64 f x)) (advance_is hz r dt m e)
 
 -- a slow rate is no NaN: its advance would be one
 mul_nan : (x : Float) → mul binary64 x nan ≡ nan
@@ -108,18 +104,6 @@ same_list (x ∷ l) a h =
 
     first : (n : ℕ) → 0 < suc n
     first n = omega arith
-
--- one more rate
-pub same_more : (rates : List Float) (i : ℕ) (b s : Bool) → (s ≡ true → (j : ℕ) → j < i → get_or rates j nan ≡ get_or rates 0 nan) → (b ≡ true → get_or rates i nan ≡ get_or rates 0 nan)
-    → b && s ≡ true → (j : ℕ) → j < i + 1 → get_or rates j nan ≡ get_or rates 0 nan
-same_more rates i b s h k e j l = go (ltb j i) refl
-  where
-    last : (j i : ℕ) → i ≤ j → j < i + 1 → j ≡ i
-    last j i a c = omega arith
-
-    go : (t : Bool) → ltb j i ≡ t → get_or rates j nan ≡ get_or rates 0 nan
-    go true t = h (second_of b s e) j (ltb-true j i t)
-    go false t = ap (λ (n : ℕ). get_or rates n nan) (last j i (ltb-false j i t) l) ∙ k (first_of b s e)
 
 -- ---- space on the track
 

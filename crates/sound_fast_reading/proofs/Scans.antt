@@ -1,6 +1,6 @@
 -- A scan frame by frame: one scan and then another, one more frame, and where it begins. By induction on the rates. Assumes nothing.
 use mathlib.Core.Path.{◌≡◌, refl, sym, ap, ap₂, ◌∙◌, subst}
-use Prim.Native.Nat.{ℕ, zero, suc, ◌+◌, ◌-◌, ◌*◌, ◌≤◌, ◌<◌}
+use Prim.Native.Nat.{ℕ, zero, suc, ◌+◌, ◌*◌, ◌<◌}
 use native.Mathlib.Nat.{add-zero, zero-add, add_assoc, not-suc-le-zero, le_of_suc-le-suc}
 use native.Mathlib.Numerals.{add-one}
 use native.Mathlib.Omega.{arith}
@@ -9,10 +9,10 @@ use mathlib.Core.List.{List, [], ◌∷◌, ◌++◌, append_assoc}
 use lib.Dec.{T}
 use lib.ListN.{length, get_or, take, set, length-set}
 use lib.Seq.{take-suc, take-suc-set}
-use lib.Ieee.{Float, nan, binary64, add, lt}
+use lib.Ieee.{Float, nan, binary64, add}
 use lib.Ieee.Fits.{and_l, and_r}
 use Rattle.numbers.specs.declared.Stepped.{Stepped}
-use Rattle.numbers.specs.Words.{positive_zero, proper, whole, part, stepped, advance}
+use Rattle.numbers.specs.Words.{proper, whole, part, stepped, advance}
 use Rattle.numbers.specs.Lists.{all}
 use Rattle.frame.specs.declared.Frame.{Frame}
 use Rattle.sound_lanes.specs.Lanes.{slow}

@@ -1,5 +1,5 @@
 -- One frame's steps.
-use Rattle.std.specs.Prelude.{ℕ, ◌<◌, ◌≡◌, Bool, false, not, List, T, pos, length, get_or, replicate, Float}
+use Rattle.std.specs.Prelude.{◌<◌, ◌≡◌, Bool, false, not, List, T, pos, length, get_or, replicate, Float}
 use Rattle.std.specs.Float.{nan, fin, binary64}
 use Rattle.std.specs.Float.Ieee.{add, le, is_nan}
 use Rattle.numbers.specs.declared.Stepped.{Stepped}

@@ -1,7 +1,7 @@
 -- Where no step wraps: what one frame and four frames need of the places, and the scan after them. In either direction: what counts is the
 -- distance to the step that wraps. Assumes nothing.
 use mathlib.Core.Path.{◌≡◌, refl, sym, ap, ◌∙◌, subst}
-use Prim.Native.Nat.{ℕ, ◌+◌, ◌-◌, ◌*◌, ◌≤◌, ◌<◌}
+use Prim.Native.Nat.{ℕ, ◌+◌, ◌*◌, ◌≤◌, ◌<◌}
 use native.Mathlib.Omega.{arith}
 use mathlib.Core.Bool.{Bool, true}
 use mathlib.Core.List.{List}
@@ -13,7 +13,7 @@ use Rattle.numbers.specs.Words.{narrowed, advance}
 use Rattle.frame.specs.declared.Frame.{Frame}
 use Rattle.frame.specs.Frames.{frame_of, interpolated}
 use Rattle.sound_track.specs.declared.Track.{Track}
-use Rattle.sound_track.specs.Tracks.{next, nexts, far, straight, On, roomy}
+use Rattle.sound_track.specs.Tracks.{nexts, far, straight, On, roomy}
 use Rattle.sound_track.proofs.Tracks.{along, on_nexts, nexts_add, nexts_within, straight_far}
 use Rattle.sound_track.proofs.Same.{holds}
 use Rattle.sound_fast_reading.specs.declared.Way.{Way}
@@ -22,7 +22,7 @@ use Rattle.sound_fast_reading.specs.Moves.{Move}
 use Rattle.sound_fast_reading.specs.Scans.{read_on, Scannable, Scanned}
 use Rattle.sound_fast_reading.proofs.Moves.{roomy_of}
 use Rattle.sound_fast_reading.proofs.Readings.{read_as}
-use Rattle.sound_fast_reading.proofs.Scans.{place, scanned_more, stored_at}
+use Rattle.sound_fast_reading.proofs.Scans.{place, scanned_more}
 use Rattle.sound_fast_straight.specs.declared.Moves.{Moves}
 use Rattle.sound_fast_straight.proofs.FourFrames.{put, FourMoves, four_more}
 

@@ -1,18 +1,15 @@
 -- Four frames of a scan, in either direction, with a rate for each frame or one for all. Assumes nothing.
-use mathlib.Core.Path.{◌≡◌, refl, sym, ap, ◌∙◌, subst}
-use Prim.Native.Nat.{ℕ, ◌+◌, ◌-◌, ◌*◌, ◌^◌, ◌≤◌, ◌<◌}
+use mathlib.Core.Path.{◌≡◌, refl, ◌∙◌}
+use Prim.Native.Nat.{ℕ, ◌+◌, ◌-◌, ◌*◌, ◌≤◌, ◌<◌}
 use native.Mathlib.Omega.{arith}
 use mathlib.Core.List.{List}
-use lib.ListN.{length, get_or, set, replicate, length-replicate, get_or-replicate}
+use lib.ListN.{length, get_or, set}
 use lib.Ieee.{Float, nan}
 use Rattle.numbers.specs.declared.Stepped.{Stepped}
 use Rattle.numbers.specs.Words.{advance}
 use Rattle.frame.specs.declared.Frame.{Frame}
-use Rattle.sound_track.specs.declared.Track.{Track}
-use Rattle.sound_track.specs.Tracks.{next}
 use Rattle.sound_fast_reading.specs.declared.Way.{Way}
 use Rattle.sound_fast_reading.specs.Moves.{Move}
-use Rattle.sound_fast_reading.specs.Scans.{read_on}
 use Rattle.sound_fast_reading.proofs.Scans.{stored_at, stored_length}
 use Rattle.sound_fast_straight.specs.declared.Moves.{Moves}
 
@@ -33,17 +30,11 @@ put out k x = set (set out k x.left) (k + 1) x.right
 fits : (o i j n : ℕ) → o ≡ 2 * n → i + 3 < n → j ≤ 6 → 2 * i + j + 1 < o
 fits o i j n e l h = omega arith
 
-fits0 : (o i n : ℕ) → o ≡ 2 * n → i + 3 < n → 2 * i + 1 < o
-fits0 o i n e l = omega arith
-
 even : (i j k : ℕ) → k ≡ 2 * j → 2 * i + k ≡ 2 * (i + j)
 even i j k e = omega arith
 
 -- frame i of n and the three after it: each is written inside the output
 module _ (n i : ℕ) (l : i + 3 < n) (out : List Float) (e₀ : length out ≡ 2 * n) where
-  pub fits1 : 2 * i + 1 < length out
-  fits1 = fits0 (length out) i n e₀ l
-
   module _ (x₁ : Frame) (o₁ : List Float) (e₁ : o₁ ≡ put out (2 * i) x₁) where
     long1 : length o₁ ≡ 2 * n
     long1 = stored_length o₁ out i x₁ e₁ ∙ e₀

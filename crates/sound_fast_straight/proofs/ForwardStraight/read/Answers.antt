@@ -3,7 +3,6 @@ use mathlib.Core.Path.{◌≡◌, ap, sym, ◌∙◌}
 use Prim.Native.Nat.{ℕ, ◌+◌, ◌-◌}
 use native.Mathlib.Omega.{arith}
 use mathlib.Core.Bool.{Bool, cond}
-use Rattle.sound_track.proofs.Tracks.{along}
 use Rattle.sound_fast_straight.proofs.Consecutive.{read_straight}
 use Rattle.sound_fast_straight.proofs.ForwardStraight.read.Goals as goal
 
