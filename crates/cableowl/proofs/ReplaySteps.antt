@@ -73,9 +73,6 @@ unfolding block_c
 counted_is r n frames a = refl
 
 -- a block with held lanes is the block of its lanes
-abbrev held_of : Block → Held
-held_of b = record { gains = record { fade = b.fade; volume = b.volume; left = b.left; right = b.right }; rate = b.rate }
-
 abbrev as_given : List Float → StaticSound → Block → Held → List Float → Outcome
 as_given x v b h part = processed x v b.time_step (held_lanes h (length part / 2)) b.signals part
 

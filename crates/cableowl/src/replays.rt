@@ -29,7 +29,6 @@ use crate::{CableowlProcessed, answer, command, create};
 use c_state::{CableowlState, encode};
 use refusals::Refusal;
 use sound_held::Held;
-use sound_lanes::Gains;
 use sound_slow_path::Processed;
 use sound_state::StaticSound;
 use trace_inputs::Block;
@@ -206,25 +205,6 @@ pub(crate) fn obey(
     played(after, size, 2, obeyed.refusal, 0, 0, 4)
 }
 
-// A function and no `From`: `Block` and `Held` are both of other crates.
-fn held_of(block: Block) -> Held
-    ensures { result ≡ record {
-      gains = record { fade = block.fade; volume = block.volume; left = block.left; right = block.right };
-      rate = block.rate;
-    } }
-{
-    let gains = Gains {
-        fade: block.fade,
-        volume: block.volume,
-        left: block.left,
-        right: block.right,
-    };
-    Held {
-        gains,
-        rate: block.rate,
-    }
-}
-
 // The answer of a block. The block is counted.
 pub(crate) fn count_block(
     replay: CableowlReplay,
@@ -274,7 +254,7 @@ pub(crate) fn play(
     let processed = static_sound::process_held(
         StaticSound::from(replay.voice),
         &sound[..samples],
-        held_of(block),
+        Held::from(block),
         block.time_step,
         block.signals,
         &mut out[..n],

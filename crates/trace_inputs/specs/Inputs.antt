@@ -20,6 +20,7 @@ use Rattle.sound_commands.specs.declared.ResumeCommand.TheVariants as resume
 use Rattle.sound_commands.specs.declared.Commands.{Commands}
 use Rattle.start_time.specs.declared.StartSignal.TheVariants as signal
 use Rattle.sound_block.specs.declared.Signals.{Signals}
+use Rattle.sound_held.specs.declared.Held.{Held}
 use Rattle.trace_inputs.specs.declared.Block.{Block}
 use Rattle.trace_inputs.specs.declared.LanedBlock.{LanedBlock}
 
@@ -140,6 +141,10 @@ block_of vs =
       time_step = double (get_or vs 6 0);
       signals = signals_of (get_or vs 7 0) (get_or vs 8 0) (get_or vs 9 0);
     }
+
+-- the five numbers of a block, for each of its frames
+abbrev pub held_of : Block → Held
+held_of b = record { gains = record { fade = b.fade; volume = b.volume; left = b.left; right = b.right }; rate = b.rate }
 
 -- ---- a laned block
 

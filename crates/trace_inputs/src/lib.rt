@@ -25,6 +25,7 @@ ghost use Rattle.trace_inputs.specs.Inputs.{
   answer_of,
   signals_of,
   block_of,
+  held_of,
   laned_block_of,
   lane_of,
   singles,
@@ -38,6 +39,8 @@ use playback_state_manager::StartAnswer;
 use sound_block::Signals;
 use sound_commands::{Commands, LoopCommand, ResumeCommand};
 use sound_creation::Settings;
+use sound_held::Held;
+use sound_lanes::Gains;
 use start_time::StartSignal;
 
 // A block whose frames all have the same numbers.
@@ -252,6 +255,24 @@ pub fn block_of(values: [u64; 80]) -> Block
         rate: float_bits::f64_of(values[5]),
         time_step: float_bits::f64_of(values[6]),
         signals: signals_of(values[7], values[8], values[9]),
+    }
+}
+
+// The five numbers of a block, for each of its frames.
+impl From<Block> for Held {
+    ghost from_gives = { λ block held. held ≡ held_of block };
+
+    fn from(block: Block) -> Held {
+        let gains = Gains {
+            fade: block.fade,
+            volume: block.volume,
+            left: block.left,
+            right: block.right,
+        };
+        Held {
+            gains,
+            rate: block.rate,
+        }
     }
 }
 

@@ -19,7 +19,6 @@ ghost use Rattle.trace_replay.specs.Runs.{
 
 use refusals::Refusal;
 use sound_held::Held;
-use sound_lanes::Gains;
 use sound_slow_path::Processed;
 use sound_state::StaticSound;
 use trace_inputs::Block;
@@ -54,19 +53,10 @@ fn answer(voice: StaticSound, sound: &[f32], block: Block) -> Result<Processed, 
 {
     let mut out = [0.0; 2048];
     let n = 2 * block.frames;
-    let held = Held {
-        gains: Gains {
-            fade: block.fade,
-            volume: block.volume,
-            left: block.left,
-            right: block.right,
-        },
-        rate: block.rate,
-    };
     static_sound::process_held(
         voice,
         sound,
-        held,
+        Held::from(block),
         block.time_step,
         block.signals,
         &mut out[..n],

@@ -31,8 +31,8 @@ slice_bounds-process_held-end-3 c =
 pub count_block-requires : goal.count_block-requires
 count_block-requires c =
     let a = c.args in
-    held_few (take a.replay.samples a.sound.now) a.out.now a.replay.voice c.block_of-block.result c.from.result c.held_of.result c.process_held-processed.result _
-    c.from.ensures c.held_of.ensures (room (goal.at.count_block-requires c).After-block_of-block) c.process_held-processed.ensures
+    held_few (take a.replay.samples a.sound.now) a.out.now a.replay.voice c.block_of-block.result c.from.result c.from-2.result c.process_held-processed.result _
+    c.from.ensures c.from-2.ensures (room (goal.at.count_block-requires c).After-block_of-block) c.process_held-processed.ensures
 
 pub returns : goal.returns
 returns c =
@@ -40,5 +40,5 @@ returns c =
     let b = c.block_of-block.result in
     block_is a.replay a.size a.values a.sound.now a.out.now b (block_answer (decoded a.replay.voice) c.process_held-processed.result) _ c.count_block.result c.block_of-block.ensures
     (c.count_block.ensures ∙ counted_is a.replay a.size b.frames _)
-    (held_outcome (take a.replay.samples a.sound.now) a.out.now a.replay.voice b c.from.result c.held_of.result c.process_held-processed.result _
-    c.from.ensures c.held_of.ensures (room (goal.at.returns c).After-block_of-block) c.process_held-processed.ensures)
+    (held_outcome (take a.replay.samples a.sound.now) a.out.now a.replay.voice b c.from.result c.from-2.result c.process_held-processed.result _
+    c.from.ensures c.from-2.ensures (room (goal.at.returns c).After-block_of-block) c.process_held-processed.ensures)
