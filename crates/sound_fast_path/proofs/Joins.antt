@@ -1,13 +1,13 @@
 -- A scan and the frames after it make the block: the lanes cut, the two joined, the steps few. Assumes nothing.
 use Rattle.std.specs.Prelude.{Option, Some, None}
-use mathlib.Core.Path.{◌≡◌, sym, ap, ap₂, ◌∙◌, subst}
+use mathlib.Core.Path.{◌≡◌, sym, ap, ◌∙◌, subst}
 use mathlib.Core.List.{List, [], ◌++◌, append-nil}
 use Prim.Native.Nat.{ℕ, ◌+◌, ◌-◌, ◌*◌, ◌≤◌, ◌<◌}
 use native.Mathlib.Nat.{le_of_eq, le_refl}
 use native.Mathlib.Omega.{arith}
 use lib.Dec.{T}
-use lib.ListN.{length, take, drop, take-append-drop, length-append, length-drop, drop_of_length-le}
-use lib.Seq.{take_all, length-take-le}
+use lib.ListN.{length, take, drop, take-append-drop, length-drop, drop_of_length-le}
+use lib.Seq.{take_all}
 use lib.Ieee.{Float}
 use Rattle.numbers.specs.Lists.{all}
 use Rattle.numbers.proofs.Lists.{all_drop}
@@ -26,7 +26,7 @@ use Rattle.sound_track.specs.Contiguous.{InsideSound}
 use Rattle.sound_slow_path.specs.Plays.{BlockAnswer, Played, plays, Outcome, accepted_with, accepted_as}
 use Rattle.sound_slow_path.specs.FrameSteps.{Playable}
 use Rattle.sound_slow_path.proofs.Lowest.{lower_four}
-use Rattle.sound_slow_path.proofs.Plays.{joined, plays_append, plays_length, plays_lowest}
+use Rattle.sound_slow_path.proofs.Plays.{joined, plays_append, plays_lowest}
 use Rattle.sound_slow_path.proofs.Keeps.{plays_steps}
 use Rattle.sound_fast_reading.specs.declared.Reached.{Reached}
 use Rattle.sound_fast_path.specs.Scans.{scanned_to, played_from}
@@ -91,23 +91,6 @@ module _ (snd : List Float) (v : StaticSound) (dt : Float) (b : Lanes) (out : Li
 
   rows_left : (i : ℕ) → length (drop i (rows b)) ≡ length b.rate - i
   rows_left i = length-drop i (rows b) ∙ ap (λ (n : ℕ). n - i) (beside_length b.fade b.volume b.left b.right b.rate)
-
-  -- the output stays as long
-  pub from_long : (i : ℕ) (r : BlockAnswer) (samples : List Float) → i ≤ length b.rate → record { answer = r; samples = samples } ≡ played_from snd dt b i v out → length samples ≡ length out
-  from_long i r samples h e =
-      let q = plays snd dt (drop i (rows b)) v in
-      let first : length (take (2 * i) out) ≡ 2 * i = length-take-le (2 * i) out (within (length out) (length b.rate) i p.long h) in
-      let rest : length q.samples ≡ 2 * (length b.rate - i) = plays_length snd dt (drop i (rows b)) v ∙ ap (λ (n : ℕ). 2 * n) (rows_left i) in
-      ap (λ (o : Outcome). length o.samples) e
-      ∙ length-append (take (2 * i) out) q.samples
-      ∙ ap₂ (λ (m n : ℕ). m + n) first rest
-      ∙ all_of (length out) (length b.rate) i p.long h
-    where
-      within : (m n i : ℕ) → m ≡ 2 * n → i ≤ n → 2 * i ≤ m
-      within m n i e h = omega arith
-
-      all_of : (m n i : ℕ) → m ≡ 2 * n → i ≤ n → 2 * i + 2 * (n - i) ≡ m
-      all_of m n i e h = omega arith
 
   -- the steps from frame i on are few
   pub from_few : (i : ℕ) (r : BlockAnswer) (samples : List Float) → record { answer = r; samples = samples } ≡ played_from snd dt b i v out → r.steps ≤ 257 * (length b.rate - i)
