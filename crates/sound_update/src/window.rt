@@ -1,5 +1,6 @@
 // The window split into frames and frame indices, and put together again: two structs of scalars for the loop of
-// `update_positions`, so that no frame index is in the same vector as the samples.
+// `update_positions`, so that no frame index is in the same vector as the samples. Two arrays were tried: they would be
+// parallel too, and were no faster.
 ghost use Rattle.std.specs.Prelude.{◌≡◌};
 ghost use Rattle.sound_update.specs.Windows.{frames_of, numbers_of, window_of};
 

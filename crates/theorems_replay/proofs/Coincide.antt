@@ -76,6 +76,7 @@ coincide =
       trace_inputs_put_samples = λ k a x y s t p q. (same p.1 q.1, same p.0 q.0);
       trace_inputs_commands_of = λ k a x y s t p q. same p q;
       trace_inputs_block_of = λ k a x y s t p q. same p q;
+      trace_inputs_held_from = λ k a x y s t p q. same p q;
       trace_inputs_given_samples_of = λ k a x y s t p q. same p q;
       trace_inputs_laned_block_of = λ k a x y s t p q. same p q;
       trace_inputs_singles_of = λ k a x y s t p q. same p q;

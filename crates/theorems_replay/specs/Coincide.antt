@@ -12,6 +12,7 @@ use Rattle.trace_inputs.specs.contracts.settings_of as TraceInputsSettingsOf
 use Rattle.trace_inputs.specs.contracts.put_samples as TraceInputsPutSamples
 use Rattle.trace_inputs.specs.contracts.commands_of as TraceInputsCommandsOf
 use Rattle.trace_inputs.specs.contracts.block_of as TraceInputsBlockOf
+use Rattle.trace_inputs.specs.contracts.HeldFromBlock.from as HeldFromBlock
 use Rattle.trace_inputs.specs.contracts.given_samples_of as TraceInputsGivenSamplesOf
 use Rattle.trace_inputs.specs.contracts.laned_block_of as TraceInputsLanedBlockOf
 use Rattle.trace_inputs.specs.contracts.singles_of as TraceInputsSinglesOf
@@ -48,6 +49,8 @@ pub record Coincide : Type 0 where
       Decides (Post TraceInputsCommandsOf.ended TraceInputsCommandsOf.clauses (λ k a. (tt, λ r s. r_last _)))
   pub trace_inputs_block_of :
       Decides (Post TraceInputsBlockOf.ended TraceInputsBlockOf.clauses (λ k a. (tt, λ r s. r_last _)))
+  pub trace_inputs_held_from :
+      Decides (Post HeldFromBlock.ended HeldFromBlock.clauses (λ k a. (tt, λ r s. r_last _)))
   pub trace_inputs_given_samples_of :
       Decides (Post TraceInputsGivenSamplesOf.ended TraceInputsGivenSamplesOf.clauses (λ k a. (tt, λ r s. r_last _)))
   pub trace_inputs_laned_block_of :
