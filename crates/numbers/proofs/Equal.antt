@@ -75,18 +75,6 @@ same_list (x ∷ l) a h =
     first : (n : ℕ) → 0 < suc n
     first n = omega arith
 
--- one more place is compared with the first
-pub same_more : (l : List Float) (i : ℕ) (b s : Bool) → (s ≡ true → (j : ℕ) → j < i → get_or l j nan ≡ get_or l 0 nan) → (b ≡ true → get_or l i nan ≡ get_or l 0 nan)
-    → b && s ≡ true → (j : ℕ) → j < i + 1 → get_or l j nan ≡ get_or l 0 nan
-same_more l i b s h k e j m = go (ltb j i) refl
-  where
-    last : (j i : ℕ) → i ≤ j → j < i + 1 → j ≡ i
-    last j i a c = omega arith
-
-    go : (t : Bool) → ltb j i ≡ t → get_or l j nan ≡ get_or l 0 nan
-    go true t = h (second_of b s e) j (ltb-true j i t)
-    go false t = ap (λ (n : ℕ). get_or l n nan) (last j i (ltb-false j i t) m) ∙ k (first_of b s e)
-
 -- a test of all places is a test of one
 pub all_once : (p : Float → Bool) (n : ℕ) (a : Float) → 0 < n → all p (replicate n a) ≡ p a
 all_once p zero a h = absurd (not-suc-le-zero h)

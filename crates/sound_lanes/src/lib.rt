@@ -1,4 +1,5 @@
-// The five lanes of a block, and their checks. No pass returns early, so that clang vectorises its loop.
+// The five lanes of a block, and their checks. No pass returns early, so that its loop can be
+// vectorised.
 #![tactic(auto)]
 
 ghost use Rattle.std.specs.Prelude.{◌≡◌, ◌+◌, T};
