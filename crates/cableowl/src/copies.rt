@@ -1,5 +1,5 @@
 // The C entries of copies of the loop table: crate loop_copies over numbers. Hall A is 0, B is 1. C has a function and
-// a result of its own for a table (loops.rt) and for a copy, so each entry is written for both.
+// a result of its own for a table (module loops) and for a copy, so each entry is written for both.
 ghost use Rattle.std.specs.Prelude.{◌≡◌};
 ghost use Rattle.loop_copies.specs.Copies.{empty_copy, copy_changed_of};
 ghost use Rattle.cableowl.specs.Loops.{copy_changed_c, copy_written_c, copy_cleared_c, merged_c};

@@ -37,8 +37,8 @@ pub(crate) fn hall_of(n: u32) -> Result<Hall, Refusal>
     }
 }
 
-// copies.rt has the same for a copy. C knows the two results by names of their own, so a trait of both would only add
-// to the two lines.
+// Module copies has the same for a copy. C knows the two results by names of their own, so a trait of both would only
+// add to the two lines.
 fn changed(given: LoopTable, answer: Result<LoopTable, Refusal>) -> LoopChanged
     ensures { result ≡ changed_c (changed_of given answer) }
 {

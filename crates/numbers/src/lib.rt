@@ -9,8 +9,8 @@ ghost use Rattle.numbers.specs.Words as Words;
 ghost use Rattle.numbers.specs.Frames.{rounded, cut_off};
 
 // The nearest f32. x + c lies in c's binade, where the spacing of f64 is that of f32 at x, so the sum rounds x as an
-// f32 does; the difference is exact. That a fraction is proper is a clause here and above, and no type: the state that C
-// passes holds any f64, and `is_well_formed` checks it.
+// f32 does; the difference is exact. That a fraction is proper is a clause here and above, and no type: the state
+// that C passes holds any f64, and `is_well_formed` checks it.
 pub fn narrow(x: f64) -> f32
     requires { T (proper x) }
     ensures { result ≡ narrowed x }

@@ -1,5 +1,4 @@
-// The five lanes of a block, and their checks. No pass returns early, so that its loop can be
-// vectorised.
+// The five lanes of a block, and their checks. No pass returns early, so that its loop can be vectorised.
 #![tactic(auto)]
 
 ghost use Rattle.std.specs.Prelude.{◌≡◌, ◌+◌, T};
@@ -81,8 +80,8 @@ impl Lanes<'_> {
     }
 
     // Whether the amplitudes and gains are finite with their sign bit clear. That the lanes have one length is a clause
-    // and no invariant of `Lanes`: C may pass lanes of any lengths, and `are_sized` checks them. Not inlined: inside the
-    // block the loop has too few registers, and takes 7 instructions a frame more.
+    // and no invariant of `Lanes`: C may pass lanes of any lengths, and `are_sized` checks them. Not inlined: inside
+    // the block the loop has too few registers, and takes 7 instructions a frame more.
     #[inline(never)]
     fn four_finite_clear(self) -> bool
         requires { T (sized (lanes_of self)) }

@@ -76,9 +76,9 @@ fn lane_frame(frames: usize, i: usize) -> usize
     if frames == 1 { 0 } else { i }
 }
 
-// A started, advancing block; lanes of one frame apply to every frame. What a block asks, `Playable`, is a clause and no
-// invariant of a type: it ties a voice to the sound, the lanes and the output. C passes each of them, they may be
-// anything, and `static_sound` checks them.
+// A started, advancing block; lanes of one frame apply to every frame. What a block asks, `Playable`, is a clause and
+// no invariant of a type: it ties a voice to the sound, the lanes and the output. C may pass anything for each of them,
+// and `static_sound` checks them.
 pub fn play_spread(
     voice: StaticSound,
     dt: f64,

@@ -35,8 +35,8 @@ use sound_update::{Moving, Slice, Wraps};
 use transport::Transport;
 
 // The positions that uninterrupted playback passes: forward up to high and again from low, or backward down to low
-// and again from high - 1. Without a loop it ends there. Its `count` positions begin at `start` in the sound. Every step
-// reads low and high, with a loop or without one, so they are no Option.
+// and again from high - 1. Without a loop it ends there. Its `count` positions begin at `start` in the sound. Every
+// step reads low and high, with a loop or without one, so they are no Option.
 #[derive(Clone, Copy)]
 pub struct Track {
     pub start: usize,

@@ -103,8 +103,9 @@ fn count(transport: Transport, slice: Slice, wraps: Wraps) -> Wraps
     }
 }
 
-// What an update asks, `Updatable`, is a clause and no invariant of a type: it is a fact of the moving part together with
-// its slice and the sound's length. A state that C passes may be anything, and `StaticSound::is_well_formed` checks it.
+// What an update asks, `Updatable`, is a clause and no invariant of a type: it is a fact of the moving part together
+// with its slice and the sound's length. A state that C passes may be anything, and `StaticSound::is_well_formed`
+// checks it.
 // The slice and the sound are two parameters, since C passes the sound and the slice is of the state: a struct of both
 // would be built for a call and taken apart in it.
 impl Moving {

@@ -358,8 +358,8 @@ fn show_zeros_in_lanes(rt: &impl Print, tally: &mut Tally) -> io::Result<()> {
 
 // ---- refused calls
 
-// A block with a time step of 0: whether nothing is written. A refused call returns no voice, so the caller keeps the one
-// that it passed.
+// A block with a time step of 0: whether nothing is written. A refused call returns no voice, so the caller keeps the
+// one that it passed.
 fn refused_block() -> bool {
     let sound = [1.0f32, 1.0, 2.0, 2.0, 3.0, 3.0];
     let unit = [1.0f32; 2];

@@ -144,7 +144,11 @@ block_of vs =
 
 -- the five numbers of a block, for each of its frames
 abbrev pub held_of : Block → Held
-held_of b = record { gains = record { fade = b.fade; volume = b.volume; left = b.left; right = b.right }; rate = b.rate }
+held_of b =
+    record {
+      gains = record { fade = b.fade; volume = b.volume; left = b.left; right = b.right };
+      rate = b.rate;
+    }
 
 -- ---- a laned block
 

@@ -23,8 +23,8 @@ ghost use Rattle.transport.specs.WellFormed.{WellFormedTransport};
 #[derive(Clone, Copy, Debug, PartialEq, Eq)]
 pub struct Transport {
     pub position: usize,
-    // The frames that are looped. The end is exclusive. Four functions below ask that the start is below the end. A type
-    // that says so would exclude C states, whose two numbers may be any, and which refusal 1 answers.
+    // The frames that are looped. The end is exclusive. Four functions below ask that the start is below the end. A
+    // type that says so would exclude states that C passes: their two numbers may be any, and refusal 1 answers them.
     pub loop_region: Option<(usize, usize)>,
     pub playing: bool,
 }

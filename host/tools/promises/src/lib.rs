@@ -304,11 +304,14 @@ pub fn functions(krate: &str, source: &str) -> Vec<Function> {
         Of::Itself => true,
         Of::Trait => !line.starts_with("pub "),
         Of::Impl(of) => {
-            let of = of.split('<').next().unwrap_or(of);
+            // Other crates cannot name the trait, the type or what the trait takes, as in `From<Kind> for u64`.
+            let (of, takes) = of.trim_end_matches('>').split_once('<').unwrap_or((of, ""));
             declares(format!("trait {of}"))
                 || declares(format!("pub(crate) trait {of}"))
-                || declares(format!("pub(crate) enum {name}"))
-                || declares(format!("pub(crate) struct {name}"))
+                || [name, takes].iter().any(|name| {
+                    declares(format!("pub(crate) enum {name}"))
+                        || declares(format!("pub(crate) struct {name}"))
+                })
         }
     };
     let mut found: Vec<Function> = Vec::new();

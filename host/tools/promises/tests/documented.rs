@@ -80,7 +80,7 @@ fn a_function_is_found_in_a_trait_and_in_what_has_it() {
             ("k::Hidden::one", false, false),
             ("k::f32::one", false, true),
             ("k::Kind::try_from", false, true),
-            ("k::Kinds::from", true, true),
+            ("k::Kinds::from", false, true),
             ("k::Tail::count", false, true),
         ]
     );
