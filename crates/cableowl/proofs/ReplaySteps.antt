@@ -21,7 +21,7 @@ use Rattle.sound_slow_path.specs.declared.Processed.{Processed}
 use Rattle.sound_slow_path.specs.Plays.{BlockAnswer, Outcome}
 use Rattle.static_sound.specs.Entries.{processed, block_answer}
 use Rattle.trace_inputs.specs.declared.Block.{Block}
-use Rattle.trace_inputs.specs.Inputs.{settings_of, samples_of, commands_of, block_of}
+use Rattle.trace_inputs.specs.Inputs.{settings_of, samples_of, commands_of, block_of, held_of}
 use Rattle.trace_inputs.proofs.Samples.{at_most_le, all_samples}
 use Rattle.trace_records.specs.Records.{Record, record_at}
 use Rattle.c_state.specs.declared.CableowlState.{CableowlState}

@@ -16,23 +16,22 @@ use Rattle.sound_state.specs.declared.StaticSound.{StaticSound}
 use Rattle.sound_slow_path.specs.Plays.{BlockAnswer, Outcome}
 use Rattle.static_sound.specs.Entries.{processed, processed_held}
 use Rattle.trace_inputs.specs.declared.Block.{Block}
+use Rattle.trace_inputs.specs.Inputs.{held_of}
 use Rattle.trace_lines.specs.Lines.{block_line, refused_block_line}
 use Rattle.trace_replay.specs.Runs.{answered, line_of}
 
 half : (n : ℕ) → 2 * n / 2 ≡ n
 half n = omega arith
 
-abbrev pub held : Block → Held
-held b = record { gains = record { fade = b.fade; volume = b.volume; left = b.left; right = b.right }; rate = b.rate }
-
-pub answer_is : (snd : List Float) (v : StaticSound) (b : Block) (out : List Float) (o : Outcome)
-    → out ≡ replicate (2 * b.frames) positive_zero → o ≡ processed_held snd v b.time_step (held b) b.signals out → o.answer ≡ answered snd v b
+pub answer_is : (snd : List Float) (v : StaticSound) (b : Block) (h : Held) (out : List Float) (o : Outcome)
+    → h ≡ held_of b → out ≡ replicate (2 * b.frames) positive_zero → o ≡ processed_held snd v b.time_step h b.signals out → o.answer ≡ answered snd v b
 unfolding answered
-answer_is snd v b out o e q =
+answer_is snd v b h out o f e q =
     let zeros = replicate (2 * b.frames) positive_zero in
     ap (λ (x : Outcome). x.answer) q
-    ∙ ap (λ (z : List Float). (processed_held snd v b.time_step (held b) b.signals z).answer) e
-    ∙ ap (λ (n : ℕ). (processed snd v b.time_step (held_lanes (held b) n) b.signals zeros).answer) (ap (λ (n : ℕ). n / 2) (length-replicate (2 * b.frames) positive_zero) ∙ half b.frames)
+    ∙ ap (λ (k : Held). (processed_held snd v b.time_step k b.signals out).answer) f
+    ∙ ap (λ (z : List Float). (processed_held snd v b.time_step (held_of b) b.signals z).answer) e
+    ∙ ap (λ (n : ℕ). (processed snd v b.time_step (held_lanes (held_of b) n) b.signals zeros).answer) (ap (λ (n : ℕ). n / 2) (length-replicate (2 * b.frames) positive_zero) ∙ half b.frames)
 
 module _ (k n : ℕ) (p : BlockAnswer) where
   pub line_played : (s : ℕ) (t : List ℕ) → p.refusal ≡ 0 → s ≡ number p.voice.moving.state → t ≡ block_line k n p.steps s p.voice.moving.transport.position → t ≡ line_of k n p

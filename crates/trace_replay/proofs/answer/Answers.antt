@@ -14,4 +14,5 @@ pub returns : goal.returns
 unfolding of_bits
 returns c =
     let a = c.args in
-    answer_is a.sound.now a.voice a.block _ _ (lane (2 * a.block.frames) 2048 positive_zero _ refl (omega (arith, c.requires))) c.process_held.ensures
+    answer_is a.sound.now a.voice a.block c.from.result _ _ c.from.ensures
+    (lane (2 * a.block.frames) 2048 positive_zero _ refl (omega (arith, c.requires))) c.process_held.ensures
