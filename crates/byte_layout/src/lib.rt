@@ -25,7 +25,7 @@ pub struct Row {
 }
 
 // A parse in progress: at offset `at` with `left` bytes of payload left, and the numbers read. They are 80 in fixed
-// memory, as in the C record of a trace, so that a table's length says how many of them are its own.
+// memory, as in the C record of a trace; how many of them a table reads is its length.
 #[derive(Clone, Copy, Debug, PartialEq, Eq)]
 pub struct Parsed {
     pub at: usize,
@@ -59,7 +59,8 @@ impl Row {
         }
     }
 
-    // The bytes of the row after these numbers, whatever its own.
+    // The bytes of the row after these numbers, whatever its own. That a width is at most 8 is a clause: `sound` says
+    // it of a whole table, and the prover computes it.
     fn length(self, before: &[u64]) -> usize
         requires { self.width ≤ 8 }
         ensures { ((x : ℕ) → result ≡ length (field (stands self before.now) self x)) × (result ≤ 8) }
@@ -175,7 +176,8 @@ pub fn put_number(buf: &mut [u8], at: usize, width: usize, x: u64)
     }
 }
 
-// Writes the numbers of a table's rows, and returns the offset after them.
+// Writes the numbers of a table's rows, and returns the offset after them. The numbers are all 80, as each caller has
+// them from a parse or from C: a slice of them would say no more.
 pub fn put_rows(buf: &mut [u8], at: usize, values: [u64; 80], table: &[Row]) -> usize
     requires { (length table.now ≤ 80)
         × (at + length (payload table.now [] (take (length table.now) values)) ≤ length buf.old) }

@@ -173,7 +173,7 @@ fn loop_of(command: u32, region: CableowlRegion) -> LoopCommand
     }
 }
 
-// A function and no `From`, as is `answer_of`: the number and its meaning are both types of other crates.
+// A function and no `From`, as is `answer_of`: the numbers are C's, and the crate of the type does not know them.
 fn resume_of(n: u32) -> ResumeCommand
     ensures { result ≡ resume_of n }
 {

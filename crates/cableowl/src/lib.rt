@@ -120,7 +120,8 @@ fn create(settings: Settings, sound: &[f32]) -> CableowlCreated
     }
 }
 
-// The answer of a command set; if it is refused, the given state.
+// The answer of a command set; if it is refused, the given state. A count of at most 4 is a clause, as in `encode`: the
+// voice's type has any count, since C may pass any.
 fn command_answer(commanded: Result<Commanded, Refusal>, state: CableowlState) -> CableowlCommanded
     requires { IfOk commanded (λ c. c.voice.moving.resampler.time_until_empty ≤ 4) }
     ensures { result ≡ commanded_as (commands_answer (decoded state) commanded) state }

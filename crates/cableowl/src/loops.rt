@@ -26,7 +26,7 @@ pub struct LoopFound {
     pub refusal: u32,
 }
 
-// A function and no `TryFrom`: `Hall` and `u32` are both of other crates.
+// A function and no `TryFrom`: the numbers are C's, and loop_table does not know them.
 pub(crate) fn hall_of(n: u32) -> Result<Hall, Refusal>
     ensures { MatchResult result (λ hall. (hall ≡ hall_of n) × (n ≤ 1)) (λ e. (e ≡ State) × (1 < n)) }
 {

@@ -133,7 +133,8 @@ pub(crate) fn refused_call(replay: CableowlReplay, refusal: Refusal) -> Cableowl
     not_played(replay, 4, u64::from(refusal))
 }
 
-// The answer where there are no bytes.
+// The answer where there are no bytes. `ended` stays the number that C passes, here and below: 0 if more bytes may
+// come, any other if none will.
 pub(crate) fn no_record(replay: CableowlReplay, ended: u32) -> CableowlReplayed
     ensures { result ≡ cond (eqb ended 0) (unplayed replay 1 0) (unplayed replay 2 0) }
 {
@@ -160,7 +161,8 @@ pub(crate) fn refused_record(
     }
 }
 
-// Plays a creation record over these samples.
+// Plays a creation record over these samples. A record's size and numbers stand beside the replay, here and below, as
+// the definitions take them.
 pub(crate) fn create_over(
     replay: CableowlReplay,
     size: u64,
@@ -236,7 +238,8 @@ pub(crate) fn count_block(
     )
 }
 
-// Plays a block record into the first samples of the output.
+// Plays a block record into the first samples of the output. That the buffers hold the record is a clause: it ties the
+// replay to two buffers that C passes, and `check` tests it.
 pub(crate) fn play(
     replay: CableowlReplay,
     size: u64,

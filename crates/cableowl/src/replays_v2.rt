@@ -138,7 +138,7 @@ fn play_lanes(
     count_block(replay, size, 5, block.frames, processed)
 }
 
-// Plays a command set or a block.
+// Plays a command set or a block. The kind is a number here too, as C reads it.
 fn obey_or_play(
     replay: CableowlReplay,
     read: Record,

@@ -8,7 +8,7 @@ use crate::number_of;
 use c_inputs::{CableowlPlace, CableowlRegion, CableowlSettings};
 use saved_settings::{Loaded, SavedSettings};
 
-// Functions and no `From`: the array and the types of `saved_settings` are all of other crates.
+// Functions and no `From`: the eight words are C's, and saved_settings does not know them.
 fn saved_in(words: &[u64; 8]) -> SavedSettings
     ensures { result ≡ saved_in words.now }
 {

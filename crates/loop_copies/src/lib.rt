@@ -83,6 +83,7 @@ impl LoopCopy {
         self
     }
 
+    // Start and end are two numbers, as for a table.
     pub fn write(self, hall: Hall, slot: usize, start: u64, end: u64) -> Result<LoopCopy, Refusal>
         ensures { copy_changed_of self result ≡ copy_written self hall slot start end }
     {

@@ -132,6 +132,7 @@ impl LoopTable {
         self
     }
 
+    // Start and end are two numbers, as C passes them and as the definition `written` has them.
     pub fn write(self, hall: Hall, slot: usize, start: u64, end: u64) -> Result<LoopTable, Refusal>
         ensures { changed_of self result ≡ written self hall slot start end }
     {

@@ -63,7 +63,7 @@ pub fn cut(x: f64) -> usize
 }
 
 // x without its sign. The bits of a NaN are not defined, so a NaN is returned as it is.
-// std's `abs` does the same in 11 instructions; this is 8, once per frame of the slow path.
+// std's `abs` does the same in 11 instructions; this is 8, once for each frame of a lane that is checked.
 pub fn magnitude(x: f64) -> f64
     ensures { result ≡ Words.magnitude x }
 {

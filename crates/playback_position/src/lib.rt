@@ -83,6 +83,7 @@ pub fn is_within(range: Option<(usize, usize)>, num_frames: usize) -> bool
 }
 
 impl Region {
+    // Sample rate and number of frames are two parameters: before a creation no struct has both.
     pub fn into_frames(self, sample_rate: u32, num_frames: usize) -> (usize, usize)
         ensures { result ≡ region_in_frames sample_rate num_frames self }
     {

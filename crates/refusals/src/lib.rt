@@ -1,5 +1,4 @@
-// The refusals, in the order of document 01's table. The header has the same names and numbers, and the sentence for
-// each.
+// The refusals, in the order of the C header, which has the same names and numbers and a sentence for each.
 #![tactic(auto)]
 
 ghost use Rattle.std.specs.Prelude.{◌≡◌};

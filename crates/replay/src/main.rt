@@ -62,7 +62,8 @@ fn refill(input: Stdin, bytes: &mut [u8], spare: &mut [u8], w: Window) -> Window
     }
 }
 
-// Plays one record and prints its line. None if the run is over.
+// Plays one record and prints its line. None if the run is over. The buffers are parameters side by side, here and
+// below: a struct of them would be borrowed in parts, to read and to write.
 fn play_one(
     output: Stdout,
     p: Play,
@@ -127,6 +128,7 @@ fn replay(
         run: trace_replay::begin(),
         window,
     };
+    // A bound that no trace reaches, so that the check sees an end.
     'records: for _ in 0..u64::MAX {
         match advance(input, output, p, bytes, spare, sound, line) {
             Some(next) => p = next,

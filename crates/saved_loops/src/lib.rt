@@ -52,7 +52,7 @@ fn is_well_formed(words: [u64; 19]) -> bool
 
 // ---- loading
 
-// The words among the numbers of a record.
+// The words among the numbers of a record. A function: a `From` between two arrays of numbers would not say which.
 fn words_of(values: [u64; 80]) -> [u64; 19]
     ensures { result ≡ take 19 (drop 4 values) }
 {

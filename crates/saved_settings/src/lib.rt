@@ -46,7 +46,7 @@ pub struct SavedSettings {
     pub pitch: u64,
 }
 
-// The fields and the number of their version, which C is told.
+// The fields and the number of their version, which C reads.
 #[derive(Clone, Copy, Debug, PartialEq, Eq)]
 pub struct Loaded {
     pub settings: SavedSettings,
@@ -60,6 +60,7 @@ enum Version {
 }
 
 impl Version {
+    // A method like `size` and `layout`: a `From` would say the same in more lines.
     fn number(self) -> u64
         ensures { result ≡ version_number self }
     {
@@ -101,6 +102,7 @@ fn is_loop(s: SavedSettings) -> bool
     }
 }
 
+// By the bits: settings are words, and no float is made of them.
 fn is_finite(bits: u64) -> bool
     ensures { result ≡ finite_bits bits }
 {
@@ -194,7 +196,7 @@ fn read(version: Version, s: &[u8]) -> Result<Parsed, Refusal>
     byte_layout::read_rows(s, byte_layout::begin(0, version.size()), version.layout())
 }
 
-// Accepts any bytes. Reader 1 knows version 1 only, any other reader, of the numbers that C may give, also version 2.
+// Accepts any bytes. Reader 1 knows version 1 only. Any other number, and C may pass any, knows version 2 too.
 pub fn load(reader: u64, s: &[u8]) -> Result<Loaded, Refusal>
     ensures { loaded_of result ≡ loaded reader s.now }
 {

@@ -62,7 +62,7 @@ fn silence(out: &mut [f32])
     out.fill(0.0);
 }
 
-// The block of a well formed voice over checked lanes.
+// The block of a well formed voice over checked lanes. Its parameters stand side by side; static_sound says why.
 pub fn block(
     voice: StaticSound,
     dt: f64,

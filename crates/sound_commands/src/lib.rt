@@ -231,7 +231,7 @@ fn seek_to_index(voice: StaticSound, index: usize, sound: &[f32]) -> StaticSound
     }
 }
 
-// Two functions, as for the tests.
+// Two functions, for the reason at `is_seek_by`.
 fn seek_by(voice: StaticSound, command: Option<f64>, sound: &[f32]) -> StaticSound
     requires { T (well_formed_for (length sound.now) voice) }
     ensures { result ≡ sought_by sound.now voice command }

@@ -1,4 +1,4 @@
-// Whether the lanes of a block repeat one frame's numbers. No pass returns early, so that clang vectorises its loop.
+// Whether the lanes of a block repeat one frame's numbers. No pass returns early, so that its loop can be vectorised.
 #![tactic(auto)]
 
 ghost use Rattle.std.specs.Prelude.{◌≡◌, Bool, true, false, ◌-◌, ◌<◌, length, get_or};

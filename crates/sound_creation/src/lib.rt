@@ -168,7 +168,7 @@ fn make(settings: Settings, sound: &[f32]) -> StaticSound
     StaticSound { moving, ..opened }
 }
 
-// The voice that stands where there is none: Stopped, and every number 0.
+// The voice where there is none: Stopped, and every number 0.
 pub fn blank() -> StaticSound
     ensures { result ≡ blank_sound }
 {

@@ -27,8 +27,7 @@ fn stretch<D: Straight, R: Rates>(
     sound_fast_wrapping::wrapping::<D, R>(way, ones, sound, rates, out)
 }
 
-// Stretch after stretch, as long as one plays frames and some are left. A while loop: how many there are shows at the
-// end of each.
+// One stretch after the other, while each plays frames and some are left: a while loop, since no count is known.
 fn stretches<D: Straight, R: Rates>(way: Way, sound: &[f32], rates: R, out: &mut [f32]) -> Reached
     requires scannable { Scannable sound.now way (R.list rates) }
     requires scanned { Scanned sound.now way (R.list rates) (begun way) out.old }

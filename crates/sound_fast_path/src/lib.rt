@@ -46,6 +46,7 @@ fn scan(way: Way, sound: &[f32], rate: &[f64], out: &mut [f32]) -> Reached
 }
 
 // A block of a started, advancing voice: along the track if the window is a contiguous window, the rest frame by frame.
+// Voice, time step, sound and output are parameters side by side; static_sound says why.
 pub fn play(
     voice: StaticSound,
     dt: f64,

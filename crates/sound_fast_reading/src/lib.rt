@@ -101,8 +101,8 @@ fn magnitude_of(rate: f64) -> f64
     f64::from_bits(f64::to_bits(rate) & 0x7fff_ffff_ffff_ffff)
 }
 
-// The advance of one frame at a rate. Sample rate and time step are two parameters, as in `slow` and `advance`: a `Way`
-// also has a track, and an advance needs none.
+// The advance of one frame at a rate. Sample rate and time step are two parameters, as in `slow`: that a rate is slow
+// is a clause, since it ties all three.
 pub fn advance_of(sample_rate: u32, dt: f64, rate: f64) -> f64
     requires { T (slow sample_rate dt rate) }
     ensures { result ≡ advance sample_rate rate dt }

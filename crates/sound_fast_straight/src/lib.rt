@@ -63,7 +63,8 @@ fn four_moves<R: Rates>(
 }
 
 // A direction in which the frames of a reading are consecutive. Each adds to, or takes from, one index in the sound:
-// an index of its own for each frame costs four to five instructions a frame.
+// an index of its own for each frame costs four to five instructions a frame, and Arm has none to spare
+// (docs/DECISIONS.md, "The block's speed").
 pub trait Straight: Direction {
     // The reading at a position: of the four frames from there on.
     fn read(sound: &[f32], track: Track, at: usize, fractional_position: f64) -> Frame
@@ -116,7 +117,8 @@ pub fn fours<D: Straight, R: Rates>(
     ensures { Scanned sound.now way (R.list rates) result out.new }
 {
     let track = way.track;
-    // Variables of their own and no return in the loop: a Reached costs an instruction more a frame.
+    // Variables of their own and no return in the loop: a Reached costs an instruction more a frame, and Arm has none
+    // to spare.
     let mut at = from.at;
     let mut fractional_position = from.fractional_position;
     let mut steps = from.steps;

@@ -13,7 +13,7 @@ use frame::{Frame, interpolate_frame};
 use sound_fast_reading::{Rates, Reached, Way};
 use sound_track::{Direction, Track};
 
-// So many steps without a wrap are left to sound_fast_straight.
+// With this many steps ahead without a wrap, sound_fast_straight goes on.
 const MANY: usize = 28;
 
 // The reading at a position: of the four frames from there on.

@@ -34,7 +34,7 @@ impl Held {
     }
 }
 
-// Plays the block frame by frame.
+// Plays the block frame by frame. Its parameters stand side by side; static_sound says why.
 pub fn play(voice: StaticSound, dt: f64, sound: &[f32], held: Held, out: &mut [f32]) -> Processed
     requires { Playable sound.now voice dt (held_lanes held (length out.old / 2)) (length out.old) }
     ensures { record { answer = accepted result; samples = out.new }

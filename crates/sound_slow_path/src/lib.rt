@@ -78,7 +78,8 @@ fn lane_frame(frames: usize, i: usize) -> usize
 
 // A started, advancing block; lanes of one frame apply to every frame. What a block asks, `Playable`, is a clause and
 // no invariant of a type: it ties a voice to the sound, the lanes and the output. C may pass anything for each of them,
-// and `static_sound` checks them.
+// and `static_sound` checks them. Voice, time step, sound and output are parameters side by side; static_sound says
+// why.
 pub fn play_spread(
     voice: StaticSound,
     dt: f64,

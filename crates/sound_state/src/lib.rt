@@ -83,6 +83,7 @@ fn is_numbered(entry: RecentFrame) -> bool
     entry.frame_index <= 4294967296
 }
 
+// This test and the next are a line each: one function with the test as a closure would be no shorter.
 fn are_silent(entries: &[RecentFrame]) -> bool
     ensures { result ≡ all zero_frame entries.now }
 {

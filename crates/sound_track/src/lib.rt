@@ -74,7 +74,7 @@ pub fn track_of(loop_region: Option<(usize, usize)>, slice: Slice) -> Track
 
 // A direction along a track. Code that takes one is compiled for each. A track and a position are two parameters: the
 // loops and the window keep bare positions of one track, so a struct of both would be made for each call and taken
-// apart after it. That the track goes in this direction is a clause: a track is one type for a scan and its laws.
+// apart after it. That the track goes in this direction is a clause: tracks of both directions have one type.
 pub trait Direction {
     ghost backwards: { Bool };
 
@@ -188,7 +188,8 @@ impl Direction for Backward {
     }
 }
 
-// ---- both directions: here the direction is a value of the track, and is tested a few times a block
+// ---- both directions: here the direction is a value of the track, and is tested a few times a block. That the sound
+// has the track's frames, `InsideSound`, is a clause: it ties the track to a sound that C passes.
 
 impl Track {
     fn step(self, at: usize) -> usize
@@ -345,7 +346,7 @@ fn raise_by(count: u32, n: usize) -> u32
     (count as usize).saturating_add(n).min(u32::MAX as usize) as u32
 }
 
-// ---- the test for a contiguous window. PartialEq would not do: a NaN equals nothing, and zeros of two signs differ.
+// ---- the test for a contiguous window. PartialEq would not do: 0 and -0 are equal to it, but differ here.
 
 // Equal bit for bit. A NaN equals nothing, so its window takes the slow path.
 fn is_same(a: f32, b: f32) -> bool

@@ -63,7 +63,7 @@ fn is_ordered(loop_region: Option<(usize, usize)>) -> bool
     }
 }
 
-// What a step forward requires.
+// What a step forward requires. sound_state has this test too, but private, and above the leaves exported here.
 fn is_well_formed_transport(t: Transport, num_frames: usize) -> bool
     ensures { result ≡ well_formed_transport num_frames t }
 {

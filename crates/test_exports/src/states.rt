@@ -14,7 +14,7 @@ fn state_of(n: u32) -> PlaybackState
     PlaybackState::try_from(n).unwrap_or(PlaybackState::Stopped)
 }
 
-// A start answer has no numbers of its own, so no From in its crate: these three are of these exports only.
+// A function: c_inputs takes an unknown number for still waiting, this for never, so the type has no single `From`.
 fn answer_of(n: u32) -> StartAnswer
     ensures { result ≡ answer_of n }
 {

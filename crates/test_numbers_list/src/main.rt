@@ -59,7 +59,8 @@ fn measures(x: f64, expected: u64) -> bool
     }
 }
 
-// Whether the function that `kind` names returns the expected answer.
+// Whether the function that `kind` names returns the expected answer. The kind is the line's letter: a list may have
+// any, and an unknown one counts as a difference.
 fn is_right(kind: u8, x: f64, rate: u32, expected: u64) -> bool
     ensures { result ≡ right kind x rate expected }
 {

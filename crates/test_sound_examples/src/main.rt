@@ -144,6 +144,8 @@ fn six_frames() -> bool {
     made.is_ok() && steps(made) == 6 && is_one_two_three_and_silence(&out)
 }
 
+// This and others below have arrays of their own lengths: one function for all would need `2 * N` as a const argument,
+// which Rattle does not have.
 fn state_after_three() -> u64 {
     let sound = [1.0f32, 1.0, 2.0, 2.0, 3.0, 3.0];
     let unit = [1.0f32; 3];

@@ -56,7 +56,8 @@ fn next_optional_region(from: &mut impl Read) -> Option<Region> {
     }
 }
 
-// 0 is none, anything else an amount.
+// 0 is none, anything else an amount. One function for this and the one above would take the reading as a closure, and
+// be as long.
 fn next_amount(from: &mut impl Read) -> Option<f64> {
     let kind = input::next(from);
     match kind {

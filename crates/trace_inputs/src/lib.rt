@@ -356,7 +356,7 @@ fn lane_of<T: LaneValue>(bytes: &[u8], at: usize, frames: usize) -> [T; 1024]
     lane
 }
 
-// The lane at each of its two types. They have names of their own because their contracts do: the lanes' definitions.
+// The lane as f32 and as f64. Two names, since each contract cites its own definition, `singles` or `doubles`.
 pub fn singles_of(bytes: &[u8], at: usize, frames: usize) -> [f32; 1024]
     requires { (at ≤ 64) × (frames ≤ 1024) }
     ensures { result ≡ sets (replicate 1024 positive_zero) 0 (singles frames (drop at bytes.now)) }

@@ -45,7 +45,8 @@ fn put_labelled(line: &mut [u8], at: usize, word: &[u8], n: u64) -> usize
     put_decimal(line, a, n)
 }
 
-// `block=1 frames=6 steps=6 state=6 position=3`
+// `block=1 frames=6 steps=6 state=6 position=3`. That a line has at least 139 bytes is a clause, here and below: an
+// array of that length would ask more of callers.
 pub fn put_block(
     line: &mut [u8],
     number: u64,
@@ -77,7 +78,8 @@ pub fn put_refused_block(line: &mut [u8], number: u64, refusal: u64) -> usize
     put(line, b, b"\n")
 }
 
-// `refused=15 at=0`
+// `refused=15 at=0`. The two lines of a refusal differ in words: one function for both would hide them among its
+// parameters.
 pub fn put_refused(line: &mut [u8], refusal: u64, at: u64) -> usize
     requires { 139 ≤ length line.old }
     ensures { (line.new ≡ sets line.old 0 (refused_line refusal at))

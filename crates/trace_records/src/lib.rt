@@ -24,7 +24,8 @@ pub struct Record {
     pub values: [u64; 80],
 }
 
-// The record at an offset of the bytes: any bytes, any offset.
+// The record at an offset of the bytes: any bytes, any offset. They are two parameters, as C passes them: an offset
+// past the end is answered too.
 pub fn read(s: &[u8], at: usize) -> Result<Record, Refusal>
     ensures { record_read at result ≡ record_at s.now at }
 {

@@ -8,7 +8,8 @@ ghost use Rattle.trace_records.specs.Writes.{head_of, sent, sent_of, write_recor
 use crate::tables::{HEAD, Kind};
 use refusals::Refusal;
 
-// Writes the head of a record whose payload has n bytes, and returns the offset after it.
+// Writes the head of a record whose payload has n bytes, and returns the offset after it. The kind is a number: this
+// crate and trace_sealed have kinds of their own, and both write their heads here.
 pub fn put_head(buf: &mut [u8], at: usize, kind: u64, n: usize) -> usize
     requires { at + 5 ≤ length buf.old }
     ensures { (buf.new ≡ sets buf.old at (payload head_rows [] (head_of kind n)))

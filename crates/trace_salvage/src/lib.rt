@@ -19,6 +19,7 @@ pub struct Salvaging {
 }
 
 // The result of a salvage: the records kept, the bytes skipped, and the offset of the first of them, or of the end.
+// That is no Option: C reads one offset.
 #[derive(Clone, Copy, Debug, PartialEq, Eq)]
 pub struct Saved {
     pub records: usize,
@@ -74,7 +75,8 @@ fn step(reader: u64, s: &[u8], out: &mut [u8], t: Salvaging) -> Salvaging
 }
 
 // Copies the complete records of s to the start of out, those that the reader of a version accepts: reader 1 knows
-// kinds 1 to 3, any other all five.
+// kinds 1 to 3, any other all five. The reader is a number, and any is accepted: a type of two readers would ask more
+// of callers.
 pub fn salvage_by(reader: u64, s: &[u8], out: &mut [u8]) -> Result<Saved, Refusal>
     ensures { saved_of (saved result) out.new ≡ salvage_by reader s.now out.old }
 {

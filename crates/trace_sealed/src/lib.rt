@@ -83,7 +83,7 @@ fn read_sealed(s: &[u8], at: usize) -> Result<Record, Refusal>
     close(s, at, kind, n as usize, fields)
 }
 
-// Whether the byte of the kind is 4 or 5.
+// Whether the byte of the kind is 4 or 5. Compared as a byte: `Kind::try_from` would make a kind only to drop it.
 fn is_sealed(s: &[u8], at: usize) -> bool
     ensures { (result ≡ is_sealed (drop at s.now))
         × (result ≡ true → at + 2 < length s.now) }
