@@ -12,7 +12,6 @@ use borrow.Author.Tests.{eqb-true, eqb-false, eq-eqb, ne_eqb, le-leb, lt-leb}
 use Rattle.sound_lanes.specs.Lanes.{Lanes, rows}
 use Rattle.sound_held.specs.declared.Held.{Held}
 use Rattle.sound_held.specs.Held.{held_lanes}
-use Rattle.sound_constant.specs.Constant.{first, Constant}
 use Rattle.sound_state.specs.declared.StaticSound.{StaticSound}
 use Rattle.sound_block.specs.declared.Signals.{Signals}
 use Rattle.sound_block.specs.Blocks.{block}
@@ -100,9 +99,3 @@ module _ (snd : List Float) (v : StaticSound) (dt : Float) (b : Lanes) (g : Sign
 
   pub lanes_never : (o : Outcome) → holds b out ≡ false → o ≡ processed_into snd v dt b g out (length out) → o ≡ processed snd v dt b g out
   lanes_never o h e = e ∙ whole snd v dt b g out (length out) (room_never (length out) (length b.rate) h ∙ sym h) (λ k. absurd (true≢false (sym k ∙ h)))
-
--- constant lanes are their first frame's numbers, given once
-pub constant_into : (snd : List Float) (v : StaticSound) (dt : Float) (b : Lanes) (g : Signals) (mix : List Float) (from : ℕ) (o : Outcome) → Constant b
-    → (x : Held) → x ≡ first b → o ≡ processed_into snd v dt (held_lanes x (length b.rate)) g mix from → o ≡ processed_into snd v dt b g mix from
-constant_into snd v dt b g mix from o c x f e =
-    e ∙ ap (λ (x : Held). processed_into snd v dt (held_lanes x (length b.rate)) g mix from) f ∙ ap (λ (b : Lanes). processed_into snd v dt b g mix from) (sym c.each)

@@ -42,6 +42,17 @@ fn has_room(from: usize, frames: usize, samples: usize) -> bool
     samples % 2 == 0 && from <= samples / 2 && frames <= samples / 2 - from
 }
 
+// The lanes of a block: constant lanes are held lanes. One call of `process_at` plays both, since each call of it takes
+// stack.
+fn held_if_constant(lanes: Lanes<'_>) -> BlockLanes<'_>
+    ensures { block_lanes result ≡ lanes_of lanes.entry }
+{
+    if sound_constant::are_constant(lanes) {
+        return BlockLanes::Held(sound_constant::first_of(lanes), lanes.rate.len());
+    }
+    BlockLanes::Each(lanes)
+}
+
 // The block, from the given frame of a mix on.
 fn process_at(
     voice: StaticSound,
@@ -84,8 +95,7 @@ pub fn process(
     process_into(voice, sound, lanes, dt, signals, out, from)
 }
 
-// A block into the middle of a longer mix, from the given frame on; no other sample changes. Constant lanes are held
-// lanes.
+// A block into the middle of a longer mix, from the given frame on; no other sample changes.
 pub fn process_into(
     voice: StaticSound,
     sound: &[f32],
@@ -98,14 +108,10 @@ pub fn process_into(
     ensures { record { answer = block_answer voice result; samples = mix.new }
         ≡ processed_into sound.now voice dt (lanes_of lanes.entry) signals mix.old from }
 {
-    if sound_constant::are_constant(lanes) {
-        let held = sound_constant::first_of(lanes);
-        return process_held_into(voice, sound, held, dt, signals, mix, from, lanes.rate.len());
-    }
     process_at(
         voice,
         sound,
-        BlockLanes::Each(lanes),
+        held_if_constant(lanes),
         dt,
         signals,
         mix,
